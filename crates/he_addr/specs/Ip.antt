@@ -1,0 +1,51 @@
+-- What an address is, and what its calls answer: its number as a mapped one, scope, and whether it can be connected to.
+use Rattle.std.specs.Prelude.{ℕ, ◌+◌, ◌*◌, ◌^◌, ◌<◌, ◌==◌, ◌&&◌, ◌||◌, Bool, true, false, not, if◌then◌else◌, IsTrue}
+use Rattle.he_addr.specs.declared.ip.Family.{Family}
+use Rattle.he_addr.specs.declared.ip.Family.TheVariants as families
+use Rattle.he_addr.specs.declared.ip.Ip.{Ip}
+use Rattle.he_addr.specs.declared.ip.Ip.TheVariants.{V4, V6}
+use Rattle.he_addr.specs.Bits.{agrees}
+
+abbrev pub family_of : Ip → Family
+family_of (V4 n) = families.V4
+family_of (V6 n) = families.V6
+
+abbrev pub is_v6 : Ip → Bool
+is_v6 (V4 n) = false
+is_v6 (V6 n) = true
+
+-- the number as an IPv6 number: an IPv4 address stands in ::ffff:0:0/96 (RFC 4291 section 2.5.5.2)
+abbrev pub mapped_of : Ip → ℕ
+mapped_of (V4 n) = 65535 * 2 ^ 32 + n
+mapped_of (V6 n) = n
+
+-- a number of the family's width: a value of the definitions may have any, one of the program always has
+abbrev pub InRange : Ip → Type 0
+InRange (V4 n) = n < 2 ^ 32
+InRange (V6 n) = n < 2 ^ 128
+
+-- 127.0.0.0/8 and 169.254.0.0/16 (RFC 6724 section 3.2)
+abbrev pub is_link_local_v4 : ℕ → Bool
+is_link_local_v4 n = agrees 32 n 0x7f00_0000 8 || agrees 32 n 0xa9fe_0000 16
+
+-- ::1 and fe80::/10 (RFC 6724 section 3.1, RFC 4291 section 2.5.3)
+abbrev pub is_link_local_v6 : ℕ → Bool
+is_link_local_v6 n = n == 1 || agrees 128 n (0xfe80 * 2 ^ 112) 10
+
+-- fec0::/10
+abbrev pub is_site_local_v6 : ℕ → Bool
+is_site_local_v6 n = agrees 128 n (0xfec0 * 2 ^ 112) 10
+
+-- the scope (RFC 6724 section 3.1): 2 is link-local, 5 site-local, 14 global
+abbrev pub scope_of : Ip → ℕ
+scope_of (V4 n) = if is_link_local_v4 n then 2 else 14
+scope_of (V6 n) = if is_link_local_v6 n then 2 else if is_site_local_v6 n then 5 else 14
+
+-- neither the unspecified address, nor multicast, nor an IPv6 address in ::ffff:0:0/96
+abbrev pub is_usable : Ip → Bool
+is_usable (V4 n) = not (n == 0) && not (agrees 32 n 0xe000_0000 4)
+is_usable (V6 n) = not (n == 0) && not (agrees 128 n (0xff00 * 2 ^ 112) 8) && not (agrees 128 n (0xffff * 2 ^ 32) 96)
+
+-- an address that may be tried
+abbrev pub IsUsable : Ip → Type 0
+IsUsable ip = IsTrue (is_usable ip) × InRange ip

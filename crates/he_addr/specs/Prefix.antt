@@ -1,0 +1,32 @@
+-- Prefixes: what one holds, which addresses lie in it, and how long a part two addresses have in common.
+use Rattle.std.specs.Prelude.{ℕ, ◌-◌, ◌*◌, ◌%◌, ◌^◌, ◌<◌, ◌≤◌, ◌≡◌, ◌&&◌, Bool, nat_le}
+use Rattle.he_addr.specs.declared.ip.Ip.{Ip}
+use Rattle.he_addr.specs.declared.ip.Ip.TheVariants.{V4, V6}
+use Rattle.he_addr.specs.Bits.{agrees, greatest}
+use Rattle.he_addr.specs.Ip.{mapped_of}
+
+-- the first `len` bits of `bits`, an IPv6 number; an IPv4 prefix is the mapped one
+pub record Bits : Type 0 where
+  pub bits : ℕ
+  pub len : ℕ
+
+-- bits past the length are zero
+pub record IsPrefix (bits len : ℕ) : Type 0 where
+  pub short : len ≤ 128
+  pub fits : bits < 2 ^ 128
+  pub clear : bits % 2 ^ (128 - len) ≡ 0
+
+-- the address, as a mapped number, begins with the prefix
+abbrev pub contains : Bits → Ip → Bool
+contains prefix ip = agrees 128 (mapped_of ip) prefix.bits prefix.len
+
+-- inside ::ffff:0:0/96: the prefix of IPv4 addresses alone
+abbrev pub is_inside_mapped : Bits → Bool
+is_inside_mapped prefix = nat_le 96 prefix.len && agrees 128 prefix.bits (0xffff * 2 ^ 32) 96
+
+-- the common prefix length of a source and a destination (RFC 6724 section 2.2): the greatest number of leading bits,
+-- at most the source's prefix length, that two addresses of one family have in common
+abbrev pub common_of : Ip → ℕ → Ip → ℕ
+common_of (V4 s) len (V4 d) = greatest (agrees 32 s d) len
+common_of (V6 s) len (V6 d) = greatest (agrees 128 s d) len
+common_of _ len _ = 0

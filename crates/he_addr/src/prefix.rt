@@ -1,0 +1,78 @@
+// Address prefixes and the common part of two addresses.
+
+ghost use Rattle.std.specs.Prelude.{◌≡◌, ◌<◌, ◌≤◌, if◌then◌else◌};
+ghost use Rattle.he_addr.specs.Ip.{family_of, is_v6};
+ghost use Rattle.he_addr.specs.Prefix.{Bits, IsPrefix, contains, is_inside_mapped, common_of};
+
+use crate::ip::Ip;
+use std::marker::Model;
+
+/// The number of bits of an IPv6 address.
+pub const V6_BITS: u8 = 128;
+
+/// The number of bits of an IPv4 address.
+pub const V4_BITS: u8 = 32;
+
+/// The upper 96 bits of an IPv4-mapped address, `::ffff:0:0/96`.
+pub(crate) const MAPPED: u128 = 0xffff;
+
+/// The length of `::ffff:0:0/96`, the prefix of the mapped IPv4 addresses.
+pub const MAPPED_LEN: u8 = V6_BITS - V4_BITS;
+
+/// An address prefix: its first `len` bits over IPv6 numbers, the bits past them zero. An IPv4 prefix of length n is the
+/// mapped prefix of length 96 + n, so `0.0.0.0/0` and `::ffff:0:0/96` are one prefix.
+#[derive(Clone, Copy, Debug, PartialEq, Eq)]
+pub struct Prefix {
+    bits: u128,
+    len: u8,
+}
+
+impl Model for Prefix {
+    ghost Value = { Bits };
+
+    ghost view = { λ p. record { bits = p.bits; len = p.len } };
+
+    ghost invariant = { λ p. IsPrefix p.bits p.len };
+
+    ghost inverse = { λ b. record { bits = b.bits; len = b.len } };
+}
+
+impl Prefix {
+    /// The prefix of the first `len` bits of `bits`; the bits past them are zero.
+    pub fn new(bits: u128, len: u8) -> Prefix
+        requires { IsPrefix bits len }
+        ensures { result ≡ record { bits = bits; len = len } }
+    {
+        Prefix { bits, len }
+    }
+
+    /// The bits, the first one the highest.
+    pub fn bits(self) -> u128
+        ensures { result ≡ self.bits }
+    {
+        self.bits
+    }
+
+    /// The number of bits that count, at most 128.
+    pub fn len(self) -> u8
+        ensures length { result ≡ self.len }
+        ensures prefix { IsPrefix self.bits self.len }
+    {
+        self.len
+    }
+
+    /// Whether the address, an IPv4 address as its mapped one, begins with this prefix.
+    pub fn contains(self, ip: Ip) -> bool
+        ensures { result ≡ contains self ip }
+    {
+        self.len == 0
+            || (ip.mapped() >> (V6_BITS - self.len)) == (self.bits >> (V6_BITS - self.len))
+    }
+
+    /// Whether the prefix lies inside `::ffff:0:0/96`, so that it holds IPv4 addresses alone.
+    pub fn is_v4(self) -> bool
+        ensures { result ≡ is_inside_mapped self }
+    {
+        self.len >= MAPPED_LEN && self.bits >> V4_BITS == MAPPED
+    }
+}
