@@ -6,7 +6,7 @@ use Rattle.he_addr.specs.Bits.{agrees, greatest}
 use Rattle.he_addr.specs.Ip.{mapped_of}
 
 -- the first `len` bits of `bits`, an IPv6 number; an IPv4 prefix is the mapped one
-pub record Bits : Type 0 where
+pub record PrefixBits : Type 0 where
   pub bits : ℕ
   pub len : ℕ
 
@@ -17,11 +17,11 @@ pub record IsPrefix (bits len : ℕ) : Type 0 where
   pub clear : bits % 2 ^ (128 - len) ≡ 0
 
 -- the address, as a mapped number, begins with the prefix
-abbrev pub contains : Bits → Ip → Bool
+abbrev pub contains : PrefixBits → Ip → Bool
 contains prefix ip = agrees 128 (mapped_of ip) prefix.bits prefix.len
 
 -- inside ::ffff:0:0/96: the prefix of IPv4 addresses alone
-abbrev pub is_inside_mapped : Bits → Bool
+abbrev pub is_inside_mapped : PrefixBits → Bool
 is_inside_mapped prefix = nat_le 96 prefix.len && agrees 128 prefix.bits (0xffff * 2 ^ 32) 96
 
 -- the common prefix length of a source and a destination (RFC 6724 section 2.2): the greatest number of leading bits,

@@ -2,7 +2,7 @@
 
 ghost use Rattle.std.specs.Prelude.{◌≡◌, ◌<◌, ◌≤◌, if◌then◌else◌};
 ghost use Rattle.he_addr.specs.Ip.{family_of, is_v6};
-ghost use Rattle.he_addr.specs.Prefix.{Bits, IsPrefix, contains, is_inside_mapped, common_of};
+ghost use Rattle.he_addr.specs.Prefix.{PrefixBits, IsPrefix, contains, is_inside_mapped, common_of};
 
 use crate::ip::Ip;
 use std::marker::Model;
@@ -28,7 +28,7 @@ pub struct Prefix {
 }
 
 impl Model for Prefix {
-    ghost Value = { Bits };
+    ghost Value = { PrefixBits };
 
     ghost view = { λ p. record { bits = p.bits; len = p.len } };
 
