@@ -1,0 +1,30 @@
+//! Why an input could not be read or an output not be written.
+ghost use Rattle.he_stream.specs.declared.fault.InputFault.TheVariants.{Memory};
+ghost use Rattle.std.specs.Prelude.{◌≡◌};
+
+use std::alloc::AllocError;
+use thiserror::Error;
+
+/// Why an input could not be read whole.
+#[derive(Clone, Copy, Debug, PartialEq, Eq, Error)]
+pub enum InputFault {
+    /// A read failed, or the bound of reads was reached.
+    #[error("cannot read the input")]
+    Read,
+    /// An allocation was refused.
+    #[error("out of memory")]
+    Memory,
+}
+
+impl From<AllocError> for InputFault {
+    ghost from_gives = { λ _ fault. fault ≡ Memory };
+
+    fn from(_error: AllocError) -> InputFault {
+        InputFault::Memory
+    }
+}
+
+/// A write or a flush failed, a write took no byte, or the bound of writes was reached.
+#[derive(Clone, Copy, Debug, PartialEq, Eq, Error)]
+#[error("cannot write the output")]
+pub struct WriteFault;
