@@ -19,3 +19,6 @@ pub mod output;
 pub use fault::{InputFault, WriteFault};
 pub use input::read_input;
 pub use output::{finish_output, write_output};
+
+#[cfg(test)]
+mod tests;
