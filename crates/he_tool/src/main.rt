@@ -1,0 +1,55 @@
+//! The program `he`: it reads timelines of races and writes what a Happy Eyeballs client does in them.
+#![tactic(auto)]
+
+mod command;
+mod fault;
+mod limits;
+mod output;
+mod replay;
+mod run;
+#[cfg(test)]
+mod tests;
+
+use fault::ReplayFault;
+use run::{report, report_not_text, run_words};
+use std::process::ExitCode;
+use std::{env, io};
+
+fn main(rt: HostRuntime) -> ExitCode {
+    ExitCode::from(run_program(&rt))
+}
+
+// Runs the command line that the program was started with, and answers the exit status.
+fn run_program(rt: &HostRuntime) -> u8 {
+    match words_of(rt) {
+        Ok(words) => run_line(rt, words.as_slice()),
+        Err(error) if error.kind() == io::ErrorKind::OutOfMemory => report(
+            ReplayFault::Memory,
+            &mut rt.stderr(),
+        ),
+        Err(_) => report_not_text(&mut rt.stderr()),
+    }
+}
+
+// The words that the program was started with.
+fn words_of(rt: &HostRuntime) -> io::Result<Vec<String>> {
+    Ok(env::args(rt)?.collect(rt.alloc())?)
+}
+
+fn run_line(rt: &HostRuntime, words: &[String]) -> u8 {
+    let texts = words
+        .iter()
+        .map(|word| word.as_str())
+        .collect::<Vec<&str>>(rt.alloc());
+    match texts {
+        Ok(texts) => run_words(
+            rt,
+            rt.alloc(),
+            texts.as_slice(),
+            &mut rt.stdin(),
+            &mut rt.stdout(),
+            &mut rt.stderr(),
+        ),
+        Err(_) => report(ReplayFault::Memory, &mut rt.stderr()),
+    }
+}
