@@ -1,0 +1,4 @@
+pub mod Building
+pub mod Race
+pub mod Settings
+pub mod Timeline
