@@ -1,0 +1,5 @@
+mod Bounds
+mod DottedTexts
+mod Numbers
+mod Options
+mod PartLaws
