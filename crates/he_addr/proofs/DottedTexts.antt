@@ -1,19 +1,18 @@
 -- IPv4 texts: what is read is spelled, and what is spelled is read.
-use Rattle.std.proofs.Common.{◌≡◌, ◌⊎◌, inl, inr, ℕ, zero, suc, ◌+◌, ◌*◌, ◌/◌, ◌%◌, ◌^◌, ◌<◌, ◌≤◌, Bool, true, false, cond, leb, eqb, List, [], ◌∷◌, ◌++◌, Option, Some, None, length, get_or, decimal, map, refl, sym, ◌∙◌, ap, subst, arith}
-use Rattle.std.specs.Char.{digit_value}
-use Rattle.std.specs.Int.{w32, to_be_bytes, from_be_bytes}
-use Rattle.std.specs.List.{AllByRecursion, join_with_byte}
+use Rattle.std.proofs.Common.{◌≡◌, ◌⊎◌, inl, ℕ, zero, suc, ◌/◌, ◌%◌, ◌^◌, ◌<◌, cond, leb, List, [], ◌∷◌, ◌++◌, Some, None, get_or, decimal, map, refl, sym, ◌∙◌, ap, arith}
+use Rattle.std.specs.Int.{w32, from_be_bytes}
+use Rattle.std.specs.List.{join_with_byte}
 use Rattle.std.specs.Str.Parse.{AllDigits}
 use Rattle.std.proofs.lemmas.Bool.{leb-true, le-leb, cond-true, ne_eqb}
 use Rattle.std.proofs.lemmas.Fmt.{decimal_is_IsNumeral}
 use Rattle.std.proofs.lemmas.Nat.{be_bytes_4, from_be_bytes-to_be_bytes_4}
 use Rattle.std.proofs.lemmas.Option.{same_Some}
 use Rattle.std.proofs.lemmas.Str.Parse.{digit_from_value}
-use Rattle.he_addr.specs.Reading.{◌>>=◌, cut_in, numeral_in, byte_in, v4_in}
-use Rattle.he_addr.specs.Text.{SpellsDecimal, SpellsV4, dotted}
+use Rattle.he_addr.specs.Reading.{◌>>=◌, numeral_in, byte_in, v4_in}
+use Rattle.he_addr.specs.Text.{SpellsV4, dotted}
 use Rattle.he_addr.proofs.Numbers.{numeral_in_some, numeral_in-spelled, spelled_decimal, decimal_spells}
 use Rattle.he_addr.proofs.Options.{bind_some, allowed}
-use Rattle.he_addr.proofs.PartLaws.{Lacks, IsCut, cut_some, cut_joined}
+use Rattle.he_addr.proofs.PartLaws.{Lacks, cut_some, cut_joined}
 
 -- one of the four numbers
 pub byte_in_some : (text : List ℕ) (b : ℕ) → byte_in text ≡ Some b → (b < 256) × (text ≡ decimal b)

@@ -1,14 +1,14 @@
 -- Decimal numbers: what is read is spelled, what is spelled is read, and a number has one spelling.
-use Rattle.std.proofs.Common.{◌≡◌, ℕ, ◌+◌, ◌*◌, ◌^◌, ◌<◌, ◌≤◌, Bool, true, false, cond, ltb, leb, eqb, List, [], ◌∷◌, Option, Some, None, length, get_or, decimal, refl, sym, ◌∙◌, ap, ◌&&◌, ⊎_elim, subst, arith}
+use Rattle.std.proofs.Common.{◌≡◌, ℕ, ◌+◌, ◌*◌, ◌^◌, ◌<◌, ◌≤◌, false, ltb, leb, eqb, List, [], ◌∷◌, Some, None, length, get_or, decimal, refl, sym, ◌∙◌, ap, ◌&&◌, ⊎_elim, arith}
 use Rattle.std.specs.Char.{digit_value}
-use Rattle.std.specs.Str.Parse.{AllDigits, IsNumeral, digits_value, digits_value_after}
+use Rattle.std.specs.Str.Parse.{AllDigits, digits_value, digits_value_after}
 use Rattle.std.proofs.Math.Nat.{pow-le-pow_right}
-use Rattle.std.proofs.lemmas.Bool.{lt-ltb, le-leb, ltb-true, leb-true, eqb-true, ne_eqb, and_parts, and_from, and_cases, and_left, and_right, eqb-false, ltb-false, cond-true, cond-false, cases_eq, le-ltb}
+use Rattle.std.proofs.lemmas.Bool.{lt-ltb, le-leb, ltb-true, leb-true, ne_eqb, and_parts, and_from, and_cases, and_left, and_right, eqb-false, ltb-false, cond-true, cond-false, cases_eq, le-ltb}
 use Rattle.std.proofs.lemmas.Int.Digits.{digits_value-lt}
 use Rattle.std.proofs.lemmas.Str.Parse.{IsNumeralModel, numerals_by_value, tells_digits}
 use Rattle.std.proofs.lemmas.Fmt.{decimal-digits_value, decimal_is_IsNumeral, length-decimal-le, first_decimal, decimal_digit}
-use Rattle.he_addr.specs.Reading.{digits_after, digits_in, numeral_in, number_in, ◌>>=◌}
-use Rattle.he_addr.specs.Text.{SpellsDecimal, SpellsNumber}
+use Rattle.he_addr.specs.Reading.{digits_after, digits_in, numeral_in}
+use Rattle.he_addr.specs.Text.{SpellsDecimal}
 use Rattle.he_addr.proofs.Options.{allowed, not_refused}
 
 -- digits are read
@@ -68,9 +68,9 @@ pub numeral_in-spelled : (most : ℕ) (text : List ℕ) (n : ℕ) → SpellsDeci
 unfolding numeral_in
 numeral_in-spelled most text n h =
     cond-false (eqb (get_or text 0 0) 48 && ltb 1 (length text)) None (digits_in 10 most text) (⊎_elim
-        (λ (e : get_or text 0 0 ≡ 48). and_right _ (ltb 1 (length text)) (le-ltb 1 (length text) (omega (arith, h.plain e))))
-        (λ (e : get_or text 0 0 ≡ 48 → ⊥). and_left (eqb (get_or text 0 0) 48) _ (ne_eqb (get_or text 0 0) 48 e))
-        (cases_eq (get_or text 0 0) 48))
+    (λ (e : get_or text 0 0 ≡ 48). and_right _ (ltb 1 (length text)) (le-ltb 1 (length text) (omega (arith, h.plain e))))
+    (λ (e : get_or text 0 0 ≡ 48 → ⊥). and_left (eqb (get_or text 0 0) 48) _ (ne_eqb (get_or text 0 0) 48 e))
+    (cases_eq (get_or text 0 0) 48))
     ∙ digits_in-digits 10 most text n (record { some = h.numeral.0; few = h.few; digits = h.numeral.1; value = h.value })
 
 own : IsNumeralModel (AllDigits 10) (digits_value 10)

@@ -1,5 +1,6 @@
 -- Steps that may give nothing.
 use Rattle.std.proofs.Common.{◌≡◌, Bool, true, false, cond, Option, Some, None, refl}
+use Rattle.std.specs.Option.{IfSome, IfNone}
 use Rattle.he_addr.specs.Reading.{◌>>=◌}
 
 -- a step and what follows it
@@ -16,3 +17,17 @@ allowed false o y h = cc
 pub not_refused : {A : Type 0} (b : Bool) (o : Option A) (y : A) → cond b None o ≡ Some y → (b ≡ false) × (o ≡ Some y)
 not_refused true o y h = cc
 not_refused false o y h = (refl, h)
+
+-- what a clause on the value, or on its absence, asks for
+pub if_some : {A : Type 0} (o : Option A) (P : A → Type 0) → ((x : A) → o ≡ Some x → P x) → IfSome o P
+if_some None P h = tt
+if_some (Some x) P h = h x refl
+
+pub if_none : {A : Type 0} (o : Option A) (P : Type 0) → (o ≡ None → P) → IfNone o P
+if_none None P h = h refl
+if_none (Some x) P h = tt
+
+-- no value is none
+pub none_from : {A : Type 0} (o : Option A) → ((x : A) → o ≡ Some x → ⊥) → o ≡ None
+none_from None h = refl
+none_from (Some x) h = absurd (h x refl)

@@ -1,8 +1,10 @@
 -- What the readers answer, as functions on lists. They help the proofs; what a text spells stands in `Text`.
-use Rattle.std.specs.Prelude.{ℕ, ◌+◌, ◌*◌, ◌-◌, ◌==◌, ◌&&◌, Bool, List, [], ◌∷◌, Option, Some, None, option_and_then, length, slice_index, take, drop, nat_lt, nat_le, if◌then◌else◌, position}
+use Rattle.std.specs.Prelude.{ℕ, ◌+◌, ◌*◌, ◌-◌, ◌/◌, ◌%◌, ◌^◌, ◌<◌, ◌≤◌, ◌==◌, ◌&&◌, Bool, true, false, List, [], ◌∷◌, Option, Some, None, option_and_then, length, slice_index, take, drop, nat_lt, nat_le, if◌then◌else◌, position}
 use Rattle.std.specs.Char.{digit_value}
 use Rattle.std.specs.Int.{w32, from_be_bytes}
-use Rattle.std.specs.Option.{option_map}
+use Rattle.std.specs.List.{slice_split}
+use Rattle.std.specs.Option.{option_map, option_map_or}
+use Rattle.he_addr.specs.declared.groups.Groups.{Groups}
 
 infixl 10 ◌>>=◌
 abbrev pub ◌>>=◌ : {A B : Type 0} → Option A → (A → Option B) → Option B
@@ -46,3 +48,73 @@ v4_in text = do
   c ← byte_in third.0
   d ← byte_in third.1
   Some (from_be_bytes w32 (a ∷ b ∷ c ∷ d ∷ []))
+
+-- the parts between the marks
+abbrev pub parts_at : ℕ → List ℕ → List (List ℕ)
+parts_at mark text = slice_split (λ b. b == mark) text
+
+-- a group of one to four hexadecimal digits
+unfoldable pub group_in : List ℕ → Option ℕ
+group_in text = digits_in 16 4 text
+
+abbrev pub no_groups : Groups
+no_groups = record { count = 0; number = 0 }
+
+-- one group more, of at most eight
+abbrev pub with_group : Groups → ℕ → Option Groups
+with_group groups group = if nat_lt groups.count 8 then Some (record { count = groups.count + 1; number = groups.number * 65536 + group }) else None
+
+-- the two groups of an IPv4 number more
+unfoldable pub with_dotted : Groups → ℕ → Option Groups
+with_dotted groups number = do
+  more ← with_group groups (number / 65536)
+  with_group more (number % 65536)
+
+-- a part that is a group
+unfoldable pub next_after : Groups → List ℕ → Option Groups
+next_after groups part = group_in part >>= with_group groups
+
+-- the last part is a group, or where it may be dotted an IPv4 text
+unfoldable pub last_after : Bool → Groups → List ℕ → Option Groups
+last_after dotted groups part = option_map_or (with_dotted groups) (if dotted then v4_in part else None) (next_after groups part)
+
+-- the groups that the parts write when they follow these
+unfoldable pub groups_after : Bool → Groups → List (List ℕ) → Option Groups
+groups_after dotted groups [] = None
+groups_after dotted groups (part ∷ []) = last_after dotted groups part
+groups_after dotted groups (part ∷ next ∷ parts) = next_after groups part >>= (λ more. groups_after dotted more (next ∷ parts))
+
+-- the groups on one side of `::`; the empty text writes none
+unfoldable pub side_in : Bool → List ℕ → Option Groups
+side_in dotted text = if length text == 0 then Some no_groups else groups_after dotted no_groups (parts_at 58 text)
+
+-- where the first `::` begins, at or after this place
+abbrev pub gap_from : ℕ → List ℕ → Option ℕ
+gap_from at [] = None
+gap_from at (b ∷ bs) = if b == 58 && slice_index bs 0 == 58 then Some at else gap_from (at + 1) bs
+
+-- the number of a text without `::`
+unfoldable pub whole_in : List ℕ → Option ℕ
+whole_in text = do
+  groups ← side_in true text
+  if groups.count == 8 then Some groups.number else None
+
+-- the number of the groups before and after `::`, which stands for at least one zero group
+abbrev pub number_between : Groups → Groups → Option ℕ
+number_between before after = if nat_lt (before.count + after.count) 8 then Some (before.number * 65536 ^ (8 - before.count) + after.number) else None
+
+-- the number of a text whose `::` begins here
+unfoldable pub short_in : List ℕ → ℕ → Option ℕ
+short_in text at = do
+  before ← side_in false (take at text)
+  after ← side_in true (drop (at + 2) text)
+  number_between before after
+
+-- the number of an IPv6 text
+unfoldable pub v6_in : List ℕ → Option ℕ
+v6_in text = option_map_or (short_in text) (gap_from 0 text) (whole_in text)
+
+-- at most eight groups, each of sixteen bits
+pub record AreInRange (groups : Groups) : Type 0 where
+  pub few : groups.count ≤ 8
+  pub small : groups.number < 65536 ^ groups.count
