@@ -1,3 +1,5 @@
+mod AddressBytes
+mod AddressTexts
 mod Bounds
 pub mod Common_bits
 mod DottedTexts

@@ -1,8 +1,9 @@
 -- The printed texts as functions: what the writers append. What these texts are stands in `Printed`.
-use Rattle.std.specs.Prelude.{ℕ, ◌+◌, ◌==◌, List, [], ◌∷◌, nat_le, if◌then◌else◌}
+use Rattle.std.specs.Prelude.{ℕ, ◌+◌, ◌-◌, ◌%◌, ◌^◌, ◌==◌, ◌&&◌, Bool, List, [], ◌∷◌, ◌++◌, decimal, nat_le, if◌then◌else◌}
 use Rattle.he_addr.specs.declared.ip.Ip.{Ip}
 use Rattle.he_addr.specs.declared.ip.Ip.TheVariants.{V4, V6}
 use Rattle.he_addr.specs.declared.printing.Run.{Run}
+use Rattle.he_addr.specs.Prefix.{PrefixBits, is_inside_mapped}
 use Rattle.he_addr.specs.Printed.{groups_of, joined, shortened}
 use Rattle.he_addr.specs.Text.{dotted}
 
@@ -30,3 +31,11 @@ printed_v6 n = printed_groups (groups_of n) (longest (groups_of n))
 abbrev pub printed : Ip → List ℕ
 printed (V4 n) = dotted n
 printed (V6 n) = printed_v6 n
+
+-- the text of an address and a prefix length
+abbrev pub source_text : Ip → ℕ → List ℕ
+source_text ip len = printed ip ++ 47 ∷ decimal len
+
+-- the text of a prefix, in IPv4 form if that is asked for and it is one of IPv4 addresses
+abbrev pub prefix_text : Bool → PrefixBits → List ℕ
+prefix_text is_dotted prefix = if is_dotted && is_inside_mapped prefix then source_text (V4 (prefix.bits % 2 ^ 32)) (prefix.len - 96) else source_text (V6 prefix.bits) prefix.len

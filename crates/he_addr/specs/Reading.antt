@@ -5,6 +5,10 @@ use Rattle.std.specs.Int.{w32, from_be_bytes}
 use Rattle.std.specs.List.{slice_split}
 use Rattle.std.specs.Option.{option_map, option_map_or}
 use Rattle.he_addr.specs.declared.groups.Groups.{Groups}
+use Rattle.he_addr.specs.declared.ip.Ip.{Ip}
+use Rattle.he_addr.specs.declared.ip.Ip.TheVariants.{V4, V6}
+use Rattle.he_addr.specs.Prefix.{PrefixBits, width_of}
+use Rattle.he_addr.specs.Text.{prefix_of}
 
 infixl 10 ◌>>=◌
 abbrev pub ◌>>=◌ : {A B : Type 0} → Option A → (A → Option B) → Option B
@@ -113,6 +117,31 @@ short_in text at = do
 -- the number of an IPv6 text
 unfoldable pub v6_in : List ℕ → Option ℕ
 v6_in text = option_map_or (short_in text) (gap_from 0 text) (whole_in text)
+
+-- the address of a text
+unfoldable pub ip_in : List ℕ → Option Ip
+ip_in text = option_map_or (λ n. Some (V4 n)) (v4_in text) (option_map (λ n. V6 n) (v6_in text))
+
+-- the address and the length of a source text
+unfoldable pub source_in : List ℕ → Option (Ip × ℕ)
+source_in text = do
+  cut ← cut_in 47 text
+  ip ← ip_in cut.0
+  len ← numeral_in 3 cut.1
+  if nat_le len (width_of ip) then Some (ip, len) else None
+
+-- whether no bit is set past the length
+abbrev pub is_prefix : PrefixBits → Bool
+is_prefix prefix = nat_le prefix.len 128 && nat_lt prefix.bits (2 ^ 128) && (prefix.bits % 2 ^ (128 - prefix.len) == 0)
+
+abbrev pub checked : PrefixBits → Option PrefixBits
+checked prefix = if is_prefix prefix then Some prefix else None
+
+-- the prefix of a text
+unfoldable pub prefix_in : List ℕ → Option PrefixBits
+prefix_in text = do
+  source ← source_in text
+  checked (prefix_of source.0 source.1)
 
 -- at most eight groups, each of sixteen bits
 pub record AreInRange (groups : Groups) : Type 0 where

@@ -6,6 +6,8 @@ use Rattle.std.specs.List.{join_with_byte, slice_split}
 use Rattle.std.specs.Str.Parse.{IsNumeral, digits_value}
 use Rattle.he_addr.specs.declared.ip.Ip.{Ip}
 use Rattle.he_addr.specs.declared.ip.Ip.TheVariants.{V4, V6}
+use Rattle.he_addr.specs.Ip.{mapped_of}
+use Rattle.he_addr.specs.Prefix.{PrefixBits, IsPrefix, width_of}
 
 -- one to `most` decimal digits, a `0` first only in `0` itself, and the number that they write
 pub record SpellsDecimal (most : ℕ) (text : List ℕ) (number : ℕ) : Type 0 where
@@ -80,3 +82,25 @@ SpellsV6 text n = SpellsWhole text n ⊎ SpellsShort text n
 abbrev pub Spells : List ℕ → Ip → Type 0
 Spells text (V4 n) = SpellsV4 text n
 Spells text (V6 n) = SpellsV6 text n
+
+-- a source text: an address, `/` and a length of one to three digits, at most the bits of the family
+pub record SpellsSource (text : List ℕ) (ip : Ip) (len : ℕ) : Type 0 where
+  pub address : List ℕ
+  pub digits : List ℕ
+  pub parts : text ≡ address ++ 47 ∷ digits
+  pub spelled : Spells address ip
+  pub length : SpellsDecimal 3 digits len
+  pub within : len ≤ width_of ip
+
+-- the first bits of an address; those of an IPv4 address stand behind the 96 of ::ffff:0:0
+abbrev pub prefix_of : Ip → ℕ → PrefixBits
+prefix_of (V4 n) len = record { bits = mapped_of (V4 n); len = 96 + len }
+prefix_of (V6 n) len = record { bits = n; len = len }
+
+-- a prefix text: as a source text, with no bit set past the length
+pub record SpellsPrefix (text : List ℕ) (prefix : PrefixBits) : Type 0 where
+  pub ip : Ip
+  pub len : ℕ
+  pub source : SpellsSource text ip len
+  pub value : prefix ≡ prefix_of ip len
+  pub clear : IsPrefix prefix.bits prefix.len

@@ -5,11 +5,7 @@ ghost use Rattle.he_addr.specs.Reading.{byte_in, v4_in};
 
 use crate::decimal::read_numeral;
 use crate::parts::cut;
-
-const DOT: u8 = b'.';
-
-// The most digits of one of the four numbers.
-const BYTE_DIGITS: usize = 3;
+use crate::printing::{BYTE_DIGITS, DOT};
 
 #[tactic(auto, unfolding(crate::specs::Reading::byte_in))]
 fn read_byte(text: &[u8]) -> Option<u8>
