@@ -1,3 +1,7 @@
 pub mod Bits
 pub mod Ip
 pub mod Prefix
+pub mod Printed
+pub mod Printing
+pub mod Reading
+pub mod Text
