@@ -1,39 +1,35 @@
-// A count of calls that comes due once.
+// A count of calls, one of which is due.
 use std::sync::atomic::{AtomicU64, Ordering};
 
-// What a countdown starts at that is not to come due. From here on down to 0 it is still to come due, and above it
-// is past.
-const NEVER: u64 = u64::MAX / 2;
+// The most calls that may stand before the due one. The word holds how many do, and more than this once the due one
+// is past, since it then goes on below 0 and round.
+const MOST_LEFT: u64 = u64::MAX / 2;
 
-/// How many calls are still to come before the one that is due.
 pub(crate) struct Countdown {
     left: AtomicU64,
 }
 
 impl Countdown {
+    // No call is due for as long as the word lasts.
     pub(crate) fn new() -> Countdown {
         Countdown {
-            left: AtomicU64::new(NEVER),
+            left: AtomicU64::new(MOST_LEFT),
         }
     }
 
-    // The `nth` call from now on is due, 1 being the next, and at 0 none is.
+    // The `nth` call from now on is due, the next being the first. At 0 none is.
     pub(crate) fn start(&self, nth: u64) {
-        let left = match nth {
-            0 => NEVER,
-            _ => (nth - 1).min(NEVER),
-        };
+        let left = nth.checked_sub(1).unwrap_or(MOST_LEFT).min(MOST_LEFT);
         self.left.store(left, Ordering::SeqCst);
     }
 
-    // Counts a call, and says whether it is the one that is due. The count goes on below 0, round to the largest
-    // numbers, so that it is due once.
+    // Counts a call, and says whether it is the due one.
     pub(crate) fn is_due(&self) -> bool {
         self.left.fetch_sub(1, Ordering::SeqCst) == 0
     }
 
     pub(crate) fn is_past(&self) -> bool {
-        self.left.load(Ordering::SeqCst) > NEVER
+        self.left.load(Ordering::SeqCst) > MOST_LEFT
     }
 }
 
