@@ -84,20 +84,23 @@ fn threads(rt: HostRuntime) {
     assert_eq!(rt; refused, 2);
 }
 
-// The third growth alone is refused, and none once `refuse` is called with 0.
+// The third growth alone is refused, and none that is far off, nor the 0th.
 #[test]
 fn nth(rt: HostRuntime) {
     let heap = Refusing::new(rt.alloc());
+    assert!(rt; with_one(&heap, 1).is_ok());
     assert!(rt; !heap.has_refused());
     heap.refuse(3);
     for growth in 1..6u64 {
         assert_eq!(rt; with_one(&heap, 1).is_err(), growth == 3, "at {growth}");
         assert_eq!(rt; heap.has_refused(), growth >= 3, "at {growth}");
     }
-    heap.refuse(0);
-    assert!(rt; !heap.has_refused());
-    assert!(rt; with_one(&heap, 1).is_ok());
-    assert!(rt; !heap.has_refused());
+    for far in [0, u64::MAX] {
+        heap.refuse(far);
+        assert!(rt; !heap.has_refused());
+        assert!(rt; with_one(&heap, 1).is_ok());
+        assert!(rt; !heap.has_refused());
+    }
 }
 
 // What never grows is refused nothing, and what has no last growth answers 0 at the bound. Either way the heap

@@ -4,7 +4,7 @@ use seplogic.Ra.Ura.{Ura}
 use mir.Syntax.{Ty, Args, Fn, a_type, dnil, dcons}
 use mir.Val.{Val, vbool, vint, vptr}
 use mir.MapTy.{inst_fn}
-use base.Logic.{SProp, ent, id⊢}
+use base.Logic.{SProp, ent}
 use base.Fml.{Lft, Share, ftrue, flft}
 use prog.Memory.{Memory, size, align, capped}
 use prog.Routine.{Routine}
