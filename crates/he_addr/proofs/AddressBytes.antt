@@ -8,8 +8,7 @@ use Rattle.std.proofs.lemmas.Fmt.{decimal_is_IsNumeral}
 use Rattle.std.proofs.lemmas.List.Splits.{join_with_byte-slice_split}
 use Rattle.he_addr.specs.declared.ip.Ip.{Ip}
 use Rattle.he_addr.specs.declared.ip.Ip.TheVariants.{V4, V6}
-use Rattle.he_addr.specs.Text.{SpellsLast, SpellGroups, SpellsSide, Spells, dotted, parts_of}
-use Rattle.he_addr.proofs.PartLaws.{Lacks}
+use Rattle.he_addr.specs.Text.{SpellsLast, SpellGroups, SpellsSide, Spells, dotted, parts_of, Lacks}
 
 abbrev pub IsAddressByte : ℕ → Type 0
 IsAddressByte b = (digit_value b < 16) ⊎ ((b ≡ 46) ⊎ (b ≡ 58))

@@ -7,16 +7,16 @@ use Rattle.he_addr.specs.declared.ip.Ip.{Ip}
 use Rattle.he_addr.specs.declared.ip.Ip.TheVariants.{V4, V6}
 use Rattle.he_addr.specs.Prefix.{PrefixBits, IsPrefix, width_of}
 use Rattle.he_addr.specs.Reading.{◌>>=◌, cut_in, v4_in, v6_in, ip_in, source_in, is_prefix, checked, prefix_in}
-use Rattle.he_addr.specs.Text.{SpellGroups, SpellsV6, Spells, SpellsSource, SpellsPrefix, prefix_of, dotted}
+use Rattle.he_addr.specs.Text.{SpellGroups, SpellsV6, Spells, SpellsSource, SpellsPrefix, prefix_of, dotted, Lacks}
 use Rattle.he_addr.proofs.AddressBytes.{address_bytes, bytes_lack, no_slash}
 use Rattle.he_addr.proofs.DottedTexts.{v4_in_some, v4_in-dotted, decimal_lacks}
 use Rattle.he_addr.proofs.Numbers.{numeral_in_some, numeral_in-spelled}
 use Rattle.he_addr.proofs.Options.{bind_some, allowed, none_from}
-use Rattle.he_addr.proofs.PartLaws.{Lacks, cut_some, cut_joined, parts_whole}
+use Rattle.he_addr.proofs.PartLaws.{cut_some, cut_joined, parts_whole}
 use Rattle.he_addr.proofs.SixTexts.{v6_in_some, v6_in-spelled}
 
 -- an IPv4 text has no colon
-lacks-append : (mark : ℕ) (xs ys : List ℕ) → Lacks mark xs → Lacks mark ys → Lacks mark (xs ++ ys)
+pub lacks-append : (mark : ℕ) (xs ys : List ℕ) → Lacks mark xs → Lacks mark ys → Lacks mark (xs ++ ys)
 lacks-append mark [] ys hx hy = hy
 lacks-append mark (x ∷ xs) ys hx hy = (hx.0, lacks-append mark xs ys hx.1 hy)
 

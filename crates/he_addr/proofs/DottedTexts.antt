@@ -9,10 +9,10 @@ use Rattle.std.proofs.lemmas.Nat.{be_bytes_4, from_be_bytes-to_be_bytes_4}
 use Rattle.std.proofs.lemmas.Option.{same_Some}
 use Rattle.std.proofs.lemmas.Str.Parse.{digit_from_value}
 use Rattle.he_addr.specs.Reading.{◌>>=◌, numeral_in, byte_in, v4_in}
-use Rattle.he_addr.specs.Text.{SpellsV4, dotted}
+use Rattle.he_addr.specs.Text.{SpellsV4, dotted, Lacks}
 use Rattle.he_addr.proofs.Numbers.{numeral_in_some, numeral_in-spelled, spelled_decimal, decimal_spells}
 use Rattle.he_addr.proofs.Options.{bind_some, allowed}
-use Rattle.he_addr.proofs.PartLaws.{Lacks, cut_some, cut_joined}
+use Rattle.he_addr.proofs.PartLaws.{cut_some, cut_joined}
 
 -- one of the four numbers
 pub byte_in_some : (text : List ℕ) (b : ℕ) → byte_in text ≡ Some b → (b < 256) × (text ≡ decimal b)

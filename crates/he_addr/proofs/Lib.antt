@@ -11,5 +11,7 @@ mod JoinedTexts
 mod Numbers
 mod Options
 mod PartLaws
+mod PrintedTexts
 mod Runs
 mod SixTexts
+pub mod TextLaws

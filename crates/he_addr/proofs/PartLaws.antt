@@ -1,6 +1,6 @@
 -- A text cut at its first mark, and at every one.
 use Rattle.std.proofs.Common.{◌≡◌, ℕ, ◌+◌, ◌<◌, Bool, true, false, cond, ltb, eqb, not, List, [], ◌∷◌, ◌++◌, Option, Some, None, length, get_or, take, drop, refl, sym, ◌∙◌, ap, subst, arith}
-use Rattle.std.specs.List.{AllByRecursion, position_or_len, before_first, after_first}
+use Rattle.std.specs.List.{position_or_len, before_first, after_first}
 use Rattle.std.specs.Option.{option_map}
 use Rattle.std.proofs.lemmas.Bool.{lt-ltb, ltb-true, ltb-false, eq-eqb, eqb-true, cond-true, not-false}
 use Rattle.std.proofs.lemmas.List.{take_at, drop_at, length-take, get_or-take, drop-drop, get_or_at, get_or_append_left, length-append}
@@ -8,10 +8,7 @@ use Rattle.std.proofs.lemmas.List.Elements.{All-from_recursion, recursion_from_A
 use Rattle.std.proofs.lemmas.List.Sums.{position_or_len_is, split_at_first, prefix_len_stops, fails_before_first}
 use Rattle.std.proofs.lemmas.List.Splits.{slice_split_at, slice_split_none}
 use Rattle.he_addr.specs.Reading.{cut_in, parts_at}
-
--- no byte is the mark
-abbrev pub Lacks : ℕ → List ℕ → Type 0
-Lacks mark text = AllByRecursion (λ b. eqb b mark ≡ false) text
+use Rattle.he_addr.specs.Text.{Lacks}
 
 pub position_joined : (mark : ℕ) (front rest : List ℕ) → Lacks mark front → position_or_len (λ b. eqb b mark) (front ++ mark ∷ rest) ≡ length front
 position_joined mark front rest lacks =

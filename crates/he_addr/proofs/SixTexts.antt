@@ -1,5 +1,5 @@
 -- IPv6 texts as a whole: what is read is spelled, and what is spelled is read.
-use Rattle.std.proofs.Common.{◌≡◌, inl, inr, ℕ, ◌+◌, ◌-◌, ◌*◌, ◌^◌, ◌<◌, ◌≤◌, Bool, true, false, cond, eqb, ltb, List, [], ◌∷◌, ◌++◌, Option, Some, None, length, take, drop, refl, sym, ◌∙◌, ap, arith}
+use Rattle.std.proofs.Common.{◌≡◌, inl, inr, ℕ, ◌+◌, ◌-◌, ◌*◌, ◌^◌, ◌<◌, ◌≤◌, Bool, true, false, cond, eqb, ltb, List, [], ◌∷◌, ◌++◌, Option, Some, None, length, take, drop, refl, sym, ◌∙◌, ap, arith, replicate}
 use Rattle.std.specs.Int.Digits.{number_from_digits}
 use Rattle.std.specs.Option.{option_map_or}
 use Rattle.std.proofs.lemmas.Bool.{ltb-true, lt-ltb, cond-true, cond-false, ne_eqb, eqb-true, eq-eqb}
@@ -62,6 +62,16 @@ whole-spelled text n h =
     ∙ cond-true (eqb (0 + length h.groups) 8) (Some (number_from_digits 65536 h.groups)) None (eq-eqb (0 + length h.groups) 8 (omega (arith, h.eight)))
     ∙ ap Some (sym h.number)
 
+-- the number of both sides
+between_number : (left right : List ℕ) (before after : Groups) (n : ℕ) → before.count ≡ length left → before.number ≡ number_from_digits 65536 left → after.number ≡ number_from_digits 65536 right
+    → length left + length right ≤ 7 → before.number * 65536 ^ (8 - before.count) + after.number ≡ n
+    → n ≡ number_from_digits 65536 (left ++ replicate (8 - (length left + length right)) 0 ++ right)
+between_number left right before after n counted first second room is =
+    sym is ∙ ap (λ m. m * 65536 ^ (8 - before.count) + after.number) first
+    ∙ ap (λ k. number_from_digits 65536 left * 65536 ^ (8 - k) + after.number) counted
+    ∙ ap (λ m. number_from_digits 65536 left * 65536 ^ (8 - length left) + m) second
+    ∙ sym (number_between_is left right room)
+
 -- both sides of a gap
 sides_at : (text left right : List ℕ) (at : ℕ) → text ≡ left ++ 58 ∷ 58 ∷ right → at ≡ length left → (take at text ≡ left) × (drop (at + 2) text ≡ right)
 sides_at text left right at joined place =
@@ -92,11 +102,7 @@ short_some text at n gap h =
       spelled_before = left.1;
       spelled_after = right.1;
       room = room;
-      number = sym (same_Some _ n between.1)
-          ∙ ap (λ m. m * 65536 ^ (8 - before.0.count) + after.0.number) left.2.number
-          ∙ ap (λ k. number_from_digits 65536 left.0 * 65536 ^ (8 - k) + after.0.number) counted
-          ∙ ap (λ m. number_from_digits 65536 left.0 * 65536 ^ (8 - length left.0) + m) right.2.number
-          ∙ sym (number_between_is left.0 right.0 room);
+      number = between_number left.0 right.0 before.0 after.0 n counted left.2.number right.2.number room (same_Some _ n between.1);
     }
 
 short-spelled : (text : List ℕ) (n : ℕ) (h : SpellsShort text n) → short_in text (length h.left) ≡ Some n

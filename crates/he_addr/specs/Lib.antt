@@ -1,5 +1,6 @@
 pub mod Bits
 pub mod Ip
+pub mod Laws
 pub mod Prefix
 pub mod Printed
 pub mod Printing

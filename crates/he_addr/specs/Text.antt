@@ -2,7 +2,7 @@
 use Rattle.std.specs.Prelude.{◌≡◌, ◌⊎◌, ℕ, ◌+◌, ◌-◌, ◌/◌, ◌%◌, ◌^◌, ◌<◌, ◌≤◌, ◌==◌, Bool, true, false, IsTrue, List, [], ◌∷◌, ◌++◌, map, length, replicate, slice_index, decimal}
 use Rattle.std.specs.Int.{w32, to_be_bytes}
 use Rattle.std.specs.Int.Digits.{number_from_digits}
-use Rattle.std.specs.List.{join_with_byte, slice_split}
+use Rattle.std.specs.List.{AllByRecursion, join_with_byte, slice_split}
 use Rattle.std.specs.Str.Parse.{IsNumeral, digits_value}
 use Rattle.he_addr.specs.declared.ip.Ip.{Ip}
 use Rattle.he_addr.specs.declared.ip.Ip.TheVariants.{V4, V6}
@@ -104,3 +104,14 @@ pub record SpellsPrefix (text : List ℕ) (prefix : PrefixBits) : Type 0 where
   pub source : SpellsSource text ip len
   pub value : prefix ≡ prefix_of ip len
   pub clear : IsPrefix prefix.bits prefix.len
+
+-- no byte of the text is this one
+abbrev pub Lacks : ℕ → List ℕ → Type 0
+Lacks mark text = AllByRecursion (λ b. (b == mark) ≡ false) text
+
+-- a text that can stand between spaces in a line: some bytes, at most `most`, none of them a space or LF
+pub record IsToken (most : ℕ) (text : List ℕ) : Type 0 where
+  pub some : 0 < length text
+  pub few : length text ≤ most
+  pub no_space : Lacks 32 text
+  pub no_newline : Lacks 10 text

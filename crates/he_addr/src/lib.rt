@@ -6,6 +6,7 @@ pub mod decimal;
 mod dotted;
 mod groups;
 pub mod ip;
+pub mod laws;
 pub mod memory;
 mod parts;
 pub mod prefix;

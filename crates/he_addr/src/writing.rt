@@ -2,6 +2,7 @@
 
 ghost use Rattle.std.specs.Prelude.{◌≡◌, ◌++◌, OnOk, OnErr};
 ghost use Rattle.he_addr.specs.Prefix.{width_of};
+ghost use Rattle.he_addr.specs.Printed.{IsPrinted};
 ghost use Rattle.he_addr.specs.Printing.{printed, source_text, prefix_text};
 
 use crate::ip::Ip;
@@ -15,6 +16,7 @@ use std::alloc::Allocator;
 /// of the longest runs of at least two zero groups, no dotted part. After [`Memory`] the text is as it was.
 pub fn write_ip<A: Allocator + Copy>(ip: Ip, out: &mut Vec<u8, A>) -> Result<(), Memory>
     ensures ok { OnOk result (out.new.items ≡ out.old.items ++ printed ip) }
+    ensures text { IsPrinted ip (printed ip) }
     ensures err { OnErr result (out.new.items ≡ out.old.items) }
 {
     let mut text = ArrayVec::new();
