@@ -30,3 +30,8 @@ abbrev pub common_of : Ip → ℕ → Ip → ℕ
 common_of (V4 s) len (V4 d) = greatest (agrees 32 s d) len
 common_of (V6 s) len (V6 d) = greatest (agrees 128 s d) len
 common_of _ len _ = 0
+
+-- how many bits an address of its family has
+abbrev pub width_of : Ip → ℕ
+width_of (V4 n) = 32
+width_of (V6 n) = 128
