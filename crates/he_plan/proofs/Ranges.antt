@@ -12,6 +12,7 @@ use Rattle.he_plan.specs.declared.outcome.Outcome.{Outcome}
 use Rattle.he_plan.specs.declared.limits.TheConstants.{MAX_TICK, MAX_ADDRESSES, MAX_PAUSES, MAX_PAUSE_END}
 use Rattle.he_plan.specs.Race.{Race, Reply, reply_of, addresses_of, same_ip, has_ip, has_outcome, stands}
 use Rattle.he_plan.specs.Timeline.{IsRace, is_outcome, is_duration, duration_of, are_told_once, are_of, are_distinct, are_pauses}
+use Rattle.he_plan.proofs.Bools.{and_left, and_right, and_both}
 use Rattle.he_plan.specs.Building.{with_answer, with_outcome, with_pause, last_end}
 
 pub same_ip-sym : (x y : Ip) → same_ip x y ≡ same_ip y x
@@ -55,15 +56,6 @@ stands_still (Some reply) ip ips b none h = cc
 stands_still_right : (old : Option Reply) (ip : Ip) (ips : List Ip) (b : Bool) → is_some old ≡ false → (b || has_ip ip (addresses_of old)) ≡ true → (b || has_ip ip ips) ≡ true
 stands_still_right None ip ips b none h = grind (arith, common_steps)
 stands_still_right (Some reply) ip ips b none h = cc
-
-and_left : (a b : Bool) → (a && b) ≡ true → a ≡ true
-and_left a b h = grind (arith, common_steps)
-
-and_right : (a b : Bool) → (a && b) ≡ true → b ≡ true
-and_right a b h = grind (arith, common_steps)
-
-and_both : (a b : Bool) → a ≡ true → b ≡ true → (a && b) ≡ true
-and_both a b h k = grind (arith, common_steps)
 
 pub IsRace-with_answer : (race : Race) (family : Family) (tick : ℕ) (addresses : List Ip) → IsRace race → is_some (reply_of race family) ≡ false → nat_lt MAX_TICK tick ≡ false → nat_lt MAX_ADDRESSES (length addresses) ≡ false → are_of family addresses ≡ true → are_distinct addresses ≡ true → IsRace (with_answer race family (record { tick = tick; addresses = addresses }))
 IsRace-with_answer race families.V6 tick addresses r none early few of distinct = record {

@@ -1,10 +1,13 @@
 // A race's whole input: settings, answers, outcomes and pauses.
 
-ghost use Rattle.std.specs.Prelude.{◌≡◌, option_map, IfOk, OnOk, OnErr};
+ghost use Rattle.std.specs.Prelude.{◌≡◌, ◌≤◌, option_map, max, IfOk, IfSome, OnOk, OnErr};
 ghost use Rattle.he_plan.specs.Race.{Race, Reply, reply_of, addresses_of, has_ip, has_outcome, stands};
-ghost use Rattle.he_plan.specs.Timeline.{IsRace};
+ghost use Rattle.he_plan.specs.Timeline.{IsRace, duration_of};
+ghost use Rattle.he_plan.specs.Attempts.{IsSeen, seen, seen_past};
+ghost use Rattle.he_plan.specs.Finish.{outcome_of, outcome_in};
 ghost use Rattle.he_plan.specs.Building.{empty_race, with_answer, with_outcome, with_pause};
 
+use crate::limits::{MAX_DURATION, MAX_PAUSE_END, MIN_DURATION};
 use crate::outcome::Outcome;
 use crate::settings::Settings;
 use he_addr::{Family, Ip};
@@ -153,6 +156,23 @@ impl<A: Allocator> Timeline<A> {
         self.outcomes.as_slice()
     }
 
+    /// What the address does when it is tried, or none if it is silent.
+    pub fn outcome(&self, ip: Ip) -> Option<Outcome>
+        ensures value { result ≡ outcome_of self.now ip }
+        ensures range { IfSome result (λ outcome. (MIN_DURATION ≤ duration_of outcome) × (duration_of outcome ≤ MAX_DURATION)) }
+    {
+        outcome_in(&self.outcomes, ip)
+    }
+
+    /// The least tick at or after `tick` that no pause covers.
+    pub fn seen(&self, tick: u64) -> u64
+        ensures value { result ≡ seen self.now tick }
+        ensures least { IsSeen self.now tick result }
+        ensures range { result ≤ max tick MAX_PAUSE_END }
+    {
+        seen_past(&self.pauses, tick)
+    }
+
     /// The pauses in order: a pause from `f` to `t` covers the ticks from `f` to `t - 1`.
     pub fn pauses(&self) -> &[(u64, u64)]
         ensures value { result.now ≡ self.now.pauses }
@@ -175,4 +195,22 @@ fn has_outcome(outcomes: &[(Ip, Outcome)], ip: Ip) -> bool
     ensures { result ≡ has_outcome ip outcomes.now }
 {
     outcomes.iter().any(|told| told.0 == ip)
+}
+
+fn outcome_in(outcomes: &[(Ip, Outcome)], ip: Ip) -> Option<Outcome>
+    ensures { result ≡ outcome_in outcomes.now ip }
+{
+    outcomes.iter().find(|told| told.0 == ip).map(|told| told.1)
+}
+
+fn seen_past(pauses: &[(u64, u64)], tick: u64) -> u64
+    ensures { result ≡ seen_past pauses.now tick }
+{
+    let mut seen = tick;
+    for pause in pauses {
+        if pause.0 <= seen && seen < pause.1 {
+            seen = pause.1;
+        }
+    }
+    seen
 }
