@@ -1,0 +1,103 @@
+-- An attempt that may start has an address to try, and comes after the one before it.
+use Rattle.std.proofs.Common.{◌≡◌, ℕ, suc, ◌+◌, ◌-◌, ◌≤◌, ◌<◌, ◌⊎◌, ◌&&◌, ◌||◌, ◌++◌, Bool, true, false, List, [], ◌∷◌, if◌then◌else◌, length, filter, Option, Some, None, MatchOption, IfSome, find, IsTrue, nat_le, refl, sym, ◌∙◌, ap, arith, inl, inr, length-append, append_assoc}
+use Rattle.std.specs.List.{list_any, slice_get}
+use Rattle.std.specs.Option.{option_map_or}
+use Rattle.std.proofs.lemmas.Grind.{common_steps}
+use Rattle.std.proofs.lemmas.List.Folds.{list_any-append}
+use Rattle.he_addr.specs.declared.ip.Ip.{Ip}
+use Rattle.he_addr.specs.Ip.{is_usable}
+use Rattle.he_plan.specs.declared.attempts.Attempt.{Attempt}
+use Rattle.he_plan.specs.declared.limits.TheConstants.{MAX_LIMIT}
+use Rattle.he_plan.specs.Attempts.{IsLeast, IsNext, IsPositive, MayBegin, MayFollow, MayStart, Continues, received_of, received, order_at, is_untried, last_of, seen}
+use Rattle.he_plan.specs.Planning.{IsLater}
+use Rattle.he_plan.specs.Race.{Race, Reply}
+use Rattle.he_plan.specs.Timeline.{IsRace}
+use Rattle.he_plan.proofs.Alternation.{list_any-interlace}
+use Rattle.he_plan.proofs.Bools.{le_test}
+
+get_end : (xs : List Attempt) (x : Attempt) → slice_get (xs ++ x ∷ []) (length xs) ≡ Some x
+get_end [] x = refl
+get_end (y ∷ xs) x = get_end xs x
+
+pub last_of-more : (done : List Attempt) (next : Attempt) → last_of (done ++ next ∷ []) ≡ Some next
+last_of-more done next =
+    let e : length (done ++ next ∷ []) - 1 ≡ length done = omega (arith, length-append done (next ∷ [])) in
+    rw e (get_end done next)
+
+get_some : (xs : List Attempt) (x : Attempt) → slice_get (x ∷ xs) (length xs) ≡ None → ⊥
+get_some [] x h = cc
+get_some (y ∷ xs) x h = get_some xs y h
+
+last_of-some : (xs : List Attempt) (x : Attempt) → last_of (x ∷ xs) ≡ None → ⊥
+last_of-some xs x h =
+    let e : length (x ∷ xs) - 1 ≡ length xs = omega arith in
+    get_some xs x (rw e at h)
+
+untried_usable : (ips : List Ip) → list_any is_usable ips ≡ true → list_any (is_untried []) (filter is_usable ips) ≡ true
+untried_usable [] h = cc
+untried_usable (ip ∷ ips) h = untried_by (is_usable ip) h (untried_usable ips)
+  where
+    untried_by : (b : Bool) → (b || list_any is_usable ips) ≡ true → (list_any is_usable ips ≡ true → list_any (is_untried []) (filter is_usable ips) ≡ true) → list_any (is_untried []) (if b then ip ∷ filter is_usable ips else filter is_usable ips) ≡ true
+    untried_by true h rest = refl
+    untried_by false h rest = rest h
+
+positive_untried : (race : Race) (t : ℕ) (reply : Option Reply) → IsPositive race t reply → list_any (is_untried []) (received_of race t reply) ≡ true
+positive_untried race t None p = absurd p
+positive_untried race t (Some r) p = rw (le_test (seen race r.tick) t p.1) (untried_usable r.addresses p.0)
+
+or_left : (a b : Bool) → a ≡ true → (a || b) ≡ true
+or_left a b h = grind (arith, common_steps)
+
+or_right : (a b : Bool) → b ≡ true → (a || b) ≡ true
+or_right a b h = grind (arith, common_steps)
+
+begins_untried : (race : Race) (t : ℕ) → MayBegin race t → list_any (is_untried []) (received race t) ≡ true
+begins_untried race t m =
+    list_any-append (is_untried []) (received_of race t race.aaaa) (received_of race t race.a)
+    ∙ elim m.1 [ inl p ↦ or_left _ _ (positive_untried race t race.aaaa p) | inr p ↦ or_right _ _ (positive_untried race t race.a p.0) ]
+
+may_untried : (race : Race) (t : ℕ) (done : List Attempt) (last : Option Attempt) → last_of done ≡ last → MatchOption last (MayBegin race t) (MayFollow race done t) → list_any (is_untried done) (received race t) ≡ true
+may_untried race t [] None e m = begins_untried race t m
+may_untried race t (x ∷ xs) None e m = absurd (last_of-some xs x e)
+may_untried race t done (Some last) e m = m.some
+
+find_by : (p : Ip → Bool) (ip : Ip) (ips : List Ip) (b : Bool) → (list_any p ips ≡ true → find p ips ≡ None → ⊥) → (b || list_any p ips) ≡ true → (if b then Some ip else find p ips) ≡ None → ⊥
+find_by p ip ips true rest h e = cc
+find_by p ip ips false rest h e = rest h e
+
+find_one : (p : Ip → Bool) (ips : List Ip) → list_any p ips ≡ true → find p ips ≡ None → ⊥
+find_one p [] h e = cc
+find_one p (ip ∷ ips) h e = find_by p ip ips (p ip) (find_one p ips) h e
+
+-- where an attempt may start, an address is untried
+pub starts_untried : (race : Race) (done : List Attempt) (t : ℕ) → MayStart race done t → find (is_untried done) (order_at race t) ≡ None → ⊥
+starts_untried race done t m e =
+    find_one (is_untried done) (order_at race t) (list_any-interlace (is_untried done) (received race t) race.settings.count ∙ may_untried race t done (last_of done) refl m.1) e
+
+later_by : (race : Race) (done : List Attempt) (t : ℕ) (last : Option Attempt) → IsRace race → MatchOption last (MayBegin race t) (MayFollow race done t) → IfSome last (λ x. x.tick < t)
+later_by race done t None r m = tt
+later_by race done t (Some last) r m = omega (arith, m.delay, r.settings.attempt_least)
+
+pub start_later : (race : Race) → IsRace race → (done : List Attempt) (t : ℕ) → MayStart race done t → IsLater done t
+start_later race r done t m = (omega (arith, m.0, r.settings.limit_most), later_by race done t (last_of done) r m.1)
+
+-- how much is left before the greatest limit
+abbrev pub ticks_left : Option Attempt → ℕ
+ticks_left last = option_map_or (λ x. MAX_LIMIT - x.tick) last (MAX_LIMIT + 1)
+
+left_by : (last : Option Attempt) (next : Attempt) → next.tick ≤ MAX_LIMIT → IfSome last (λ x. x.tick < next.tick) → MAX_LIMIT - next.tick < ticks_left last
+left_by None next h later = omega arith
+left_by (Some last) next h later = omega arith
+
+pub ticks_left-more : (done : List Attempt) (next : Attempt) → IsLater done next.tick → ticks_left (last_of (done ++ next ∷ [])) < ticks_left (last_of done)
+ticks_left-more done next later = rw (last_of-more done next) (left_by (last_of done) next later.0 later.1)
+
+pub last_in_range : (done : List Attempt) (next : Attempt) → IsLater done next.tick → IfSome (last_of (done ++ next ∷ [])) (λ x. x.tick ≤ MAX_LIMIT)
+last_in_range done next later = rw (last_of-more done next) later.0
+
+-- these attempts are the first ones of the race: what continues them is the race's
+abbrev pub AreFirst : Race → List Attempt → Type 0
+AreFirst race done = (more : List Attempt) → Continues race done more → Continues race [] (done ++ more)
+
+pub AreFirst-more : (race : Race) (done : List Attempt) (next : Attempt) → AreFirst race done → IsNext race done next → AreFirst race (done ++ next ∷ [])
+AreFirst-more race done next first is more k = rw (append_assoc done (next ∷ []) more) (first (next ∷ more) (is, k))

@@ -1,0 +1,108 @@
+-- Which attempts a race makes, and when (RFC 8305 sections 3 to 5): its plan, in which every attempt still runs.
+use Rattle.std.specs.Prelude.{ℕ, ◌≡◌, ◌+◌, ◌-◌, ◌<◌, ◌≤◌, ◌⊎◌, ◌&&◌, ◌++◌, Bool, true, false, not, if◌then◌else◌, List, [], ◌∷◌, length, filter, find, Option, Some, None, MatchOption, IsSomeAnd, slice_get, IsTrue, nat_le, nat_lt}
+use Rattle.std.specs.List.{list_any}
+use Rattle.he_addr.specs.declared.ip.Ip.{Ip}
+use Rattle.he_addr.specs.Ip.{is_usable}
+use Rattle.he_plan.specs.declared.attempts.Attempt.{Attempt}
+use Rattle.he_plan.specs.Interlacing.{interlace}
+use Rattle.he_plan.specs.Race.{Race, Reply, same_ip}
+
+-- n is the least number of which P holds
+pub record IsLeast (P : ℕ → Type 0) (n : ℕ) : Type 0 where
+  pub holds : P n
+  pub least : (m : ℕ) → P m → n ≤ m
+
+-- a pause covers the tick
+abbrev pub is_paused : List (ℕ × ℕ) → ℕ → Bool
+is_paused pauses t = list_any (λ p. nat_le p.0 t && nat_lt t p.1) pauses
+
+-- the client may act at the tick
+abbrev pub IsFree : Race → ℕ → Type 0
+IsFree race t = is_paused race.pauses t ≡ false
+
+-- n is the least free tick at or after x
+abbrev pub IsSeen : Race → ℕ → ℕ → Type 0
+IsSeen race x = IsLeast (λ t. (x ≤ t) × IsFree race t)
+
+-- that tick: a pause that covers it moves it to the pause's end, and pauses stand in order
+abbrev pub seen_past : List (ℕ × ℕ) → ℕ → ℕ
+seen_past [] x = x
+seen_past (p ∷ pauses) x = seen_past pauses (if nat_le p.0 x && nat_lt x p.1 then p.1 else x)
+
+abbrev pub seen : Race → ℕ → ℕ
+seen race x = seen_past race.pauses x
+
+-- the usable addresses of an answer that is seen at t or earlier
+abbrev pub received_of : Race → ℕ → Option Reply → List Ip
+received_of race t None = []
+received_of race t (Some reply) = if nat_le (seen race reply.tick) t then filter is_usable reply.addresses else []
+
+abbrev pub received : Race → ℕ → List Ip
+received race t = received_of race t race.aaaa ++ received_of race t race.a
+
+-- the answer is seen at t or earlier
+abbrev pub IsAnswered : Race → ℕ → Option Reply → Type 0
+IsAnswered race t reply = IsSomeAnd reply (λ r. seen race r.tick ≤ t)
+
+-- and it is positive: it has a usable address
+abbrev pub IsPositive : Race → ℕ → Option Reply → Type 0
+IsPositive race t reply = IsSomeAnd reply (λ r. IsTrue (list_any is_usable r.addresses) × (seen race r.tick ≤ t))
+
+-- the Resolution Delay after the A answer's own tick is over at t
+abbrev pub IsDelayOver : Race → ℕ → Type 0
+IsDelayOver race t = IsSomeAnd race.a (λ r. seen race (r.tick + race.settings.resolution) ≤ t)
+
+-- the race may begin (RFC 8305 section 3): at once on a positive AAAA answer; on a positive A answer once the AAAA answer,
+-- positive or not, is there or the Resolution Delay is over
+abbrev pub MayBegin : Race → ℕ → Type 0
+MayBegin race t =
+    IsFree race t
+    × (IsPositive race t race.aaaa ⊎ (IsPositive race t race.a × (IsAnswered race t race.aaaa ⊎ IsDelayOver race t)))
+
+-- the received addresses by preference (RFC 8305 section 4, RFC 6724): for now as received
+abbrev pub order : Race → List Ip → List Ip
+order race ips = ips
+
+-- the list from which an attempt at t takes its address: of all received addresses, tried ones included
+abbrev pub order_at : Race → ℕ → List Ip
+order_at race t = interlace (order race (received race t)) race.settings.count
+
+abbrev pub is_tried : List Attempt → Ip → Bool
+is_tried done ip = list_any (λ x. same_ip x.ip ip) done
+
+abbrev pub is_untried : List Attempt → Ip → Bool
+is_untried done ip = not (is_tried done ip)
+
+abbrev pub last_of : List Attempt → Option Attempt
+last_of done = slice_get done (length done - 1)
+
+-- an attempt may start after the last one (RFC 8305 section 5): the Connection Attempt Delay has passed, and a received
+-- address is untried
+pub record MayFollow (race : Race) (done : List Attempt) (t : ℕ) (last : Attempt) : Type 0 where
+  pub free : IsFree race t
+  pub delay : last.tick + race.settings.attempt ≤ t
+  pub some : IsTrue (list_any (is_untried done) (received race t))
+
+-- an attempt may start at t, where these attempts were made
+abbrev pub MayStart : Race → List Attempt → ℕ → Type 0
+MayStart race done t = (t < race.settings.limit) × MatchOption (last_of done) (MayBegin race t) (MayFollow race done t)
+
+-- the attempt that comes after these: at the least tick at which one may start, at the first untried address
+pub record IsNext (race : Race) (done : List Attempt) (next : Attempt) : Type 0 where
+  pub place : next.place ≡ length done
+  pub tick : IsLeast (MayStart race done) next.tick
+  pub ip : find (is_untried done) (order_at race next.tick) ≡ Some next.ip
+
+-- each of these attempts is the next one after those before it, from `done` on
+abbrev pub Follow : Race → List Attempt → List Attempt → Type 0
+Follow race done [] = Unit {0}
+Follow race done (next ∷ more) = IsNext race done next × Follow race (done ++ next ∷ []) more
+
+-- and none follows the last
+abbrev pub Continues : Race → List Attempt → List Attempt → Type 0
+Continues race done [] = (t : ℕ) → ¬ MayStart race done t
+Continues race done (next ∷ more) = IsNext race done next × Continues race (done ++ next ∷ []) more
+
+-- the attempts of the race, in order
+abbrev pub AreAttempts : Race → List Attempt → Type 0
+AreAttempts race attempts = Continues race [] attempts

@@ -1,0 +1,45 @@
+-- When an attempt finishes, and which one wins.
+use Rattle.std.specs.Prelude.{ℕ, ◌≡◌, ◌+◌, ◌<◌, ◌≤◌, ◌⊎◌, if◌then◌else◌, List, find, Option, Some, None, option_map, slice_get, nat_le}
+use Rattle.he_addr.specs.declared.ip.Ip.{Ip}
+use Rattle.he_plan.specs.declared.attempts.Attempt.{Attempt}
+use Rattle.he_plan.specs.declared.finish.Fate.{Fate}
+use Rattle.he_plan.specs.declared.finish.Fate.TheVariants.{Succeeded, Failed, Running}
+use Rattle.he_plan.specs.declared.outcome.Outcome.{Outcome}
+use Rattle.he_plan.specs.declared.outcome.Outcome.TheVariants as outcomes
+use Rattle.he_plan.specs.Race.{Race, same_ip}
+use Rattle.he_plan.specs.Attempts.{seen}
+
+-- what the address does when it is tried; none: it is silent
+abbrev pub outcome_in : List (Ip × Outcome) → Ip → Option Outcome
+outcome_in told ip = option_map (λ p. p.1) (find (λ p. same_ip p.0 ip) told)
+
+abbrev pub outcome_of : Race → Ip → Option Outcome
+outcome_of race ip = outcome_in race.outcomes ip
+
+-- an attempt finishes when its duration is over, at a free tick
+abbrev pub finish_of : Race → ℕ → ℕ → ℕ
+finish_of race start duration = seen race (start + duration)
+
+-- what becomes of an attempt by the limit
+abbrev pub fate_by : Race → ℕ → Option Outcome → Fate
+fate_by race start None = Running
+fate_by race start (Some (outcomes.Ok duration)) =
+    if nat_le (finish_of race start duration) race.settings.limit then Succeeded (finish_of race start duration) else Running
+fate_by race start (Some (outcomes.Fail duration)) =
+    if nat_le (finish_of race start duration) race.settings.limit then Failed (finish_of race start duration) else Running
+
+abbrev pub fate_of : Race → Attempt → Fate
+fate_of race x = fate_by race x.tick (outcome_of race x.ip)
+
+-- a success's finish and place
+abbrev pub IsSuccess : List Fate → ℕ × ℕ → Type 0
+IsSuccess fates key = slice_get fates key.1 ≡ Some (Succeeded key.0)
+
+-- by finish, then by place
+abbrev pub ComesFirst : ℕ × ℕ → ℕ × ℕ → Type 0
+ComesFirst x y = (x.0 < y.0) ⊎ ((x.0 ≡ y.0) × (x.1 ≤ y.1))
+
+-- the winner is the success with the least finish, and of these the one with the least place
+abbrev pub IsWinner : List Fate → Option (ℕ × ℕ) → Type 0
+IsWinner fates None = (key : ℕ × ℕ) → ¬ IsSuccess fates key
+IsWinner fates (Some winner) = IsSuccess fates winner × ((key : ℕ × ℕ) → IsSuccess fates key → ComesFirst winner key)

@@ -1,0 +1,9 @@
+pub mod Attempts
+pub mod Building
+pub mod Finish
+pub mod Interlacing
+pub mod Planning
+pub mod Race
+pub mod Settings
+pub mod Timeline
+pub mod Transcript

@@ -1,0 +1,78 @@
+-- What private functions answer: ticks that look at no pause, and the winner so far.
+use Rattle.std.specs.Prelude.{ℕ, ◌+◌, ◌≤◌, ◌<◌, ◌&&◌, if◌then◌else◌, ◌++◌, List, [], ◌∷◌, min, max, Option, Some, None, option_map, IfSome, nat_le, nat_lt}
+use Rattle.std.specs.List.{list_any}
+use Rattle.std.specs.Option.{option_map_or}
+use Rattle.he_addr.specs.Ip.{is_usable}
+use Rattle.he_plan.specs.declared.attempts.Attempt.{Attempt}
+use Rattle.he_plan.specs.declared.finish.Fate.{Fate}
+use Rattle.he_plan.specs.declared.finish.Fate.TheVariants.{Succeeded}
+use Rattle.he_plan.specs.declared.limits.TheConstants.{MAX_LIMIT}
+use Rattle.he_plan.specs.Race.{Race, Reply}
+use Rattle.he_plan.specs.declared.transcript.Line.{Line}
+use Rattle.he_plan.specs.Transcript.{mark_at}
+use Rattle.he_plan.specs.Attempts.{is_untried, last_of}
+
+abbrev pub earlier : Option ℕ → Option ℕ → Option ℕ
+earlier None y = y
+earlier (Some x) None = Some x
+earlier (Some x) (Some y) = Some (min x y)
+
+-- the tick of a positive answer
+abbrev pub positive_tick : Option Reply → Option ℕ
+positive_tick None = None
+positive_tick (Some reply) = if list_any is_usable reply.addresses then Some reply.tick else None
+
+-- the tick from which an A answer of this tick begins a race
+abbrev pub v4_tick : ℕ → Option Reply → ℕ → ℕ
+v4_tick resolution None tick = tick + resolution
+v4_tick resolution (Some aaaa) tick = min (tick + resolution) (max tick aaaa.tick)
+
+abbrev pub begin_tick : Race → Option ℕ
+begin_tick race =
+    earlier (positive_tick race.aaaa) (option_map (v4_tick race.settings.resolution race.aaaa) (positive_tick race.a))
+
+-- the tick from which an untried address of the answer may be tried, at or after `from`
+abbrev pub waiting_tick : List Attempt → ℕ → Option Reply → Option ℕ
+waiting_tick done from None = None
+waiting_tick done from (Some reply) =
+    if list_any (λ ip. is_usable ip && is_untried done ip) reply.addresses then Some (max from reply.tick) else None
+
+abbrev pub follow_tick : Race → List Attempt → Attempt → Option ℕ
+follow_tick race done last =
+    earlier (waiting_tick done (last.tick + race.settings.attempt) race.aaaa)
+    (waiting_tick done (last.tick + race.settings.attempt) race.a)
+
+abbrev pub start_after : Race → List Attempt → Option Attempt → Option ℕ
+start_after race done None = begin_tick race
+start_after race done (Some last) = follow_tick race done last
+
+-- the tick from which the next attempt may start
+abbrev pub start_tick : Race → List Attempt → Option ℕ
+start_tick race done = start_after race done (last_of done)
+
+-- a start at t comes after the last of these, and within the greatest limit
+abbrev pub IsLater : List Attempt → ℕ → Type 0
+IsLater done t = (t ≤ MAX_LIMIT) × IfSome (last_of done) (λ last. last.tick < t)
+
+-- the winner so far, after one more fate, which stands at this place
+abbrev pub better : Option (ℕ × ℕ) → ℕ → ℕ → Option (ℕ × ℕ)
+better None finish place = Some (finish, place)
+better (Some w) finish place = if nat_le w.0 finish then Some w else Some (finish, place)
+
+abbrev pub next_winner : Option (ℕ × ℕ) → ℕ → Fate → Option (ℕ × ℕ)
+next_winner best place (Succeeded finish) = better best finish place
+next_winner best place _ = best
+
+-- the line of an attempt of which this fate is told
+abbrev pub told_line : ℕ → Option (ℕ × ℕ) → Attempt → Fate → Line
+told_line stop winner x fate = record { place = x.place; tick = x.tick; ip = x.ip; mark = mark_at stop winner x.place fate }
+
+-- that line, if the attempt starts before the stop
+abbrev pub told_one : ℕ → Option (ℕ × ℕ) → Attempt → Fate → List Line
+told_one stop winner x fate = if nat_lt x.tick stop then told_line stop winner x fate ∷ [] else []
+
+-- the lines of the attempts, by the fates that are told
+abbrev pub told_lines : ℕ → Option (ℕ × ℕ) → List Attempt → List Fate → List Line
+told_lines stop winner [] told = []
+told_lines stop winner (x ∷ attempts) [] = []
+told_lines stop winner (x ∷ attempts) (fate ∷ told) = told_one stop winner x fate ++ told_lines stop winner attempts told

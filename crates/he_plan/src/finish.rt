@@ -1,0 +1,66 @@
+// When an attempt finishes, and which one wins.
+
+ghost use Rattle.std.specs.Prelude.{◌≡◌};
+ghost use Rattle.he_plan.specs.Planning.{next_winner};
+ghost use Rattle.he_plan.specs.Finish.{fate_of, IsWinner};
+
+use crate::attempts::Attempt;
+use crate::outcome::Outcome;
+use crate::timeline::Timeline;
+use std::alloc::Allocator;
+
+/// What becomes of an attempt: it succeeds or fails at a tick that is at most the limit, it still runs at the limit, or it
+/// was not looked at, since it starts at or after a success.
+#[derive(Clone, Copy, Debug, PartialEq, Eq)]
+pub enum Fate {
+    Succeeded(u64),
+    Failed(u64),
+    Running,
+    Skipped,
+}
+
+impl<A: Allocator> Timeline<A> {
+    /// What becomes of the attempt by the limit.
+    pub fn fate(&self, attempt: &Attempt) -> Fate
+        ensures { result ≡ fate_of self.now attempt.now }
+    {
+        let limit = self.settings().limit();
+        let Some(outcome) = self.outcome(attempt.ip) else {
+            return Fate::Running;
+        };
+        let Some(over) = attempt.tick.checked_add(outcome.duration()) else {
+            return Fate::Running;
+        };
+        let finish = self.seen(over);
+        if finish > limit {
+            return Fate::Running;
+        }
+        match outcome {
+            Outcome::Ok(_) => Fate::Succeeded(finish),
+            Outcome::Fail(_) => Fate::Failed(finish),
+        }
+    }
+}
+
+/// The winner's finish and place: the success with the least finish, and of these the one with the least place.
+pub fn winner(fates: &[Fate]) -> Option<(u64, usize)>
+    ensures { IsWinner fates.now result }
+{
+    let mut best = None;
+    for (place, fate) in fates.iter().enumerate() {
+        best = next_winner(best, place, *fate);
+    }
+    best
+}
+
+fn next_winner(best: Option<(u64, usize)>, place: usize, fate: Fate) -> Option<(u64, usize)>
+    ensures { result ≡ next_winner best place fate }
+{
+    let Fate::Succeeded(finish) = fate else {
+        return best;
+    };
+    match best {
+        Some(winner) if winner.0 <= finish => best,
+        _ => Some((finish, place)),
+    }
+}

@@ -1,0 +1,77 @@
+// Interlacing two families (RFC 8305 section 4).
+
+ghost use Rattle.std.specs.Prelude.{◌≡◌, ◌≤◌, ◌<◌, ◌++◌, not, filter, take, drop, IfOk, OnOk};
+ghost use Rattle.he_addr.specs.Ip.{family_of};
+ghost use Rattle.he_plan.specs.Interlacing.{interlace, interlace_by, alternate};
+ghost use Rattle.he_plan.specs.Timeline.{is_of};
+
+use he_addr::{Family, Ip, Memory};
+use std::alloc::{AllocError, Allocator};
+
+/// The addresses interlaced: the family of the first one leads with its first `count` members, from there the families
+/// alternate, and when one has run out the rest of the other follows (RFC 8305 section 4).
+pub fn interlace<A: Allocator + Copy>(
+    alloc: A,
+    ips: &[Ip],
+    count: u64,
+) -> Result<Vec<Ip, A>, Memory>
+    requires { 1 ≤ count }
+    ensures { IfOk result (λ v. v.items ≡ interlace ips.now count) }
+{
+    let Some(first) = ips.first() else {
+        return Ok(Vec::new(alloc));
+    };
+    interlace_by(alloc, first.family(), ips, count as usize).map_err(|_| Memory)
+}
+
+fn interlace_by<A: Allocator + Copy>(
+    alloc: A,
+    family: Family,
+    ips: &[Ip],
+    count: usize,
+) -> Result<Vec<Ip, A>, AllocError>
+    ensures { IfOk result (λ v. v.items ≡ interlace_by family ips.now count) }
+{
+    let leading = members(alloc, family, ips)?;
+    let other = strangers(alloc, family, ips)?;
+    let first = leading.len().min(count);
+    let mut interlaced = Vec::with_capacity(alloc, ips.len())?;
+    interlaced.extend_from_slice(&leading[..first])?;
+    alternate(&mut interlaced, &other, &leading[first..])?;
+    Ok(interlaced)
+}
+
+fn members<A: Allocator>(alloc: A, family: Family, ips: &[Ip]) -> Result<Vec<Ip, A>, AllocError>
+    ensures { IfOk result (λ v. v.items ≡ filter (is_of family) ips.now) }
+{
+    ips.iter()
+        .copied()
+        .filter(|ip| ip.family() == family)
+        .collect(alloc)
+}
+
+fn strangers<A: Allocator>(alloc: A, family: Family, ips: &[Ip]) -> Result<Vec<Ip, A>, AllocError>
+    ensures { IfOk result (λ v. v.items ≡ filter (λ ip. not (is_of family ip)) ips.now) }
+{
+    ips.iter()
+        .copied()
+        .filter(|ip| ip.family() != family)
+        .collect(alloc)
+}
+
+fn alternate<A: Allocator>(
+    interlaced: &mut Vec<Ip, A>,
+    other: &[Ip],
+    leading: &[Ip],
+) -> Result<(), AllocError>
+    ensures { OnOk result (interlaced.new.items ≡ interlaced.old.items ++ alternate other.now leading.now) }
+{
+    let mut i = 0;
+    while i < other.len() && i < leading.len() {
+        interlaced.push(other[i])?;
+        interlaced.push(leading[i])?;
+        i += 1;
+    }
+    interlaced.extend_from_slice(&other[i..])?;
+    interlaced.extend_from_slice(&leading[i..])
+}

@@ -1,0 +1,73 @@
+// The ranges of what a race is made of. Everything else names these; proofs use no more of their values than what the
+// inequalities at the end say.
+
+/// The greatest Resolution Delay, in ticks.
+pub const MAX_RESOLUTION: u64 = 1_000;
+
+/// The Resolution Delay of RFC 8305 section 8.
+pub const DEFAULT_RESOLUTION: u64 = 50;
+
+/// The least Connection Attempt Delay of RFC 8305 section 8, in ticks.
+pub const MIN_ATTEMPT: u64 = 10;
+
+/// The greatest Connection Attempt Delay of RFC 8305 section 8, in ticks.
+pub const MAX_ATTEMPT: u64 = 2_000;
+
+/// The Connection Attempt Delay of RFC 8305 section 8.
+pub const DEFAULT_ATTEMPT: u64 = 250;
+
+/// The least First Address Family Count.
+pub const MIN_COUNT: u64 = 1;
+
+/// The greatest First Address Family Count.
+pub const MAX_COUNT: u64 = 8;
+
+/// The First Address Family Count of RFC 8305 section 8.
+pub const DEFAULT_COUNT: u64 = 1;
+
+/// The least limit of a race, in ticks.
+pub const MIN_LIMIT: u64 = 1;
+
+/// The greatest limit of a race, in ticks.
+pub const MAX_LIMIT: u64 = 3_600_000;
+
+/// The limit of a race that sets none.
+pub const DEFAULT_LIMIT: u64 = 30_000;
+
+/// The greatest tick of an answer.
+pub const MAX_TICK: u64 = 3_600_000;
+
+/// The least duration of an attempt, in ticks: a connect takes time.
+pub const MIN_DURATION: u64 = 1;
+
+/// The greatest duration of an attempt, in ticks.
+pub const MAX_DURATION: u64 = 3_600_000;
+
+/// The greatest first tick after a pause.
+pub const MAX_PAUSE_END: u64 = 3_600_001;
+
+/// No attempt starts and none finishes after this tick.
+pub const MAX_FINISH: u64 = 7_200_000;
+
+/// The most addresses of an answer.
+pub const MAX_ADDRESSES: usize = 64;
+
+/// The most attempts of a race: both answers' addresses.
+pub const MAX_ATTEMPTS: usize = 128;
+
+/// The most pauses of a race.
+pub const MAX_PAUSES: usize = 136;
+
+const _: () = prove!(MIN_ATTEMPT > 0 && MIN_ATTEMPT <= MAX_ATTEMPT);
+
+const _: () = prove!(MIN_COUNT > 0 && MIN_COUNT <= MAX_COUNT);
+
+const _: () = prove!(MIN_LIMIT > 0 && MIN_LIMIT <= MAX_LIMIT);
+
+const _: () = prove!(MIN_DURATION > 0);
+
+const _: () = prove!(MAX_LIMIT + MAX_DURATION <= MAX_FINISH);
+
+const _: () = prove!(MAX_PAUSE_END <= MAX_FINISH);
+
+const _: () = prove!(MAX_ADDRESSES + MAX_ADDRESSES <= MAX_ATTEMPTS);

@@ -1,0 +1,123 @@
+// When the next attempt may start (RFC 8305 sections 3 and 5).
+
+ghost use Rattle.std.specs.Prelude.{◌≡◌, ℕ, ◌≤◌, ◌&&◌, IfSome, IfNone};
+ghost use Rattle.std.specs.List.{list_any};
+ghost use Rattle.he_addr.specs.Ip.{is_usable};
+ghost use Rattle.he_plan.specs.Attempts.{IsLeast, MayStart, is_tried, is_untried, last_of};
+ghost use Rattle.he_plan.specs.Planning.{earlier, positive_tick, v4_tick, begin_tick, waiting_tick, follow_tick, start_tick, IsLater};
+ghost use Rattle.he_plan.specs.Race.{reply_of};
+
+use crate::attempts::Attempt;
+use crate::limits::{MAX_LIMIT, MAX_TICK};
+use crate::timeline::Timeline;
+use he_addr::{Family, Ip};
+use std::alloc::Allocator;
+
+pub(crate) fn next_tick<A: Allocator>(timeline: &Timeline<A>, done: &[Attempt]) -> Option<u64>
+    requires { IfSome (last_of done.now) (λ last. last.tick ≤ MAX_LIMIT) }
+    ensures some { IfSome result (IsLeast (MayStart timeline.now done.now)) }
+    ensures none { IfNone result ((t : ℕ) → ¬ MayStart timeline.now done.now t) }
+    ensures later { IfSome result (IsLater done.now) }
+{
+    let limit = timeline.settings().limit();
+    let Some(from) = start_tick(timeline, done) else {
+        return None;
+    };
+    let tick = timeline.seen(from);
+    if tick < limit { Some(tick) } else { None }
+}
+
+fn start_tick<A: Allocator>(timeline: &Timeline<A>, done: &[Attempt]) -> Option<u64>
+    requires { IfSome (last_of done.now) (λ last. last.tick ≤ MAX_LIMIT) }
+    ensures { result ≡ start_tick timeline.now done.now }
+{
+    match done.last() {
+        None => begin_tick(timeline),
+        Some(last) => {
+            let from = last.tick + timeline.settings().attempt();
+            earlier(
+                waiting_tick(timeline, Family::V6, done, from),
+                waiting_tick(timeline, Family::V4, done, from),
+            )
+        }
+    }
+}
+
+fn begin_tick<A: Allocator>(timeline: &Timeline<A>) -> Option<u64>
+    ensures { result ≡ begin_tick timeline.now }
+{
+    let v4 = match positive_tick(timeline, Family::V4) {
+        Some(tick) => Some(v4_tick(timeline, tick)),
+        None => None,
+    };
+    earlier(positive_tick(timeline, Family::V6), v4)
+}
+
+fn v4_tick<A: Allocator>(timeline: &Timeline<A>, tick: u64) -> u64
+    requires { tick ≤ MAX_TICK }
+    ensures { result ≡ v4_tick timeline.now.settings.resolution timeline.now.aaaa tick }
+{
+    let delayed = tick + timeline.settings().resolution();
+    match timeline.answer(Family::V6) {
+        Some((aaaa, _)) => delayed.min(tick.max(aaaa)),
+        None => delayed,
+    }
+}
+
+fn positive_tick<A: Allocator>(timeline: &Timeline<A>, family: Family) -> Option<u64>
+    ensures value { result ≡ positive_tick (reply_of timeline.now family) }
+    ensures range { IfSome result (λ tick. tick ≤ MAX_TICK) }
+{
+    match timeline.answer(family) {
+        Some((tick, ips)) if has_usable(ips) => Some(tick),
+        _ => None,
+    }
+}
+
+fn waiting_tick<A: Allocator>(
+    timeline: &Timeline<A>,
+    family: Family,
+    done: &[Attempt],
+    from: u64,
+) -> Option<u64>
+    ensures { result ≡ waiting_tick done.now from (reply_of timeline.now family) }
+{
+    match timeline.answer(family) {
+        Some((tick, ips)) if has_untried(done, ips) => Some(from.max(tick)),
+        _ => None,
+    }
+}
+
+fn earlier(x: Option<u64>, y: Option<u64>) -> Option<u64>
+    ensures { result ≡ earlier x y }
+{
+    match (x, y) {
+        (Some(x), Some(y)) => Some(x.min(y)),
+        (Some(x), None) => Some(x),
+        (None, y) => y,
+    }
+}
+
+fn has_usable(ips: &[Ip]) -> bool
+    ensures { result ≡ list_any is_usable ips.now }
+{
+    ips.iter().any(|ip| ip.is_usable())
+}
+
+fn has_untried(done: &[Attempt], ips: &[Ip]) -> bool
+    ensures { result ≡ list_any (λ ip. is_usable ip && is_untried done.now ip) ips.now }
+{
+    ips.iter().any(|ip| is_waiting(done, *ip))
+}
+
+fn is_waiting(done: &[Attempt], ip: Ip) -> bool
+    ensures { result ≡ (is_usable ip && is_untried done.now ip) }
+{
+    ip.is_usable() && !is_tried(done, ip)
+}
+
+pub(crate) fn is_tried(done: &[Attempt], ip: Ip) -> bool
+    ensures { result ≡ is_tried done.now ip }
+{
+    done.iter().any(|attempt| attempt.ip == ip)
+}

@@ -1,0 +1,216 @@
+// A race's whole input: settings, answers, outcomes and pauses.
+
+ghost use Rattle.std.specs.Prelude.{◌≡◌, ◌≤◌, option_map, max, IfOk, IfSome, OnOk, OnErr};
+ghost use Rattle.he_plan.specs.Race.{Race, Reply, reply_of, addresses_of, has_ip, has_outcome, stands};
+ghost use Rattle.he_plan.specs.Timeline.{IsRace, duration_of};
+ghost use Rattle.he_plan.specs.Attempts.{IsSeen, seen, seen_past};
+ghost use Rattle.he_plan.specs.Finish.{outcome_of, outcome_in};
+ghost use Rattle.he_plan.specs.Building.{empty_race, with_answer, with_outcome, with_pause};
+
+use crate::limits::{MAX_DURATION, MAX_PAUSE_END, MIN_DURATION};
+use crate::outcome::Outcome;
+use crate::settings::Settings;
+use he_addr::{Family, Ip};
+use std::alloc::{AllocError, Allocator, Global};
+use std::marker::Model;
+
+/// One family's answer.
+#[derive(Drop)]
+pub(crate) struct Answer<A: Allocator> {
+    tick: u64,
+    addresses: Vec<Ip, A>,
+}
+
+impl<A: Allocator> Model for Answer<A> {
+    ghost use Rattle.he_plan.specs.Race.{Reply};
+
+    ghost Value = { Reply };
+
+    ghost view = { λ answer. record { tick = answer.tick; addresses = answer.addresses.items } };
+}
+
+impl<A: Allocator> Answer<A> {
+    pub(crate) fn new(alloc: A, tick: u64, addresses: &[Ip]) -> Result<Answer<A>, AllocError>
+        ensures { IfOk result (λ answer. answer ≡ record { tick = tick; addresses = addresses.now }) }
+    {
+        let addresses = Vec::from_slice(alloc, addresses)?;
+        Ok(Answer { tick, addresses })
+    }
+}
+
+/// A race's whole input: its settings, the answers of both families, what each address does when it is tried, and the
+/// pauses of the client. A `TimelineBuilder` makes it.
+#[derive(Drop)]
+pub struct Timeline<A: Allocator = Global> {
+    settings: Settings,
+    aaaa: Option<Answer<A>>,
+    a: Option<Answer<A>>,
+    outcomes: Vec<(Ip, Outcome), A>,
+    pauses: Vec<(u64, u64), A>,
+}
+
+impl<A: Allocator> Model for Timeline<A> {
+    ghost use Rattle.he_plan.specs.Race.{Race};
+    ghost use Rattle.he_plan.specs.Timeline.{IsRace};
+
+    ghost Value = { Race };
+
+    ghost view = { λ t. record { settings = t.settings; aaaa = t.aaaa; a = t.a; outcomes = t.outcomes.items; pauses = t.pauses.items } };
+
+    ghost invariant = { λ t. IsRace (record { settings = t.settings; aaaa = t.aaaa; a = t.a; outcomes = t.outcomes.items; pauses = t.pauses.items }) };
+}
+
+impl<A: Allocator + Copy> Timeline<A> {
+    pub(crate) fn empty(alloc: A, settings: Settings) -> Timeline<A>
+        ensures { result ≡ empty_race settings }
+    {
+        Timeline {
+            settings,
+            aaaa: None,
+            a: None,
+            outcomes: Vec::new(alloc),
+            pauses: Vec::new(alloc),
+        }
+    }
+
+    pub(crate) fn set_answer(
+        &mut self,
+        alloc: A,
+        family: Family,
+        tick: u64,
+        addresses: &[Ip],
+    ) -> Result<(), AllocError>
+        requires { IsRace (with_answer self.old family (record { tick = tick; addresses = addresses.now })) }
+        ensures ok { OnOk result (self.new ≡ with_answer self.old family (record { tick = tick; addresses = addresses.now })) }
+        ensures err { OnErr result (self.new ≡ self.old) }
+    {
+        let answer = Answer::new(alloc, tick, addresses)?;
+        match family {
+            Family::V6 => self.aaaa = Some(answer),
+            Family::V4 => self.a = Some(answer),
+        }
+        Ok(())
+    }
+
+    pub(crate) fn push_outcome(&mut self, ip: Ip, outcome: Outcome) -> Result<(), AllocError>
+        requires { IsRace (with_outcome self.old ip outcome) }
+        ensures ok { OnOk result (self.new ≡ with_outcome self.old ip outcome) }
+        ensures err { OnErr result (self.new ≡ self.old) }
+    {
+        self.outcomes.push((ip, outcome))?;
+        Ok(())
+    }
+
+    pub(crate) fn push_pause(&mut self, from: u64, to: u64) -> Result<(), AllocError>
+        requires { IsRace (with_pause self.old from to) }
+        ensures ok { OnOk result (self.new ≡ with_pause self.old from to) }
+        ensures err { OnErr result (self.new ≡ self.old) }
+    {
+        self.pauses.push((from, to))?;
+        Ok(())
+    }
+}
+
+impl<A: Allocator> Timeline<A> {
+    /// Whether the address stands in one of the answers, usable or not.
+    pub fn stands(&self, ip: Ip) -> bool
+        ensures value { result ≡ stands self.now ip }
+        ensures race { IsRace self.now }
+    {
+        stands_in(&self.aaaa, ip) || stands_in(&self.a, ip)
+    }
+
+    pub(crate) fn has_outcome(&self, ip: Ip) -> bool
+        ensures { result ≡ has_outcome ip self.now.outcomes }
+    {
+        has_outcome(&self.outcomes, ip)
+    }
+
+    /// The race's settings.
+    pub fn settings(&self) -> Settings
+        ensures value { result ≡ self.now.settings }
+        ensures race { IsRace self.now }
+    {
+        self.settings
+    }
+
+    /// The family's answer: its tick, 0 to 3,600,000, and its addresses as written, or none if it is never answered.
+    pub fn answer(&self, family: Family) -> Option<(u64, &[Ip])>
+        ensures value { option_map (λ p. record { tick = p.0; addresses = p.1.now }) result ≡ reply_of self.now family }
+        ensures race { IsRace self.now }
+    {
+        let answer = match family {
+            Family::V6 => &self.aaaa,
+            Family::V4 => &self.a,
+        };
+        match answer {
+            Some(answer) => Some((answer.tick, answer.addresses.as_slice())),
+            None => None,
+        }
+    }
+
+    /// The addresses that have an outcome, in the order in which they were given; every other one is silent.
+    pub fn outcomes(&self) -> &[(Ip, Outcome)]
+        ensures { result.now ≡ self.now.outcomes }
+    {
+        self.outcomes.as_slice()
+    }
+
+    /// What the address does when it is tried, or none if it is silent.
+    pub fn outcome(&self, ip: Ip) -> Option<Outcome>
+        ensures value { result ≡ outcome_of self.now ip }
+        ensures range { IfSome result (λ outcome. (MIN_DURATION ≤ duration_of outcome) × (duration_of outcome ≤ MAX_DURATION)) }
+    {
+        outcome_in(&self.outcomes, ip)
+    }
+
+    /// The least tick at or after `tick` that no pause covers.
+    pub fn seen(&self, tick: u64) -> u64
+        ensures value { result ≡ seen self.now tick }
+        ensures least { IsSeen self.now tick result }
+        ensures range { result ≤ max tick MAX_PAUSE_END }
+    {
+        seen_past(&self.pauses, tick)
+    }
+
+    /// The pauses in order: a pause from `f` to `t` covers the ticks from `f` to `t - 1`.
+    pub fn pauses(&self) -> &[(u64, u64)]
+        ensures value { result.now ≡ self.now.pauses }
+        ensures race { IsRace self.now }
+    {
+        self.pauses.as_slice()
+    }
+}
+
+fn stands_in<A: Allocator>(answer: &Option<Answer<A>>, ip: Ip) -> bool
+    ensures { result ≡ has_ip ip (addresses_of answer.now) }
+{
+    match answer {
+        Some(answer) => answer.addresses.contains(&ip),
+        None => false,
+    }
+}
+
+fn has_outcome(outcomes: &[(Ip, Outcome)], ip: Ip) -> bool
+    ensures { result ≡ has_outcome ip outcomes.now }
+{
+    outcomes.iter().any(|told| told.0 == ip)
+}
+
+fn outcome_in(outcomes: &[(Ip, Outcome)], ip: Ip) -> Option<Outcome>
+    ensures { result ≡ outcome_in outcomes.now ip }
+{
+    outcomes.iter().find(|told| told.0 == ip).map(|told| told.1)
+}
+
+fn seen_past(pauses: &[(u64, u64)], tick: u64) -> u64
+    ensures { result ≡ seen_past pauses.now tick }
+{
+    let mut seen = tick;
+    for pause in pauses {
+        if pause.0 <= seen && seen < pause.1 {
+            seen = pause.1;
+        }
+    }
+    seen
+}

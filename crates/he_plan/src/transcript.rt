@@ -1,0 +1,292 @@
+// The transcript of a race.
+
+ghost use Rattle.std.specs.Prelude.{◌≡◌, ◌||◌, ◌++◌, not, length, map, IfOk, OnOk};
+ghost use Rattle.std.specs.List.{list_all};
+ghost use Rattle.he_addr.specs.Ip.{is_usable};
+ghost use Rattle.he_plan.specs.Attempts.{is_tried};
+ghost use Rattle.he_plan.specs.Finish.{fate_of};
+ghost use Rattle.he_plan.specs.Planning.{told_lines, told_one};
+ghost use Rattle.he_plan.specs.Timeline.{IsRace};
+ghost use Rattle.he_plan.specs.Transcript.{IsTranscript, AreTold, stop_of, is_place, failed_mark, mark_at, result_of, without_winner, is_failed, last_failure};
+
+use crate::attempts::{Attempt, Plan};
+use crate::finish::{Fate, winner};
+use crate::planning::plan;
+use crate::starts::is_tried;
+use crate::timeline::Timeline;
+use he_addr::{Family, Ip, Memory};
+use std::alloc::{AllocError, Allocator, Global};
+use std::marker::Model;
+
+/// What became of an attempt, with the tick: it won, it failed at or before the race's end, or it was cancelled at the end.
+#[derive(Clone, Copy, Debug, PartialEq, Eq)]
+pub enum Mark {
+    Won(u64),
+    Failed(u64),
+    Cancelled(u64),
+}
+
+/// An attempt with what became of it.
+#[derive(Clone, Copy, Debug, PartialEq, Eq)]
+pub struct Line {
+    pub place: usize,
+    pub tick: u64,
+    pub ip: Ip,
+    pub mark: Mark,
+}
+
+/// How a race ended: won by the attempt of this place at this tick, exhausted at a tick, since every attempt failed, or at
+/// the limit.
+#[derive(Clone, Copy, Debug, PartialEq, Eq)]
+pub enum Outcome3 {
+    Won(usize, u64),
+    Exhausted(u64),
+    Limit(u64),
+}
+
+/// The attempts of a race with what became of each, by place, and how the race ended.
+#[derive(Drop)]
+pub struct Transcript<A: Allocator = Global> {
+    lines: Vec<Line, A>,
+    result: Outcome3,
+}
+
+impl<A: Allocator> Model for Transcript<A> {
+    ghost use Rattle.he_plan.specs.Timeline.{IsRace};
+    ghost use Rattle.he_plan.specs.Transcript.{Report};
+
+    ghost Value = { Report };
+
+    ghost view = { λ t. record { lines = t.lines.items; result = t.result } };
+}
+
+impl<A: Allocator> Transcript<A> {
+    /// The transcript of these lines and this result.
+    pub fn new(lines: Vec<Line, A>, ending: Outcome3) -> Transcript<A>
+        ensures { result ≡ record { lines = lines.items; result = ending } }
+    {
+        Transcript {
+            lines,
+            result: ending,
+        }
+    }
+
+    /// The attempts by place.
+    pub fn attempts(&self) -> &[Line]
+        ensures { result.now ≡ self.now.lines }
+    {
+        self.lines.as_slice()
+    }
+
+    /// How the race ended.
+    pub fn result(&self) -> Outcome3
+        ensures { result ≡ self.now.result }
+    {
+        self.result
+    }
+}
+
+/// The transcript of the timeline's race, from its plan, one fate of each attempt and the winner of these fates: the least
+/// finish and place of a success. An attempt that starts at or after some success's finish may be told as Skipped.
+pub fn transcript_of_fates<A: Allocator, B: Allocator, C: Allocator>(
+    alloc: A,
+    timeline: &Timeline<B>,
+    plan: &Plan<C>,
+    fates: &[Fate],
+    winner: Option<(u64, usize)>,
+) -> Result<Transcript<A>, Memory>
+    requires { AreTold timeline.now plan.now fates.now winner }
+    ensures { IfOk result (IsTranscript timeline.now) }
+{
+    let attempts = plan.attempts();
+    let stop = stop(timeline, winner);
+    let ending = ending(timeline, attempts, fates, winner);
+    let lines = told_lines(alloc, stop, winner, attempts, fates)?;
+    Ok(Transcript::new(lines, ending))
+}
+
+/// The transcript of the timeline's race.
+pub fn transcript_of<A: Allocator + Copy, B: Allocator>(
+    alloc: A,
+    timeline: &Timeline<B>,
+) -> Result<Transcript<A>, Memory>
+    ensures { IfOk result (IsTranscript timeline.now) }
+{
+    let plan = plan(alloc, timeline)?;
+    let fates = fates(alloc, timeline, plan.attempts())?;
+    let winner = winner(&fates);
+    transcript_of_fates(alloc, timeline, &plan, &fates, winner)
+}
+
+fn fates<A: Allocator, B: Allocator>(
+    alloc: A,
+    timeline: &Timeline<B>,
+    attempts: &[Attempt],
+) -> Result<Vec<Fate, A>, Memory>
+    ensures { IfOk result (λ v. v.items ≡ map (fate_of timeline.now) attempts.now) }
+{
+    collect_fates(alloc, timeline, attempts).map_err(|_| Memory)
+}
+
+fn collect_fates<A: Allocator, B: Allocator>(
+    alloc: A,
+    timeline: &Timeline<B>,
+    attempts: &[Attempt],
+) -> Result<Vec<Fate, A>, AllocError>
+    ensures { IfOk result (λ v. v.items ≡ map (fate_of timeline.now) attempts.now) }
+{
+    attempts
+        .iter()
+        .map(|attempt| timeline.fate(attempt))
+        .collect(alloc)
+}
+
+fn stop<A: Allocator>(timeline: &Timeline<A>, winner: Option<(u64, usize)>) -> u64
+    ensures value { result ≡ stop_of timeline.now winner }
+    ensures race { IsRace timeline.now }
+{
+    let limit = timeline.settings().limit();
+    match winner {
+        Some(winner) => winner.0,
+        None => limit,
+    }
+}
+
+fn told_lines<A: Allocator>(
+    alloc: A,
+    stop: u64,
+    winner: Option<(u64, usize)>,
+    attempts: &[Attempt],
+    fates: &[Fate],
+) -> Result<Vec<Line, A>, Memory>
+    requires { length attempts.now ≡ length fates.now }
+    ensures { IfOk result (λ v. v.items ≡ told_lines stop winner attempts.now fates.now) }
+{
+    let mut lines = Vec::new(alloc);
+    for (i, attempt) in attempts.iter().enumerate() {
+        push_line(&mut lines, stop, winner, attempt, fates[i])?;
+    }
+    Ok(lines)
+}
+
+fn push_line<A: Allocator>(
+    lines: &mut Vec<Line, A>,
+    stop: u64,
+    winner: Option<(u64, usize)>,
+    attempt: &Attempt,
+    fate: Fate,
+) -> Result<(), Memory>
+    ensures { OnOk result (lines.new.items ≡ lines.old.items ++ told_one stop winner attempt.now fate) }
+{
+    if attempt.tick < stop {
+        let line = Line {
+            place: attempt.place,
+            tick: attempt.tick,
+            ip: attempt.ip,
+            mark: told_mark(stop, winner, attempt.place, fate),
+        };
+        lines.push(line).map_err(|_| Memory)?;
+    }
+    Ok(())
+}
+
+fn told_mark(stop: u64, winner: Option<(u64, usize)>, place: usize, fate: Fate) -> Mark
+    ensures { result ≡ mark_at stop winner place fate }
+{
+    if is_place(winner, place) {
+        Mark::Won(stop)
+    } else {
+        failed_mark(stop, fate)
+    }
+}
+
+fn is_place(winner: Option<(u64, usize)>, place: usize) -> bool
+    ensures { result ≡ is_place winner place }
+{
+    match winner {
+        Some(winner) => winner.1 == place,
+        None => false,
+    }
+}
+
+fn failed_mark(stop: u64, fate: Fate) -> Mark
+    ensures { result ≡ failed_mark stop fate }
+{
+    match fate {
+        Fate::Failed(finish) if finish <= stop => Mark::Failed(finish),
+        _ => Mark::Cancelled(stop),
+    }
+}
+
+fn ending<A: Allocator>(
+    timeline: &Timeline<A>,
+    attempts: &[Attempt],
+    fates: &[Fate],
+    winner: Option<(u64, usize)>,
+) -> Outcome3
+    ensures { result ≡ result_of timeline.now attempts.now fates.now winner }
+{
+    match winner {
+        Some(winner) => Outcome3::Won(winner.1, winner.0),
+        None => without_winner(timeline, attempts, fates),
+    }
+}
+
+fn without_winner<A: Allocator>(
+    timeline: &Timeline<A>,
+    attempts: &[Attempt],
+    fates: &[Fate],
+) -> Outcome3
+    ensures { result ≡ without_winner timeline.now attempts.now fates.now timeline.now.aaaa timeline.now.a }
+{
+    let limit = timeline.settings().limit();
+    let Some((aaaa_tick, aaaa)) = timeline.answer(Family::V6) else {
+        return Outcome3::Limit(limit);
+    };
+    let Some((a_tick, a)) = timeline.answer(Family::V4) else {
+        return Outcome3::Limit(limit);
+    };
+    let aaaa_seen = timeline.seen(aaaa_tick);
+    let a_seen = timeline.seen(a_tick);
+    if aaaa_seen <= limit
+        && a_seen <= limit
+        && are_failed(fates)
+        && is_tried_out(attempts, aaaa)
+        && is_tried_out(attempts, a)
+    {
+        Outcome3::Exhausted(last_failure(aaaa_seen.max(a_seen), fates))
+    } else {
+        Outcome3::Limit(limit)
+    }
+}
+
+fn are_failed(fates: &[Fate]) -> bool
+    ensures { result ≡ list_all is_failed fates.now }
+{
+    fates.iter().all(|fate| is_failed(*fate))
+}
+
+fn is_failed(fate: Fate) -> bool
+    ensures { result ≡ is_failed fate }
+{
+    matches!(fate, Fate::Failed(_))
+}
+
+fn is_tried_out(attempts: &[Attempt], ips: &[Ip]) -> bool
+    ensures { result ≡ list_all (λ ip. not (is_usable ip) || is_tried attempts.now ip) ips.now }
+{
+    ips.iter()
+        .all(|ip| !ip.is_usable() || is_tried(attempts, *ip))
+}
+
+fn last_failure(tick: u64, fates: &[Fate]) -> u64
+    ensures { result ≡ last_failure tick fates.now }
+{
+    let mut latest = tick;
+    for fate in fates {
+        if let Fate::Failed(finish) = *fate {
+            latest = latest.max(finish);
+        }
+    }
+    latest
+}

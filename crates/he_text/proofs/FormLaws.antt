@@ -1,0 +1,37 @@
+-- The addresses of an answer, read one after the other.
+use Rattle.std.proofs.Common.{◌≡◌, ℕ, List, [], ◌∷◌, ◌++◌, Result, Ok, Err, refl, sym, ◌∙◌, ap, append_assoc}
+use Rattle.std.proofs.lemmas.List.{append-nil}
+use Rattle.he_addr.specs.declared.ip.Family.{Family}
+use Rattle.he_addr.specs.declared.ip.Ip.{Ip}
+use Rattle.he_text.specs.declared.fault.TextKind.{TextKind}
+use Rattle.he_text.specs.Forms.{address_in, addresses_in, ◌>>=◌}
+use Rattle.he_text.specs.Reading.{prepend}
+
+pub prepend_nothing : (read : Result (List Ip) TextKind) → prepend [] read ≡ read
+prepend_nothing (Ok ips) = refl
+prepend_nothing (Err kind) = refl
+
+prepend_more : (ips : List Ip) (ip : Ip) (read : Result (List Ip) TextKind) → prepend ips (read >>= λ more. Ok (ip ∷ more)) ≡ prepend (ips ++ ip ∷ []) read
+prepend_more ips ip (Ok more) = ap Ok (sym (append_assoc ips (ip ∷ []) more))
+prepend_more ips ip (Err kind) = refl
+
+pub addresses_more : (ips : List Ip) (family : Family) (tokens more : List (List ℕ)) (token : List ℕ) (ip : Ip)
+    → tokens ≡ token ∷ more → address_in family token ≡ Ok ip
+    → prepend ips (addresses_in family tokens) ≡ prepend (ips ++ ip ∷ []) (addresses_in family more)
+unfolding addresses_in
+addresses_more ips family tokens more token ip is read =
+    ap (λ ts. prepend ips (addresses_in family ts)) is
+    ∙ ap (λ r. prepend ips (r >>= λ ip. addresses_in family more >>= λ rest. Ok (ip ∷ rest))) read
+    ∙ prepend_more ips ip (addresses_in family more)
+
+pub addresses_wrong : (ips : List Ip) (family : Family) (tokens more : List (List ℕ)) (token : List ℕ) (kind : TextKind)
+    → tokens ≡ token ∷ more → address_in family token ≡ Err kind
+    → prepend ips (addresses_in family tokens) ≡ Err kind
+unfolding addresses_in
+addresses_wrong ips family tokens more token kind is read =
+    ap (λ ts. prepend ips (addresses_in family ts)) is
+    ∙ ap (λ r. prepend ips (r >>= λ ip. addresses_in family more >>= λ rest. Ok (ip ∷ rest))) read
+
+pub addresses_end : (ips : List Ip) (family : Family) (tokens : List (List ℕ)) → tokens ≡ [] → prepend ips (addresses_in family tokens) ≡ Ok ips
+unfolding addresses_in
+addresses_end ips family tokens is = ap (λ ts. prepend ips (addresses_in family ts)) is ∙ ap Ok (append-nil ips)

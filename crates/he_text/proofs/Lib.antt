@@ -1,0 +1,6 @@
+mod FormFacts
+mod FormLaws
+mod PartLaws
+mod ReadingLaws
+mod Results
+mod WritingLaws

@@ -1,0 +1,176 @@
+-- Reading on, line by line.
+use Rattle.std.proofs.Common.{◌≡◌, ◌==◌, ℕ, suc, ◌+◌, ◌<◌, ◌≤◌, Bool, true, false, not, cond, ltb, List, [], ◌∷◌, length, Option, Some, None, Result, Ok, Err, Bor, refl, sym, ◌∙◌, ap, subst, inl, inr, arith}
+use Rattle.std.specs.Prelude.{IfErr, codes}
+use Rattle.std.specs.Str.{bytes_eq}
+use Rattle.std.proofs.lemmas.Bool.{le-ltb}
+use Rattle.std.proofs.lemmas.List.Splits.{length-slice_split}
+use Rattle.he_plan.specs.Building.{empty_race}
+use Rattle.he_plan.specs.Race.{Race}
+use Rattle.he_plan.specs.Settings.{SettingValues}
+use Rattle.he_text.specs.declared.draft.Given.{Given}
+use Rattle.he_text.specs.declared.draft.Order.{Order}
+use Rattle.he_text.specs.declared.fault.TextKind.{TextKind}
+use Rattle.he_text.specs.declared.fault.TextKind.TheVariants as kinds
+use Rattle.he_text.specs.declared.limits.TheConstants.{MAX_LINE}
+use Rattle.he_text.specs.declared.words.Word.{Word}
+use Rattle.he_text.specs.Forms.{◌>>=◌}
+use Rattle.he_text.specs.Parts.{parts_of, tokens_of}
+use Rattle.he_text.specs.Reading.{Fails, FailsAt, at_line, ended_by, wholeness, take_line, read_body, head_of, take_head, settings_from, settle, read_head, read_lines, order_at_start, none_given}
+use Rattle.he_text.specs.Words.{is_end}
+
+ended_by_some : (parts : List (List ℕ)) → 0 < length parts → ended_by parts ≡ Ok tt
+ended_by_some [] some = absurd (omega arith)
+ended_by_some (part ∷ parts) some = refl
+
+-- a line that is short enough, with its line end behind it
+pub wholeness_of : (lines : List (List ℕ)) (line rest : List ℕ) (mark : ℕ) → lines ≡ line ∷ parts_of mark rest → length line ≤ MAX_LINE → wholeness lines ≡ Ok tt
+unfolding wholeness
+wholeness_of lines line rest mark is short =
+    let some : 0 < length (parts_of mark rest) = omega (arith, length-slice_split (λ b. b == mark) rest) in
+    ap wholeness is
+    ∙ ap (λ b. cond b (Err kinds.TooMany) (ended_by (parts_of mark rest))) (le-ltb MAX_LINE (length line) short)
+    ∙ ended_by_some (parts_of mark rest) some
+
+-- the other groups: what follows a line
+abbrev body_after : ℕ → List (List ℕ) → Result (Word × Order × Race) TextKind → Result (Race × List (List ℕ)) (ℕ × TextKind)
+body_after n after taken = at_line n taken >>= λ next. cond (is_end next.0) (Ok (next.2, after)) (read_body (n + 1) next.1 next.2 after)
+
+pub body_unwhole : (n : ℕ) (order : Order) (race : Race) (lines : List (List ℕ)) (kind : TextKind) → wholeness lines ≡ Err kind → read_body n order race lines ≡ Err (n, kind)
+unfolding read_body wholeness
+body_unwhole n order race [] kind h = ap (λ w. at_line n w >>= λ _. Err (n, kinds.Unfinished)) h
+body_unwhole n order race (line ∷ after) kind h = ap (λ w. at_line n w >>= λ _. body_after n after (take_line (tokens_of line) order race)) h
+
+pub body_whole : (n : ℕ) (order : Order) (race : Race) (lines after : List (List ℕ)) (line : List ℕ) → lines ≡ line ∷ after → wholeness lines ≡ Ok tt
+    → read_body n order race lines ≡ body_after n after (take_line (tokens_of line) order race)
+unfolding read_body
+body_whole n order race lines after line is whole =
+    ap (read_body n order race) is
+    ∙ ap (λ w. at_line n w >>= λ _. body_after n after (take_line (tokens_of line) order race)) (ap wholeness (sym is) ∙ whole)
+
+pub body_wrong : (n : ℕ) (order : Order) (race : Race) (lines after : List (List ℕ)) (line : List ℕ) (kind : TextKind) → lines ≡ line ∷ after → wholeness lines ≡ Ok tt
+    → take_line (tokens_of line) order race ≡ Err kind → read_body n order race lines ≡ Err (n, kind)
+body_wrong n order race lines after line kind is whole taken =
+    body_whole n order race lines after line is whole ∙ ap (body_after n after) taken
+
+pub body_ends : (n : ℕ) (order next : Order) (race told : Race) (word : Word) (lines after : List (List ℕ)) (line : List ℕ) → lines ≡ line ∷ after → wholeness lines ≡ Ok tt
+    → take_line (tokens_of line) order race ≡ Ok (word, next, told) → is_end word ≡ true → read_body n order race lines ≡ Ok (told, after)
+body_ends n order next race told word lines after line is whole taken ends =
+    body_whole n order race lines after line is whole ∙ ap (body_after n after) taken
+    ∙ ap (λ b. cond b (Ok (told, after)) (read_body (n + 1) next told after)) ends
+
+pub body_more : (n : ℕ) (order next : Order) (race told : Race) (word : Word) (lines after : List (List ℕ)) (line : List ℕ) → lines ≡ line ∷ after → wholeness lines ≡ Ok tt
+    → take_line (tokens_of line) order race ≡ Ok (word, next, told) → is_end word ≡ false → read_body n order race lines ≡ read_body (n + 1) next told after
+body_more n order next race told word lines after line is whole taken ends =
+    body_whole n order race lines after line is whole ∙ ap (body_after n after) taken
+    ∙ ap (λ b. cond b (Ok (told, after)) (read_body (n + 1) next told after)) ends
+
+not_before_after : (n : ℕ) (after : List (List ℕ)) (taken : Result (Word × Order × Race) TextKind)
+    → ((order : Order) (race : Race) → IfErr (read_body (n + 1) order race after) (λ fault. n + 1 ≤ fault.0))
+    → IfErr (body_after n after taken) (λ fault. n ≤ fault.0)
+not_before_after n after (Err kind) later = omega arith
+not_before_after n after (Ok next) later = by_end (is_end next.0)
+  where
+    weaker : (read : Result (Race × List (List ℕ)) (ℕ × TextKind)) → IfErr read (λ fault. n + 1 ≤ fault.0) → IfErr read (λ fault. n ≤ fault.0)
+    weaker (Ok x) h = tt
+    weaker (Err fault) h = omega arith
+    by_end : (b : Bool) → IfErr (cond b (Ok (next.2, after)) (read_body (n + 1) next.1 next.2 after)) (λ fault. n ≤ fault.0)
+    by_end true = tt
+    by_end false = weaker (read_body (n + 1) next.1 next.2 after) (later next.1 next.2)
+
+not_before_whole : (n : ℕ) (w : Result (Unit {0}) TextKind) (read : Result (Race × List (List ℕ)) (ℕ × TextKind))
+    → IfErr read (λ fault. n ≤ fault.0) → IfErr (at_line n w >>= λ _. read) (λ fault. n ≤ fault.0)
+not_before_whole n (Ok done) read h = h
+not_before_whole n (Err kind) read h = omega arith
+
+-- a fault isn't above the line from which is read
+pub body_not_before : (n : ℕ) (order : Order) (race : Race) (lines : List (List ℕ)) → IfErr (read_body n order race lines) (λ fault. n ≤ fault.0)
+unfolding read_body
+body_not_before n order race [] = omega arith
+body_not_before n order race (line ∷ after) =
+    not_before_whole n (wholeness (line ∷ after)) (body_after n after (take_line (tokens_of line) order race))
+    (not_before_after n after (take_line (tokens_of line) order race) (λ next told. body_not_before (n + 1) next told after))
+
+-- the first four groups: what follows a whole line
+abbrev head_after : ℕ → Order → Given → List (List ℕ) → List (List ℕ) → Option (Word × List (List ℕ)) → Result (Race × List (List ℕ)) (ℕ × TextKind)
+head_after n order given lines after head = elim head [
+    | None ↦ settle n order given lines
+    | Some parts ↦ at_line n (take_head parts order given) >>= λ next. read_head (n + 1) next.0 next.1 after
+  ]
+
+pub head_unwhole : (n : ℕ) (order : Order) (given : Given) (lines : List (List ℕ)) (kind : TextKind) → wholeness lines ≡ Err kind → read_head n order given lines ≡ Err (n, kind)
+unfolding read_head wholeness
+head_unwhole n order given [] kind h = ap (λ w. at_line n w >>= λ _. Err (n, kinds.Unfinished)) h
+head_unwhole n order given (line ∷ after) kind h = ap (λ w. at_line n w >>= λ _. head_after n order given (line ∷ after) after (head_of (tokens_of line))) h
+
+pub head_whole : (n : ℕ) (order : Order) (given : Given) (lines after : List (List ℕ)) (line : List ℕ) → lines ≡ line ∷ after → wholeness lines ≡ Ok tt
+    → read_head n order given lines ≡ head_after n order given lines after (head_of (tokens_of line))
+unfolding read_head
+head_whole n order given lines after line is whole =
+    ap (read_head n order given) is
+    ∙ ap (λ w. at_line n w >>= λ _. head_after n order given (line ∷ after) after (head_of (tokens_of line))) (ap wholeness (sym is) ∙ whole)
+    ∙ ap (λ ls. head_after n order given ls after (head_of (tokens_of line))) (sym is)
+
+pub head_settles : (n : ℕ) (order : Order) (given : Given) (lines after : List (List ℕ)) (line : List ℕ) → lines ≡ line ∷ after → wholeness lines ≡ Ok tt
+    → head_of (tokens_of line) ≡ None → read_head n order given lines ≡ settle n order given lines
+head_settles n order given lines after line is whole none =
+    head_whole n order given lines after line is whole ∙ ap (head_after n order given lines after) none
+
+pub head_wrong : (n : ℕ) (order : Order) (given : Given) (parts : Word × List (List ℕ)) (lines after : List (List ℕ)) (line : List ℕ) (kind : TextKind) → lines ≡ line ∷ after → wholeness lines ≡ Ok tt
+    → head_of (tokens_of line) ≡ Some parts → take_head parts order given ≡ Err kind → read_head n order given lines ≡ Err (n, kind)
+head_wrong n order given parts lines after line kind is whole some taken =
+    head_whole n order given lines after line is whole ∙ ap (head_after n order given lines after) some
+    ∙ ap (λ t. at_line n t >>= λ next. read_head (n + 1) next.0 next.1 after) taken
+
+pub head_more : (n : ℕ) (order next : Order) (given more : Given) (parts : Word × List (List ℕ)) (lines after : List (List ℕ)) (line : List ℕ) → lines ≡ line ∷ after → wholeness lines ≡ Ok tt
+    → head_of (tokens_of line) ≡ Some parts → take_head parts order given ≡ Ok (next, more) → read_head n order given lines ≡ read_head (n + 1) next more after
+head_more n order next given more parts lines after line is whole some taken =
+    head_whole n order given lines after line is whole ∙ ap (head_after n order given lines after) some
+    ∙ ap (λ t. at_line n t >>= λ next. read_head (n + 1) next.0 next.1 after) taken
+
+-- a line of the other groups that is refused, for its fault or for memory
+pub fails_body : (n : ℕ) (order : Order) (race : Race) (lines after : List (List ℕ)) (line : List ℕ) (kind : TextKind) (read : Result (Race × List (List ℕ)) (ℕ × TextKind))
+    → read ≡ read_body n order race lines → lines ≡ line ∷ after → wholeness lines ≡ Ok tt
+    → Fails kind (take_line (tokens_of line) order race) → FailsAt n kind read
+fails_body n order race lines after line kind read reads is whole fails = elim fails [
+    | inl memory ↦ let P : Result (Race × List (List ℕ)) (ℕ × TextKind) → Type 0 = λ r. IfErr r (λ fault. n ≤ fault.0) in
+        inl (memory, subst P (sym reads) (body_not_before n order race lines))
+    | inr wrong ↦ inr (reads ∙ body_wrong n order race lines after line kind is whole wrong)
+  ]
+
+-- the settings are known
+pub settle_wrong : (n : ℕ) (order : Order) (given : Given) (lines : List (List ℕ)) (kind : TextKind) → settings_from given ≡ Err kind → settle n order given lines ≡ Err (n, kind)
+unfolding settle
+settle_wrong n order given lines kind h = ap (λ s. at_line n s >>= λ settings. read_body n order (empty_race settings) lines) h
+
+pub settle_reads : (n : ℕ) (order : Order) (given : Given) (lines : List (List ℕ)) (settings : SettingValues) → settings_from given ≡ Ok settings → settle n order given lines ≡ read_body n order (empty_race settings) lines
+unfolding settle
+settle_reads n order given lines settings h = ap (λ s. at_line n s >>= λ settings. read_body n order (empty_race settings) lines) h
+
+-- the first line
+abbrev pub begin : List ℕ → List (List ℕ) → Bool → Result (Race × List (List ℕ)) (ℕ × TextKind)
+begin line after same = cond same (read_head 2 order_at_start none_given after) (Err (1, kinds.Header))
+
+pub lines_unwhole : (lines : List (List ℕ)) (kind : TextKind) → wholeness lines ≡ Err kind → read_lines lines ≡ Err (1, kind)
+unfolding read_lines wholeness
+lines_unwhole [] kind h = ap (λ w. at_line 1 w >>= λ _. Err (1, kinds.Unfinished)) h
+lines_unwhole (line ∷ after) kind h = ap (λ w. at_line 1 w >>= λ _. begin line after (bytes_eq line (codes "race 1"))) h
+
+pub lines_begin : (lines after : List (List ℕ)) (line : List ℕ) (same : Bool) → lines ≡ line ∷ after → wholeness lines ≡ Ok tt → bytes_eq line (codes "race 1") ≡ same → read_lines lines ≡ begin line after same
+unfolding read_lines
+lines_begin lines after line same is whole tested =
+    ap read_lines is
+    ∙ ap (λ w. at_line 1 w >>= λ _. begin line after (bytes_eq line (codes "race 1"))) (ap wholeness (sym is) ∙ whole)
+    ∙ ap (begin line after) tested
+
+-- a test that was denied
+pub agrees : (b : Bool) → false ≡ not b → b ≡ true
+agrees true h = refl
+agrees false h = cc
+
+pub differs : (b : Bool) → true ≡ not b → b ≡ false
+differs true h = cc
+differs false h = refl
+
+-- what stands behind a line is no longer than the text
+pub shrinks : (new rest old : Bor (List ℕ)) {n : ℕ} → new ≡ rest → length rest.now < length old.now → length old.now ≤ n → length new.now ≤ n
+shrinks new rest old {n} same shorter within = let P : Bor (List ℕ) → Type 0 = λ r. length r.now ≤ n in subst P (sym same) (omega arith)

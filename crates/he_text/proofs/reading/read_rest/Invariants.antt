@@ -1,0 +1,14 @@
+use Rattle.std.proofs.Common.{◌≡◌, ◌≤◌, length}
+use Rattle.he_text.specs.Parts.{lines_left, HasRoom}
+use Rattle.he_text.specs.Reading.{read_body}
+use Rattle.he_text.proofs.reading.read_rest.Given as goal
+
+-- reading on from here is reading from the start
+abbrev pub invariant-loop-race : goal.invariant-loop-race
+invariant-loop-race g l =
+    (read_body l.fn.lines.number l.fn.first l.fn.start (lines_left l.fn.lines) ≡ read_body l.lines.number l.order l.race (lines_left l.lines))
+    × HasRoom l.lines
+    × (length l.lines.rest.now ≤ length l.fn.lines.rest.now)
+
+abbrev pub decreases-loop-race : goal.decreases-loop-race
+decreases-loop-race g l = length l.lines.rest.now

@@ -1,0 +1,149 @@
+-- What is wrong with a text. A line undergoes the checks in the order in which they stand here; each is a condition on the line,
+-- on the lines before it (which are right, since the least faulty line decides), and for the second check on what follows it.
+use Rattle.std.specs.Prelude.{ℕ, ◌+◌, ◌==◌, ◌&&◌, Bool, true, false, not, List, [], ◌∷◌, ◌++◌, length, Option, Some, None, is_some, Result, Ok, Err, if◌then◌else◌, nat_le, nat_lt, count_by, codes}
+use Rattle.std.specs.List.{filter_map}
+use Rattle.std.specs.Result.{result_ok}
+use Rattle.std.specs.Str.{bytes_eq}
+use Rattle.he_addr.specs.declared.ip.Ip.{Ip}
+use Rattle.he_plan.specs.Building.{last_end}
+use Rattle.he_plan.specs.Race.{stands, has_outcome}
+use Rattle.he_plan.specs.Timeline.{are_distinct}
+use Rattle.he_text.specs.declared.fault.TextKind.{TextKind}
+use Rattle.he_text.specs.declared.fault.TextKind.TheVariants as kinds
+use Rattle.he_text.specs.declared.limits.TheConstants.{MAX_LINE}
+use Rattle.he_text.specs.declared.words.Word.{Word}
+use Rattle.he_text.specs.Forms.{word_of, said_in}
+use Rattle.he_text.specs.Parts.{lines_of, tokens_of}
+use Rattle.he_text.specs.Said.{Said, Setting, Answer, Told, Paused, setting_given, outcomes_given, pauses_given, race_of}
+use Rattle.he_text.specs.Words.{group_of, most_lines, is_end}
+
+-- the fault of a check
+abbrev pub test : Bool → TextKind → Option TextKind
+test fails kind = if fails then Some kind else None
+
+-- the first check that fails
+abbrev pub first_fault : List (Option TextKind) → Option TextKind
+first_fault [] = None
+first_fault (None ∷ checks) = first_fault checks
+first_fault (Some kind ∷ checks) = Some kind
+
+-- the group of a line by its word; 0 for what is no word
+abbrev pub group_by : Result (Word × List (List ℕ)) TextKind → ℕ
+group_by (Ok parts) = group_of parts.0
+group_by (Err kind) = 0
+
+unfoldable pub group_on : List ℕ → ℕ
+group_on line = group_by (word_of (tokens_of line))
+
+-- the group of the last line; the first line of a race is of group 0
+abbrev pub last_group : ℕ → List (List ℕ) → ℕ
+last_group group [] = group
+last_group group (line ∷ lines) = last_group (group_on line) lines
+
+-- how many lines of the group there are
+abbrev pub lines_with : ℕ → List (List ℕ) → ℕ
+lines_with group lines = count_by (λ line. group_on line == group) lines
+
+-- what the lines said
+abbrev pub anyone : Ip → Bool
+anyone ip = true
+
+unfoldable pub said_before : List (List ℕ) → List Said
+said_before lines = filter_map (λ line. result_ok (said_in anyone line)) lines
+
+-- an address that stands in an answer of the lines
+abbrev pub known_to : List Said → Ip → Bool
+known_to said ip = stands (race_of said) ip
+
+-- 1: more bytes than a line may have
+abbrev pub too_long : List ℕ → Option TextKind
+too_long line = test (nat_lt MAX_LINE (length line)) kinds.TooMany
+
+-- 2: the text ends inside the line, by the parts behind it
+abbrev pub unfinished : List (List ℕ) → Option TextKind
+unfinished [] = Some kinds.Unfinished
+unfinished (part ∷ parts) = None
+
+-- 3: the first line of a race
+abbrev pub wrong_header : List ℕ → Option TextKind
+wrong_header line = test (not (bytes_eq line (codes "race 1"))) kinds.Header
+
+-- 4: no word, or one of an earlier group than the line before
+abbrev pub wrong_word : ℕ → Result (Word × List (List ℕ)) TextKind → Option TextKind
+wrong_word group (Err kind) = Some kinds.Word
+wrong_word group (Ok parts) = test (nat_lt (group_of parts.0) group) kinds.Word
+
+-- 5: a line more than there may be of its word
+abbrev pub excess : Option (ℕ × TextKind) → ℕ → Option TextKind
+excess None lines = None
+excess (Some most) lines = test (nat_le most.0 lines) most.1
+
+abbrev pub too_often : List (List ℕ) → Result (Word × List (List ℕ)) TextKind → Option TextKind
+too_often before (Err kind) = None
+too_often before (Ok parts) = excess (most_lines parts.0) (lines_with (group_of parts.0) before)
+
+-- 6 and 7: the number of tokens, then each of them from left to right
+abbrev pub wrong_form : Result Said TextKind → Option TextKind
+wrong_form (Ok said) = None
+wrong_form (Err kind) = Some kind
+
+-- 8: a pause that doesn't end after it begins, or begins before the end of the one before it
+abbrev pub wrong_bounds : List Said → Said → Option TextKind
+wrong_bounds before (Paused from to) = test (not (nat_le (last_end (pauses_given before)) from && nat_lt from to)) kinds.Range
+wrong_bounds before said = None
+
+-- 9: a setting given twice, an address twice in an answer, a second outcome of an address
+abbrev pub repeated : List Said → Said → Option TextKind
+repeated before (Setting name value) = test (is_some (setting_given name before)) kinds.Repeated
+repeated before (Answer family reply) = test (not (are_distinct reply.addresses)) kinds.Repeated
+repeated before (Told ip outcome) = test (has_outcome ip (outcomes_given before)) kinds.Repeated
+repeated before said = None
+
+-- a check of what the line says, where it says something
+abbrev pub of_said : (Said → Option TextKind) → Result Said TextKind → Option TextKind
+of_said check (Ok said) = check said
+of_said check (Err kind) = None
+
+-- the fault of a line behind the first one
+unfoldable pub line_fault : List (List ℕ) → List ℕ → List (List ℕ) → Option TextKind
+line_fault before line after =
+    let word = word_of (tokens_of line) in
+    let told = said_before before in
+    let said = said_in (known_to told) line in
+    first_fault (
+      too_long line
+      ∷ unfinished after
+      ∷ wrong_word (last_group 0 before) word
+      ∷ too_often before word
+      ∷ wrong_form said
+      ∷ of_said (wrong_bounds told) said
+      ∷ of_said (repeated told) said
+      ∷ [])
+
+abbrev pub at_line_number : ℕ → Option TextKind → Option (ℕ × TextKind) → Option (ℕ × TextKind)
+at_line_number n (Some kind) later = Some (n, kind)
+at_line_number n None later = later
+
+-- whether a line ends the race
+abbrev pub ends_by : Result (Word × List (List ℕ)) TextKind → Bool
+ends_by (Ok parts) = is_end parts.0
+ends_by (Err kind) = false
+
+unfoldable pub ends : List ℕ → Bool
+ends line = ends_by (word_of (tokens_of line))
+
+-- the least faulty line from line n on, behind these lines, with its first fault; none if a line ends the race before
+unfoldable pub fault_from : ℕ → List (List ℕ) → List (List ℕ) → Option (ℕ × TextKind)
+fault_from n before [] = Some (n, kinds.Unfinished)
+fault_from n before (line ∷ after) =
+    at_line_number n (line_fault before line after) (if ends line then None else fault_from (n + 1) (before ++ line ∷ []) after)
+
+-- the same from the first line on
+unfoldable pub fault_in : List (List ℕ) → Option (ℕ × TextKind)
+fault_in [] = Some (1, kinds.Unfinished)
+fault_in (line ∷ after) =
+    at_line_number 1 (first_fault (too_long line ∷ unfinished after ∷ wrong_header line ∷ [])) (fault_from 2 [] after)
+
+-- the fault of a text: its least faulty line, counted from 1, and the first check that fails on it
+abbrev pub fault_of : List ℕ → Option (ℕ × TextKind)
+fault_of text = fault_in (lines_of text)

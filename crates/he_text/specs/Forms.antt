@@ -1,0 +1,135 @@
+-- What a line says by itself: the forms of the lines, checked from left to right. First how many tokens there are, then each
+-- token; the first that is wrong decides.
+use Rattle.std.specs.Prelude.{ℕ, ◌&&◌, Bool, true, false, List, [], ◌∷◌, length, Option, Some, None, Result, Ok, Err, if◌then◌else◌, nat_le, nat_lt, codes}
+use Rattle.std.specs.Option.{ok_or}
+use Rattle.std.specs.Str.{bytes_eq}
+use Rattle.he_addr.specs.declared.ip.Family.{Family}
+use Rattle.he_addr.specs.declared.ip.Family.TheVariants as families
+use Rattle.he_addr.specs.declared.ip.Ip.{Ip}
+use Rattle.he_plan.specs.declared.outcome.Outcome.{Outcome}
+use Rattle.he_plan.specs.declared.outcome.Outcome.TheVariants as outcomes
+use Rattle.he_plan.specs.declared.limits.TheConstants.{MAX_RESOLUTION, MIN_ATTEMPT, MAX_ATTEMPT, MIN_COUNT, MAX_COUNT, MIN_LIMIT, MAX_LIMIT, MAX_TICK, MIN_DURATION, MAX_DURATION, MAX_PAUSE_END, MAX_ADDRESSES}
+use Rattle.he_plan.specs.Race.{Reply}
+use Rattle.he_plan.specs.Timeline.{is_of}
+use Rattle.he_text.specs.declared.fault.TextKind.{TextKind}
+use Rattle.he_text.specs.declared.fault.TextKind.TheVariants as kinds
+use Rattle.he_text.specs.declared.words.Name.{Name}
+use Rattle.he_text.specs.declared.words.Name.TheVariants.{Resolution, Attempt, Count, Limit}
+use Rattle.he_text.specs.declared.words.Word.{Word}
+use Rattle.he_text.specs.declared.words.Word.TheVariants as words
+use Rattle.he_addr.specs.Reading.{number_in, ip_in}
+use Rattle.he_text.specs.Said.{Said, Setting, Passed, Answer, Told, Paused, Ended}
+use Rattle.he_text.specs.Parts.{tokens_of}
+use Rattle.he_text.specs.Words.{name_in, word_in}
+
+infixl 10 ◌>>=◌
+abbrev pub ◌>>=◌ : {A B E : Type 0} → Result A E → (A → Result B E) → Result B E
+(Ok x) >>= f = f x
+(Err e) >>= f = Err e
+
+-- the least and the greatest value of a setting
+abbrev pub least_of : Name → ℕ
+least_of Resolution = 0
+least_of Attempt = MIN_ATTEMPT
+least_of Count = MIN_COUNT
+least_of Limit = MIN_LIMIT
+
+abbrev pub most_of : Name → ℕ
+most_of Resolution = MAX_RESOLUTION
+most_of Attempt = MAX_ATTEMPT
+most_of Count = MAX_COUNT
+most_of Limit = MAX_LIMIT
+
+abbrev pub within : ℕ → ℕ → ℕ → Result ℕ TextKind
+within low high n = if nat_le low n && nat_le n high then Ok n else Err kinds.Range
+
+-- a number from `low` to `high`
+unfoldable pub number_from : ℕ → ℕ → List ℕ → Result ℕ TextKind
+number_from low high token = ok_or (number_in token) kinds.Number >>= within low high
+
+-- set NAME N
+unfoldable pub setting_in : List (List ℕ) → Result (Name × ℕ) TextKind
+setting_in (token ∷ number ∷ []) = do
+  name ← ok_or (name_in token) kinds.Word
+  value ← number_from (least_of name) (most_of name) number
+  Ok (name, value)
+setting_in _ = Err kinds.Word
+
+-- an address of the family
+unfoldable pub address_in : Family → List ℕ → Result Ip TextKind
+address_in family token = do
+  ip ← ok_or (ip_in token) kinds.Address
+  if is_of family ip then Ok ip else Err kinds.Address
+
+unfoldable pub addresses_in : Family → List (List ℕ) → Result (List Ip) TextKind
+addresses_in family [] = Ok []
+addresses_in family (token ∷ tokens) = do
+  ip ← address_in family token
+  ips ← addresses_in family tokens
+  Ok (ip ∷ ips)
+
+-- `none` alone, or addresses
+unfoldable pub listed_in : Family → List (List ℕ) → Result (List Ip) TextKind
+listed_in family (only ∷ []) = if bytes_eq only (codes "none") then Ok [] else addresses_in family (only ∷ [])
+listed_in family tokens = addresses_in family tokens
+
+-- aaaa TICK none, aaaa TICK ADDRESS .. and the same of a
+unfoldable pub answer_in : Family → List (List ℕ) → Result Reply TextKind
+answer_in family (number ∷ first ∷ more) =
+    if nat_lt MAX_ADDRESSES (length (first ∷ more)) then Err kinds.TooMany
+    else do
+      tick ← number_from 0 MAX_TICK number
+      ips ← listed_in family (first ∷ more)
+      Ok (record { tick = tick; addresses = ips })
+answer_in family _ = Err kinds.Word
+
+-- an address that the race knows
+unfoldable pub known_in : (Ip → Bool) → List ℕ → Result Ip TextKind
+known_in known token = do
+  ip ← ok_or (ip_in token) kinds.Address
+  if known ip then Ok ip else Err kinds.Address
+
+-- what a connect does, by its mark
+unfoldable pub mark_in : List ℕ → Result Bool TextKind
+mark_in token = if bytes_eq token (codes "ok") then Ok true else if bytes_eq token (codes "fail") then Ok false else Err kinds.Word
+
+-- connect ADDRESS ok N, connect ADDRESS fail N
+unfoldable pub connect_in : (Ip → Bool) → List (List ℕ) → Result (Ip × Outcome) TextKind
+connect_in known (address ∷ mark ∷ number ∷ []) = do
+  ip ← known_in known address
+  succeeds ← mark_in mark
+  ticks ← number_from MIN_DURATION MAX_DURATION number
+  Ok (ip, if succeeds then outcomes.Ok ticks else outcomes.Fail ticks)
+connect_in known _ = Err kinds.Word
+
+-- pause FROM TO
+unfoldable pub pause_in : List (List ℕ) → Result (ℕ × ℕ) TextKind
+pause_in (from ∷ to ∷ []) = do
+  first ← number_from 0 MAX_TICK from
+  last ← number_from 1 MAX_PAUSE_END to
+  Ok (first, last)
+pause_in _ = Err kinds.Word
+
+-- end
+abbrev pub end_in : List (List ℕ) → Result (Unit {0}) TextKind
+end_in [] = Ok tt
+end_in _ = Err kinds.Word
+
+-- the word that begins a line, and the tokens behind it
+unfoldable pub word_of : List (List ℕ) → Result (Word × List (List ℕ)) TextKind
+word_of [] = Err kinds.Word
+word_of (token ∷ tokens) = ok_or (word_in token) kinds.Word >>= λ word. Ok (word, tokens)
+
+-- what a line says, by its word and the tokens behind it, where these addresses are known; the lines that are passed over may
+-- have any tokens
+unfoldable pub said_by : (Ip → Bool) → Word → List (List ℕ) → Result Said TextKind
+said_by known words.Set tokens = setting_in tokens >>= λ setting. Ok (Setting setting.0 setting.1)
+said_by known words.Aaaa tokens = answer_in families.V6 tokens >>= λ reply. Ok (Answer families.V6 reply)
+said_by known words.A tokens = answer_in families.V4 tokens >>= λ reply. Ok (Answer families.V4 reply)
+said_by known words.Connect tokens = connect_in known tokens >>= λ told. Ok (Told told.0 told.1)
+said_by known words.Pause tokens = pause_in tokens >>= λ pause. Ok (Paused pause.0 pause.1)
+said_by known words.End tokens = end_in tokens >>= λ _. Ok Ended
+said_by known word tokens = Ok (Passed word)
+
+abbrev pub said_in : (Ip → Bool) → List ℕ → Result Said TextKind
+said_in known line = word_of (tokens_of line) >>= λ parts. said_by known parts.0 parts.1

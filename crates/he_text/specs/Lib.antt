@@ -1,0 +1,7 @@
+pub mod Faults
+pub mod Forms
+pub mod Parts
+pub mod Reading
+pub mod Said
+pub mod Words
+pub mod Written

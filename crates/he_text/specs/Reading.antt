@@ -1,0 +1,171 @@
+-- What the private readers answer, as functions on lists. They help the proofs; what the lines of a race are stands in
+-- `Text`, what is wrong with them in `Faults`.
+use Rattle.std.specs.Prelude.{ℕ, ◌≡◌, ◌⊎◌, ◌≤◌, ◌+◌, ◌++◌, ◌==◌, Bool, true, false, List, [], ◌∷◌, length, Option, Some, None, is_some, Result, Ok, Err, if◌then◌else◌, nat_le, nat_lt, unwrap_or, IfErr, codes}
+use Rattle.std.specs.Option.{ok_or}
+use Rattle.std.specs.Str.{bytes_eq}
+use Rattle.he_addr.specs.declared.ip.Ip.{Ip}
+use Rattle.he_addr.specs.declared.ip.Family.{Family}
+use Rattle.he_addr.specs.declared.ip.Family.TheVariants as families
+use Rattle.he_plan.specs.declared.builder.BuildFault.{BuildFault}
+use Rattle.he_plan.specs.declared.builder.BuildFault.TheVariants as faults
+use Rattle.he_plan.specs.declared.limits.TheConstants.{DEFAULT_RESOLUTION, DEFAULT_ATTEMPT, DEFAULT_COUNT, DEFAULT_LIMIT, MAX_PAUSES}
+use Rattle.he_plan.specs.Building.{add_answer, add_outcome, add_pause, empty_race}
+use Rattle.he_plan.specs.Race.{Race, stands}
+use Rattle.he_plan.specs.Settings.{SettingValues, settings_of}
+use Rattle.he_text.specs.declared.draft.Order.{Order}
+use Rattle.he_text.specs.declared.draft.Given.{Given}
+use Rattle.he_text.specs.declared.fault.TextKind.{TextKind}
+use Rattle.he_text.specs.declared.fault.TextKind.TheVariants as kinds
+use Rattle.he_text.specs.declared.limits.TheConstants.{MAX_LINE, MAX_ANSWERS}
+use Rattle.he_text.specs.declared.words.Name.{Name}
+use Rattle.he_text.specs.declared.words.Name.TheVariants.{Resolution, Attempt, Count, Limit}
+use Rattle.he_text.specs.declared.words.Word.{Word}
+use Rattle.he_text.specs.declared.words.Word.TheVariants.{Set, Policy, Source, Route, Aaaa, A, Connect, Pause, End}
+use Rattle.he_text.specs.Forms.{◌>>=◌, word_of, setting_in, answer_in, connect_in, pause_in, end_in}
+use Rattle.he_text.specs.Parts.{tokens_of}
+use Rattle.he_text.specs.Words.{word_in, group_of, most_lines, is_head_word, is_end}
+
+-- a call that failed did so as `read` does, unless it was for memory
+abbrev pub Fails : {B : Type 0} → TextKind → Result B TextKind → Type 0
+Fails kind read = (kind ≡ kinds.Memory) ⊎ (read ≡ Err kind)
+
+-- some addresses, and then what is read of the others
+abbrev pub prepend : List Ip → Result (List Ip) TextKind → Result (List Ip) TextKind
+prepend ips read = read >>= λ more. Ok (ips ++ more)
+
+-- how the faults of a timeline's builder are told
+abbrev pub kind_of : BuildFault → TextKind
+kind_of faults.Answered = kinds.Repeated
+kind_of faults.Range = kinds.Range
+kind_of faults.TooMany = kinds.TooMany
+kind_of faults.Stranger = kinds.Address
+kind_of faults.Repeated = kinds.Repeated
+kind_of faults.Memory = kinds.Memory
+
+abbrev pub built : Result Race BuildFault → Result Race TextKind
+built (Ok race) = Ok race
+built (Err fault) = Err (kind_of fault)
+
+-- one more line of a word with a bound on its lines, of which there are so many
+unfoldable pub counted : ℕ → Option (ℕ × TextKind) → ℕ → Result Order TextKind
+counted group None lines = Ok (record { group = group; lines = 0 })
+counted group (Some most) lines = if nat_le most.0 lines then Err most.1 else Ok (record { group = group; lines = lines + 1 })
+
+-- a line of the word, behind lines of which the last one's group has so many
+unfoldable pub admit : Word → Order → Result Order TextKind
+admit word order =
+    if nat_lt (group_of word) order.group then Err kinds.Word
+    else counted (group_of word) (most_lines word) (if group_of word == order.group then order.lines else 0)
+
+abbrev pub order_at_start : Order
+order_at_start = record { group = 0; lines = 0 }
+
+abbrev pub none_given : Given
+none_given = record { resolution = None; attempt = None; count = None; limit = None }
+
+-- a value that may be given once
+abbrev pub once : Option ℕ → ℕ → Result (Option ℕ) TextKind
+once None value = Ok (Some value)
+once (Some before) value = Err kinds.Repeated
+
+unfoldable pub put : Name → ℕ → Given → Result Given TextKind
+put Resolution value given = once given.resolution value >>= λ (more : Option ℕ). Ok (record given { resolution = more })
+put Attempt value given = once given.attempt value >>= λ (more : Option ℕ). Ok (record given { attempt = more })
+put Count value given = once given.count value >>= λ (more : Option ℕ). Ok (record given { count = more })
+put Limit value given = once given.limit value >>= λ (more : Option ℕ). Ok (record given { limit = more })
+
+abbrev pub ranged : {B R : Type 0} → Result B R → Result B TextKind
+ranged (Ok settings) = Ok settings
+ranged (Err range) = Err kinds.Range
+
+-- the settings, where one that isn't given has its default
+unfoldable pub settings_from : Given → Result SettingValues TextKind
+settings_from given = ranged (settings_of
+    (unwrap_or given.resolution DEFAULT_RESOLUTION)
+    (unwrap_or given.attempt DEFAULT_ATTEMPT)
+    (unwrap_or given.count DEFAULT_COUNT)
+    (unwrap_or given.limit DEFAULT_LIMIT))
+
+-- a line of the first four groups
+unfoldable pub take_setting : Word → List (List ℕ) → Given → Result Given TextKind
+take_setting Set tokens given = setting_in tokens >>= λ setting. put setting.0 setting.1 given
+take_setting _ tokens given = Ok given
+
+unfoldable pub take_answer : Family → List (List ℕ) → Race → Result Race TextKind
+take_answer family tokens race = answer_in family tokens >>= λ reply. built (add_answer family reply.tick reply.addresses race)
+
+-- a line of the other groups
+unfoldable pub take_told : Word → List (List ℕ) → Race → Result Race TextKind
+take_told Aaaa tokens race = take_answer families.V6 tokens race
+take_told A tokens race = take_answer families.V4 tokens race
+take_told Connect tokens race = connect_in (stands race) tokens >>= λ told. built (add_outcome told.0 told.1 race)
+take_told Pause tokens race = pause_in tokens >>= λ pause. built (add_pause pause.0 pause.1 race)
+take_told End tokens race = end_in tokens >>= λ _. Ok race
+take_told _ tokens race = Err kinds.Word
+
+unfoldable pub take_line : List (List ℕ) → Order → Race → Result (Word × Order × Race) TextKind
+take_line line order race = do
+  parts ← word_of line
+  next ← admit parts.0 order
+  told ← take_told parts.0 parts.1 race
+  Ok (parts.0, next, told)
+
+-- whether a part is a whole line, by what stands behind it
+abbrev pub ended_by : List (List ℕ) → Result (Unit {0}) TextKind
+ended_by [] = Err kinds.Unfinished
+ended_by (_ ∷ _) = Ok tt
+
+unfoldable pub wholeness : List (List ℕ) → Result (Unit {0}) TextKind
+wholeness [] = Err kinds.Unfinished
+wholeness (line ∷ after) = if nat_lt MAX_LINE (length line) then Err kinds.TooMany else ended_by after
+
+-- a fault of the line with that number
+abbrev pub at_line : {B : Type 0} → ℕ → Result B TextKind → Result B (ℕ × TextKind)
+at_line n (Ok x) = Ok x
+at_line n (Err kind) = Err (n, kind)
+
+-- reading on from line n: the race and what stands behind it
+unfoldable pub read_body : ℕ → Order → Race → List (List ℕ) → Result (Race × List (List ℕ)) (ℕ × TextKind)
+read_body n order race [] = Err (n, kinds.Unfinished)
+read_body n order race (line ∷ after) =
+    at_line n (wholeness (line ∷ after)) >>= λ _.
+    at_line n (take_line (tokens_of line) order race) >>= λ next.
+    if is_end next.0 then Ok (next.2, after) else read_body (n + 1) next.1 next.2 after
+
+abbrev pub head_part : Result (Word × List (List ℕ)) TextKind → Option (Word × List (List ℕ))
+head_part (Ok parts) = if is_head_word parts.0 then Some parts else None
+head_part (Err kind) = None
+
+-- the word of a line and what follows it, if the word is of the first four groups
+unfoldable pub head_of : List (List ℕ) → Option (Word × List (List ℕ))
+head_of line = head_part (word_of line)
+
+unfoldable pub take_head : Word × List (List ℕ) → Order → Given → Result (Order × Given) TextKind
+take_head parts order given = do
+  next ← admit parts.0 order
+  more ← take_setting parts.0 parts.1 given
+  Ok (next, more)
+
+-- what follows the lines of the first four groups
+unfoldable pub settle : ℕ → Order → Given → List (List ℕ) → Result (Race × List (List ℕ)) (ℕ × TextKind)
+settle n order given lines = at_line n (settings_from given) >>= λ settings. read_body n order (empty_race settings) lines
+
+-- the lines of the first four groups, and then the others
+unfoldable pub read_head : ℕ → Order → Given → List (List ℕ) → Result (Race × List (List ℕ)) (ℕ × TextKind)
+read_head n order given [] = Err (n, kinds.Unfinished)
+read_head n order given (line ∷ after) =
+    at_line n (wholeness (line ∷ after)) >>= λ _.
+    elim (head_of (tokens_of line)) [
+      | None ↦ settle n order given (line ∷ after)
+      | Some parts ↦ at_line n (take_head parts order given) >>= λ next. read_head (n + 1) next.0 next.1 after
+    ]
+
+unfoldable pub read_lines : List (List ℕ) → Result (Race × List (List ℕ)) (ℕ × TextKind)
+read_lines [] = Err (1, kinds.Unfinished)
+read_lines (line ∷ after) =
+    at_line 1 (wholeness (line ∷ after)) >>= λ _.
+    if bytes_eq line (codes "race 1") then read_head 2 order_at_start none_given after else Err (1, kinds.Header)
+
+-- a failed reading did so at line n as `read` does, or was refused memory there, where nothing above it is wrong
+abbrev pub FailsAt : {B : Type 0} → ℕ → TextKind → Result B (ℕ × TextKind) → Type 0
+FailsAt n kind read = ((kind ≡ kinds.Memory) × IfErr read (λ fault. n ≤ fault.0)) ⊎ (read ≡ Err (n, kind))

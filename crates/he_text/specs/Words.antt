@@ -1,0 +1,79 @@
+-- The words of timeline texts: how they are spelled, and the groups in which their lines stand.
+use Rattle.std.specs.Prelude.{ℕ, List, Bool, true, false, Option, Some, None, if◌then◌else◌, nat_le, codes}
+use Rattle.std.specs.Str.{bytes_eq}
+use Rattle.he_plan.specs.declared.limits.TheConstants.{MAX_PAUSES}
+use Rattle.he_text.specs.declared.fault.TextKind.{TextKind}
+use Rattle.he_text.specs.declared.fault.TextKind.TheVariants as kinds
+use Rattle.he_text.specs.declared.limits.TheConstants.{MAX_ANSWERS}
+use Rattle.he_text.specs.declared.words.Word.{Word}
+use Rattle.he_text.specs.declared.words.Word.TheVariants.{Set, Policy, Source, Route, Aaaa, A, Connect, Pause, End}
+use Rattle.he_text.specs.declared.words.Name.{Name}
+use Rattle.he_text.specs.declared.words.Name.TheVariants.{Resolution, Attempt, Count, Limit}
+
+-- the groups of lines behind the first one, in the order in which they stand
+abbrev pub group_of : Word → ℕ
+group_of Set = 1
+group_of Policy = 2
+group_of Source = 3
+group_of Route = 4
+group_of Aaaa = 5
+group_of A = 6
+group_of Connect = 7
+group_of Pause = 8
+group_of End = 9
+
+abbrev pub spelling_of : Word → List ℕ
+spelling_of Set = codes "set"
+spelling_of Policy = codes "policy"
+spelling_of Source = codes "source"
+spelling_of Route = codes "route"
+spelling_of Aaaa = codes "aaaa"
+spelling_of A = codes "a"
+spelling_of Connect = codes "connect"
+spelling_of Pause = codes "pause"
+spelling_of End = codes "end"
+
+abbrev pub name_spelling : Name → List ℕ
+name_spelling Resolution = codes "resolution"
+name_spelling Attempt = codes "attempt"
+name_spelling Count = codes "count"
+name_spelling Limit = codes "limit"
+
+-- the words of the first four groups
+abbrev pub is_head_word : Word → Bool
+is_head_word word = nat_le (group_of word) 4
+
+-- the word of the last line
+abbrev pub is_end : Word → Bool
+is_end End = true
+is_end _ = false
+
+-- the most lines of a word, and the fault of one more
+abbrev pub most_lines : Word → Option (ℕ × TextKind)
+most_lines Aaaa = Some (MAX_ANSWERS, kinds.Repeated)
+most_lines A = Some (MAX_ANSWERS, kinds.Repeated)
+most_lines Pause = Some (MAX_PAUSES, kinds.TooMany)
+most_lines _ = None
+
+-- the word that a token spells
+unfoldable pub word_in : List ℕ → Option Word
+word_in token =
+    if bytes_eq token (spelling_of Set) then Some Set
+    else if bytes_eq token (spelling_of Policy) then Some Policy
+    else if bytes_eq token (spelling_of Source) then Some Source
+    else if bytes_eq token (spelling_of Route) then Some Route
+    else if bytes_eq token (spelling_of Aaaa) then Some Aaaa
+    else if bytes_eq token (spelling_of A) then Some A
+    else if bytes_eq token (spelling_of Connect) then Some Connect
+    else if bytes_eq token (spelling_of Pause) then Some Pause
+    else if bytes_eq token (spelling_of End) then Some End
+    else None
+
+-- the setting that a token names
+unfoldable pub name_in : List ℕ → Option Name
+name_in token =
+    if bytes_eq token (name_spelling Resolution) then Some Resolution
+    else if bytes_eq token (name_spelling Attempt) then Some Attempt
+    else if bytes_eq token (name_spelling Count) then Some Count
+    else if bytes_eq token (name_spelling Limit) then Some Limit
+    else None

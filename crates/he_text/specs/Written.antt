@@ -1,0 +1,29 @@
+-- The texts that are written.
+use Rattle.std.specs.Prelude.{ℕ, ◌≡◌, List, [], ◌∷◌, ◌++◌, map, take, length, decimal, Result, codes, MatchResult}
+use Rattle.std.specs.List.{flat_map, join_with_byte}
+use Rattle.he_addr.specs.declared.ip.Ip.{Ip}
+use Rattle.he_text.specs.declared.writing.Token.{Token}
+use Rattle.he_text.specs.declared.writing.Token.TheVariants.{Word, Number, Address}
+use Rattle.he_addr.specs.Printing.{printed}
+
+-- a token of a line that is written
+abbrev pub token_text : Token → List ℕ
+token_text (Word text) = text.now
+token_text (Number n) = decimal n
+token_text (Address ip) = printed ip
+
+-- a line: its tokens parted by single spaces, and a line end
+abbrev pub written_line : List (List ℕ) → List ℕ
+written_line tokens = join_with_byte 32 tokens ++ 10 ∷ []
+
+-- what was there is kept in front
+abbrev pub Grows : List ℕ → List ℕ → Type 0
+Grows old new = take (length old) new ≡ old
+
+-- a call appended the text, or was refused memory and may have appended a part of it
+abbrev pub Writes : {E : Type 0} → Result (Unit {0}) E → List ℕ → List ℕ → List ℕ → Type 0
+Writes result old new text = MatchResult result (λ _. new ≡ old ++ text) (λ _. Grows old new)
+
+-- tokens, each behind a space
+abbrev pub spaced : List (List ℕ) → List ℕ
+spaced tokens = flat_map (λ token. 32 ∷ token) tokens

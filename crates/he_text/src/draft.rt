@@ -1,0 +1,177 @@
+// What is known of a race while its lines are read.
+
+ghost use Rattle.std.specs.Prelude.{◌≡◌, ◌⊎◌, Ok, Err, MatchResult};
+ghost use Rattle.he_text.specs.Parts.{tokens_left};
+ghost use Rattle.he_text.specs.Reading.{Fails, admit, once, put, settings_from, take_setting, take_answer, take_told, order_at_start, none_given};
+
+use crate::fault::TextKind;
+use crate::forms;
+use crate::parts::Tokens;
+use crate::words::{Name, Word};
+use he_addr::Family;
+use he_plan::limits::{DEFAULT_ATTEMPT, DEFAULT_COUNT, DEFAULT_LIMIT, DEFAULT_RESOLUTION};
+use he_plan::{Settings, TimelineBuilder};
+use std::alloc::Allocator;
+
+// The order of the lines: the group of the last one, and how many lines of that group there are, if there may be only so
+// many.
+#[derive(Clone, Copy)]
+pub(crate) struct Order {
+    group: u8,
+    lines: usize,
+}
+
+impl Order {
+    // No line behind the first one.
+    pub(crate) fn start() -> Order
+        ensures { result ≡ order_at_start }
+    {
+        Order { group: 0, lines: 0 }
+    }
+
+    // The order with one more line, which begins with the word.
+    #[tactic(auto, unfolding(crate::specs::Reading::admit, crate::specs::Reading::counted))]
+    pub(crate) fn admit(self, word: Word) -> Result<Order, TextKind>
+        ensures { result ≡ admit word self }
+    {
+        let group = word.group();
+        if group < self.group {
+            return Err(TextKind::Word);
+        }
+        let lines = if group == self.group { self.lines } else { 0 };
+        match word.most_lines() {
+            None => Ok(Order { group, lines: 0 }),
+            Some((most, fault)) if most <= lines => Err(fault),
+            Some(_) => Ok(Order {
+                group,
+                lines: lines + 1,
+            }),
+        }
+    }
+}
+
+// The settings that a race gives.
+#[derive(Clone, Copy)]
+pub(crate) struct Given {
+    resolution: Option<u64>,
+    attempt: Option<u64>,
+    count: Option<u64>,
+    limit: Option<u64>,
+}
+
+impl Given {
+    pub(crate) fn none() -> Given
+        ensures { result ≡ none_given }
+    {
+        Given {
+            resolution: None,
+            attempt: None,
+            count: None,
+            limit: None,
+        }
+    }
+
+    // The settings with one more.
+    #[tactic(auto, unfolding(crate::specs::Reading::put))]
+    fn put(self, name: Name, value: u64) -> Result<Given, TextKind>
+        ensures { result ≡ put name value self }
+    {
+        match name {
+            Name::Resolution => Ok(Given {
+                resolution: once(self.resolution, value)?,
+                ..self
+            }),
+            Name::Attempt => Ok(Given {
+                attempt: once(self.attempt, value)?,
+                ..self
+            }),
+            Name::Count => Ok(Given {
+                count: once(self.count, value)?,
+                ..self
+            }),
+            Name::Limit => Ok(Given {
+                limit: once(self.limit, value)?,
+                ..self
+            }),
+        }
+    }
+
+    // The settings with what a line of the first four groups gives, behind its word.
+    #[tactic(auto, unfolding(crate::specs::Reading::take_setting))]
+    pub(crate) fn take(self, word: Word, tokens: Tokens) -> Result<Given, TextKind>
+        ensures { result ≡ take_setting word (tokens_left tokens.entry) self }
+    {
+        match word {
+            Word::Set => {
+                let (name, value) = forms::setting(tokens)?;
+                self.put(name, value)
+            }
+            _ => Ok(self),
+        }
+    }
+
+    // The race's settings.
+    #[tactic(auto, unfolding(crate::specs::Reading::settings_from))]
+    pub(crate) fn settings(self) -> Result<Settings, TextKind>
+        ensures { result ≡ settings_from self }
+    {
+        let settings = Settings::new(
+            self.resolution.unwrap_or(DEFAULT_RESOLUTION),
+            self.attempt.unwrap_or(DEFAULT_ATTEMPT),
+            self.count.unwrap_or(DEFAULT_COUNT),
+            self.limit.unwrap_or(DEFAULT_LIMIT),
+        )?;
+        Ok(settings)
+    }
+}
+
+fn once(given: Option<u64>, value: u64) -> Result<Option<u64>, TextKind>
+    ensures { result ≡ once given value }
+{
+    match given {
+        None => Ok(Some(value)),
+        Some(_) => Err(TextKind::Repeated),
+    }
+}
+
+#[tactic(auto, unfolding(crate::specs::Reading::take_answer))]
+fn take_answer<A: Allocator + Copy>(
+    alloc: A,
+    family: Family,
+    tokens: Tokens,
+    race: &mut TimelineBuilder<A>,
+) -> Result<(), TextKind>
+    ensures { MatchResult result (λ _. take_answer family (tokens_left tokens.entry) race.old ≡ Ok race.new) (λ kind. Fails kind (take_answer family (tokens_left tokens.entry) race.old)) }
+{
+    let (tick, ips) = forms::answer(alloc, family, tokens)?;
+    race.answer(family, tick, &ips)?;
+    Ok(())
+}
+
+// Adds what a line of the other groups tells, behind its word, to the race.
+#[tactic(auto, unfolding(crate::specs::Reading::take_told))]
+pub(crate) fn take<A: Allocator + Copy>(
+    alloc: A,
+    word: Word,
+    tokens: Tokens,
+    race: &mut TimelineBuilder<A>,
+) -> Result<(), TextKind>
+    ensures { MatchResult result (λ _. take_told word (tokens_left tokens.entry) race.old ≡ Ok race.new) (λ kind. Fails kind (take_told word (tokens_left tokens.entry) race.old)) }
+{
+    match word {
+        Word::Aaaa => take_answer(alloc, Family::V6, tokens, race),
+        Word::A => take_answer(alloc, Family::V4, tokens, race),
+        Word::Connect => {
+            let (ip, outcome) = forms::connect(tokens, race)?;
+            race.outcome(ip, outcome)?;
+            Ok(())
+        }
+        Word::Pause => {
+            let (from, to) = forms::pause(tokens)?;
+            race.pause(from, to)?;
+            Ok(())
+        }
+        Word::End => forms::end(tokens),
+        _ => Err(TextKind::Word),
+    }
+}

@@ -1,0 +1,95 @@
+// What is wrong with a text, and where.
+
+ghost use Rattle.std.specs.Prelude.{◌≡◌};
+ghost use Rattle.he_text.specs.declared.fault.TextKind.TheVariants as kinds;
+ghost use Rattle.he_text.specs.Reading.{kind_of};
+
+use he_plan::{BuildFault, Range};
+use std::alloc::{AllocError, AllocFailed};
+use thiserror::Error;
+
+/// What the first wrong thing of a text is. The lines are counted from 1, and the least line decides; on one line the first
+/// of the checks that a line undergoes.
+#[derive(Clone, Copy, Debug, PartialEq, Eq, Error)]
+pub enum TextKind {
+    /// The first line of a race isn't `race 1`.
+    #[error("header")]
+    Header,
+    /// A line begins with no word of its group or a later one, has too few or too many tokens, or a token is none of the
+    /// keywords that may stand there.
+    #[error("word")]
+    Word,
+    /// A number isn't one to ten decimal digits without leading zeros.
+    #[error("number")]
+    Number,
+    /// An address isn't one, is of the wrong family for its answer, or stands in no answer.
+    #[error("address")]
+    Address,
+    /// A prefix or a source isn't one.
+    #[error("prefix")]
+    Prefix,
+    /// Something is given twice that may be given once.
+    #[error("repeated")]
+    Repeated,
+    /// A number is out of its range, or a pause overlaps the one before.
+    #[error("range")]
+    Range,
+    /// A line is too long, or there is one line or address more than there may be.
+    #[error("too many")]
+    TooMany,
+    /// The text ends inside a race.
+    #[error("unfinished")]
+    Unfinished,
+    /// Memory was refused while the line was read. It says nothing of the line.
+    #[error("out of memory")]
+    Memory,
+}
+
+/// The first fault of a text.
+#[derive(Clone, Copy, Debug, PartialEq, Eq, Error)]
+#[error("line {line}: {kind}")]
+pub struct TextFault {
+    /// The line, counted from 1.
+    pub line: u64,
+    /// What is wrong with it.
+    pub kind: TextKind,
+}
+
+impl From<BuildFault> for TextKind {
+    ghost from_gives = { λ fault kind. kind ≡ kind_of fault };
+
+    fn from(fault: BuildFault) -> TextKind {
+        match fault {
+            BuildFault::Answered => TextKind::Repeated,
+            BuildFault::Range => TextKind::Range,
+            BuildFault::TooMany => TextKind::TooMany,
+            BuildFault::Stranger => TextKind::Address,
+            BuildFault::Repeated => TextKind::Repeated,
+            BuildFault::Memory => TextKind::Memory,
+        }
+    }
+}
+
+impl From<Range> for TextKind {
+    ghost from_gives = { λ range kind. kind ≡ kinds.Range };
+
+    fn from(_range: Range) -> TextKind {
+        TextKind::Range
+    }
+}
+
+impl From<AllocError> for TextKind {
+    ghost from_gives = { λ refused kind. kind ≡ kinds.Memory };
+
+    fn from(_refused: AllocError) -> TextKind {
+        TextKind::Memory
+    }
+}
+
+impl<T: Drop> From<AllocFailed<T>> for TextKind {
+    ghost from_gives = { λ refused kind. kind ≡ kinds.Memory };
+
+    fn from(_refused: AllocFailed<T>) -> TextKind {
+        TextKind::Memory
+    }
+}

@@ -1,0 +1,72 @@
+// The lines of a text, one after the other.
+
+ghost use Rattle.std.specs.Prelude.{◌≡◌, ◌<◌, ◌+◌, ◌^◌, ◌∷◌, Ok, Err, length, MatchResult};
+ghost use Rattle.he_text.specs.Parts.{lines_of, lines_left, HasRoom};
+ghost use Rattle.he_text.specs.Reading.{ended_by, wholeness};
+
+use crate::fault::TextKind;
+use crate::limits::MAX_LINE;
+use crate::parts::{LINE_END, cut};
+
+// What is left of a text from the beginning of a line, and the number of that line.
+#[derive(Clone, Copy)]
+pub(crate) struct Lines<'t> {
+    rest: &'t [u8],
+    number: u64,
+}
+
+impl<'t> Lines<'t> {
+    pub(crate) fn new(text: &'t [u8]) -> Lines<'t>
+        ensures rest { result.rest ≡ text.entry }
+        ensures number { result.number ≡ 1 }
+        ensures room { HasRoom result }
+    {
+        Lines {
+            rest: text,
+            number: 1,
+        }
+    }
+
+    // How many bytes are left.
+    pub(crate) fn len(&self) -> usize
+        ensures { result ≡ length self.now.rest.now }
+    {
+        self.rest.len()
+    }
+
+    // The number of the line that comes next.
+    pub(crate) fn number(&self) -> u64
+        ensures { result ≡ self.now.number }
+    {
+        self.number
+    }
+
+    // The line that comes next, and what stands behind it; or why it is no line.
+    #[tactic(auto, unfolding(crate::specs::Reading::wholeness))]
+    pub(crate) fn next_line(&self) -> Result<(&'t [u8], &'t [u8]), TextKind>
+        ensures parts { MatchResult result (λ x. lines_left self.now ≡ x.0.now ∷ lines_of x.1.now) (λ _. Unit {0}) }
+        ensures shorter { MatchResult result (λ x. length x.1.now < length self.now.rest.now) (λ _. Unit {0}) }
+        ensures whole { MatchResult result (λ _. wholeness (lines_left self.now) ≡ Ok tt) (λ kind. wholeness (lines_left self.now) ≡ Err kind) }
+    {
+        let (line, rest) = cut(self.rest, LINE_END);
+        if line.len() > MAX_LINE {
+            return Err(TextKind::TooMany);
+        }
+        match rest {
+            Some(rest) => Ok((line, rest)),
+            None => Err(TextKind::Unfinished),
+        }
+    }
+
+    // Goes on to what stands behind a line.
+    pub(crate) fn pass(&mut self, rest: &'t [u8])
+        requires room { HasRoom self.old }
+        requires shorter { length rest.now < length self.old.rest.now }
+        ensures rest { self.new.rest ≡ rest.entry }
+        ensures number { self.new.number ≡ self.old.number + 1 }
+        ensures room { HasRoom self.new }
+    {
+        self.rest = rest;
+        self.number += 1;
+    }
+}

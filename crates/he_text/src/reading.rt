@@ -1,0 +1,178 @@
+// Reading a race.
+
+ghost use Rattle.std.specs.Prelude.{◌≡◌, ◌≤◌, ℕ, List, length, Ok, Err, IfErr, MatchOption, MatchResult};
+ghost use Rattle.he_text.specs.Forms.{word_of};
+ghost use Rattle.he_text.specs.Parts.{lines_of, lines_left, tokens_left, tokens_of, HasRoom};
+ghost use Rattle.he_text.specs.Reading.{Fails, FailsAt, take_line, read_body, head_of, take_head, settle, read_head, read_lines, order_at_start, none_given};
+
+use crate::draft::{Given, Order, take};
+use crate::fault::{TextFault, TextKind};
+use crate::lines::Lines;
+use crate::parts::Tokens;
+use crate::words::{HEADER, Word};
+use he_plan::{Timeline, TimelineBuilder};
+use std::alloc::Allocator;
+
+// The word of a line, and the tokens behind it.
+#[tactic(auto, unfolding(crate::specs::Forms::word_of))]
+fn first_word(line: &[u8]) -> Result<(Word, Tokens<'_>), TextKind>
+    ensures { MatchResult result (λ x. word_of (tokens_of line.now) ≡ Ok (x.0, tokens_left x.1)) (λ kind. word_of (tokens_of line.now) ≡ Err kind) }
+{
+    let mut tokens = Tokens::new(line);
+    let token = tokens.next().ok_or(TextKind::Word)?;
+    let word = Word::read(token).ok_or(TextKind::Word)?;
+    Ok((word, tokens))
+}
+
+// The same, if the word is of the first four groups.
+#[tactic(auto, unfolding(crate::specs::Reading::head_of))]
+fn head_word(line: &[u8]) -> Option<(Word, Tokens<'_>)>
+    ensures { MatchOption result (head_of (tokens_of line.now) ≡ None) (λ x. head_of (tokens_of line.now) ≡ Some (x.0, tokens_left x.1)) }
+{
+    match first_word(line) {
+        Ok((word, tokens)) if word.is_head() => Some((word, tokens)),
+        _ => None,
+    }
+}
+
+// Takes a line of the other groups.
+#[tactic(auto, unfolding(crate::specs::Reading::take_line))]
+fn take_told<A: Allocator + Copy>(
+    alloc: A,
+    line: &[u8],
+    order: Order,
+    race: &mut TimelineBuilder<A>,
+) -> Result<(Word, Order), TextKind>
+    ensures { MatchResult result (λ x. take_line (tokens_of line.now) order race.old ≡ Ok (x.0, x.1, race.new)) (λ kind. Fails kind (take_line (tokens_of line.now) order race.old)) }
+{
+    let (word, tokens) = first_word(line)?;
+    let next = order.admit(word)?;
+    take(alloc, word, tokens, race)?;
+    Ok((word, next))
+}
+
+// Takes a line of the first four groups, by its word and the tokens behind it.
+#[tactic(auto, unfolding(crate::specs::Reading::take_head))]
+fn take_setting(
+    word: Word,
+    tokens: Tokens,
+    order: Order,
+    given: Given,
+) -> Result<(Order, Given), TextKind>
+    ensures { MatchResult result (λ x. take_head (word, tokens_left tokens.entry) order given ≡ Ok (x.0, x.1)) (λ kind. take_head (word, tokens_left tokens.entry) order given ≡ Err kind) }
+{
+    let next = order.admit(word)?;
+    let given = given.take(word, tokens)?;
+    Ok((next, given))
+}
+
+// The lines of the first four groups, up to the first other line.
+fn read_settings(lines: &mut Lines) -> Result<(Order, Given), TextKind>
+    requires { HasRoom lines.old }
+    ensures read { MatchResult result (λ x. read_head lines.old.number order_at_start none_given (lines_left lines.old) ≡ settle lines.new.number x.0 x.1 (lines_left lines.new)) (λ kind. read_head lines.old.number order_at_start none_given (lines_left lines.old) ≡ Err (lines.new.number, kind)) }
+    ensures room { HasRoom lines.new }
+    ensures shorter { length lines.new.rest.now ≤ length lines.old.rest.now }
+{
+    let mut order = Order::start();
+    let mut given = Given::none();
+    loop {
+        let (line, rest) = lines.next_line()?;
+        let Some((word, tokens)) = head_word(line) else {
+            return Ok((order, given));
+        };
+        (order, given) = take_setting(word, tokens, order, given)?;
+        lines.pass(rest);
+    }
+}
+
+// The other lines, up to the end of the race.
+fn read_rest<A: Allocator + Copy>(
+    alloc: A,
+    first: Order,
+    start: TimelineBuilder<A>,
+    lines: &mut Lines,
+) -> Result<Timeline<A>, TextKind>
+    requires { HasRoom lines.old }
+    ensures read { MatchResult result (λ race. read_body lines.old.number first start (lines_left lines.old) ≡ Ok (race, lines_left lines.new)) (λ kind. FailsAt lines.new.number kind (read_body lines.old.number first start (lines_left lines.old))) }
+    ensures shorter { length lines.new.rest.now ≤ length lines.old.rest.now }
+{
+    let mut order = first;
+    let mut race = start;
+    loop {
+        let (line, rest) = lines.next_line()?;
+        let (word, next) = take_told(alloc, line, order, &mut race)?;
+        lines.pass(rest);
+        if word.is_end() {
+            return Ok(race.finish());
+        }
+        order = next;
+    }
+}
+
+// The first line.
+fn read_header(lines: &mut Lines) -> Result<(), TextKind>
+    requires room { HasRoom lines.old }
+    requires first { lines.old.number ≡ 1 }
+    ensures read { MatchResult result (λ _. read_lines (lines_left lines.old) ≡ read_head lines.new.number order_at_start none_given (lines_left lines.new)) (λ kind. read_lines (lines_left lines.old) ≡ Err (lines.new.number, kind)) }
+    ensures room { HasRoom lines.new }
+    ensures shorter { length lines.new.rest.now ≤ length lines.old.rest.now }
+{
+    let (line, rest) = lines.next_line()?;
+    if line != HEADER {
+        return Err(TextKind::Header);
+    }
+    lines.pass(rest);
+    Ok(())
+}
+
+// A whole race.
+fn read_timeline<A: Allocator + Copy>(
+    alloc: A,
+    lines: &mut Lines,
+) -> Result<Timeline<A>, TextKind>
+    requires room { HasRoom lines.old }
+    requires first { lines.old.number ≡ 1 }
+    ensures read { MatchResult result (λ race. read_lines (lines_left lines.old) ≡ Ok (race, lines_left lines.new)) (λ kind. FailsAt lines.new.number kind (read_lines (lines_left lines.old))) }
+    ensures shorter { length lines.new.rest.now ≤ length lines.old.rest.now }
+{
+    read_header(lines)?;
+    let (order, given) = read_settings(lines)?;
+    let settings = given.settings()?;
+    read_rest(alloc, order, TimelineBuilder::new(alloc, settings), lines)
+}
+
+// The race with which the text begins, and how many bytes stand behind it.
+fn read_first<A: Allocator + Copy>(
+    alloc: A,
+    text: &[u8],
+) -> Result<(Timeline<A>, usize), TextFault>
+    ensures read { MatchResult result (λ x. (rest : List ℕ) × (length rest ≡ x.1) × (read_lines (lines_of text.now) ≡ Ok (x.0, lines_of rest))) (λ fault. FailsAt fault.line fault.kind (read_lines (lines_of text.now))) }
+    ensures shorter { MatchResult result (λ x. x.1 ≤ length text.now) (λ _. Unit {0}) }
+{
+    let mut lines = Lines::new(text);
+    match read_timeline(alloc, &mut lines) {
+        Ok(race) => Ok((race, lines.len())),
+        Err(kind) => Err(TextFault {
+            line: lines.number(),
+            kind,
+        }),
+    }
+}
+
+/// The race that begins at `from`, and the place behind it; None exactly where the text ends at `from`. A race is `race 1`,
+/// then lines in the order of their groups, and `end`, each with a line end; the fault of a text that begins otherwise is the
+/// one of its least faulty line, counted from 1 at `from`, and on it of the first check that fails. `Memory` may come before
+/// that fault, with the line that was being read.
+pub fn read_race<A: Allocator + Copy>(
+    alloc: A,
+    text: &[u8],
+    from: usize,
+) -> Result<Option<(Timeline<A>, usize)>, TextFault>
+    requires { from ≤ length text.now }
+{
+    if from == text.len() {
+        return Ok(None);
+    }
+    let (race, left) = read_first(alloc, &text[from..])?;
+    Ok(Some((race, text.len() - left)))
+}

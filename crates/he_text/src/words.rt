@@ -1,0 +1,140 @@
+// The words of timeline texts.
+
+ghost use Rattle.std.specs.Prelude.{◌≡◌};
+ghost use Rattle.he_text.specs.Words.{word_in, name_in, group_of, is_head_word, is_end, most_lines};
+
+use crate::fault::TextKind;
+use crate::limits::MAX_ANSWERS;
+use he_plan::limits::MAX_PAUSES;
+
+/// The first line of a race.
+pub(crate) const HEADER: &[u8] = b"race 1";
+
+/// An answer without addresses.
+pub(crate) const NONE: &[u8] = b"none";
+
+/// A connect that succeeds.
+pub(crate) const SUCCEEDS: &[u8] = b"ok";
+
+/// A connect that fails.
+pub(crate) const FAILS: &[u8] = b"fail";
+
+// The words that begin a line behind the first one.
+#[derive(Clone, Copy, Debug, PartialEq, Eq)]
+pub(crate) enum Word {
+    Set,
+    Policy,
+    Source,
+    Route,
+    Aaaa,
+    A,
+    Connect,
+    Pause,
+    End,
+}
+
+// The last group of the lines that say where a race runs: all that a timeline is made with. What happens in it follows.
+const LAST_HEAD_GROUP: u8 = 4;
+
+impl Word {
+    // The word that a token spells.
+    #[tactic(auto, unfolding(crate::specs::Words::word_in))]
+    pub(crate) fn read(token: &[u8]) -> Option<Word>
+        ensures { result ≡ word_in token.now }
+    {
+        if token == b"set".as_slice() {
+            Some(Word::Set)
+        } else if token == b"policy".as_slice() {
+            Some(Word::Policy)
+        } else if token == b"source".as_slice() {
+            Some(Word::Source)
+        } else if token == b"route".as_slice() {
+            Some(Word::Route)
+        } else if token == b"aaaa".as_slice() {
+            Some(Word::Aaaa)
+        } else if token == b"a".as_slice() {
+            Some(Word::A)
+        } else if token == b"connect".as_slice() {
+            Some(Word::Connect)
+        } else if token == b"pause".as_slice() {
+            Some(Word::Pause)
+        } else if token == b"end".as_slice() {
+            Some(Word::End)
+        } else {
+            None
+        }
+    }
+
+    // The place of its lines among those of a race.
+    pub(crate) fn group(self) -> u8
+        ensures { result ≡ group_of self }
+    {
+        match self {
+            Word::Set => 1,
+            Word::Policy => 2,
+            Word::Source => 3,
+            Word::Route => 4,
+            Word::Aaaa => 5,
+            Word::A => 6,
+            Word::Connect => 7,
+            Word::Pause => 8,
+            Word::End => 9,
+        }
+    }
+
+    // Whether its lines stand before all that happens in the race.
+    pub(crate) fn is_head(self) -> bool
+        ensures { result ≡ is_head_word self }
+    {
+        self.group() <= LAST_HEAD_GROUP
+    }
+
+    pub(crate) fn is_end(self) -> bool
+        ensures { result ≡ is_end self }
+    {
+        match self {
+            Word::End => true,
+            _ => false,
+        }
+    }
+
+    // The most lines that begin with it, if there is a bound, and the fault of one more.
+    pub(crate) fn most_lines(self) -> Option<(usize, TextKind)>
+        ensures { result ≡ most_lines self }
+    {
+        match self {
+            Word::Aaaa | Word::A => Some((MAX_ANSWERS, TextKind::Repeated)),
+            Word::Pause => Some((MAX_PAUSES, TextKind::TooMany)),
+            _ => None,
+        }
+    }
+}
+
+// The settings' names.
+#[derive(Clone, Copy, Debug, PartialEq, Eq)]
+pub(crate) enum Name {
+    Resolution,
+    Attempt,
+    Count,
+    Limit,
+}
+
+impl Name {
+    // The setting that a token names.
+    #[tactic(auto, unfolding(crate::specs::Words::name_in))]
+    pub(crate) fn read(token: &[u8]) -> Option<Name>
+        ensures { result ≡ name_in token.now }
+    {
+        if token == b"resolution".as_slice() {
+            Some(Name::Resolution)
+        } else if token == b"attempt".as_slice() {
+            Some(Name::Attempt)
+        } else if token == b"count".as_slice() {
+            Some(Name::Count)
+        } else if token == b"limit".as_slice() {
+            Some(Name::Limit)
+        } else {
+            None
+        }
+    }
+}
