@@ -22,3 +22,6 @@ pub use planning::plan;
 pub use settings::{Range, Settings};
 pub use timeline::Timeline;
 pub use transcript::{Line, Mark, Outcome3, Transcript, transcript_of, transcript_of_fates};
+
+#[cfg(test)]
+mod tests;

@@ -10,7 +10,7 @@ ghost use Rattle.he_plan.specs.Building.{empty_race, with_answer, with_outcome, 
 use crate::limits::{MAX_DURATION, MAX_PAUSE_END, MIN_DURATION};
 use crate::outcome::Outcome;
 use crate::settings::Settings;
-use he_addr::{Family, Ip};
+use he_addr::{Family, Ip, Memory};
 use std::alloc::{AllocError, Allocator, Global};
 use std::marker::Model;
 
@@ -126,6 +126,29 @@ impl<A: Allocator> Timeline<A> {
         has_outcome(&self.outcomes, ip)
     }
 
+    /// The same timeline in another allocator.
+    pub fn copy<B: Allocator + Copy>(&self, alloc: B) -> Result<Timeline<B>, Memory>
+        ensures { IfOk result (λ copy. copy ≡ self.now) }
+    {
+        self.copy_in(alloc).map_err(|_| Memory)
+    }
+
+    fn copy_in<B: Allocator + Copy>(&self, alloc: B) -> Result<Timeline<B>, AllocError>
+        ensures { IfOk result (λ copy. copy ≡ self.now) }
+    {
+        let aaaa = copy_answer(alloc, &self.aaaa)?;
+        let a = copy_answer(alloc, &self.a)?;
+        let outcomes = Vec::from_slice(alloc, &self.outcomes)?;
+        let pauses = Vec::from_slice(alloc, &self.pauses)?;
+        Ok(Timeline {
+            settings: self.settings,
+            aaaa,
+            a,
+            outcomes,
+            pauses,
+        })
+    }
+
     /// The race's settings.
     pub fn settings(&self) -> Settings
         ensures value { result ≡ self.now.settings }
@@ -213,4 +236,16 @@ fn seen_past(pauses: &[(u64, u64)], tick: u64) -> u64
         }
     }
     seen
+}
+
+fn copy_answer<A: Allocator, B: Allocator>(
+    alloc: B,
+    answer: &Option<Answer<A>>,
+) -> Result<Option<Answer<B>>, AllocError>
+    ensures { IfOk result (λ copy. copy ≡ answer.now) }
+{
+    match answer {
+        Some(answer) => Ok(Some(Answer::new(alloc, answer.tick, &answer.addresses)?)),
+        None => Ok(None),
+    }
 }
