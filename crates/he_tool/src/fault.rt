@@ -2,8 +2,8 @@
 ghost use Rattle.std.specs.Prelude.{◌≡◌};
 ghost use Rattle.he_tool.specs.declared.fault.ReplayFault.TheVariants.{Memory, Write};
 
-use crate::output::TextFault;
 use he_stream::WriteFault;
+use he_text::TextFault;
 use std::alloc::AllocError;
 use thiserror::Error;
 

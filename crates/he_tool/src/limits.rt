@@ -10,3 +10,6 @@ pub const MOST_WORKERS: u16 = 64;
 pub const DEFAULT_WORKERS_TEXT: &str = "4";
 
 pub const DEFAULT_WORKERS: u16 = 4;
+
+/// The most races of a text.
+pub const MOST_RACES: usize = 1_024;

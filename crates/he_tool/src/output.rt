@@ -1,14 +1,12 @@
-//! What is written for an input. (This stands in for the reading of timelines.)
-ghost use Rattle.std.specs.Prelude.{◌≡◌, IfOk};
-ghost use Rattle.he_tool.specs.Output.{IsOutput, is_whole_text};
+//! What is written for an input: the transcripts of its races.
+ghost use Rattle.std.specs.Prelude.{◌≡◌, ◌+◌, ◌^◌, ◌<◌, ◌≤◌, IfOk, OnOk, length};
+ghost use Rattle.he_tool.specs.Output.{IsFault, IsOutput, fault_at_end, fault_behind, line_count};
+ghost use Rattle.he_tool.specs.Steps.{IsStep, WritesRace};
 
+use crate::limits::MOST_RACES;
+use he_plan::{Timeline, transcript_of};
+use he_text::{TextFault, TextKind, read_race, write_transcript};
 use std::alloc::{AllocError, Allocator};
-use thiserror::Error;
-
-/// Why a text is no timeline text.
-#[derive(Clone, Copy, Debug, PartialEq, Eq, Error)]
-#[error("bad text")]
-pub struct TextFault;
 
 /// Why an input has no whole output.
 #[derive(Clone, Copy, Debug, PartialEq, Eq)]
@@ -31,37 +29,117 @@ pub struct Output<A: Allocator> {
 /// # Errors
 ///
 /// `AllocError` where an allocation was refused.
-pub fn output_of<T, A: Allocator + Copy>(
-    _rt: &T,
+pub fn output_of<A: Allocator + Copy>(
     alloc: A,
     input: &[u8],
     is_broken: bool,
-    _workers: u16,
 ) -> Result<Output<A>, AllocError>
     ensures { IfOk result (λ output. IsOutput input.now is_broken output.text.items output.fault) }
 {
     let mut text = Vec::new(alloc);
-    if is_broken {
-        return Ok(Output {
-            text,
-            fault: Some(InputFault::Read),
-        });
+    let mut from = 0;
+    let mut lines = 0;
+    for _ in 0..MOST_RACES {
+        match take_race(alloc, input, from, &mut text)? {
+            Step::Race(end) => {
+                lines += line_count(&input[from..end]);
+                from = end;
+            }
+            Step::End => {
+                let fault = fault_at_end(is_broken);
+                return Ok(Output { text, fault });
+            }
+            Step::Fault(found) => {
+                let fault = Some(fault_behind(is_broken, lines, found));
+                return Ok(Output { text, fault });
+            }
+        }
     }
-    if !is_whole(input) {
-        return Ok(Output {
-            text,
-            fault: Some(InputFault::Text(TextFault)),
-        });
-    }
-    text.extend_from_slice(input)?;
-    Ok(Output { text, fault: None })
+    let fault = fault_past_races(is_broken, lines, &input[from..]);
+    Ok(Output { text, fault })
 }
 
-fn is_whole(input: &[u8]) -> bool
-    ensures { result ≡ is_whole_text input.now }
+// What stands at a place of an input: a race that ends there, nothing, or a fault.
+pub(crate) enum Step {
+    Race(usize),
+    End,
+    Fault(TextFault),
+}
+
+// Reads the race at the place, and appends the text of its transcript.
+fn take_race<A: Allocator + Copy>(
+    alloc: A,
+    input: &[u8],
+    from: usize,
+    text: &mut Vec<u8, A>,
+) -> Result<Step, AllocError>
+    requires { from ≤ length input.now }
+    ensures { IfOk result (IsStep input.now from text.old.items text.new.items) }
 {
-    match input {
-        [] => true,
-        [.., last] => *last == b'\n',
+    match read_race(alloc, input, from) {
+        Ok(None) => Ok(Step::End),
+        Ok(Some((timeline, end))) => {
+            write_race(alloc, &timeline, text)?;
+            Ok(Step::Race(end))
+        }
+        Err(TextFault { kind: TextKind::Memory, .. }) => Err(AllocError),
+        Err(fault) => Ok(Step::Fault(fault)),
     }
+}
+
+// Appends the text of the race's transcript.
+fn write_race<A: Allocator + Copy>(
+    alloc: A,
+    timeline: &Timeline<A>,
+    text: &mut Vec<u8, A>,
+) -> Result<(), AllocError>
+    ensures { OnOk result (WritesRace timeline.now text.old.items text.new.items) }
+{
+    let transcript = transcript_of(alloc, timeline).map_err(|_| AllocError)?;
+    write_transcript(&transcript, text).map_err(|_| AllocError)
+}
+
+// What is wrong with an input that ends behind whole races.
+fn fault_at_end(is_broken: bool) -> Option<InputFault>
+    ensures { result ≡ fault_at_end is_broken }
+{
+    if is_broken {
+        Some(InputFault::Read)
+    } else {
+        None
+    }
+}
+
+// A fault behind so many lines. Where the input broke off, the text is unfinished for that alone.
+fn fault_behind(is_broken: bool, lines: u64, found: TextFault) -> InputFault
+    requires { lines + found.line < 2 ^ 64 }
+    ensures { result ≡ fault_behind is_broken lines (found.line, found.kind) }
+{
+    match found.kind {
+        TextKind::Unfinished if is_broken => InputFault::Read,
+        kind => InputFault::Text(TextFault {
+            line: lines + found.line,
+            kind,
+        }),
+    }
+}
+
+// What is wrong with an input behind the last race that a text may have.
+fn fault_past_races(is_broken: bool, lines: u64, rest: &[u8]) -> Option<InputFault>
+    requires { lines < 2 ^ 63 }
+    ensures { IsFault is_broken MOST_RACES lines rest.now result }
+{
+    if rest.is_empty() {
+        return fault_at_end(is_broken);
+    }
+    Some(InputFault::Text(TextFault {
+        line: lines + 1,
+        kind: TextKind::TooMany,
+    }))
+}
+
+fn line_count(text: &[u8]) -> u64
+    ensures { result ≡ line_count text.now }
+{
+    text.iter().filter(|byte| **byte == b'\n').count() as u64
 }

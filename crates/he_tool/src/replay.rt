@@ -38,7 +38,7 @@ pub fn replay<T, A: Allocator + Copy, R: Read, W: Write>(
         (W.contents writer.old) (W.contents writer.new) result }
 {
     let input = take_input(alloc, reader)?;
-    let output = output_of(rt, alloc, input.bytes.as_slice(), input.is_broken, workers)?;
+    let output = output_of(alloc, input.bytes.as_slice(), input.is_broken)?;
     write_whole(writer, output.text.as_slice())?;
     match output.fault {
         None => Ok(()),
