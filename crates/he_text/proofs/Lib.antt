@@ -1,6 +1,11 @@
 mod FormFacts
 mod FormLaws
+mod GivenLaws
+mod OrderLaws
 mod PartLaws
+mod PlaceLaws
 mod ReadingLaws
 mod Results
+mod SaidLaws
+mod ToldLaws
 mod WritingLaws
