@@ -1,3 +1,4 @@
+mod Agreement
 mod FormFacts
 mod FormLaws
 mod GivenLaws
