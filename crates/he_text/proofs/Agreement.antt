@@ -128,7 +128,7 @@ first_again None None None None None None (Some k) = refl
 first_again None None None None None None None = refl
 
 -- the checks of a line whose word is known
-line_fault_is : (before : List (List ℕ)) (line : List ℕ) (after : List (List ℕ)) (word : Result (Word × List (List ℕ)) TextKind) → word_of (tokens_of line) ≡ word
+pub line_fault_is : (before : List (List ℕ)) (line : List ℕ) (after : List (List ℕ)) (word : Result (Word × List (List ℕ)) TextKind) → word_of (tokens_of line) ≡ word
     → line_fault before line after ≡ first_fault (too_long line ∷ unfinished after ∷ line_checks before line word ∷ [])
 unfolding line_fault
 line_fault_is before line after word is =
@@ -172,7 +172,7 @@ late_last before line word tokens is late =
     omega arith
 
 -- the word is in order where the checks pass
-in_order : (before : List (List ℕ)) (line : List ℕ) (word : Word) (tokens : List (List ℕ)) → line_checks before line (Ok (word, tokens)) ≡ None → ltb (group_of word) (last_group 0 before) ≡ false
+pub in_order : (before : List (List ℕ)) (line : List ℕ) (word : Word) (tokens : List (List ℕ)) → line_checks before line (Ok (word, tokens)) ≡ None → ltb (group_of word) (last_group 0 before) ≡ false
 in_order before line word tokens h = by_test (ltb (group_of word) (last_group 0 before)) refl
   where
     by_test : (b : Bool) → ltb (group_of word) (last_group 0 before) ≡ b → b ≡ false
@@ -203,7 +203,7 @@ body_known n after None word order race walked lines same later = by_end (is_end
     by_end true e = ap (λ r. Ok (r, after)) same
     by_end false e = later refl e
 
-ends_known : (line : List ℕ) (word : Word) (tokens : List (List ℕ)) → word_of (tokens_of line) ≡ Ok (word, tokens) → ends line ≡ is_end word
+pub ends_known : (line : List ℕ) (word : Word) (tokens : List (List ℕ)) → word_of (tokens_of line) ≡ Ok (word, tokens) → ends line ≡ is_end word
 unfolding ends
 ends_known line word tokens is = ap ends_by is
 
@@ -282,7 +282,7 @@ head_cases line = by_word (word_of (tokens_of line)) refl
     by_word (Err kind) e = inl (ap head_part e, λ word tokens e'. let wrong : Err kind ≡ Ok (word, tokens) = sym e ∙ e' in cc)
     by_word (Ok parts) e = by_head parts (is_head_word parts.0) e refl
 
-checks_said : (word often : Option TextKind) (said : Result Said TextKind) (bounds again : Said → Option TextKind) → later_checks word often said bounds again ≡ None → (s : Said) × (said ≡ Ok s)
+pub checks_said : (word often : Option TextKind) (said : Result Said TextKind) (bounds again : Said → Option TextKind) → later_checks word often said bounds again ≡ None → (s : Said) × (said ≡ Ok s)
 checks_said (Some kind) often said bounds again h = cc
 checks_said None (Some kind) said bounds again h = cc
 checks_said None None (Err kind) bounds again h = cc

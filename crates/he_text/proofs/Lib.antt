@@ -5,6 +5,7 @@ mod GivenLaws
 mod OrderLaws
 mod PartLaws
 mod PlaceLaws
+mod RaceTexts
 mod ReadingLaws
 mod Results
 mod SaidLaws

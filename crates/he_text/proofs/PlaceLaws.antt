@@ -20,22 +20,13 @@ use Rattle.he_text.specs.Faults.{test, group_on, lines_with, too_often, anyone, 
 use Rattle.he_text.specs.Forms.{◌>>=◌, number_from, setting_in, answer_in, known_in, mark_in, connect_in, pause_in, end_in, word_of, said_by, said_in}
 use Rattle.he_text.specs.Parts.{tokens_of}
 use Rattle.he_text.specs.Said.{Said, Setting, Passed, Answer, Told, Paused, Ended, answer_said, pause_said, first_of, answer_given, pauses_given, race_of}
+use Rattle.he_text.specs.Text.{group_said}
 use Rattle.he_text.specs.Words.{group_of}
 use Rattle.he_text.proofs.FormFacts.{outcome_of}
 use Rattle.he_text.proofs.OrderLaws.{group_is, lines_cons}
 use Rattle.he_text.proofs.Results.{bind_ok, let_through}
 use Rattle.he_text.proofs.SaidLaws.{one_more}
 use Rattle.he_text.proofs.ToldLaws.{HasPlace}
-
--- the group of the lines that say it
-abbrev pub group_said : Said → ℕ
-group_said (Setting name value) = 1
-group_said (Passed word) = group_of word
-group_said (Answer families.V6 reply) = 5
-group_said (Answer families.V4 reply) = 6
-group_said (Told ip outcome) = 7
-group_said (Paused from to) = 8
-group_said Ended = 9
 
 pub said_group : (known : Ip → Bool) (word : Word) (tokens : List (List ℕ)) (s : Said) → said_by known word tokens ≡ Ok s → group_said s ≡ group_of word
 unfolding said_by
