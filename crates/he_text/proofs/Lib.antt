@@ -1,4 +1,5 @@
 mod Agreement
+mod FaultTexts
 mod FormFacts
 mod FormLaws
 mod GivenLaws
