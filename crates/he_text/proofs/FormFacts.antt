@@ -18,14 +18,9 @@ use Rattle.he_text.specs.declared.fault.TextKind.{TextKind}
 use Rattle.he_text.specs.declared.fault.TextKind.TheVariants as kinds
 use Rattle.he_text.specs.declared.words.Name.{Name}
 use Rattle.he_text.specs.Forms.{◌>>=◌, within, number_from, setting_in, address_in, addresses_in, listed_in, answer_in, known_in, mark_in, connect_in, pause_in, least_of, most_of}
+use Rattle.he_text.specs.Text.{IsNumber, mark_text}
 use Rattle.he_text.specs.Words.{name_in}
 use Rattle.he_text.proofs.Results.{bind_ok, ok_or_ok, let_through, not_stopped}
-
--- a number in its range
-pub record IsNumber (low high : ℕ) (token : List ℕ) (n : ℕ) : Type 0 where
-  pub value : number_in token ≡ Some n
-  pub least : low ≤ n
-  pub most : n ≤ high
 
 pub number_ok : (low high : ℕ) (token : List ℕ) (n : ℕ) → number_from low high token ≡ Ok n → IsNumber low high token n
 unfolding number_from
@@ -150,10 +145,6 @@ answer_ok family (number ∷ first ∷ more) reply h =
     })
 
 -- connect ADDRESS ok N, connect ADDRESS fail N
-abbrev pub mark_text : Outcome → List ℕ
-mark_text (outcomes.Ok ticks) = codes "ok"
-mark_text (outcomes.Fail ticks) = codes "fail"
-
 pub record IsTold (known : Ip → Bool) (tokens : List (List ℕ)) (ip : Ip) (outcome : Outcome) : Type 0 where
   pub first : List ℕ
   pub last : List ℕ

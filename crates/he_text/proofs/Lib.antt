@@ -1,6 +1,14 @@
+mod Agreement
+mod FaultTexts
 mod FormFacts
 mod FormLaws
+mod GivenLaws
+mod OrderLaws
 mod PartLaws
+mod PlaceLaws
+mod RaceTexts
 mod ReadingLaws
 mod Results
+mod SaidLaws
+mod ToldLaws
 mod WritingLaws

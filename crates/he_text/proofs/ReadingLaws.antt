@@ -91,7 +91,7 @@ body_not_before n order race (line ∷ after) =
     (not_before_after n after (take_line (tokens_of line) order race) (λ next told. body_not_before (n + 1) next told after))
 
 -- the first four groups: what follows a whole line
-abbrev head_after : ℕ → Order → Given → List (List ℕ) → List (List ℕ) → Option (Word × List (List ℕ)) → Result (Race × List (List ℕ)) (ℕ × TextKind)
+abbrev pub head_after : ℕ → Order → Given → List (List ℕ) → List (List ℕ) → Option (Word × List (List ℕ)) → Result (Race × List (List ℕ)) (ℕ × TextKind)
 head_after n order given lines after head = elim head [
     | None ↦ settle n order given lines
     | Some parts ↦ at_line n (take_head parts order given) >>= λ next. read_head (n + 1) next.0 next.1 after

@@ -3,5 +3,6 @@ pub mod Forms
 pub mod Parts
 pub mod Reading
 pub mod Said
+pub mod Text
 pub mod Words
 pub mod Written

@@ -2,6 +2,12 @@
 use Rattle.std.specs.Prelude.{ℕ, ◌≡◌, List, [], ◌∷◌, ◌++◌, map, take, length, decimal, Result, codes, MatchResult}
 use Rattle.std.specs.List.{flat_map, join_with_byte}
 use Rattle.he_addr.specs.declared.ip.Ip.{Ip}
+use Rattle.he_plan.specs.declared.transcript.Line.{Line}
+use Rattle.he_plan.specs.declared.transcript.Mark.{Mark}
+use Rattle.he_plan.specs.declared.transcript.Mark.TheVariants as marks
+use Rattle.he_plan.specs.declared.transcript.Outcome3.{Outcome3}
+use Rattle.he_plan.specs.declared.transcript.Outcome3.TheVariants as results
+use Rattle.he_plan.specs.Transcript.{Report}
 use Rattle.he_text.specs.declared.writing.Token.{Token}
 use Rattle.he_text.specs.declared.writing.Token.TheVariants.{Word, Number, Address}
 use Rattle.he_addr.specs.Printing.{printed}
@@ -27,3 +33,26 @@ Writes result old new text = MatchResult result (λ _. new ≡ old ++ text) (λ 
 -- tokens, each behind a space
 abbrev pub spaced : List (List ℕ) → List ℕ
 spaced tokens = flat_map (λ token. 32 ∷ token) tokens
+
+-- what became of an attempt
+abbrev pub mark_text : Mark → List (List ℕ)
+mark_text (marks.Won tick) = codes "won" ∷ decimal tick ∷ []
+mark_text (marks.Failed tick) = codes "failed" ∷ decimal tick ∷ []
+mark_text (marks.Cancelled tick) = codes "cancelled" ∷ decimal tick ∷ []
+
+-- attempt PLACE START ADDRESS MARK TICK
+abbrev pub attempt_text : Line → List ℕ
+attempt_text line = written_line (codes "attempt" ∷ decimal line.place ∷ decimal line.tick ∷ printed line.ip ∷ mark_text line.mark)
+
+-- won PLACE TICK, exhausted TICK or limit TICK
+abbrev pub result_text : Outcome3 → List ℕ
+result_text (results.Won place tick) = written_line (codes "won" ∷ decimal place ∷ decimal tick ∷ [])
+result_text (results.Exhausted tick) = written_line (codes "exhausted" ∷ decimal tick ∷ [])
+result_text (results.Limit tick) = written_line (codes "limit" ∷ decimal tick ∷ [])
+
+abbrev pub attempts_text : List Line → List ℕ
+attempts_text lines = flat_map attempt_text lines
+
+-- the text of a transcript: its attempts by place, and how the race ended
+abbrev pub transcript_text : Report → List ℕ
+transcript_text report = attempts_text report.lines ++ result_text report.result

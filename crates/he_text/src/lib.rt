@@ -8,8 +8,10 @@ pub mod limits;
 mod lines;
 mod parts;
 pub mod reading;
+pub mod transcripts;
 mod words;
 mod writing;
 
 pub use fault::{TextFault, TextKind};
 pub use reading::read_race;
+pub use transcripts::write_transcript;

@@ -1,9 +1,12 @@
 // Reading a race.
 
-ghost use Rattle.std.specs.Prelude.{◌≡◌, ◌≤◌, ℕ, List, length, Ok, Err, IfErr, MatchOption, MatchResult};
+ghost use Rattle.std.specs.Prelude.{◌≡◌, ◌≤◌, ◌<◌, ◌↔◌, ℕ, List, length, drop, slice_range, IfOk, IfSome, IsNone, None, Ok, Err, IfErr, MatchOption, MatchResult};
+ghost use Rattle.he_plan.specs.Timeline.{IsRace};
+ghost use Rattle.he_text.specs.Faults.{fault_of};
 ghost use Rattle.he_text.specs.Forms.{word_of};
 ghost use Rattle.he_text.specs.Parts.{lines_of, lines_left, tokens_left, tokens_of, HasRoom};
 ghost use Rattle.he_text.specs.Reading.{Fails, FailsAt, take_line, read_body, head_of, take_head, settle, read_head, read_lines, order_at_start, none_given};
+ghost use Rattle.he_text.specs.Text.{IsRaceText, TellsFault};
 
 use crate::draft::{Given, Order, take};
 use crate::fault::{TextFault, TextKind};
@@ -94,6 +97,7 @@ fn read_rest<A: Allocator + Copy>(
 ) -> Result<Timeline<A>, TextKind>
     requires { HasRoom lines.old }
     ensures read { MatchResult result (λ race. read_body lines.old.number first start (lines_left lines.old) ≡ Ok (race, lines_left lines.new)) (λ kind. FailsAt lines.new.number kind (read_body lines.old.number first start (lines_left lines.old))) }
+    ensures fits { IfOk result (λ race. IsRace race) }
     ensures shorter { length lines.new.rest.now ≤ length lines.old.rest.now }
 {
     let mut order = first;
@@ -133,6 +137,7 @@ fn read_timeline<A: Allocator + Copy>(
     requires room { HasRoom lines.old }
     requires first { lines.old.number ≡ 1 }
     ensures read { MatchResult result (λ race. read_lines (lines_left lines.old) ≡ Ok (race, lines_left lines.new)) (λ kind. FailsAt lines.new.number kind (read_lines (lines_left lines.old))) }
+    ensures fits { IfOk result (λ race. IsRace race) }
     ensures shorter { length lines.new.rest.now ≤ length lines.old.rest.now }
 {
     read_header(lines)?;
@@ -147,6 +152,7 @@ fn read_first<A: Allocator + Copy>(
     text: &[u8],
 ) -> Result<(Timeline<A>, usize), TextFault>
     ensures read { MatchResult result (λ x. (rest : List ℕ) × (length rest ≡ x.1) × (read_lines (lines_of text.now) ≡ Ok (x.0, lines_of rest))) (λ fault. FailsAt fault.line fault.kind (read_lines (lines_of text.now))) }
+    ensures fits { IfOk result (λ x. IsRace x.0) }
     ensures shorter { MatchResult result (λ x. x.1 ≤ length text.now) (λ _. Unit {0}) }
 {
     let mut lines = Lines::new(text);
@@ -160,15 +166,23 @@ fn read_first<A: Allocator + Copy>(
 }
 
 /// The race that begins at `from`, and the place behind it; None exactly where the text ends at `from`. A race is `race 1`,
-/// then lines in the order of their groups, and `end`, each with a line end; the fault of a text that begins otherwise is the
-/// one of its least faulty line, counted from 1 at `from`, and on it of the first check that fails. `Memory` may come before
-/// that fault, with the line that was being read.
+/// then lines in the order of their groups, and `end`, each with a line end. Where the text from there on begins with no
+/// race, the fault is that of its least faulty line, counted from 1 at `from`, and on it of the first check that fails;
+/// `Memory` may come before that fault, with the line that was being read.
 pub fn read_race<A: Allocator + Copy>(
     alloc: A,
     text: &[u8],
     from: usize,
 ) -> Result<Option<(Timeline<A>, usize)>, TextFault>
     requires { from ≤ length text.now }
+
+    ensures end { MatchResult result (λ found. IsNone found ↔ (from ≡ length text.now)) (λ fault. from < length text.now) }
+
+    // The bytes from `from` to the place are a race's text, with this value, and nothing is wrong in them.
+    ensures found { IfOk result (λ found. IfSome found (λ x. (from < x.1) × (x.1 ≤ length text.now) × IsRaceText (slice_range text.now from x.1) x.0)) }
+    ensures right { IfOk result (λ found. IfSome found (λ x. fault_of (drop from text.now) ≡ None)) }
+
+    ensures fault { IfErr result (λ fault. TellsFault fault.line fault.kind (fault_of (drop from text.now))) }
 {
     if from == text.len() {
         return Ok(None);

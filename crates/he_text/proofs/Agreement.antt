@@ -1,0 +1,416 @@
+-- The readers answer what the checks say: the race of the lines up to `end` where every one is right, else the first fault of the
+-- least faulty line.
+use Rattle.std.proofs.Common.{◌≡◌, ℕ, suc, ◌+◌, ◌<◌, ◌≤◌, ◌==◌, Bool, true, false, cond, leb, ltb, not, List, [], ◌∷◌, ◌++◌, length, Option, Some, None, Result, Ok, Err, refl, sym, ◌∙◌, ap, subst, inl, inr, ⊎_elim, arith}
+use Rattle.std.specs.Prelude.{◌⊎◌, codes}
+use Rattle.std.specs.Option.{ok_or}
+use Rattle.std.specs.Str.{bytes_eq}
+use Rattle.std.proofs.lemmas.Bool.{ltb-false, leb-false, leb-true, le-leb, lt-leb}
+use Rattle.he_plan.specs.Building.{empty_race}
+use Rattle.he_plan.specs.Race.{Race}
+use Rattle.he_text.specs.declared.draft.Given.{Given}
+use Rattle.he_text.specs.declared.draft.Order.{Order}
+use Rattle.he_text.specs.declared.fault.TextKind.{TextKind}
+use Rattle.he_text.specs.declared.fault.TextKind.TheVariants as kinds
+use Rattle.he_text.specs.declared.limits.TheConstants.{MAX_LINE}
+use Rattle.he_text.specs.declared.words.Word.{Word}
+use Rattle.he_text.specs.declared.words.Word.TheVariants as words
+use Rattle.he_text.specs.Faults.{first_fault, test, group_on, last_group, known_to, said_before, too_long, unfinished, wrong_header, wrong_word, too_often, wrong_form, wrong_bounds, repeated, of_said, line_fault, at_line_number, ends_by, ends, fault_from, fault_in}
+use Rattle.he_text.specs.Forms.{◌>>=◌, word_of, said_by, said_in}
+use Rattle.he_text.specs.Parts.{tokens_of}
+use Rattle.he_text.specs.Reading.{at_line, ended_by, wholeness, admit, take_told, take_line, read_body, head_part, head_of, take_setting, take_head, settle, read_head, read_lines, order_at_start, none_given}
+use Rattle.he_text.specs.Said.{Said, settings_given, race_of}
+use Rattle.he_text.specs.Words.{word_in, group_of, is_head_word, is_end}
+use Rattle.he_text.proofs.GivenLaws.{given_of, setting_agrees, AllFit, none_fits, settings_agree, IsHead, is_head}
+use Rattle.he_text.proofs.OrderLaws.{Under, order_of, last_more, under_more, group_is, admit_agrees}
+use Rattle.he_text.proofs.PlaceLaws.{has_place, said_more}
+use Rattle.he_text.proofs.ReadingLaws.{settle_reads, body_unwhole, head_after}
+use Rattle.he_text.proofs.SaidLaws.{IsQuiet, quiet_race}
+use Rattle.he_text.proofs.ToldLaws.{outcome, told_agrees}
+
+-- checks 4 to 9
+abbrev pub later_checks : Option TextKind → Option TextKind → Result Said TextKind → (Said → Option TextKind) → (Said → Option TextKind) → Option TextKind
+later_checks word often said bounds again = first_fault (word ∷ often ∷ wrong_form said ∷ of_said bounds said ∷ of_said again said ∷ [])
+
+-- an order and what is told, taken one after the other, fail as the checks do
+taken_in_order : {S T : Type 0} (word often : Option TextKind) (said : Result Said TextKind) (bounds again : Said → Option TextKind) (order : Order) (admitted : Result Order TextKind) (told : Result S TextKind) (after : Said → S) (final : S) (give : Order → S → T)
+    → admitted ≡ outcome (first_fault (word ∷ often ∷ [])) order
+    → (word ≡ None → often ≡ None → told ≡ (said >>= λ s. outcome (first_fault (bounds s ∷ again s ∷ [])) (after s)))
+    → ((s : Said) → said ≡ Ok s → after s ≡ final)
+    → (admitted >>= λ next. told >>= λ t. Ok (give next t)) ≡ outcome (later_checks word often said bounds again) (give order final)
+taken_in_order (Some kind) often said bounds again order admitted told after final give ha ht hf = ap (λ a. a >>= λ next. told >>= λ t. Ok (give next t)) ha
+taken_in_order None (Some kind) said bounds again order admitted told after final give ha ht hf = ap (λ a. a >>= λ next. told >>= λ t. Ok (give next t)) ha
+taken_in_order None None (Err kind) bounds again order admitted told after final give ha ht hf =
+    ap (λ a. a >>= λ next. told >>= λ t. Ok (give next t)) ha ∙ ap (λ r. r >>= λ t. Ok (give order t)) (ht refl refl)
+taken_in_order None None (Ok s) bounds again order admitted told after final give ha ht hf =
+    ap (λ a. a >>= λ next. told >>= λ t. Ok (give next t)) ha ∙ ap (λ r. r >>= λ t. Ok (give order t)) (ht refl refl)
+    ∙ by_checks (bounds s) (again s) (after s) final give order (hf s refl)
+  where
+    by_checks : {S T : Type 0} (b a : Option TextKind) (here final : S) (give : Order → S → T) (order : Order) → here ≡ final
+        → (outcome (first_fault (b ∷ a ∷ [])) here >>= λ t. Ok (give order t)) ≡ outcome (first_fault (b ∷ a ∷ [])) (give order final)
+    by_checks (Some kind) a here final give order same = refl
+    by_checks None (Some kind) here final give order same = refl
+    by_checks None None here final give order same = ap (λ t. Ok (give order t)) same
+
+abbrev pub line_checks : List (List ℕ) → List ℕ → Result (Word × List (List ℕ)) TextKind → Option TextKind
+line_checks before line word =
+    later_checks (wrong_word (last_group 0 before) word) (too_often before word)
+        (word >>= λ parts. said_by (known_to (said_before before)) parts.0 parts.1)
+        (wrong_bounds (said_before before)) (repeated (said_before before))
+
+not_earlier : (b : Bool) → test b kinds.Word ≡ None → b ≡ false
+not_earlier true h = cc
+not_earlier false h = refl
+
+-- a line of the last groups
+told_line : (before : List (List ℕ)) (line : List ℕ) (word : Word) (tokens : List (List ℕ)) → word_of (tokens_of line) ≡ Ok (word, tokens) → Under (last_group 0 before) before
+    → (ltb (group_of word) (last_group 0 before) ≡ false → is_head_word word ≡ false)
+    → take_line (tokens_of line) (order_of before) (race_of (said_before before))
+        ≡ outcome (line_checks before line (Ok (word, tokens))) (word, order_of (before ++ line ∷ []), race_of (said_before (before ++ line ∷ [])))
+unfolding take_line
+told_line before line word tokens is under late =
+    let told : List Said = said_before before in
+    ap (λ w. w >>= λ parts. admit parts.0 (order_of before) >>= λ next. take_told parts.0 parts.1 (race_of told) >>= λ t. Ok (parts.0, next, t)) is
+    ∙ taken_in_order (wrong_word (last_group 0 before) (Ok (word, tokens))) (too_often before (Ok (word, tokens))) (said_by (known_to told) word tokens) (wrong_bounds told) (repeated told)
+        (order_of (before ++ line ∷ [])) (admit word (order_of before)) (take_told word tokens (race_of told)) (λ s. race_of (told ++ s ∷ [])) (race_of (said_before (before ++ line ∷ [])))
+        (λ next t. (word, next, t))
+        (admit_agrees word tokens before line is under)
+        (λ hw ho. told_agrees word tokens told (late (not_earlier _ hw)) (has_place word tokens before ho))
+        (λ s h. ap race_of (sym (said_more (known_to told) before line word tokens s is h)))
+
+-- a line of the first groups
+head_line : (before : List (List ℕ)) (line : List ℕ) (word : Word) (tokens : List (List ℕ)) → word_of (tokens_of line) ≡ Ok (word, tokens) → Under (last_group 0 before) before → is_head_word word ≡ true
+    → take_head (word, tokens) (order_of before) (given_of (said_before before))
+        ≡ outcome (line_checks before line (Ok (word, tokens))) (order_of (before ++ line ∷ []), given_of (said_before (before ++ line ∷ [])))
+unfolding take_head
+head_line before line word tokens is under head =
+    let told : List Said = said_before before in
+    taken_in_order (wrong_word (last_group 0 before) (Ok (word, tokens))) (too_often before (Ok (word, tokens))) (said_by (known_to told) word tokens) (wrong_bounds told) (repeated told)
+        (order_of (before ++ line ∷ [])) (admit word (order_of before)) (take_setting word tokens (given_of told)) (λ s. given_of (told ++ s ∷ [])) (given_of (said_before (before ++ line ∷ [])))
+        (λ next t. (next, t))
+        (admit_agrees word tokens before line is under)
+        (λ hw ho. setting_agrees (known_to told) word tokens told head)
+        (λ s h. ap given_of (sym (said_more (known_to told) before line word tokens s is h)))
+
+-- the lines up to `end` and what stands behind them, or the first fault
+abbrev pub stop : {B : Type 0} → ℕ → Option TextKind → Result B (ℕ × TextKind) → Result B (ℕ × TextKind)
+stop n None later = later
+stop n (Some kind) later = Err (n, kind)
+
+unfoldable pub walk : ℕ → List (List ℕ) → List (List ℕ) → Result (List (List ℕ) × List (List ℕ)) (ℕ × TextKind)
+walk n before [] = Err (n, kinds.Unfinished)
+walk n before (line ∷ after) = stop n (line_fault before line after) (cond (ends line) (Ok (before ++ line ∷ [], after)) (walk (n + 1) (before ++ line ∷ []) after))
+
+-- the race that they make
+abbrev pub raced : Result (List (List ℕ) × List (List ℕ)) (ℕ × TextKind) → Result (Race × List (List ℕ)) (ℕ × TextKind)
+raced walked = walked >>= λ x. Ok (race_of (said_before x.0), x.1)
+
+abbrev pub fault_told : {A : Type 0} → Result A (ℕ × TextKind) → Option (ℕ × TextKind)
+fault_told (Ok x) = None
+fault_told (Err fault) = Some fault
+
+-- the first two checks
+whole_first : {T : Type 0} (n : ℕ) (long : Bool) (after : List (List ℕ)) (checks : Option TextKind) (later final : Result T (ℕ × TextKind)) → later ≡ stop n checks final
+    → (at_line n (cond long (Err kinds.TooMany) (ended_by after)) >>= λ _. later) ≡ stop n (first_fault (test long kinds.TooMany ∷ unfinished after ∷ checks ∷ [])) final
+whole_first n true after checks later final same = refl
+whole_first n false [] checks later final same = refl
+whole_first n false (next ∷ after) None later final same = same
+whole_first n false (next ∷ after) (Some kind) later final same = same
+
+first_again : (long fin word often form bounds again : Option TextKind)
+    → first_fault (long ∷ fin ∷ word ∷ often ∷ form ∷ bounds ∷ again ∷ []) ≡ first_fault (long ∷ fin ∷ first_fault (word ∷ often ∷ form ∷ bounds ∷ again ∷ []) ∷ [])
+first_again (Some k) fin word often form bounds again = refl
+first_again None (Some k) word often form bounds again = refl
+first_again None None (Some k) often form bounds again = refl
+first_again None None None (Some k) form bounds again = refl
+first_again None None None None (Some k) bounds again = refl
+first_again None None None None None (Some k) again = refl
+first_again None None None None None None (Some k) = refl
+first_again None None None None None None None = refl
+
+-- the checks of a line whose word is known
+pub line_fault_is : (before : List (List ℕ)) (line : List ℕ) (after : List (List ℕ)) (word : Result (Word × List (List ℕ)) TextKind) → word_of (tokens_of line) ≡ word
+    → line_fault before line after ≡ first_fault (too_long line ∷ unfinished after ∷ line_checks before line word ∷ [])
+unfolding line_fault
+line_fault_is before line after word is =
+    let at : Result (Word × List (List ℕ)) TextKind → Option TextKind = λ w. first_fault (too_long line ∷ unfinished after ∷ wrong_word (last_group 0 before) w ∷ too_often before w
+        ∷ wrong_form (w >>= λ parts. said_by (known_to (said_before before)) parts.0 parts.1)
+        ∷ of_said (wrong_bounds (said_before before)) (w >>= λ parts. said_by (known_to (said_before before)) parts.0 parts.1)
+        ∷ of_said (repeated (said_before before)) (w >>= λ parts. said_by (known_to (said_before before)) parts.0 parts.1) ∷ []) in
+    let bound : Result Said TextKind = word >>= λ parts. said_by (known_to (said_before before)) parts.0 parts.1 in
+    ap at is ∙ first_again (too_long line) (unfinished after) (wrong_word (last_group 0 before) word) (too_often before word) (wrong_form bound) (of_said (wrong_bounds (said_before before)) bound) (of_said (repeated (said_before before)) bound)
+
+raced_stop : (n : ℕ) (fault : Option TextKind) (later : Result (List (List ℕ) × List (List ℕ)) (ℕ × TextKind)) → raced (stop n fault later) ≡ stop n fault (raced later)
+raced_stop n None later = refl
+raced_stop n (Some kind) later = refl
+
+-- the next line is not of the first groups, if it comes in order
+abbrev pub IsLate : List (List ℕ) → List ℕ → Type 0
+IsLate before line = (word : Word) (tokens : List (List ℕ)) → word_of (tokens_of line) ≡ Ok (word, tokens) → ltb (group_of word) (last_group 0 before) ≡ false → is_head_word word ≡ false
+
+abbrev pub FirstIsLate : List (List ℕ) → List (List ℕ) → Type 0
+FirstIsLate before [] = Unit {0}
+FirstIsLate before (line ∷ after) = IsLate before line
+
+late_group : (word : Word) → is_head_word word ≡ false → 5 ≤ group_of word
+late_group word h = omega (arith, leb-false (group_of word) 4 h)
+
+late_word : (word : Word) → 5 ≤ group_of word → is_head_word word ≡ false
+late_word word h = lt-leb (group_of word) 4 (omega arith)
+
+all_late : (before lines : List (List ℕ)) → 5 ≤ last_group 0 before → FirstIsLate before lines
+all_late before [] h = tt
+all_late before (line ∷ after) h = λ word tokens is in_order. late_word word (let ge = ltb-false (group_of word) (last_group 0 before) in_order in omega arith)
+
+is_fault : Some kinds.Word ≡ None → ⊥
+is_fault e = cc
+
+late_last : (before : List (List ℕ)) (line : List ℕ) (word : Word) (tokens : List (List ℕ)) → word_of (tokens_of line) ≡ Ok (word, tokens) → is_head_word word ≡ false → 5 ≤ last_group 0 (before ++ line ∷ [])
+late_last before line word tokens is late =
+    let here : group_on line ≡ group_of word = group_is line word tokens is in
+    let last : last_group 0 (before ++ line ∷ []) ≡ group_on line = last_more 0 before line in
+    let above = late_group word late in
+    omega arith
+
+-- the word is in order where the checks pass
+pub in_order : (before : List (List ℕ)) (line : List ℕ) (word : Word) (tokens : List (List ℕ)) → line_checks before line (Ok (word, tokens)) ≡ None → ltb (group_of word) (last_group 0 before) ≡ false
+in_order before line word tokens h = by_test (ltb (group_of word) (last_group 0 before)) refl
+  where
+    by_test : (b : Bool) → ltb (group_of word) (last_group 0 before) ≡ b → b ≡ false
+    by_test false e = refl
+    by_test true e = absurd (is_fault (ap (λ t. later_checks (test t kinds.Word) (too_often before (Ok (word, tokens))) (said_by (known_to (said_before before)) word tokens) (wrong_bounds (said_before before)) (repeated (said_before before))) (sym e) ∙ h))
+
+under_next : (before : List (List ℕ)) (line : List ℕ) (word : Word) (tokens : List (List ℕ)) → word_of (tokens_of line) ≡ Ok (word, tokens) → Under (last_group 0 before) before → ltb (group_of word) (last_group 0 before) ≡ false
+    → Under (last_group 0 (before ++ line ∷ [])) (before ++ line ∷ [])
+under_next before line word tokens is under order =
+    let here : group_on line ≡ group_of word = group_is line word tokens is in
+    let last : last_group 0 (before ++ line ∷ []) ≡ group_on line = last_more 0 before line in
+    let ge = ltb-false (group_of word) (last_group 0 before) order in
+    let P : ℕ → Type 0 = λ g. Under g (before ++ line ∷ []) in
+    subst P (sym last) (under_more (last_group 0 before) (group_on line) before line under (omega arith) (omega arith))
+
+-- what a line of the last groups leads to
+abbrev pub body_next : ℕ → List (List ℕ) → Result (Word × Order × Race) TextKind → Result (Race × List (List ℕ)) (ℕ × TextKind)
+body_next n after taken = at_line n taken >>= λ next. cond (is_end next.0) (Ok (next.2, after)) (read_body (n + 1) next.1 next.2 after)
+
+body_known : (n : ℕ) (after : List (List ℕ)) (checks : Option TextKind) (word : Word) (order : Order) (race : Race) (walked : Result (List (List ℕ) × List (List ℕ)) (ℕ × TextKind)) (lines : List (List ℕ))
+    → race ≡ race_of (said_before lines)
+    → (checks ≡ None → is_end word ≡ false → read_body (n + 1) order race after ≡ raced walked)
+    → body_next n after (outcome checks (word, order, race)) ≡ stop n checks (raced (cond (is_end word) (Ok (lines, after)) walked))
+body_known n after (Some kind) word order race walked lines same later = refl
+body_known n after None word order race walked lines same later = by_end (is_end word) refl
+  where
+    by_end : (b : Bool) → is_end word ≡ b → cond b (Ok (race, after)) (read_body (n + 1) order race after) ≡ raced (cond b (Ok (lines, after)) walked)
+    by_end true e = ap (λ r. Ok (r, after)) same
+    by_end false e = later refl e
+
+pub ends_known : (line : List ℕ) (word : Word) (tokens : List (List ℕ)) → word_of (tokens_of line) ≡ Ok (word, tokens) → ends line ≡ is_end word
+unfolding ends
+ends_known line word tokens is = ap ends_by is
+
+abbrev with_tokens : List (List ℕ) → Word → Result (Word × List (List ℕ)) TextKind
+with_tokens tokens word = Ok (word, tokens)
+
+word_fault : (tokens : List (List ℕ)) (kind : TextKind) → word_of tokens ≡ Err kind → kind ≡ kinds.Word
+unfolding word_of
+word_fault [] kind h = cc
+word_fault (token ∷ tokens) kind h = by_word (word_in token) h
+  where
+    by_word : (word : Option Word) → (ok_or word kinds.Word >>= with_tokens tokens) ≡ Err kind → kind ≡ kinds.Word
+    by_word None e = cc
+    by_word (Some word) e = cc
+
+-- a whole line and what follows it, by its word
+body_later : (n : ℕ) (before : List (List ℕ)) (line : List ℕ) (after : List (List ℕ)) (word : Result (Word × List (List ℕ)) TextKind) → word_of (tokens_of line) ≡ word → Under (last_group 0 before) before → IsLate before line
+    → (Under (last_group 0 (before ++ line ∷ [])) (before ++ line ∷ []) → FirstIsLate (before ++ line ∷ []) after
+        → read_body (n + 1) (order_of (before ++ line ∷ [])) (race_of (said_before (before ++ line ∷ []))) after ≡ raced (walk (n + 1) (before ++ line ∷ []) after))
+    → body_next n after (take_line (tokens_of line) (order_of before) (race_of (said_before before)))
+        ≡ stop n (line_checks before line word) (raced (cond (ends line) (Ok (before ++ line ∷ [], after)) (walk (n + 1) (before ++ line ∷ []) after)))
+unfolding take_line
+body_later n before line after (Err kind) is under late later =
+    ap (λ w. body_next n after (w >>= λ parts. admit parts.0 (order_of before) >>= λ next. take_told parts.0 parts.1 (race_of (said_before before)) >>= λ t. Ok (parts.0, next, t))) is
+    ∙ ap (λ k. Err (n, k)) (word_fault (tokens_of line) kind is)
+body_later n before line after (Ok parts) is under late later =
+    ap (body_next n after) (told_line before line parts.0 parts.1 is under (late parts.0 parts.1 is))
+    ∙ body_known n after (line_checks before line (Ok parts)) parts.0 (order_of (before ++ line ∷ [])) (race_of (said_before (before ++ line ∷ []))) (walk (n + 1) (before ++ line ∷ []) after) (before ++ line ∷ []) refl
+        (λ right goes. let order = in_order before line parts.0 parts.1 right in
+            later (under_next before line parts.0 parts.1 is under order)
+                (all_late (before ++ line ∷ []) after (late_last before line parts.0 parts.1 is (late parts.0 parts.1 is order))))
+    ∙ ap (λ b. stop n (line_checks before line (Ok parts)) (raced (cond b (Ok (before ++ line ∷ [], after)) (walk (n + 1) (before ++ line ∷ []) after)))) (sym (ends_known line parts.0 parts.1 is))
+
+body_step : (n : ℕ) (before : List (List ℕ)) (line : List ℕ) (after : List (List ℕ)) (later : Result (Race × List (List ℕ)) (ℕ × TextKind)) (walked : Result (List (List ℕ) × List (List ℕ)) (ℕ × TextKind)) (word : Result (Word × List (List ℕ)) TextKind)
+    → word_of (tokens_of line) ≡ word → later ≡ stop n (line_checks before line word) (raced walked)
+    → (at_line n (wholeness (line ∷ after)) >>= λ _. later) ≡ raced (stop n (line_fault before line after) walked)
+unfolding wholeness
+body_step n before line after later walked word is same =
+    whole_first n (ltb MAX_LINE (length line)) after (line_checks before line word) later (raced walked) same
+    ∙ ap (λ f. stop n f (raced walked)) (sym (line_fault_is before line after word is))
+    ∙ sym (raced_stop n (line_fault before line after) walked)
+
+pub body_agrees : (n : ℕ) (before lines : List (List ℕ)) → Under (last_group 0 before) before → FirstIsLate before lines
+    → read_body n (order_of before) (race_of (said_before before)) lines ≡ raced (walk n before lines)
+unfolding read_body walk
+body_agrees n before [] under late = refl
+body_agrees n before (line ∷ after) under late =
+    body_step n before line after (body_next n after (take_line (tokens_of line) (order_of before) (race_of (said_before before))))
+        (cond (ends line) (Ok (before ++ line ∷ [], after)) (walk (n + 1) (before ++ line ∷ []) after)) (word_of (tokens_of line)) refl
+        (body_later n before line after (word_of (tokens_of line)) refl under late (body_agrees (n + 1) (before ++ line ∷ []) after))
+
+-- the first groups
+abbrev pub head_next : ℕ → List (List ℕ) → Result (Order × Given) TextKind → Result (Race × List (List ℕ)) (ℕ × TextKind)
+head_next n after taken = at_line n taken >>= λ next. read_head (n + 1) next.0 next.1 after
+
+head_known : (n : ℕ) (after : List (List ℕ)) (checks : Option TextKind) (order : Order) (given : Given) (final : Result (Race × List (List ℕ)) (ℕ × TextKind))
+    → (checks ≡ None → read_head (n + 1) order given after ≡ final)
+    → head_next n after (outcome checks (order, given)) ≡ stop n checks final
+head_known n after (Some kind) order given final later = refl
+head_known n after None order given final later = later refl
+
+-- whether a word is of the first groups, and what that says of the line
+head_cases : (line : List ℕ) → ((head_of (tokens_of line) ≡ None) × ((word : Word) (tokens : List (List ℕ)) → word_of (tokens_of line) ≡ Ok (word, tokens) → is_head_word word ≡ false))
+    ⊎ ((parts : Word × List (List ℕ)) × (head_of (tokens_of line) ≡ Some parts) × (word_of (tokens_of line) ≡ Ok parts) × (is_head_word parts.0 ≡ true))
+unfolding head_of
+head_cases line = by_word (word_of (tokens_of line)) refl
+  where
+    by_head : (parts : Word × List (List ℕ)) (b : Bool) → word_of (tokens_of line) ≡ Ok parts → is_head_word parts.0 ≡ b
+        → ((head_part (word_of (tokens_of line)) ≡ None) × ((word : Word) (tokens : List (List ℕ)) → word_of (tokens_of line) ≡ Ok (word, tokens) → is_head_word word ≡ false))
+            ⊎ ((parts : Word × List (List ℕ)) × (head_part (word_of (tokens_of line)) ≡ Some parts) × (word_of (tokens_of line) ≡ Ok parts) × (is_head_word parts.0 ≡ true))
+    by_head parts true e h = inr (parts, ap head_part e ∙ ap (λ b. cond b (Some parts) None) h, e, h)
+    by_head parts false e h = inl (ap head_part e ∙ ap (λ b. cond b (Some parts) None) h, λ word tokens e'. let same : parts ≡ (word, tokens) = cc (e, e') in ap (λ (p : Word × List (List ℕ)). is_head_word p.0) (sym same) ∙ h)
+    by_word : (r : Result (Word × List (List ℕ)) TextKind) → word_of (tokens_of line) ≡ r
+        → ((head_part (word_of (tokens_of line)) ≡ None) × ((word : Word) (tokens : List (List ℕ)) → word_of (tokens_of line) ≡ Ok (word, tokens) → is_head_word word ≡ false))
+            ⊎ ((parts : Word × List (List ℕ)) × (head_part (word_of (tokens_of line)) ≡ Some parts) × (word_of (tokens_of line) ≡ Ok parts) × (is_head_word parts.0 ≡ true))
+    by_word (Err kind) e = inl (ap head_part e, λ word tokens e'. let wrong : Err kind ≡ Ok (word, tokens) = sym e ∙ e' in cc)
+    by_word (Ok parts) e = by_head parts (is_head_word parts.0) e refl
+
+pub checks_said : (word often : Option TextKind) (said : Result Said TextKind) (bounds again : Said → Option TextKind) → later_checks word often said bounds again ≡ None → (s : Said) × (said ≡ Ok s)
+checks_said (Some kind) often said bounds again h = cc
+checks_said None (Some kind) said bounds again h = cc
+checks_said None None (Err kind) bounds again h = cc
+checks_said None None (Ok s) bounds again h = (s, refl)
+
+head_no_end : (word : Word) → is_head_word word ≡ true → is_end word ≡ false
+head_no_end words.Set h = refl
+head_no_end words.Policy h = refl
+head_no_end words.Source h = refl
+head_no_end words.Route h = refl
+head_no_end words.Aaaa h = refl
+head_no_end words.A h = refl
+head_no_end words.Connect h = refl
+head_no_end words.Pause h = refl
+head_no_end words.End h = cc
+
+-- what stands at the head of a race: no event yet, and settings in their ranges
+pub record IsHeadOnly (before : List (List ℕ)) : Type 0 where
+  pub under : Under (last_group 0 before) before
+  pub quiet : IsQuiet (said_before before)
+  pub fit : AllFit (said_before before)
+
+head_only_more : (before : List (List ℕ)) (line : List ℕ) (parts : Word × List (List ℕ)) → word_of (tokens_of line) ≡ Ok parts → is_head_word parts.0 ≡ true → IsHeadOnly before → line_checks before line (Ok parts) ≡ None → IsHeadOnly (before ++ line ∷ [])
+head_only_more before line parts is head only right =
+    let told : List Said = said_before before in
+    let said = checks_said (wrong_word (last_group 0 before) (Ok parts)) (too_often before (Ok parts)) (said_by (known_to told) parts.0 parts.1) (wrong_bounds told) (repeated told) right in
+    let more : said_before (before ++ line ∷ []) ≡ told ++ said.0 ∷ [] = said_more (known_to told) before line parts.0 parts.1 said.0 is said.1 in
+    let one = is_head (known_to told) parts.0 parts.1 told said.0 head said.1 in
+    let Q : List Said → Type 0 = IsQuiet in
+    let F : List Said → Type 0 = AllFit in
+    record {
+      under = under_next before line parts.0 parts.1 is only.under (in_order before line parts.0 parts.1 right);
+      quiet = subst Q (sym more) (one.quiet only.quiet);
+      fit = subst F (sym more) (one.fit only.fit);
+    }
+
+head_by_word : (n : ℕ) (before : List (List ℕ)) (line : List ℕ) (after : List (List ℕ)) → IsHeadOnly before
+    → (IsHeadOnly (before ++ line ∷ []) → read_head (n + 1) (order_of (before ++ line ∷ [])) (given_of (said_before (before ++ line ∷ []))) after ≡ raced (walk (n + 1) (before ++ line ∷ []) after))
+    → (at_line n (wholeness (line ∷ after)) >>= λ _. head_after n (order_of before) (given_of (said_before before)) (line ∷ after) after (head_of (tokens_of line)))
+        ≡ raced (walk n before (line ∷ after))
+unfolding walk
+head_by_word n before line after only later = elim (head_cases line) [
+    | inl late ↦ by_whole late.0 late.1 (wholeness (line ∷ after)) refl
+    | inr head ↦
+        body_step n before line after (head_after n (order_of before) (given_of (said_before before)) (line ∷ after) after (head_of (tokens_of line)))
+            (cond (ends line) (Ok (before ++ line ∷ [], after)) (walk (n + 1) (before ++ line ∷ []) after)) (Ok head.0) head.2
+            (ap (head_after n (order_of before) (given_of (said_before before)) (line ∷ after) after) head.1
+            ∙ ap (head_next n after) (head_line before line head.0.0 head.0.1 head.2 only.under head.3)
+            ∙ head_known n after (line_checks before line (Ok head.0)) (order_of (before ++ line ∷ [])) (given_of (said_before (before ++ line ∷ [])))
+                (raced (cond (ends line) (Ok (before ++ line ∷ [], after)) (walk (n + 1) (before ++ line ∷ []) after)))
+                (λ right. later (head_only_more before line head.0 head.2 head.3 only right)
+                    ∙ ap (λ b. raced (cond b (Ok (before ++ line ∷ [], after)) (walk (n + 1) (before ++ line ∷ []) after))) (sym (ends_known line head.0.0 head.0.1 head.2 ∙ head_no_end head.0.0 head.3))))
+  ]
+  where
+    by_whole : head_of (tokens_of line) ≡ None → ((word : Word) (tokens : List (List ℕ)) → word_of (tokens_of line) ≡ Ok (word, tokens) → is_head_word word ≡ false)
+        → (w : Result (Unit {0}) TextKind) → wholeness (line ∷ after) ≡ w
+        → (at_line n (wholeness (line ∷ after)) >>= λ _. head_after n (order_of before) (given_of (said_before before)) (line ∷ after) after (head_of (tokens_of line)))
+            ≡ raced (walk n before (line ∷ after))
+    by_whole none late (Err kind) e =
+        ap (λ w. at_line n w >>= λ _. head_after n (order_of before) (given_of (said_before before)) (line ∷ after) after (head_of (tokens_of line))) e
+        ∙ sym (body_unwhole n (order_of before) (race_of (said_before before)) (line ∷ after) kind e)
+        ∙ body_agrees n before (line ∷ after) only.under (λ word tokens is order. late word tokens is)
+    by_whole none late (Ok done) e =
+        ap (λ w. at_line n w >>= λ _. head_after n (order_of before) (given_of (said_before before)) (line ∷ after) after (head_of (tokens_of line))) e
+        ∙ ap (head_after n (order_of before) (given_of (said_before before)) (line ∷ after) after) none
+        ∙ settle_reads n (order_of before) (given_of (said_before before)) (line ∷ after) (settings_given (said_before before)) (settings_agree (said_before before) only.fit)
+        ∙ ap (λ race. read_body n (order_of before) race (line ∷ after)) (sym (quiet_race (said_before before) only.quiet))
+        ∙ body_agrees n before (line ∷ after) only.under (λ word tokens is order. late word tokens is)
+
+pub head_agrees : (n : ℕ) (before lines : List (List ℕ)) → IsHeadOnly before → read_head n (order_of before) (given_of (said_before before)) lines ≡ raced (walk n before lines)
+unfolding read_head walk
+head_agrees n before [] only = refl
+head_agrees n before (line ∷ after) only = head_by_word n before line after only (head_agrees (n + 1) (before ++ line ∷ []) after)
+
+-- the whole race, from its first line
+unfoldable pub walk_all : List (List ℕ) → Result (List (List ℕ) × List (List ℕ)) (ℕ × TextKind)
+walk_all [] = Err (1, kinds.Unfinished)
+walk_all (line ∷ after) = stop 1 (first_fault (too_long line ∷ unfinished after ∷ wrong_header line ∷ [])) (walk 2 [] after)
+
+begins : (line : List ℕ) (after : List (List ℕ)) (same : Bool) → (later final : Result (Race × List (List ℕ)) (ℕ × TextKind)) → later ≡ final
+    → cond same later (Err (1, kinds.Header)) ≡ stop 1 (test (not same) kinds.Header) final
+begins line after true later final h = h
+begins line after false later final h = refl
+
+nothing_yet : IsHeadOnly []
+unfolding said_before
+nothing_yet = record { under = tt; quiet = record { aaaa = refl; a = refl; outcomes = refl; pauses = refl }; fit = none_fits }
+
+start_agrees : (lines : List (List ℕ)) → read_head 2 order_at_start none_given lines ≡ raced (walk 2 [] lines)
+unfolding said_before
+start_agrees lines = head_agrees 2 [] lines nothing_yet
+
+pub lines_agree : (lines : List (List ℕ)) → read_lines lines ≡ raced (walk_all lines)
+unfolding read_lines walk_all wholeness
+lines_agree [] = refl
+lines_agree (line ∷ after) =
+    whole_first 1 (ltb MAX_LINE (length line)) after (wrong_header line) (cond (bytes_eq line (codes "race 1")) (read_head 2 order_at_start none_given after) (Err (1, kinds.Header))) (raced (walk 2 [] after))
+        (begins line after (bytes_eq line (codes "race 1")) (read_head 2 order_at_start none_given after) (raced (walk 2 [] after)) (start_agrees after))
+    ∙ sym (raced_stop 1 (first_fault (too_long line ∷ unfinished after ∷ wrong_header line ∷ [])) (walk 2 [] after))
+
+-- the fault is where the walk stops
+fault_stop : {A : Type 0} (n : ℕ) (fault : Option TextKind) (later : Result A (ℕ × TextKind)) → fault_told (stop n fault later) ≡ at_line_number n fault (fault_told later)
+fault_stop n None later = refl
+fault_stop n (Some kind) later = refl
+
+fault_end : {A : Type 0} (b : Bool) (x : A) (later : Result A (ℕ × TextKind)) → fault_told (cond b (Ok x) later) ≡ cond b None (fault_told later)
+fault_end true x later = refl
+fault_end false x later = refl
+
+pub walk_fault : (n : ℕ) (before lines : List (List ℕ)) → fault_told (walk n before lines) ≡ fault_from n before lines
+unfolding walk fault_from
+walk_fault n before [] = refl
+walk_fault n before (line ∷ after) =
+    fault_stop n (line_fault before line after) (cond (ends line) (Ok (before ++ line ∷ [], after)) (walk (n + 1) (before ++ line ∷ []) after))
+    ∙ ap (at_line_number n (line_fault before line after)) (fault_end (ends line) (before ++ line ∷ [], after) (walk (n + 1) (before ++ line ∷ []) after)
+        ∙ ap (λ f. cond (ends line) None f) (walk_fault (n + 1) (before ++ line ∷ []) after))
+
+pub walk_all_fault : (lines : List (List ℕ)) → fault_told (walk_all lines) ≡ fault_in lines
+unfolding walk_all fault_in
+walk_all_fault [] = refl
+walk_all_fault (line ∷ after) =
+    fault_stop 1 (first_fault (too_long line ∷ unfinished after ∷ wrong_header line ∷ [])) (walk 2 [] after)
+    ∙ ap (at_line_number 1 (first_fault (too_long line ∷ unfinished after ∷ wrong_header line ∷ []))) (walk_fault 2 [] after)
+
+raced_fault : (walked : Result (List (List ℕ) × List (List ℕ)) (ℕ × TextKind)) → fault_told (raced walked) ≡ fault_told walked
+raced_fault (Ok x) = refl
+raced_fault (Err fault) = refl
+
+-- the readers fail where the definition has a fault, and with it
+pub fault_agrees : (lines : List (List ℕ)) → fault_told (read_lines lines) ≡ fault_in lines
+fault_agrees lines = ap fault_told (lines_agree lines) ∙ raced_fault (walk_all lines) ∙ walk_all_fault lines

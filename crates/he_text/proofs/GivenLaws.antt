@@ -1,0 +1,178 @@
+-- A line of the first groups is taken as its checks say, and the settings that the lines give are settings.
+use Rattle.std.proofs.Common.{◌≡◌, ℕ, ◌+◌, ◌<◌, ◌≤◌, ◌&&◌, ◌||◌, Bool, true, false, cond, leb, ltb, not, List, [], ◌∷◌, ◌++◌, length, Option, Some, None, Result, Ok, Err, refl, sym, ◌∙◌, ap, subst, arith}
+use Rattle.std.specs.Prelude.{is_some, unwrap_or}
+use Rattle.std.specs.List.{filter_map}
+use Rattle.std.proofs.lemmas.Bool.{le-ltb}
+use Rattle.he_addr.specs.declared.ip.Ip.{Ip}
+use Rattle.he_addr.specs.declared.ip.Family.TheVariants as families
+use Rattle.he_plan.specs.declared.limits.TheConstants.{MAX_RESOLUTION, MIN_ATTEMPT, MAX_ATTEMPT, MIN_COUNT, MAX_COUNT, MIN_LIMIT, MAX_LIMIT, DEFAULT_RESOLUTION, DEFAULT_ATTEMPT, DEFAULT_COUNT, DEFAULT_LIMIT}
+use Rattle.he_plan.specs.declared.settings.Range.{Range}
+use Rattle.he_plan.specs.declared.settings.Range.TheVariants as ranges
+use Rattle.he_plan.specs.Settings.{SettingValues, settings_of}
+use Rattle.he_text.specs.declared.draft.Given.{Given}
+use Rattle.he_text.specs.declared.fault.TextKind.{TextKind}
+use Rattle.he_text.specs.declared.fault.TextKind.TheVariants as kinds
+use Rattle.he_text.specs.declared.words.Name.{Name}
+use Rattle.he_text.specs.declared.words.Name.TheVariants.{Resolution, Attempt, Count, Limit}
+use Rattle.he_text.specs.declared.words.Word.{Word}
+use Rattle.he_text.specs.declared.words.Word.TheVariants as words
+use Rattle.he_text.specs.Faults.{first_fault, test, wrong_bounds, repeated}
+use Rattle.he_text.specs.Forms.{◌>>=◌, setting_in, said_by, least_of, most_of}
+use Rattle.he_text.specs.Reading.{once, put, ranged, settings_from, take_setting}
+use Rattle.he_text.specs.Said.{Said, Setting, Passed, Answer, Told, Paused, Ended, same_name, setting_said, first_of, setting_given, settings_given}
+use Rattle.he_text.specs.Words.{is_head_word}
+use Rattle.he_text.proofs.FormFacts.{setting_ok}
+use Rattle.he_text.proofs.Results.{bind_ok}
+use Rattle.he_text.proofs.SaidLaws.{none_more, one_more, first_more, setting_kept, IsQuiet, quiet_more}
+use Rattle.he_text.proofs.ToldLaws.{outcome}
+
+-- the settings that were given
+abbrev made : Option ℕ → Option ℕ → Option ℕ → Option ℕ → Given
+made r a c l = record { resolution = r; attempt = a; count = c; limit = l }
+
+abbrev pub given_of : List Said → Given
+given_of said = made (setting_given Resolution said) (setting_given Attempt said) (setting_given Count said) (setting_given Limit said)
+
+abbrev pub judged_setting : List Said → Said → Result Given TextKind
+judged_setting said s = outcome (first_fault (wrong_bounds said s ∷ repeated said s ∷ [])) (given_of (said ++ s ∷ []))
+
+given_same : (r r' a a' c c' l l' : Option ℕ) → r ≡ r' → a ≡ a' → c ≡ c' → l ≡ l' → made r a c l ≡ made r' a' c' l'
+given_same r r' a a' c c' l l' er ea ec el =
+    ap (λ x. made x a c l) er ∙ ap (λ x. made r' x c l) ea ∙ ap (λ x. made r' a' x l) ec ∙ ap (made r' a' c') el
+
+setting_new : (name : Name) (said : List Said) (value : ℕ) → same_name name name ≡ true → setting_given name said ≡ None → setting_given name (said ++ Setting name value ∷ []) ≡ Some value
+setting_new name said value same none =
+    ap first_of (one_more (setting_said name) said (Setting name value) value (ap (λ b. cond b (Some value) None) same)) ∙ first_more (filter_map (setting_said name) said) value none
+
+-- one more setting, where there is none of its name yet
+put_one : (before : Option ℕ) (value : ℕ) (with_value : Option ℕ → Given) (after : Given) → (before ≡ None → with_value (Some value) ≡ after)
+    → (once before value >>= λ (more : Option ℕ). Ok (with_value more)) ≡ outcome (first_fault (None ∷ test (is_some before) kinds.Repeated ∷ [])) after
+put_one None value with_value after same = ap Ok (same refl)
+put_one (Some x) value with_value after same = refl
+
+put_agrees : (name : Name) (value : ℕ) (said : List Said) → put name value (given_of said) ≡ judged_setting said (Setting name value)
+unfolding put
+put_agrees Resolution value said = put_one (setting_given Resolution said) value (λ more. record (given_of said) { resolution = more }) (given_of (said ++ Setting Resolution value ∷ []))
+    (λ none. sym (given_same _ _ _ _ _ _ _ _ (setting_new Resolution said value refl none) (setting_kept Attempt said (Setting Resolution value) refl) (setting_kept Count said (Setting Resolution value) refl) (setting_kept Limit said (Setting Resolution value) refl)))
+put_agrees Attempt value said = put_one (setting_given Attempt said) value (λ more. record (given_of said) { attempt = more }) (given_of (said ++ Setting Attempt value ∷ []))
+    (λ none. sym (given_same _ _ _ _ _ _ _ _ (setting_kept Resolution said (Setting Attempt value) refl) (setting_new Attempt said value refl none) (setting_kept Count said (Setting Attempt value) refl) (setting_kept Limit said (Setting Attempt value) refl)))
+put_agrees Count value said = put_one (setting_given Count said) value (λ more. record (given_of said) { count = more }) (given_of (said ++ Setting Count value ∷ []))
+    (λ none. sym (given_same _ _ _ _ _ _ _ _ (setting_kept Resolution said (Setting Count value) refl) (setting_kept Attempt said (Setting Count value) refl) (setting_new Count said value refl none) (setting_kept Limit said (Setting Count value) refl)))
+put_agrees Limit value said = put_one (setting_given Limit said) value (λ more. record (given_of said) { limit = more }) (given_of (said ++ Setting Limit value ∷ []))
+    (λ none. sym (given_same _ _ _ _ _ _ _ _ (setting_kept Resolution said (Setting Limit value) refl) (setting_kept Attempt said (Setting Limit value) refl) (setting_kept Count said (Setting Limit value) refl) (setting_new Limit said value refl none)))
+
+by_setting : (said : List Said) (read : Result (Name × ℕ) TextKind)
+    → (read >>= λ setting. put setting.0 setting.1 (given_of said)) ≡ ((read >>= λ setting. Ok (Setting setting.0 setting.1)) >>= judged_setting said)
+by_setting said (Err kind) = refl
+by_setting said (Ok setting) = put_agrees setting.0 setting.1 said
+
+passed_agrees : (word : Word) (said : List Said) → Ok (given_of said) ≡ judged_setting said (Passed word)
+passed_agrees word said = ap Ok (sym (given_same _ _ _ _ _ _ _ _
+    (setting_kept Resolution said (Passed word) refl) (setting_kept Attempt said (Passed word) refl) (setting_kept Count said (Passed word) refl) (setting_kept Limit said (Passed word) refl)))
+
+pub setting_agrees : (known : Ip → Bool) (word : Word) (tokens : List (List ℕ)) (said : List Said) → is_head_word word ≡ true
+    → take_setting word tokens (given_of said) ≡ (said_by known word tokens >>= judged_setting said)
+unfolding take_setting said_by
+setting_agrees known words.Set tokens said h = by_setting said (setting_in tokens)
+setting_agrees known words.Policy tokens said h = passed_agrees words.Policy said
+setting_agrees known words.Source tokens said h = passed_agrees words.Source said
+setting_agrees known words.Route tokens said h = passed_agrees words.Route said
+setting_agrees known words.Aaaa tokens said h = cc
+setting_agrees known words.A tokens said h = cc
+setting_agrees known words.Connect tokens said h = cc
+setting_agrees known words.Pause tokens said h = cc
+setting_agrees known words.End tokens said h = cc
+
+-- each setting that is given is in its range
+abbrev pub default_of : Name → ℕ
+default_of Resolution = DEFAULT_RESOLUTION
+default_of Attempt = DEFAULT_ATTEMPT
+default_of Count = DEFAULT_COUNT
+default_of Limit = DEFAULT_LIMIT
+
+pub record Fits (name : Name) (given : Option ℕ) : Type 0 where
+  pub least : least_of name ≤ unwrap_or given (default_of name)
+  pub most : unwrap_or given (default_of name) ≤ most_of name
+
+abbrev pub AllFit : List Said → Type 0
+AllFit said = (name : Name) → Fits name (setting_given name said)
+
+pub none_fits : (name : Name) → Fits name None
+none_fits Resolution = record { least = omega arith; most = omega arith }
+none_fits Attempt = record { least = omega arith; most = omega arith }
+none_fits Count = record { least = omega arith; most = omega arith }
+none_fits Limit = record { least = omega arith; most = omega arith }
+
+checked : (b1 b2 b3 b4 b5 b6 b7 : Bool) (settings : SettingValues) → b1 ≡ false → b2 ≡ false → b3 ≡ false → b4 ≡ false → b5 ≡ false → b6 ≡ false → b7 ≡ false
+    → ranged (cond b1 (Err ranges.Resolution) (cond (b2 || b3) (Err ranges.Attempt) (cond (b4 || b5) (Err ranges.Count) (cond (b6 || b7) (Err ranges.Limit) (Ok settings))))) ≡ Ok settings
+checked b1 b2 b3 b4 b5 b6 b7 settings h1 h2 h3 h4 h5 h6 h7 = rw (h1, h2, h3, h4, h5, h6, h7) refl
+
+pub settings_agree : (said : List Said) → AllFit said → settings_from (given_of said) ≡ Ok (settings_given said)
+unfolding settings_from
+settings_agree said fit = checked _ _ _ _ _ _ _ (settings_given said)
+    (le-ltb MAX_RESOLUTION _ (fit Resolution).most)
+    (le-ltb _ MIN_ATTEMPT (fit Attempt).least) (le-ltb MAX_ATTEMPT _ (fit Attempt).most)
+    (le-ltb _ MIN_COUNT (fit Count).least) (le-ltb MAX_COUNT _ (fit Count).most)
+    (le-ltb _ MIN_LIMIT (fit Limit).least) (le-ltb MAX_LIMIT _ (fit Limit).most)
+
+first_or : (xs : List ℕ) (value : ℕ) (name : Name) → Fits name (first_of xs) → Fits name (Some value) → Fits name (first_of (xs ++ value ∷ []))
+first_or [] value name before new = new
+first_or (x ∷ xs) value name before new = before
+
+-- a line of the first groups says a setting in its range, or is passed over
+pub record IsHead (said : List Said) (s : Said) : Type 0 where
+  pub quiet : IsQuiet said → IsQuiet (said ++ s ∷ [])
+  pub fit : AllFit said → AllFit (said ++ s ∷ [])
+
+fits_here : (name : Name) (value : ℕ) (said : List Said) → same_name name name ≡ true → Fits name (setting_given name said) → Fits name (Some value) → Fits name (setting_given name (said ++ Setting name value ∷ []))
+fits_here name value said same before new =
+    let P : List ℕ → Type 0 = λ xs. Fits name (first_of xs) in
+    subst P (sym (one_more (setting_said name) said (Setting name value) value (ap (λ b. cond b (Some value) None) same)))
+        (first_or (filter_map (setting_said name) said) value name before new)
+
+fits_kept : (name : Name) (said : List Said) (s : Said) → setting_said name s ≡ None → Fits name (setting_given name said) → Fits name (setting_given name (said ++ s ∷ []))
+fits_kept name said s none before = let P : Option ℕ → Type 0 = Fits name in subst P (sym (setting_kept name said s none)) before
+
+setting_head : (name : Name) (value : ℕ) (said : List Said) → least_of name ≤ value → value ≤ most_of name → AllFit said → AllFit (said ++ Setting name value ∷ [])
+setting_head Resolution value said least most fit Resolution = fits_here Resolution value said refl (fit Resolution) (record { least = least; most = most })
+setting_head Resolution value said least most fit Attempt = fits_kept Attempt said (Setting Resolution value) refl (fit Attempt)
+setting_head Resolution value said least most fit Count = fits_kept Count said (Setting Resolution value) refl (fit Count)
+setting_head Resolution value said least most fit Limit = fits_kept Limit said (Setting Resolution value) refl (fit Limit)
+setting_head Attempt value said least most fit Resolution = fits_kept Resolution said (Setting Attempt value) refl (fit Resolution)
+setting_head Attempt value said least most fit Attempt = fits_here Attempt value said refl (fit Attempt) (record { least = least; most = most })
+setting_head Attempt value said least most fit Count = fits_kept Count said (Setting Attempt value) refl (fit Count)
+setting_head Attempt value said least most fit Limit = fits_kept Limit said (Setting Attempt value) refl (fit Limit)
+setting_head Count value said least most fit Resolution = fits_kept Resolution said (Setting Count value) refl (fit Resolution)
+setting_head Count value said least most fit Attempt = fits_kept Attempt said (Setting Count value) refl (fit Attempt)
+setting_head Count value said least most fit Count = fits_here Count value said refl (fit Count) (record { least = least; most = most })
+setting_head Count value said least most fit Limit = fits_kept Limit said (Setting Count value) refl (fit Limit)
+setting_head Limit value said least most fit Resolution = fits_kept Resolution said (Setting Limit value) refl (fit Resolution)
+setting_head Limit value said least most fit Attempt = fits_kept Attempt said (Setting Limit value) refl (fit Attempt)
+setting_head Limit value said least most fit Count = fits_kept Count said (Setting Limit value) refl (fit Count)
+setting_head Limit value said least most fit Limit = fits_here Limit value said refl (fit Limit) (record { least = least; most = most })
+
+passed_head : (word : Word) (said : List Said) → IsHead said (Passed word)
+passed_head word said = record {
+  quiet = λ quiet. quiet_more said (Passed word) quiet refl refl refl refl;
+  fit = λ fit name. fits_kept name said (Passed word) refl (fit name);
+}
+
+pub is_head : (known : Ip → Bool) (word : Word) (tokens : List (List ℕ)) (said : List Said) (s : Said) → is_head_word word ≡ true → said_by known word tokens ≡ Ok s → IsHead said s
+unfolding said_by
+is_head known words.Set tokens said s h e =
+    let read = bind_ok (setting_in tokens) (λ setting. Ok (Setting setting.0 setting.1)) s e in
+    let is = setting_ok tokens read.0 read.1 in
+    let same : Setting read.0.0 read.0.1 ≡ s = cc (read.2) in
+    let P : Said → Type 0 = IsHead said in
+    subst P same (record {
+      quiet = λ quiet. quiet_more said (Setting read.0.0 read.0.1) quiet refl refl refl refl;
+      fit = setting_head read.0.0 read.0.1 said is.value_is.least is.value_is.most;
+    })
+is_head known words.Policy tokens said s h e = let P : Said → Type 0 = IsHead said in subst P (cc (e)) (passed_head words.Policy said)
+is_head known words.Source tokens said s h e = let P : Said → Type 0 = IsHead said in subst P (cc (e)) (passed_head words.Source said)
+is_head known words.Route tokens said s h e = let P : Said → Type 0 = IsHead said in subst P (cc (e)) (passed_head words.Route said)
+is_head known words.Aaaa tokens said s h e = cc
+is_head known words.A tokens said s h e = cc
+is_head known words.Connect tokens said s h e = cc
+is_head known words.Pause tokens said s h e = cc
+is_head known words.End tokens said s h e = cc

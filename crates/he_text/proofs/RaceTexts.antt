@@ -1,0 +1,479 @@
+-- Where the readers find a race, the text is one of it.
+use Rattle.std.proofs.Common.{◌≡◌, ℕ, suc, ◌+◌, ◌-◌, ◌<◌, ◌≤◌, ◌==◌, ◌&&◌, Bool, true, false, cond, leb, ltb, eqb, not, List, [], ◌∷◌, ◌++◌, length, take, drop, Option, Some, None, Result, Ok, Err, refl, sym, ◌∙◌, ap, subst, inl, inr, ⊎_elim, arith, append_assoc, length-append}
+use Rattle.std.specs.Prelude.{◌⊎◌, codes, is_some}
+use Rattle.std.specs.List.{AllByRecursion, AllZip, filter_map, cons_option, join_with_byte}
+use Rattle.std.specs.Option.{ok_or}
+use Rattle.std.specs.Str.{bytes_eq}
+use Rattle.std.proofs.lemmas.Slice.Eq.{bytes_eq-Decides}
+use Rattle.std.proofs.lemmas.Bool.{ltb-false, le-leb, leb-true, and_from, and_parts}
+use Rattle.std.proofs.lemmas.List.{take_at}
+use Rattle.std.proofs.lemmas.List.Splits.{join_with_byte-slice_split}
+use Rattle.he_addr.specs.declared.ip.Family.{Family}
+use Rattle.he_addr.specs.declared.ip.Family.TheVariants as families
+use Rattle.he_addr.specs.declared.ip.Ip.{Ip}
+use Rattle.he_plan.specs.declared.limits.TheConstants.{MAX_ADDRESSES}
+use Rattle.he_plan.specs.declared.outcome.Outcome.{Outcome}
+use Rattle.he_plan.specs.Race.{Race, Reply, reply_of}
+use Rattle.he_plan.specs.Timeline.{IsRace}
+use Rattle.he_text.specs.declared.fault.TextKind.{TextKind}
+use Rattle.he_text.specs.declared.fault.TextKind.TheVariants as kinds
+use Rattle.he_text.specs.declared.limits.TheConstants.{MAX_LINE}
+use Rattle.he_text.specs.declared.words.Name.{Name}
+use Rattle.he_text.specs.declared.words.Name.TheVariants.{Resolution, Attempt, Count, Limit}
+use Rattle.he_text.specs.declared.words.Word.{Word}
+use Rattle.he_text.specs.declared.words.Word.TheVariants as words
+use Rattle.std.specs.Result.{result_ok}
+use Rattle.he_text.specs.Faults.{anyone, first_fault, test, group_on, last_group, known_to, said_before, too_long, unfinished, wrong_header, wrong_word, too_often, wrong_form, wrong_bounds, repeated, of_said, line_fault, ends}
+use Rattle.he_text.specs.Forms.{◌>>=◌, setting_in, answer_in, connect_in, pause_in, end_in, word_of, said_by, said_in}
+use Rattle.he_text.specs.Parts.{parts_of, lines_of, tokens_of}
+use Rattle.he_text.specs.Reading.{read_lines}
+use Rattle.he_text.specs.Said.{Said, Setting, Passed, Answer, Told, Paused, Ended, same_name, setting_said, answer_said, first_of, setting_given, race_of}
+use Rattle.he_text.specs.Text.{Says, Lists, group_said, are_in_order, AreLines, IsRaceText, answer_word}
+use Rattle.he_text.specs.Words.{group_of, spelling_of, name_spelling, word_in, name_in, is_end}
+use Rattle.he_text.proofs.Agreement.{line_checks, stop, walk, walk_all, raced, lines_agree, line_fault_is, checks_said, in_order, ends_known, later_checks}
+use Rattle.he_text.proofs.FormFacts.{setting_ok, answer_ok, connect_ok, pause_ok}
+use Rattle.he_text.proofs.OrderLaws.{last_more, group_is}
+use Rattle.he_text.proofs.PartLaws.{Lacks, parts_lack, joined_parts, front_lacks, lacks_more, join_behind}
+use Rattle.he_text.proofs.PlaceLaws.{has_place, said_more, said_group}
+use Rattle.he_text.proofs.Results.{bind_ok, ok_or_ok}
+use Rattle.he_text.proofs.SaidLaws.{none_more, one_more, race_ended}
+use Rattle.he_text.proofs.ToldLaws.{HasPlace}
+
+-- words and names are spelled
+
+spelled_or : (token : List ℕ) (v w : Word) (b : Bool) (rest : Option Word) → bytes_eq token (spelling_of v) ≡ b → (rest ≡ Some w → token ≡ spelling_of w) → cond b (Some v) rest ≡ Some w → token ≡ spelling_of w
+spelled_or token v w true rest e later h =
+    let same : v ≡ w = cc (h) in
+    (bytes_eq-Decides token (spelling_of v)).0 e ∙ ap spelling_of same
+spelled_or token v w false rest e later h = later h
+
+word_spelled : (token : List ℕ) (w : Word) → word_in token ≡ Some w → token ≡ spelling_of w
+unfolding word_in
+word_spelled token w h =
+    spelled_or token words.Set w _ _ refl
+    (spelled_or token words.Policy w _ _ refl
+    (spelled_or token words.Source w _ _ refl
+    (spelled_or token words.Route w _ _ refl
+    (spelled_or token words.Aaaa w _ _ refl
+    (spelled_or token words.A w _ _ refl
+    (spelled_or token words.Connect w _ _ refl
+    (spelled_or token words.Pause w _ _ refl
+    (spelled_or token words.End w _ _ refl (λ e. absurd (no_word w e))))))))))
+    h
+  where
+    no_word : (w : Word) → None ≡ Some w → ⊥
+    no_word w e = cc
+
+named_or : (token : List ℕ) (v w : Name) (b : Bool) (rest : Option Name) → bytes_eq token (name_spelling v) ≡ b → (rest ≡ Some w → token ≡ name_spelling w) → cond b (Some v) rest ≡ Some w → token ≡ name_spelling w
+named_or token v w true rest e later h =
+    let same : v ≡ w = cc (h) in
+    (bytes_eq-Decides token (name_spelling v)).0 e ∙ ap name_spelling same
+named_or token v w false rest e later h = later h
+
+name_spelled : (token : List ℕ) (w : Name) → name_in token ≡ Some w → token ≡ name_spelling w
+unfolding name_in
+name_spelled token w h =
+    named_or token Resolution w _ _ refl
+    (named_or token Attempt w _ _ refl
+    (named_or token Count w _ _ refl
+    (named_or token Limit w _ _ refl (λ e. absurd (no_name w e)))))
+    h
+  where
+    no_name : (w : Name) → None ≡ Some w → ⊥
+    no_name w e = cc
+
+abbrev with_tokens : List (List ℕ) → Word → Result (Word × List (List ℕ)) TextKind
+with_tokens tokens word = Ok (word, tokens)
+
+word_tokens : (tokens : List (List ℕ)) (parts : Word × List (List ℕ)) → word_of tokens ≡ Ok parts → tokens ≡ spelling_of parts.0 ∷ parts.1
+unfolding word_of
+word_tokens [] parts h = cc
+word_tokens (token ∷ tokens) parts h =
+    let read = bind_ok (ok_or (word_in token) kinds.Word) (with_tokens tokens) parts h in
+    let same : (read.0, tokens) ≡ parts = cc (read.2) in
+    let spelled : token ≡ spelling_of read.0 = word_spelled token read.0 (ok_or_ok (word_in token) kinds.Word read.0 read.1) in
+    let P : Word × List (List ℕ) → Type 0 = λ p. token ∷ tokens ≡ spelling_of p.0 ∷ p.1 in
+    subst P same (ap (λ t. t ∷ tokens) spelled)
+
+-- a line that is right says what was read of it
+says : (known : Ip → Bool) (line : List ℕ) (word : Word) (tokens : List (List ℕ)) (s : Said) → tokens_of line ≡ spelling_of word ∷ tokens → is_end word ≡ false → said_by known word tokens ≡ Ok s → Says line s
+unfolding said_by
+says known line words.Set tokens s is h e =
+    let read = bind_ok (setting_in tokens) (λ setting. Ok (Setting setting.0 setting.1)) s e in
+    let fact = setting_ok tokens read.0 read.1 in
+    let same : Setting read.0.0 read.0.1 ≡ s = cc (read.2) in
+    let P : Said → Type 0 = Says line in
+    subst P same (fact.second, is ∙ ap (λ ts. spelling_of words.Set ∷ ts) (fact.tokens_are ∙ ap (λ t. t ∷ fact.second ∷ []) (name_spelled fact.first read.0.0 fact.name_is)), fact.value_is)
+says known line words.Policy tokens s is h e = let same : Passed words.Policy ≡ s = cc (e) in let P : Said → Type 0 = Says line in subst P same (tokens, is, refl)
+says known line words.Source tokens s is h e = let same : Passed words.Source ≡ s = cc (e) in let P : Said → Type 0 = Says line in subst P same (tokens, is, refl)
+says known line words.Route tokens s is h e = let same : Passed words.Route ≡ s = cc (e) in let P : Said → Type 0 = Says line in subst P same (tokens, is, refl)
+says known line words.Aaaa tokens s is h e =
+    let read = bind_ok (answer_in families.V6 tokens) (λ reply. Ok (Answer families.V6 reply)) s e in
+    let fact = answer_ok families.V6 tokens read.0 read.1 in
+    let same : Answer families.V6 read.0 ≡ s = cc (read.2) in
+    let P : Said → Type 0 = Says line in
+    subst P same (fact.first, fact.others, is ∙ ap (λ ts. spelling_of words.Aaaa ∷ ts) fact.tokens_are, fact.tick, fact.addresses.listed, fact.few)
+says known line words.A tokens s is h e =
+    let read = bind_ok (answer_in families.V4 tokens) (λ reply. Ok (Answer families.V4 reply)) s e in
+    let fact = answer_ok families.V4 tokens read.0 read.1 in
+    let same : Answer families.V4 read.0 ≡ s = cc (read.2) in
+    let P : Said → Type 0 = Says line in
+    subst P same (fact.first, fact.others, is ∙ ap (λ ts. spelling_of words.A ∷ ts) fact.tokens_are, fact.tick, fact.addresses.listed, fact.few)
+says known line words.Connect tokens s is h e =
+    let read = bind_ok (connect_in known tokens) (λ told. Ok (Told told.0 told.1)) s e in
+    let fact = connect_ok known tokens read.0 read.1 in
+    let same : Told read.0.0 read.0.1 ≡ s = cc (read.2) in
+    let P : Said → Type 0 = Says line in
+    subst P same (fact.first, fact.last, is ∙ ap (λ ts. spelling_of words.Connect ∷ ts) fact.tokens_are, fact.ip_is, fact.ticks)
+says known line words.Pause tokens s is h e =
+    let read = bind_ok (pause_in tokens) (λ pause. Ok (Paused pause.0 pause.1)) s e in
+    let fact = pause_ok tokens read.0 read.1 in
+    let same : Paused read.0.0 read.0.1 ≡ s = cc (read.2) in
+    let P : Said → Type 0 = Says line in
+    subst P same (fact.first, fact.second, is ∙ ap (λ ts. spelling_of words.Pause ∷ ts) fact.tokens_are, fact.from_is, fact.to_is)
+says known line words.End tokens s is h e = cc
+
+-- one more of lists that go together
+zip_more : {A B : Type 0} (R : A → B → Type 0) (xs : List A) (ys : List B) (x : A) (y : B) → AllZip R xs ys → R x y → AllZip R (xs ++ x ∷ []) (ys ++ y ∷ [])
+zip_more R [] [] x y all here = (here, tt)
+zip_more R [] (b ∷ ys) x y all here = absurd all
+zip_more R (a ∷ xs) [] x y all here = absurd all
+zip_more R (a ∷ xs) (b ∷ ys) x y all here = (all.0, zip_more R xs ys x y all.1 here)
+
+all_more : {A : Type 0} (P : A → Type 0) (xs : List A) (x : A) → AllByRecursion P xs → P x → AllByRecursion P (xs ++ x ∷ [])
+all_more P [] x all here = (here, tt)
+all_more P (a ∷ xs) x all here = (all.0, all_more P xs x all.1 here)
+
+-- the group of the last thing said
+abbrev last_said : ℕ → List Said → ℕ
+last_said group [] = group
+last_said group (s ∷ said) = last_said (group_said s) said
+
+last_said_more : (group : ℕ) (said : List Said) (s : Said) → last_said group (said ++ s ∷ []) ≡ group_said s
+last_said_more group [] s = refl
+last_said_more group (first ∷ said) s = last_said_more (group_said first) said s
+
+order_said_more : (group : ℕ) (said : List Said) (s : Said) → are_in_order group said ≡ true → last_said group said ≤ group_said s → are_in_order group (said ++ s ∷ []) ≡ true
+order_said_more group [] s all le = and_from (leb group (group_said s)) true (le-leb group (group_said s) le) refl
+order_said_more group (first ∷ said) s all le =
+    let parts = and_parts (leb group (group_said first)) (are_in_order (group_said first) said) all in
+    and_from (leb group (group_said first)) (are_in_order (group_said first) (said ++ s ∷ [])) parts.0 (order_said_more (group_said first) said s parts.1 le)
+
+same_name_is : (a b : Name) → same_name a b ≡ true → a ≡ b
+same_name_is Resolution Resolution h = refl
+same_name_is Resolution Attempt h = cc
+same_name_is Resolution Count h = cc
+same_name_is Resolution Limit h = cc
+same_name_is Attempt Resolution h = cc
+same_name_is Attempt Attempt h = refl
+same_name_is Attempt Count h = cc
+same_name_is Attempt Limit h = cc
+same_name_is Count Resolution h = cc
+same_name_is Count Attempt h = cc
+same_name_is Count Count h = refl
+same_name_is Count Limit h = cc
+same_name_is Limit Resolution h = cc
+same_name_is Limit Attempt h = cc
+same_name_is Limit Count h = cc
+same_name_is Limit Limit h = refl
+
+empty_first : {A : Type 0} (xs : List A) → first_of xs ≡ None → length xs ≤ 0
+empty_first [] h = omega arith
+empty_first (x ∷ xs) h = cc
+
+-- what is said at most once stays so where it was not said before
+once_more : {Y : Type 0} (h : Said → Option Y) (said : List Said) (s : Said) → length (filter_map h said) ≤ 1 → (is_some (h s) ≡ true → first_of (filter_map h said) ≡ None) → length (filter_map h (said ++ s ∷ [])) ≤ 1
+once_more {Y = Y} h said s once new = by_case (h s) refl
+  where
+    by_case : (o : Option Y) → h s ≡ o → length (filter_map h (said ++ s ∷ [])) ≤ 1
+    by_case None e = let P : List Y → Type 0 = λ ys. length ys ≤ 1 in subst P (sym (none_more h said s e)) once
+    by_case (Some y) e =
+        let none = empty_first (filter_map h said) (new (ap is_some e)) in
+        let P : List Y → Type 0 = λ ys. length ys ≤ 1 in
+        subst P (sym (one_more h said s y e)) (omega (arith, length-append (filter_map h said) (y ∷ []), none))
+
+given_none : (o : Option ℕ) (kind : TextKind) → test (is_some o) kind ≡ None → o ≡ None
+given_none None kind h = refl
+given_none (Some x) kind h = cc
+
+setting_new : (name : Name) (said : List Said) (s : Said) → repeated said s ≡ None → is_some (setting_said name s) ≡ true → first_of (filter_map (setting_said name) said) ≡ None
+setting_new name said (Setting other value) h some = by_name (same_name name other) refl some
+  where
+    by_name : (b : Bool) → same_name name other ≡ b → is_some (cond b (Some value) None) ≡ true → first_of (filter_map (setting_said name) said) ≡ None
+    by_name true e found = ap (λ n. setting_given n said) (same_name_is name other e) ∙ given_none (setting_given other said) kinds.Repeated h
+    by_name false e found = cc
+setting_new name said (Passed word) h some = cc
+setting_new name said (Answer family reply) h some = cc
+setting_new name said (Told ip outcome) h some = cc
+setting_new name said (Paused from to) h some = cc
+setting_new name said Ended h some = cc
+
+silent_setting : (family : Family) (name : Name) (value : ℕ) → is_some (answer_said family (Setting name value)) ≡ true → ⊥
+silent_setting families.V6 name value h = cc
+silent_setting families.V4 name value h = cc
+
+silent_passed : (family : Family) (word : Word) → is_some (answer_said family (Passed word)) ≡ true → ⊥
+silent_passed families.V6 word h = cc
+silent_passed families.V4 word h = cc
+
+silent_other : (reply : Reply) → is_some (answer_said families.V4 (Answer families.V6 reply)) ≡ true → ⊥
+silent_other reply h = cc
+
+silent_one : (reply : Reply) → is_some (answer_said families.V6 (Answer families.V4 reply)) ≡ true → ⊥
+silent_one reply h = cc
+
+silent_told : (family : Family) (told : Ip × Outcome) → is_some (answer_said family (Told told.0 told.1)) ≡ true → ⊥
+silent_told families.V6 told h = cc
+silent_told families.V4 told h = cc
+
+silent_pause : (family : Family) (pause : ℕ × ℕ) → is_some (answer_said family (Paused pause.0 pause.1)) ≡ true → ⊥
+silent_pause families.V6 pause h = cc
+silent_pause families.V4 pause h = cc
+
+silent_end : (family : Family) → is_some (answer_said family Ended) ≡ true → ⊥
+silent_end families.V6 h = cc
+silent_end families.V4 h = cc
+
+no_fault : Some kinds.Word ≡ None → ⊥
+no_fault h = cc
+
+-- a second answer is refused by its line
+answer_new : (known : Ip → Bool) (word : Word) (tokens : List (List ℕ)) (said : List Said) (s : Said) (family : Family) → said_by known word tokens ≡ Ok s → HasPlace word said → is_some (answer_said family s) ≡ true → first_of (filter_map (answer_said family) said) ≡ None
+unfolding said_by race_of
+answer_new known words.Set tokens said s family e place some =
+    let read = bind_ok (setting_in tokens) (λ setting. Ok (Setting setting.0 setting.1)) s e in
+    let same : Setting read.0.0 read.0.1 ≡ s = cc (read.2) in absurd (silent_setting family read.0.0 read.0.1 (ap (λ x. is_some (answer_said family x)) same ∙ some))
+answer_new known words.Policy tokens said s family e place some = let same : Passed words.Policy ≡ s = cc (e) in absurd (silent_passed family words.Policy (ap (λ x. is_some (answer_said family x)) same ∙ some))
+answer_new known words.Source tokens said s family e place some = let same : Passed words.Source ≡ s = cc (e) in absurd (silent_passed family words.Source (ap (λ x. is_some (answer_said family x)) same ∙ some))
+answer_new known words.Route tokens said s family e place some = let same : Passed words.Route ≡ s = cc (e) in absurd (silent_passed family words.Route (ap (λ x. is_some (answer_said family x)) same ∙ some))
+answer_new known words.Aaaa tokens said s families.V6 e place some = place
+answer_new known words.Aaaa tokens said s families.V4 e place some =
+    let read = bind_ok (answer_in families.V6 tokens) (λ reply. Ok (Answer families.V6 reply)) s e in
+    let same : Answer families.V6 read.0 ≡ s = cc (read.2) in absurd (silent_other read.0 (ap (λ x. is_some (answer_said families.V4 x)) same ∙ some))
+answer_new known words.A tokens said s families.V4 e place some = place
+answer_new known words.A tokens said s families.V6 e place some =
+    let read = bind_ok (answer_in families.V4 tokens) (λ reply. Ok (Answer families.V4 reply)) s e in
+    let same : Answer families.V4 read.0 ≡ s = cc (read.2) in absurd (silent_one read.0 (ap (λ x. is_some (answer_said families.V6 x)) same ∙ some))
+answer_new known words.Connect tokens said s family e place some =
+    let read = bind_ok (connect_in known tokens) (λ told. Ok (Told told.0 told.1)) s e in
+    let same : Told read.0.0 read.0.1 ≡ s = cc (read.2) in absurd (silent_told family read.0 (ap (λ x. is_some (answer_said family x)) same ∙ some))
+answer_new known words.Pause tokens said s family e place some =
+    let read = bind_ok (pause_in tokens) (λ pause. Ok (Paused pause.0 pause.1)) s e in
+    let same : Paused read.0.0 read.0.1 ≡ s = cc (read.2) in absurd (silent_pause family read.0 (ap (λ x. is_some (answer_said family x)) same ∙ some))
+answer_new known words.End tokens said s family e place some =
+    let read = bind_ok (end_in tokens) (λ _. Ok Ended) s e in
+    let same : Ended ≡ s = cc (read.2) in absurd (silent_end family (ap (λ x. is_some (answer_said family x)) same ∙ some))
+
+-- the lines before are right
+pub record AreRight (before : List (List ℕ)) : Type 0 where
+  pub are : AreLines before (said_before before)
+  pub last : last_said 0 (said_before before) ≡ last_group 0 before
+
+-- what a line's checks tell, where none fails
+pub record IsRight (before : List (List ℕ)) (line : List ℕ) (after : List (List ℕ)) : Type 0 where
+  pub short : length line ≤ MAX_LINE
+  pub ended : 0 < length after
+  pub parts : Word × List (List ℕ)
+  pub word : word_of (tokens_of line) ≡ Ok parts
+  pub checks : line_checks before line (Ok parts) ≡ None
+
+first_two : (long : Bool) (after : List (List ℕ)) (checks : Option TextKind) → first_fault (test long kinds.TooMany ∷ unfinished after ∷ checks ∷ []) ≡ None → (long ≡ false) × (0 < length after) × (checks ≡ None)
+first_two true after checks h = cc
+first_two false [] checks h = cc
+first_two false (next ∷ after) None h = (refl, omega arith, refl)
+first_two false (next ∷ after) (Some kind) h = cc
+
+is_right : (before : List (List ℕ)) (line : List ℕ) (after : List (List ℕ)) → line_fault before line after ≡ None → IsRight before line after
+is_right before line after h = by_word (word_of (tokens_of line)) refl
+  where
+    by_word : (word : Result (Word × List (List ℕ)) TextKind) → word_of (tokens_of line) ≡ word → IsRight before line after
+    by_word (Err kind) e =
+        let three = first_two (ltb MAX_LINE (length line)) after (line_checks before line (Err kind)) (sym (line_fault_is before line after (Err kind) e) ∙ h) in
+        absurd (no_fault three.2)
+    by_word (Ok parts) e =
+        let three = first_two (ltb MAX_LINE (length line)) after (line_checks before line (Ok parts)) (sym (line_fault_is before line after (Ok parts) e) ∙ h) in
+        record { short = ltb-false MAX_LINE (length line) three.0; ended = three.1; parts = parts; word = e; checks = three.2 }
+
+often_none : (word often : Option TextKind) (said : Result Said TextKind) (bounds again : Said → Option TextKind) → later_checks word often said bounds again ≡ None → often ≡ None
+often_none (Some kind) often said bounds again h = cc
+often_none None (Some kind) said bounds again h = cc
+often_none None None said bounds again h = refl
+
+last_none : (b a : Option TextKind) → first_fault (b ∷ a ∷ []) ≡ None → a ≡ None
+last_none (Some kind) a h = cc
+last_none None (Some kind) h = cc
+last_none None None h = refl
+
+again_none : (word often : Option TextKind) (said : Result Said TextKind) (s : Said) (bounds again : Said → Option TextKind) → later_checks word often said bounds again ≡ None → said ≡ Ok s → again s ≡ None
+again_none (Some kind) often said s bounds again h e = cc
+again_none None (Some kind) said s bounds again h e = cc
+again_none None None (Err kind) s bounds again h e = cc
+again_none None None (Ok x) s bounds again h e = let same : s ≡ x = cc (e) in ap again same ∙ last_none (bounds x) (again x) h
+
+-- one more line that is right and doesn't end the race
+right_more : (before : List (List ℕ)) (line : List ℕ) (after : List (List ℕ)) → AreRight before → (r : IsRight before line after) → is_end r.parts.0 ≡ false → AreRight (before ++ line ∷ [])
+right_more before line after right r goes =
+    let told : List Said = said_before before in
+    let known : Ip → Bool = known_to told in
+    let said = checks_said (wrong_word (last_group 0 before) (Ok r.parts)) (too_often before (Ok r.parts)) (said_by known r.parts.0 r.parts.1) (wrong_bounds told) (repeated told) r.checks in
+    let s : Said = said.0 in
+    let often = often_none (wrong_word (last_group 0 before) (Ok r.parts)) (too_often before (Ok r.parts)) (said_by known r.parts.0 r.parts.1) (wrong_bounds told) (repeated told) r.checks in
+    let new = again_none (wrong_word (last_group 0 before) (Ok r.parts)) (too_often before (Ok r.parts)) (said_by known r.parts.0 r.parts.1) s (wrong_bounds told) (repeated told) r.checks said.1 in
+    let more : said_before (before ++ line ∷ []) ≡ told ++ s ∷ [] = said_more known before line r.parts.0 r.parts.1 s r.word said.1 in
+    let group : group_said s ≡ group_of r.parts.0 = said_group known r.parts.0 r.parts.1 s said.1 in
+    let here : group_on line ≡ group_of r.parts.0 = group_is line r.parts.0 r.parts.1 r.word in
+    let order : last_group 0 before ≤ group_of r.parts.0 = ltb-false (group_of r.parts.0) (last_group 0 before) (in_order before line r.parts.0 r.parts.1 r.checks) in
+    let last : last_said 0 told ≡ last_group 0 before = right.last in
+    let le : last_said 0 told ≤ group_said s = omega arith in
+    let A : List Said → Type 0 = AreLines (before ++ line ∷ []) in
+    let L : List Said → Type 0 = λ told. last_said 0 told ≡ last_group 0 (before ++ line ∷ []) in
+    record {
+      are = subst A (sym more) (record {
+        short = all_more (λ l. length l ≤ MAX_LINE) before line right.are.short r.short;
+        say = zip_more Says before told line s right.are.say (says known line r.parts.0 r.parts.1 s (word_tokens (tokens_of line) r.parts r.word) goes said.1);
+        order = order_said_more 0 told s right.are.order le;
+        settings_once = λ name. once_more (setting_said name) told s (right.are.settings_once name) (setting_new name told s new);
+        answers_once = λ family. once_more (answer_said family) told s (right.are.answers_once family) (answer_new known r.parts.0 r.parts.1 told s family said.1 (has_place r.parts.0 r.parts.1 before often));
+      });
+      last = subst L (sym more) (last_said_more 0 told s ∙ group ∙ sym here ∙ sym (last_more 0 before line));
+    }
+
+-- the line that ends a race is `end`
+end_line : (known : Ip → Bool) (line : List ℕ) (parts : Word × List (List ℕ)) (s : Said) → word_of (tokens_of line) ≡ Ok parts → is_end parts.0 ≡ true → said_by known parts.0 parts.1 ≡ Ok s → line ≡ codes "end"
+unfolding said_by
+end_line known line parts s is ends said = by_word parts.0 parts.1 (word_tokens (tokens_of line) parts is) ends said
+  where
+    by_tokens : (tokens : List (List ℕ)) → tokens_of line ≡ spelling_of words.End ∷ tokens → (end_in tokens >>= λ _. Ok Ended) ≡ Ok s → line ≡ codes "end"
+    by_tokens [] e h = sym (join_with_byte-slice_split 32 line) ∙ ap (join_with_byte 32) e
+    by_tokens (token ∷ tokens) e h = cc
+    by_word : (word : Word) (tokens : List (List ℕ)) → tokens_of line ≡ spelling_of word ∷ tokens → is_end word ≡ true → said_by known word tokens ≡ Ok s → line ≡ codes "end"
+    by_word words.End tokens e h said = by_tokens tokens e said
+    by_word words.Set tokens e h said = cc
+    by_word words.Policy tokens e h said = cc
+    by_word words.Source tokens e h said = cc
+    by_word words.Route tokens e h said = cc
+    by_word words.Aaaa tokens e h said = cc
+    by_word words.A tokens e h said = cc
+    by_word words.Connect tokens e h said = cc
+    by_word words.Pause tokens e h said = cc
+
+not_stopped : {A : Type 0} (n : ℕ) (fault : Option TextKind) (later : Result A (ℕ × TextKind)) (x : A) → stop n fault later ≡ Ok x → (fault ≡ None) × (later ≡ Ok x)
+not_stopped n None later x h = (refl, h)
+not_stopped n (Some kind) later x h = cc
+
+-- where a walk ends: behind the line `end`
+pub record IsWalked (all : List (List ℕ)) (used rest : List (List ℕ)) : Type 0 where
+  pub body : List (List ℕ)
+  pub used_are : used ≡ body ++ codes "end" ∷ []
+  pub right : AreRight body
+  pub all_are : all ≡ used ++ rest
+  pub some : 0 < length rest
+
+pub walked : (n : ℕ) (before lines : List (List ℕ)) (x : List (List ℕ) × List (List ℕ)) → AreRight before → walk n before lines ≡ Ok x → IsWalked (before ++ lines) x.0 x.1
+unfolding walk
+walked n before [] x right h = cc
+walked n before (line ∷ after) x right h =
+    let passed = not_stopped n (line_fault before line after) (cond (ends line) (Ok (before ++ line ∷ [], after)) (walk (n + 1) (before ++ line ∷ []) after)) x h in
+    let r = is_right before line after passed.0 in
+    by_end r (ends line) (ends_known line r.parts.0 r.parts.1 r.word) passed.1 (λ more. walked (n + 1) (before ++ line ∷ []) after x more)
+  where
+    joined : (before ++ line ∷ []) ++ after ≡ before ++ line ∷ after
+    joined = append_assoc before (line ∷ []) after
+    by_end : (r : IsRight before line after) (b : Bool) → b ≡ is_end r.parts.0 → cond b (Ok (before ++ line ∷ [], after)) (walk (n + 1) (before ++ line ∷ []) after) ≡ Ok x
+        → (AreRight (before ++ line ∷ []) → walk (n + 1) (before ++ line ∷ []) after ≡ Ok x → IsWalked ((before ++ line ∷ []) ++ after) x.0 x.1)
+        → IsWalked (before ++ line ∷ after) x.0 x.1
+    by_end r true e got later =
+        let same : (before ++ line ∷ [], after) ≡ x = cc (got) in
+        let known : Ip → Bool = known_to (said_before before) in
+        let said = checks_said (wrong_word (last_group 0 before) (Ok r.parts)) (too_often before (Ok r.parts)) (said_by known r.parts.0 r.parts.1) (wrong_bounds (said_before before)) (repeated (said_before before)) r.checks in
+        let is : line ≡ codes "end" = end_line known line r.parts said.0 r.word (sym e) said.1 in
+        let P : List (List ℕ) × List (List ℕ) → Type 0 = λ p. IsWalked (before ++ line ∷ after) p.0 p.1 in
+        subst P same (record {
+          body = before; used_are = ap (λ l. before ++ l ∷ []) is; right = right; all_are = sym joined; some = r.ended })
+    by_end r false e got later =
+        let P : List (List ℕ) → Type 0 = λ all. IsWalked all x.0 x.1 in
+        subst P joined (later (right_more before line after right r (sym e)) got)
+
+none_right : AreRight []
+unfolding said_before
+none_right = record {
+  are = record { short = tt; say = tt; order = refl; settings_once = λ name. omega arith; answers_once = λ family. omega arith };
+  last = refl }
+
+-- the whole text of the lines that were read, with the line end behind each
+read_part : (text rest : List ℕ) (first : List ℕ) (used behind : List (List ℕ)) → lines_of text ≡ (first ∷ used) ++ behind → behind ≡ lines_of rest → 0 < length behind
+    → (text ≡ join_with_byte 10 (first ∷ used) ++ 10 ∷ rest) × (lines_of (join_with_byte 10 (first ∷ used) ++ 10 ∷ []) ≡ (first ∷ used) ++ [] ∷ [])
+read_part text rest first used [] all e some = absurd (omega arith)
+read_part text rest first used (next ∷ behind) all e some =
+    let whole : text ≡ join_with_byte 10 ((first ∷ used) ++ next ∷ behind) = sym (join_with_byte-slice_split 10 text) ∙ ap (join_with_byte 10) all in
+    let tail : join_with_byte 10 (next ∷ behind) ≡ rest = ap (join_with_byte 10) e ∙ join_with_byte-slice_split 10 rest in
+    let L : List (List ℕ) → Type 0 = AllByRecursion (Lacks 10) in
+    let lack : AllByRecursion (Lacks 10) (first ∷ used) = front_lacks 10 (first ∷ used) (next ∷ behind) (subst L all (parts_lack 10 text)) in
+    (
+      whole ∙ join_behind 10 first used next behind ∙ ap (λ t. join_with_byte 10 (first ∷ used) ++ 10 ∷ t) tail,
+      ap lines_of (sym (join_behind 10 first used [] [])) ∙ joined_parts 10 first (used ++ [] ∷ []) (lacks_more 10 (first ∷ used) [] lack tt)
+    )
+
+raced_ok : (w : Result (List (List ℕ) × List (List ℕ)) (ℕ × TextKind)) (race : Race) (rest : List (List ℕ)) → raced w ≡ Ok (race, rest) → (used : List (List ℕ)) × (w ≡ Ok (used, rest)) × (race ≡ race_of (said_before used))
+raced_ok (Err fault) race rest h = cc
+raced_ok (Ok x) race rest h =
+    let same : (race_of (said_before x.0), x.1) ≡ (race, rest) = cc (h) in
+    (x.0, ap (λ r. Ok (x.0, r)) (ap (λ (p : Race × List (List ℕ)). p.1) same), ap (λ (p : Race × List (List ℕ)). p.0) (sym same))
+
+header_ok : (line : List ℕ) (same : Bool) → bytes_eq line (codes "race 1") ≡ same → test (not same) kinds.Header ≡ None → line ≡ codes "race 1"
+header_ok line true e h = (bytes_eq-Decides line (codes "race 1")).0 e
+header_ok line false e h = cc
+
+end_said : said_in anyone (codes "end") ≡ Ok Ended
+unfolding word_of word_in said_by
+end_said = refl
+
+-- the last line adds nothing to the race
+ended_race : (body : List (List ℕ)) → race_of (said_before (body ++ codes "end" ∷ [])) ≡ race_of (said_before body)
+unfolding said_before
+ended_race body =
+    ap race_of (one_more (λ line. result_ok (said_in anyone line)) body (codes "end") Ended (ap result_ok end_said))
+    ∙ race_ended (said_before body)
+
+-- the bytes up to the place behind a race are its text
+pub record BeginsWith (text rest : List ℕ) (race : Race) : Type 0 where
+  pub shorter : length rest < length text
+  pub is : IsRaceText (take (length text - length rest) text) race
+
+front_is : (text front rest : List ℕ) → text ≡ front ++ 10 ∷ rest → take (length text - length rest) text ≡ front ++ 10 ∷ []
+front_is text front rest h =
+    let same : text ≡ (front ++ 10 ∷ []) ++ rest = h ∙ sym (append_assoc front (10 ∷ []) rest) in
+    let count : length text ≡ length (front ++ 10 ∷ []) + length rest = ap length same ∙ length-append (front ++ 10 ∷ []) rest in
+    let n : length text - length rest ≡ length (front ++ 10 ∷ []) = omega arith in
+    ap (λ k. take k text) n ∙ ap (take (length (front ++ 10 ∷ []))) same ∙ take_at (front ++ 10 ∷ []) rest (length (front ++ 10 ∷ [])) refl
+
+begins_by : (text rest : List ℕ) (race : Race) (line : List ℕ) (after used : List (List ℕ)) → lines_of text ≡ line ∷ after → line ≡ codes "race 1" → IsWalked after used (lines_of rest) → race ≡ race_of (said_before used) → IsRace race → BeginsWith text rest race
+begins_by text rest race line after used all header is value fits =
+    let whole : lines_of text ≡ (line ∷ used) ++ lines_of rest = all ∙ ap (λ ls. line ∷ ls) is.all_are in
+    let parts = read_part text rest line used (lines_of rest) whole refl is.some in
+    let front : List ℕ = join_with_byte 10 (line ∷ used) in
+    let longer : length text ≡ length front + length (10 ∷ rest) = ap length parts.0 ∙ length-append front (10 ∷ rest) in
+    let split : lines_of (front ++ 10 ∷ []) ≡ codes "race 1" ∷ is.body ++ codes "end" ∷ [] ∷ [] =
+        parts.1
+        ∙ ap (λ l. (l ∷ used) ++ [] ∷ []) header
+        ∙ ap (λ u. (codes "race 1" ∷ u) ++ [] ∷ []) is.used_are
+        ∙ ap (λ ls. codes "race 1" ∷ ls) (append_assoc is.body (codes "end" ∷ []) ([] ∷ [])) in
+    let value_is : race ≡ race_of (said_before is.body) = value ∙ ap (λ u. race_of (said_before u)) is.used_are ∙ ended_race is.body in
+    let P : List ℕ → Type 0 = λ t. IsRaceText t race in
+    record {
+      shorter = omega arith;
+      is = subst P (sym (front_is text front rest parts.0)) (record { lines = is.body; said = said_before is.body; parts = split; are = is.right.are; value = value_is; fits = fits });
+    }
+
+pub begins_with_race : (text rest : List ℕ) (race : Race) → read_lines (lines_of text) ≡ Ok (race, lines_of rest) → IsRace race → BeginsWith text rest race
+unfolding walk_all
+begins_with_race text rest race h fits =
+    let got = raced_ok (walk_all (lines_of text)) race (lines_of rest) (sym (lines_agree (lines_of text)) ∙ h) in
+    by_lines (lines_of text) got.0 refl got.1 got.2
+  where
+    by_lines : (ls used : List (List ℕ)) → lines_of text ≡ ls → walk_all ls ≡ Ok (used, lines_of rest) → race ≡ race_of (said_before used) → BeginsWith text rest race
+    by_lines [] used e w value = cc
+    by_lines (line ∷ after) used e w value =
+        let passed = not_stopped 1 (first_fault (too_long line ∷ unfinished after ∷ wrong_header line ∷ [])) (walk 2 [] after) (used, lines_of rest) w in
+        let three = first_two (ltb MAX_LINE (length line)) after (wrong_header line) passed.0 in
+        begins_by text rest race line after used e (header_ok line (bytes_eq line (codes "race 1")) refl three.2) (walked 2 [] after (used, lines_of rest) none_right passed.1) value fits

@@ -1,0 +1,120 @@
+-- What one line more gives.
+use Rattle.std.proofs.Common.{◌≡◌, ℕ, ◌+◌, Bool, true, false, List, [], ◌∷◌, ◌++◌, Option, Some, None, refl, sym, ◌∙◌, ap, append_assoc}
+use Rattle.std.specs.List.{filter_map, cons_option}
+use Rattle.std.specs.Prelude.{unwrap_or}
+use Rattle.he_plan.specs.declared.limits.TheConstants.{DEFAULT_RESOLUTION, DEFAULT_ATTEMPT, DEFAULT_COUNT, DEFAULT_LIMIT}
+use Rattle.std.proofs.lemmas.List.{append-nil}
+use Rattle.std.proofs.lemmas.List.Elements.{filter_map-append}
+use Rattle.he_addr.specs.declared.ip.Family.{Family}
+use Rattle.he_addr.specs.declared.ip.Family.TheVariants as families
+use Rattle.he_addr.specs.declared.ip.Ip.{Ip}
+use Rattle.he_plan.specs.Building.{empty_race, with_answer, with_outcome, with_pause}
+use Rattle.he_plan.specs.declared.outcome.Outcome.{Outcome}
+use Rattle.he_plan.specs.Race.{Race, Reply, reply_of}
+use Rattle.he_plan.specs.Settings.{SettingValues}
+use Rattle.he_text.specs.declared.words.Name.{Name}
+use Rattle.he_text.specs.declared.words.Name.TheVariants.{Resolution, Attempt, Count, Limit}
+use Rattle.he_text.specs.declared.words.Word.{Word}
+use Rattle.he_text.specs.Said.{Said, Setting, Passed, Answer, Told, Paused, Ended, setting_said, answer_said, outcome_said, pause_said, first_of, setting_given, answer_given, outcomes_given, pauses_given, settings_given, race_of}
+
+pub none_more : {X Y : Type 0} (h : X → Option Y) (xs : List X) (x : X) → h x ≡ None → filter_map h (xs ++ x ∷ []) ≡ filter_map h xs
+none_more h xs x none = filter_map-append h xs (x ∷ []) ∙ ap (λ o. filter_map h xs ++ cons_option o []) none ∙ append-nil (filter_map h xs)
+
+pub one_more : {X Y : Type 0} (h : X → Option Y) (xs : List X) (x : X) (y : Y) → h x ≡ Some y → filter_map h (xs ++ x ∷ []) ≡ filter_map h xs ++ y ∷ []
+one_more h xs x y some = filter_map-append h xs (x ∷ []) ∙ ap (λ o. filter_map h xs ++ cons_option o []) some
+
+pub first_more : {A : Type 0} (xs : List A) (y : A) → first_of xs ≡ None → first_of (xs ++ y ∷ []) ≡ Some y
+first_more [] y h = refl
+first_more (x ∷ xs) y h = cc
+
+abbrev made_settings : ℕ → ℕ → ℕ → ℕ → SettingValues
+made_settings r a c l = record { resolution = r; attempt = a; count = c; limit = l }
+
+settings_same : (r r' a a' c c' l l' : ℕ) → r ≡ r' → a ≡ a' → c ≡ c' → l ≡ l' → made_settings r a c l ≡ made_settings r' a' c' l'
+settings_same r r' a a' c c' l l' er ea ec el =
+    ap (λ x. made_settings x a c l) er ∙ ap (λ x. made_settings r' x c l) ea ∙ ap (λ x. made_settings r' a' x l) ec ∙ ap (made_settings r' a' c') el
+
+abbrev made : SettingValues → Option Reply → Option Reply → List (Ip × Outcome) → List (ℕ × ℕ) → Race
+made s aaaa a o p = record { settings = s; aaaa = aaaa; a = a; outcomes = o; pauses = p }
+
+race_same : (s s' : SettingValues) (aaaa aaaa' a a' : Option Reply) (o o' : List (Ip × Outcome)) (p p' : List (ℕ × ℕ))
+    → s ≡ s' → aaaa ≡ aaaa' → a ≡ a' → o ≡ o' → p ≡ p' → made s aaaa a o p ≡ made s' aaaa' a' o' p'
+race_same s s' aaaa aaaa' a a' o o' p p' es eaaaa ea eo ep =
+    ap (λ x. made x aaaa a o p) es ∙ ap (λ x. made s' x a o p) eaaaa ∙ ap (λ x. made s' aaaa' x o p) ea ∙ ap (λ x. made s' aaaa' a' x p) eo ∙ ap (made s' aaaa' a' o') ep
+
+pub setting_kept : (name : Name) (said : List Said) (s : Said) → setting_said name s ≡ None → setting_given name (said ++ s ∷ []) ≡ setting_given name said
+setting_kept name said s none = ap first_of (none_more (setting_said name) said s none)
+
+pub settings_kept : (said : List Said) (s : Said) → ((name : Name) → setting_said name s ≡ None) → settings_given (said ++ s ∷ []) ≡ settings_given said
+settings_kept said s none = settings_same _ _ _ _ _ _ _ _
+    (ap (λ o. unwrap_or o DEFAULT_RESOLUTION) (setting_kept Resolution said s (none Resolution)))
+    (ap (λ o. unwrap_or o DEFAULT_ATTEMPT) (setting_kept Attempt said s (none Attempt)))
+    (ap (λ o. unwrap_or o DEFAULT_COUNT) (setting_kept Count said s (none Count)))
+    (ap (λ o. unwrap_or o DEFAULT_LIMIT) (setting_kept Limit said s (none Limit)))
+
+answer_kept : (family : Family) (said : List Said) (s : Said) → answer_said family s ≡ None → answer_given family (said ++ s ∷ []) ≡ answer_given family said
+answer_kept family said s none = ap first_of (none_more (answer_said family) said s none)
+
+answer_new : (family : Family) (said : List Said) (s : Said) (reply : Reply) → answer_said family s ≡ Some reply → answer_given family said ≡ None → answer_given family (said ++ s ∷ []) ≡ Some reply
+answer_new family said s reply some none = ap first_of (one_more (answer_said family) said s reply some) ∙ first_more (filter_map (answer_said family) said) reply none
+
+pub race_answered : (family : Family) (said : List Said) (reply : Reply) → reply_of (race_of said) family ≡ None → race_of (said ++ Answer family reply ∷ []) ≡ with_answer (race_of said) family reply
+unfolding race_of
+race_answered families.V6 said reply none = race_same _ _ _ _ _ _ _ _ _ _
+    (settings_kept said (Answer families.V6 reply) (λ name. refl))
+    (answer_new families.V6 said (Answer families.V6 reply) reply refl none)
+    (answer_kept families.V4 said (Answer families.V6 reply) refl)
+    (none_more outcome_said said (Answer families.V6 reply) refl)
+    (none_more pause_said said (Answer families.V6 reply) refl)
+race_answered families.V4 said reply none = race_same _ _ _ _ _ _ _ _ _ _
+    (settings_kept said (Answer families.V4 reply) (λ name. refl))
+    (answer_kept families.V6 said (Answer families.V4 reply) refl)
+    (answer_new families.V4 said (Answer families.V4 reply) reply refl none)
+    (none_more outcome_said said (Answer families.V4 reply) refl)
+    (none_more pause_said said (Answer families.V4 reply) refl)
+
+pub race_told : (said : List Said) (ip : Ip) (outcome : Outcome) → race_of (said ++ Told ip outcome ∷ []) ≡ with_outcome (race_of said) ip outcome
+unfolding race_of
+race_told said ip outcome = race_same _ _ _ _ _ _ _ _ _ _
+    (settings_kept said (Told ip outcome) (λ name. refl))
+    (answer_kept families.V6 said (Told ip outcome) refl)
+    (answer_kept families.V4 said (Told ip outcome) refl)
+    (one_more outcome_said said (Told ip outcome) (ip, outcome) refl)
+    (none_more pause_said said (Told ip outcome) refl)
+
+pub race_paused : (said : List Said) (from to : ℕ) → race_of (said ++ Paused from to ∷ []) ≡ with_pause (race_of said) from to
+unfolding race_of
+race_paused said from to = race_same _ _ _ _ _ _ _ _ _ _
+    (settings_kept said (Paused from to) (λ name. refl))
+    (answer_kept families.V6 said (Paused from to) refl)
+    (answer_kept families.V4 said (Paused from to) refl)
+    (none_more outcome_said said (Paused from to) refl)
+    (one_more pause_said said (Paused from to) (from, to) refl)
+
+pub race_ended : (said : List Said) → race_of (said ++ Ended ∷ []) ≡ race_of said
+unfolding race_of
+race_ended said = race_same _ _ _ _ _ _ _ _ _ _
+    (settings_kept said Ended (λ name. refl))
+    (answer_kept families.V6 said Ended refl)
+    (answer_kept families.V4 said Ended refl)
+    (none_more outcome_said said Ended refl)
+    (none_more pause_said said Ended refl)
+
+-- nothing told: no answer, outcome or pause
+pub record IsQuiet (said : List Said) : Type 0 where
+  pub aaaa : answer_given families.V6 said ≡ None
+  pub a : answer_given families.V4 said ≡ None
+  pub outcomes : outcomes_given said ≡ []
+  pub pauses : pauses_given said ≡ []
+
+pub quiet_race : (said : List Said) → IsQuiet said → race_of said ≡ empty_race (settings_given said)
+unfolding race_of
+quiet_race said quiet = race_same _ _ _ _ _ _ _ _ _ _ refl quiet.aaaa quiet.a quiet.outcomes quiet.pauses
+
+pub quiet_more : (said : List Said) (s : Said) → IsQuiet said → answer_said families.V6 s ≡ None → answer_said families.V4 s ≡ None → outcome_said s ≡ None → pause_said s ≡ None → IsQuiet (said ++ s ∷ [])
+quiet_more said s quiet h6 h4 ho hp = record {
+  aaaa = answer_kept families.V6 said s h6 ∙ quiet.aaaa;
+  a = answer_kept families.V4 said s h4 ∙ quiet.a;
+  outcomes = none_more outcome_said said s ho ∙ quiet.outcomes;
+  pauses = none_more pause_said said s hp ∙ quiet.pauses;
+}

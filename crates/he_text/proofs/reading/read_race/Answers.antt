@@ -1,0 +1,28 @@
+use Rattle.std.proofs.Common.{rules, ◌≡◌, ◌≤◌, ◌<◌, ◌+◌, ◌-◌, ℕ, List, length, take, drop, Option, Some, None, Result, Ok, Err, refl, sym, ◌∙◌, ap, subst, arith}
+use Rattle.std.proofs.lemmas.List.{take_rest, length-drop}
+use Rattle.he_plan.specs.Race.{Race}
+use Rattle.he_text.specs.declared.fault.TextKind.{TextKind}
+use Rattle.he_text.specs.Faults.{fault_in, fault_of}
+use Rattle.he_text.specs.Parts.{lines_of}
+use Rattle.he_text.specs.Reading.{FailsAt, read_lines}
+use Rattle.he_text.specs.Text.{IsRaceText, TellsFault}
+use Rattle.he_text.proofs.FaultTexts.{tells_fault, no_fault, race_at}
+use Rattle.he_text.proofs.reading.read_race.Goals as goal
+
+pub returns-in_err-race-clause-fault : goal.returns-in_err-race-clause-fault
+returns-in_err-race-clause-fault g c =
+    let text : List ℕ = drop c.args.from c.args.text.now in
+    let P : List ℕ → Type 0 = λ t. FailsAt c.in_err-race.field-0.0.line c.in_err-race.field-0.0.kind (read_lines (lines_of t)) in
+    let fails : P text = subst P (take_rest c.args.text.now c.args.from) c.in_err-race.ensures.read in
+    let tells : TellsFault c.in_err-race.field-0.0.line c.in_err-race.field-0.0.kind (fault_of text) = tells_fault c.in_err-race.field-0.0.line c.in_err-race.field-0.0.kind (lines_of text) fails in
+    search rules
+
+pub returns-clause-found : goal.returns-clause-found
+returns-clause-found g c =
+    let got = c.in_ok-race.ensures.read in
+    race_at c.args.text.now got.0 c.in_ok-race.race c.args.from c.in_ok-race.left c.requires got.1 (ap (λ (t : List ℕ). read_lines (lines_of t)) (sym (take_rest c.args.text.now c.args.from)) ∙ got.2) c.in_ok-race.ensures.fits
+
+pub returns-clause-right : goal.returns-clause-right
+returns-clause-right g c =
+    let got = c.in_ok-race.ensures.read in
+    no_fault (lines_of (drop c.args.from c.args.text.now)) (c.in_ok-race.race, lines_of got.0) (ap (λ (t : List ℕ). read_lines (lines_of t)) (sym (take_rest c.args.text.now c.args.from)) ∙ got.2)

@@ -1,0 +1,102 @@
+-- The texts of races: which lines stand in them, what they say, and the race that they make.
+use Rattle.std.specs.Prelude.{ℕ, ◌≡◌, ◌⊎◌, ◌<◌, ◌≤◌, ◌&&◌, Bool, true, false, IsTrue, List, [], ◌∷◌, ◌++◌, length, Option, Some, None, nat_le, codes, MatchOption}
+use Rattle.std.specs.List.{AllByRecursion, AllZip, filter_map}
+use Rattle.he_addr.specs.declared.ip.Family.{Family}
+use Rattle.he_addr.specs.declared.ip.Family.TheVariants as families
+use Rattle.he_addr.specs.declared.ip.Ip.{Ip}
+use Rattle.he_addr.specs.Reading.{number_in, ip_in}
+use Rattle.he_plan.specs.declared.limits.TheConstants.{MAX_TICK, MIN_DURATION, MAX_DURATION, MAX_PAUSE_END, MAX_ADDRESSES}
+use Rattle.he_plan.specs.declared.outcome.Outcome.{Outcome}
+use Rattle.he_plan.specs.declared.outcome.Outcome.TheVariants as outcomes
+use Rattle.he_plan.specs.Race.{Race, Reply}
+use Rattle.he_plan.specs.Timeline.{IsRace, duration_of}
+use Rattle.he_text.specs.declared.fault.TextKind.{TextKind}
+use Rattle.he_text.specs.declared.fault.TextKind.TheVariants as kinds
+use Rattle.he_text.specs.declared.limits.TheConstants.{MAX_LINE}
+use Rattle.he_text.specs.declared.words.Name.{Name}
+use Rattle.he_text.specs.declared.words.Word.{Word}
+use Rattle.he_text.specs.declared.words.Word.TheVariants as words
+use Rattle.he_text.specs.Forms.{least_of, most_of}
+use Rattle.he_text.specs.Parts.{lines_of, tokens_of}
+use Rattle.he_text.specs.Said.{Said, Setting, Passed, Answer, Told, Paused, Ended, setting_said, answer_said, race_of}
+use Rattle.he_text.specs.Words.{group_of, spelling_of, name_spelling, is_head_word}
+
+-- a token that spells a number from `low` to `high`
+pub record IsNumber (low high : ℕ) (token : List ℕ) (n : ℕ) : Type 0 where
+  pub value : number_in token ≡ Some n
+  pub least : low ≤ n
+  pub most : n ≤ high
+
+-- `none`, or tokens that spell the addresses
+abbrev pub Lists : List (List ℕ) → List Ip → Type 0
+Lists tokens ips = ((tokens ≡ codes "none" ∷ []) × (ips ≡ [])) ⊎ ((0 < length tokens) × AllZip (λ token ip. ip_in token ≡ Some ip) tokens ips)
+
+abbrev pub mark_text : Outcome → List ℕ
+mark_text (outcomes.Ok ticks) = codes "ok"
+mark_text (outcomes.Fail ticks) = codes "fail"
+
+abbrev pub answer_word : Family → Word
+answer_word families.V6 = words.Aaaa
+answer_word families.V4 = words.A
+
+-- the words of the lines that are passed over
+abbrev pub is_passed : Word → Bool
+is_passed words.Policy = true
+is_passed words.Source = true
+is_passed words.Route = true
+is_passed _ = false
+
+-- a line, by its tokens, and what it says
+abbrev pub Says : List ℕ → Said → Type 0
+Says line (Setting name value) =
+    (number : List ℕ) × (tokens_of line ≡ spelling_of words.Set ∷ name_spelling name ∷ number ∷ []) × IsNumber (least_of name) (most_of name) number value
+Says line (Passed word) =
+    (tokens : List (List ℕ)) × (tokens_of line ≡ spelling_of word ∷ tokens) × IsTrue (is_passed word)
+Says line (Answer family reply) =
+    (number : List ℕ) × (tokens : List (List ℕ)) × (tokens_of line ≡ spelling_of (answer_word family) ∷ number ∷ tokens)
+    × IsNumber 0 MAX_TICK number reply.tick × Lists tokens reply.addresses × (length tokens ≤ MAX_ADDRESSES)
+Says line (Told ip outcome) =
+    (address : List ℕ) × (number : List ℕ) × (tokens_of line ≡ spelling_of words.Connect ∷ address ∷ mark_text outcome ∷ number ∷ [])
+    × (ip_in address ≡ Some ip) × IsNumber MIN_DURATION MAX_DURATION number (duration_of outcome)
+Says line (Paused from to) =
+    (first : List ℕ) × (second : List ℕ) × (tokens_of line ≡ spelling_of words.Pause ∷ first ∷ second ∷ [])
+    × IsNumber 0 MAX_TICK first from × IsNumber 1 MAX_PAUSE_END second to
+Says line Ended = ⊥
+
+-- the group of the lines that say it
+abbrev pub group_said : Said → ℕ
+group_said (Setting name value) = 1
+group_said (Passed word) = group_of word
+group_said (Answer families.V6 reply) = 5
+group_said (Answer families.V4 reply) = 6
+group_said (Told ip outcome) = 7
+group_said (Paused from to) = 8
+group_said Ended = 9
+
+-- the groups never fall, from this one on
+abbrev pub are_in_order : ℕ → List Said → Bool
+are_in_order group [] = true
+are_in_order group (s ∷ said) = nat_le group (group_said s) && are_in_order (group_said s) said
+
+-- the lines between the first and the last one of a race, and what they say
+pub record AreLines (lines : List (List ℕ)) (said : List Said) : Type 0 where
+  pub short : AllByRecursion (λ line. length line ≤ MAX_LINE) lines
+  pub say : AllZip Says lines said
+  pub order : IsTrue (are_in_order 0 said)
+  pub settings_once : (name : Name) → length (filter_map (setting_said name) said) ≤ 1
+  pub answers_once : (family : Family) → length (filter_map (answer_said family) said) ≤ 1
+
+-- the whole text is a race with that value. Each line has a line end, so the last part of the text is empty. That a race keeps its
+-- ranges, that addresses of an answer are of its family and differ, that outcomes are of addresses in an answer and one of each,
+-- and that pauses follow each other, is `IsRace`.
+pub record IsRaceText (text : List ℕ) (race : Race) : Type 0 where
+  pub lines : List (List ℕ)
+  pub said : List Said
+  pub parts : lines_of text ≡ codes "race 1" ∷ lines ++ codes "end" ∷ [] ∷ []
+  pub are : AreLines lines said
+  pub value : race ≡ race_of said
+  pub fits : IsRace race
+
+-- the fault of a reading is the text's, or memory was refused on a line above which nothing is wrong
+abbrev pub TellsFault : ℕ → TextKind → Option (ℕ × TextKind) → Type 0
+TellsFault line kind fault = ((kind ≡ kinds.Memory) × MatchOption fault (Unit {0}) (λ f. line ≤ f.0)) ⊎ (fault ≡ Some (line, kind))
