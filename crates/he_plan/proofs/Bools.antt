@@ -47,3 +47,9 @@ above m n h = grind (arith, common_steps)
 
 pub not_le : (m n : ℕ) → n < m → nat_le m n ≡ false
 not_le m n h = grind (arith, common_steps)
+
+pub not_lt : (m n : ℕ) → n ≤ m → nat_lt m n ≡ false
+not_lt m n h = grind (arith, common_steps)
+
+pub lt_test : (m n : ℕ) → m < n → nat_lt m n ≡ true
+lt_test m n h = grind (arith, common_steps)

@@ -1,5 +1,6 @@
 pub mod Attempts
 pub mod Building
+pub mod Equality
 pub mod Finish
 pub mod Interlacing
 pub mod Planning

@@ -136,7 +136,8 @@ impl<A: Allocator + Copy> TimelineBuilder<A> {
     pub fn finish(self) -> Timeline<A>
         ensures { result ≡ self }
     {
-        self.timeline
+        let TimelineBuilder { alloc: _, timeline } = self;
+        timeline
     }
 }
 

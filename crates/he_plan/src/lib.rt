@@ -5,6 +5,7 @@ pub mod attempts;
 pub mod builder;
 pub mod finish;
 pub mod interlacing;
+pub mod laws;
 pub mod limits;
 pub mod outcome;
 pub mod planning;

@@ -1,7 +1,8 @@
 // A race's whole input: settings, answers, outcomes and pauses.
 
 ghost use Rattle.std.specs.Prelude.{◌≡◌, ◌≤◌, option_map, max, IfOk, IfSome, OnOk, OnErr};
-ghost use Rattle.he_plan.specs.Race.{Race, Reply, reply_of, addresses_of, has_ip, has_outcome, stands};
+ghost use Rattle.std.specs.Cmp.Lexicographic.{pointwise};
+ghost use Rattle.he_plan.specs.Race.{Race, Reply, reply_of, addresses_of, same_ip, has_ip, has_outcome, stands, same_told, same_pause, same_reply, same_race};
 ghost use Rattle.he_plan.specs.Timeline.{IsRace, duration_of};
 ghost use Rattle.he_plan.specs.Attempts.{IsSeen, seen, seen_past};
 ghost use Rattle.he_plan.specs.Finish.{outcome_of, outcome_in};
@@ -149,6 +150,16 @@ impl<A: Allocator> Timeline<A> {
         })
     }
 
+    fn is_same(&self, other: &Timeline<A>) -> bool
+        ensures { result ≡ same_race self.now other.now }
+    {
+        self.settings == other.settings
+            && same_answer(&self.aaaa, &other.aaaa)
+            && same_answer(&self.a, &other.a)
+            && same_outcomes(&self.outcomes, &other.outcomes)
+            && same_pauses(&self.pauses, &other.pauses)
+    }
+
     /// The race's settings.
     pub fn settings(&self) -> Settings
         ensures value { result ≡ self.now.settings }
@@ -236,6 +247,58 @@ fn seen_past(pauses: &[(u64, u64)], tick: u64) -> u64
         }
     }
     seen
+}
+
+impl<A: Allocator> PartialEq for Timeline<A> {
+    ghost use Rattle.std.specs.Prelude.{◌≡◌, ◌↔◌, IsTrue};
+    ghost use Rattle.he_plan.specs.Race.{same_race};
+    ghost use Rattle.he_plan.specs.Equality.{same_race-per};
+
+    ghost eq = { same_race };
+
+    ghost laws = { same_race-per };
+
+    /// Whether settings, answers, outcomes and pauses are equal, each list in its order.
+    fn eq(&self, other: &Timeline<A>) -> bool
+        ensures value { result ≡ same_race self.now other.now }
+        ensures lists { IsTrue result ↔ (self.now ≡ other.now) }
+    {
+        self.is_same(other)
+    }
+}
+
+impl<A: Allocator> Eq for Timeline<A> {
+    ghost use Rattle.he_plan.specs.Equality.{same_race-equivalence};
+
+    ghost laws = { same_race-equivalence };
+}
+
+fn same_answer<A: Allocator>(x: &Option<Answer<A>>, y: &Option<Answer<A>>) -> bool
+    ensures { result ≡ same_reply x.now y.now }
+{
+    match (x, y) {
+        (Some(x), Some(y)) => x.tick == y.tick && same_ips(&x.addresses, &y.addresses),
+        (None, None) => true,
+        _ => false,
+    }
+}
+
+fn same_ips(x: &[Ip], y: &[Ip]) -> bool
+    ensures { result ≡ pointwise same_ip x.now y.now }
+{
+    x == y
+}
+
+fn same_outcomes(x: &[(Ip, Outcome)], y: &[(Ip, Outcome)]) -> bool
+    ensures { result ≡ pointwise same_told x.now y.now }
+{
+    x == y
+}
+
+fn same_pauses(x: &[(u64, u64)], y: &[(u64, u64)]) -> bool
+    ensures { result ≡ pointwise same_pause x.now y.now }
+{
+    x == y
 }
 
 fn copy_answer<A: Allocator, B: Allocator>(

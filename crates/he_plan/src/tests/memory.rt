@@ -55,8 +55,7 @@ fn refused_growths(rt: HostRuntime) -> Result<(), Fail> {
         };
         let copied = timeline.copy(&heap);
         if let Ok(copy) = &copied {
-            assert_eq!(rt; copy.outcomes(), [(V4_A, Outcome::Ok(30))].as_slice());
-            assert_eq!(rt; copy.pauses(), [(100, 110)].as_slice());
+            assert!(rt; *copy == timeline);
         }
         let interlaced = interlace(&heap, &[V6_A, V6_B, V4_A], 1);
         if let Ok(ips) = &interlaced {
