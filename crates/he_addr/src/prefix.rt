@@ -45,7 +45,7 @@ impl Prefix {
         requires { IsPrefix bits len }
         ensures { result ≡ record { bits = bits; len = len } }
     {
-        Prefix { bits, len }
+        Self { bits, len }
     }
 
     /// The prefix of the first `len` bits of `bits`: None where `len` is above 128 or a bit past the length is set.
@@ -79,15 +79,15 @@ impl Prefix {
     pub fn contains(self, ip: Ip) -> bool
         ensures { result ≡ contains self ip }
     {
-        self.len == 0
-            || (ip.mapped() >> (V6_BITS - self.len)) == (self.bits >> (V6_BITS - self.len))
+        let free = V6_BITS - self.len;
+        free == V6_BITS || ip.mapped() >> free == self.bits >> free
     }
 
     /// Whether the prefix lies inside `::ffff:0:0/96`, so that it holds IPv4 addresses alone.
     pub fn is_v4(self) -> bool
         ensures { result ≡ is_inside_mapped self }
     {
-        self.len >= MAPPED_LEN && self.bits >> V4_BITS == MAPPED
+        MAPPED_LEN <= self.len && self.bits >> V4_BITS == MAPPED
     }
 }
 
