@@ -5,7 +5,9 @@ use Rattle.he_plan.specs.Transcript.{IsTranscript, Report}
 use Rattle.he_text.specs.declared.fault.TextFault.{TextFault}
 use Rattle.he_text.specs.declared.fault.TextKind.{TextKind}
 use Rattle.he_text.specs.declared.fault.TextKind.TheVariants as kinds
-use Rattle.he_text.specs.Text.{IsRaceText, fault_of, transcript_text}
+use Rattle.he_text.specs.Faults.{fault_of}
+use Rattle.he_text.specs.Text.{IsRaceText}
+use Rattle.he_text.specs.Written.{transcript_text}
 use Rattle.he_tool.specs.declared.limits.TheConstants.{MOST_RACES}
 use Rattle.he_tool.specs.declared.output.InputFault.{InputFault}
 use Rattle.he_tool.specs.declared.output.InputFault.TheVariants.{Text, Read}

@@ -1,7 +1,8 @@
 -- One step through an input. It helps the proofs; what is written for an input stands in `Output`.
 use Rattle.std.specs.Prelude.{ℕ, ◌≡◌, ◌<◌, ◌≤◌, ◌+◌, ◌++◌, List, length, drop, take, slice_range, Some}
 use Rattle.he_plan.specs.Race.{Race}
-use Rattle.he_text.specs.Text.{IsRaceText, fault_of}
+use Rattle.he_text.specs.Faults.{fault_of}
+use Rattle.he_text.specs.Text.{IsRaceText}
 use Rattle.he_tool.specs.declared.output.Step.{Step}
 use Rattle.he_tool.specs.declared.output.Step.TheVariants as steps
 use Rattle.he_tool.specs.Output.{AreTexts, IsTranscriptText, line_count}
@@ -23,7 +24,7 @@ abbrev pub IsStep : List ℕ → ℕ → List ℕ → List ℕ → Step → Type
 IsStep input from old new (steps.Race end) = TakesRace input from old new end
 IsStep input from old new steps.End = (from ≡ length input) × (new ≡ old)
 IsStep input from old new (steps.Fault found) =
-    (from < length input) × (fault_of (drop from input) ≡ Some (found.line, found.kind)) × (found.line ≤ length input + 1) × (new ≡ old)
+    (from < length input) × (fault_of (drop from input) ≡ Some (found.line, found.kind)) × (found.line ≤ length (drop from input) + 2) × (new ≡ old)
 
 -- the input is read up to a place: so many races and lines, and the text of their transcripts
 pub record IsUnderWay (input text : List ℕ) (from lines count : ℕ) : Type 0 where

@@ -82,8 +82,10 @@ fn take_race<A: Allocator + Copy>(
             write_race(alloc, &timeline, text)?;
             Ok(Step::Race(end))
         }
-        Err(TextFault { kind: TextKind::Memory, .. }) => Err(AllocError),
-        Err(fault) => Ok(Step::Fault(fault)),
+        Err(fault) => match fault.kind {
+            TextKind::Memory => Err(AllocError),
+            _ => Ok(Step::Fault(fault)),
+        },
     }
 }
 
