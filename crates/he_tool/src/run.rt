@@ -1,6 +1,6 @@
 //! A whole run of the program over a reader and two writers.
 ghost use Rattle.std.specs.Prelude.{◌≡◌, ◌⊎◌};
-ghost use Rattle.he_tool.specs.Run.{HasReplayed, status_of};
+ghost use Rattle.he_tool.specs.Run.{HasReplayed};
 
 use crate::command::{Action, read_words};
 use crate::fault::ReplayFault;

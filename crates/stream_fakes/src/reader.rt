@@ -1,5 +1,5 @@
 //! A reader over memory.
-ghost use Rattle.std.specs.Prelude.{◌≡◌, ◌≢◌, ◌⊎◌, ◌<◌, ◌≤◌, [], None, Some, IsTrue, IfErr, IfOk, OnErr, length, drop, true, false};
+ghost use Rattle.std.specs.Prelude.{◌≡◌, ◌⊎◌, ◌<◌, ◌≤◌, [], None, Some, IsTrue, IfOk, OnErr, length, drop, true, false};
 ghost use Rattle.std.specs.Io.{ReadsAtMost};
 ghost use Rattle.std.specs.Io.KnownBytes.{ReadConsumes};
 ghost use Rattle.stream_fakes.specs.Fakes.{Source, next_count, given_count};

@@ -1,5 +1,5 @@
 //! A writer over memory.
-ghost use Rattle.std.specs.Prelude.{◌≡◌, ◌⊎◌, ◌≤◌, ◌<◌, ◌^◌, ◌-◌, ◌++◌, [], None, Some, IsTrue, IfOk, OnErr, OnOk, length, take, true, false};
+ghost use Rattle.std.specs.Prelude.{◌≡◌, ◌⊎◌, ◌<◌, ◌^◌, ◌-◌, ◌++◌, [], None, Some, IsTrue, IfOk, OnErr, OnOk, length, take, true, false};
 ghost use Rattle.std.specs.Io.{WritesAtMost};
 ghost use Rattle.std.specs.Io.KnownBytes.{Keeps, WriteAppends};
 ghost use Rattle.stream_fakes.specs.Fakes.{Sink, next_count, taken_count};
