@@ -26,10 +26,10 @@ unfolding fault_from
 from_line [] n before f e = let same : n ≡ f.0 = same_number n _ f e in omega arith
 from_line (line ∷ after) n before f e =
     elim (here_or_later n _ _ f e) [
-      inl here ↦ omega arith
-    | inr later ↦
-        let bound : f.0 ≤ n + 1 + length after = from_line after (n + 1) (before ++ line ∷ []) f (unless_ended (ends line) _ f later) in
-        omega arith
+      | inl here ↦ omega arith
+      | inr later ↦
+          let bound : f.0 ≤ n + 1 + length after = from_line after (n + 1) (before ++ line ∷ []) f (unless_ended (ends line) _ f later) in
+          omega arith
     ]
 
 in_lines : (lines : List (List ℕ)) (f : ℕ × TextKind) → fault_in lines ≡ Some f → f.0 ≤ 1 + length lines
@@ -37,8 +37,8 @@ unfolding fault_in
 in_lines [] f e = let same : 1 ≡ f.0 = same_number 1 _ f e in omega arith
 in_lines (line ∷ after) f e =
     elim (here_or_later 1 _ _ f e) [
-      inl here ↦ omega arith
-    | inr later ↦ let bound : f.0 ≤ 2 + length after = from_line after 2 [] f later in omega arith
+      | inl here ↦ omega arith
+      | inr later ↦ let bound : f.0 ≤ 2 + length after = from_line after 2 [] f later in omega arith
     ]
 
 pub fault_line : (text : List ℕ) (f : ℕ × TextKind) → fault_of text ≡ Some f → f.0 ≤ length text + 2
@@ -53,6 +53,6 @@ pub told_fault : (text : List ℕ) (line : ℕ) (kind : TextKind) → TellsFault
     → (fault_of text ≡ Some (line, kind)) × (line ≤ length text + 2)
 told_fault text line kind tells other =
     elim tells [
-      inl memory ↦ absurd (other memory.0)
-    | inr is ↦ (is, fault_line text (line, kind) is)
+      | inl memory ↦ absurd (other memory.0)
+      | inr is ↦ (is, fault_line text (line, kind) is)
     ]

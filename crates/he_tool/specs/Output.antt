@@ -43,7 +43,7 @@ IsFault is_broken races lines [] fault = fault ≡ fault_at_end is_broken
 IsFault is_broken races lines (byte ∷ rest) fault =
     ((races ≡ MOST_RACES) × (fault ≡ Some (Text (record { line = lines + 1; kind = kinds.TooMany }))))
     ⊎ ((races + 1 ≤ MOST_RACES)
-      × (found : ℕ × TextKind) × (fault_of (byte ∷ rest) ≡ Some found) × (fault ≡ Some (fault_behind is_broken lines found)))
+    × (found : ℕ × TextKind) × (fault_of (byte ∷ rest) ≡ Some found) × (fault ≡ Some (fault_behind is_broken lines found)))
 
 -- the text that is written for an input, and what is wrong with the input: the transcripts of its races up to the first fault
 pub record IsOutput (input : List ℕ) (is_broken : Bool) (text : List ℕ) (fault : Option InputFault) : Type 0 where

@@ -30,9 +30,9 @@ loop-preserved g c =
 pub returns : goal.returns
 returns g c =
     let whole : take (length c.args.input.now - c.loop.from) (drop c.loop.from c.args.input.now) ≡ drop c.loop.from c.args.input.now =
-        take_all _ _ (omega (arith, length-drop {A = ℕ})) in
+    take_all _ _ (omega (arith, length-drop {A = ℕ})) in
     let count : MOST_RACES ≡ c.loop.counter = let h = c.loop-test.false in let k = c.loop.auto.counter-end in omega arith in
     let Rest : List ℕ → Type 0 = λ rest. IsFault c.args.is_broken MOST_RACES c.loop.lines rest c.fault_past_races-fault.result in
     let Count : ℕ → Type 0 = λ n. IsFault c.args.is_broken n c.loop.lines (drop c.loop.from c.args.input.now) c.fault_past_races-fault.result in
     ended c.args.input.now c.loop.text.items c.args.is_broken c.loop.from c.loop.lines c.loop.counter _ c.loop.invariant (omega arith)
-      (subst Count count (subst Rest whole c.fault_past_races-fault.ensures))
+    (subst Count count (subst Rest whole c.fault_past_races-fault.ensures))
