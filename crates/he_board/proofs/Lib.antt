@@ -1,0 +1,4 @@
+pub mod Allowed
+pub mod Keeping
+pub mod Lists
+pub mod Sums

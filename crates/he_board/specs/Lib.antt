@@ -1,0 +1,4 @@
+pub mod Balance
+pub mod Notes
+pub mod Passes
+pub mod Plays
