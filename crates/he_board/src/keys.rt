@@ -21,9 +21,3 @@ pub fn tick_and_place(key: u64) -> (u64, usize)
 {
     (key / PLACES as u64, (key % PLACES as u64) as usize)
 }
-
-/// A key gives back its tick and its place.
-pub fn key_reads_back(tick: u64, place: usize)
-    requires { place < PLACES }
-    ensures { (key_of tick place / PLACES ≡ tick) × (key_of tick place % PLACES ≡ place) }
-{}
