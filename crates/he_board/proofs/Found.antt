@@ -46,9 +46,9 @@ pub least_of-contains : (r k : ℕ) (xs : List (ℕ × ℕ)) → Contains xs (r,
 least_of-contains r k [] h = absurd (contains_none (r, k) h)
 least_of-contains r k (x ∷ xs) h = ⊎_elim
     (λ (e : x ≡ (r, k)). let F : Bool → Type 0 = λ b. cond b (min x.1 (least_of r xs)) (least_of r xs) ≤ k in
-        let same : x.1 ≡ k = ap (λ (y : ℕ × ℕ). y.1) e in subst F (sym (eq-eqb x.0 r (ap (λ (y : ℕ × ℕ). y.0) e))) (omega arith))
+    let same : x.1 ≡ k = ap (λ (y : ℕ × ℕ). y.1) e in subst F (sym (eq-eqb x.0 r (ap (λ (y : ℕ × ℕ). y.0) e))) (omega arith))
     (λ (t : Contains xs (r, k)). let s : least_of r xs ≤ k = least_of-contains r k xs t in
-        elim (nat_eq x.0 r) as (λ b. cond b (min x.1 (least_of r xs)) (least_of r xs) ≤ k) [ true ↦ omega arith | false ↦ s ])
+    elim (nat_eq x.0 r) as (λ b. cond b (min x.1 (least_of r xs)) (least_of r xs) ≤ k) [ true ↦ omega arith | false ↦ s ])
     (contains_cases x (r, k) xs h)
 
 -- a value that is at most each value of the race
@@ -57,21 +57,21 @@ least_of-ge r m [] top each = top
 least_of-ge r m (x ∷ xs) top each = let s : m ≤ least_of r xs = least_of-ge r m xs top (λ k t. each k (contains_later x (r, k) xs t)) in
     dite (ℕ_discrete x.0 r)
     (λ (e : x.0 ≡ r). let F : Bool → Type 0 = λ b. m ≤ cond b (min x.1 (least_of r xs)) (least_of r xs) in
-        let here : m ≤ x.1 = each x.1 (subst (λ (y : ℕ). Contains (x ∷ xs) (y, x.1)) e (contains_first x xs)) in subst F (sym (eq-eqb x.0 r e)) (omega arith))
+    let here : m ≤ x.1 = each x.1 (subst (λ (y : ℕ). Contains (x ∷ xs) (y, x.1)) e (contains_first x xs)) in subst F (sym (eq-eqb x.0 r e)) (omega arith))
     (λ (ne : x.0 ≢ r). let F : Bool → Type 0 = λ b. m ≤ cond b (min x.1 (least_of r xs)) (least_of r xs) in subst F (sym (ne_eqb x.0 r ne)) s)
 
 pub least_of-one_of : (r : ℕ) (xs : List (ℕ × ℕ)) → Contains xs (r, least_of r xs) ⊎ (least_of r xs ≡ NO_OFFER)
 least_of-one_of r [] = inr refl
 least_of-one_of r (x ∷ xs) = dite (ℕ_discrete x.0 r)
     (λ (e : x.0 ≡ r). let F : Bool → Type 0 = λ b. Contains (x ∷ xs) (r, cond b (min x.1 (least_of r xs)) (least_of r xs)) ⊎ (cond b (min x.1 (least_of r xs)) (least_of r xs) ≡ NO_OFFER) in
-        let G : ℕ → Type 0 = λ n. Contains (x ∷ xs) (r, n) ⊎ (n ≡ NO_OFFER) in
-        subst F (sym (eq-eqb x.0 r e)) (dite (dec_le x.1 (least_of r xs))
-            (λ (le : x.1 ≤ least_of r xs). let m : x.1 ≡ min x.1 (least_of r xs) = omega arith in
-                subst G m (inl (subst (λ (y : ℕ). Contains (x ∷ xs) (y, x.1)) e (contains_first x xs))))
-            (λ (gt : x.1 ≤ least_of r xs → ⊥). let m : least_of r xs ≡ min x.1 (least_of r xs) = omega arith in
-                subst G m (later x r (least_of r xs) xs (least_of-one_of r xs)))))
+    let G : ℕ → Type 0 = λ n. Contains (x ∷ xs) (r, n) ⊎ (n ≡ NO_OFFER) in
+    subst F (sym (eq-eqb x.0 r e)) (dite (dec_le x.1 (least_of r xs))
+    (λ (le : x.1 ≤ least_of r xs). let m : x.1 ≡ min x.1 (least_of r xs) = omega arith in
+    subst G m (inl (subst (λ (y : ℕ). Contains (x ∷ xs) (y, x.1)) e (contains_first x xs))))
+    (λ (gt : x.1 ≤ least_of r xs → ⊥). let m : least_of r xs ≡ min x.1 (least_of r xs) = omega arith in
+    subst G m (later x r (least_of r xs) xs (least_of-one_of r xs)))))
     (λ (ne : x.0 ≢ r). let F : Bool → Type 0 = λ b. Contains (x ∷ xs) (r, cond b (min x.1 (least_of r xs)) (least_of r xs)) ⊎ (cond b (min x.1 (least_of r xs)) (least_of r xs) ≡ NO_OFFER) in
-        subst F (sym (ne_eqb x.0 r ne)) (later x r (least_of r xs) xs (least_of-one_of r xs)))
+    subst F (sym (ne_eqb x.0 r ne)) (later x r (least_of r xs) xs (least_of-one_of r xs)))
   where
     later : (x : ℕ × ℕ) (r n : ℕ) (xs : List (ℕ × ℕ)) → Contains xs (r, n) ⊎ (n ≡ NO_OFFER) → Contains (x ∷ xs) (r, n) ⊎ (n ≡ NO_OFFER)
     later x r n xs h = ⊎_elim (λ (t : Contains xs (r, n)). inl (contains_later x (r, n) xs t)) (λ (e : n ≡ NO_OFFER). inr e) h
@@ -86,6 +86,7 @@ are_keys-contains r k (x ∷ xs) keys h =
     and_first : (a b : Bool) → (a && b) ≡ true → a ≡ true
     and_first true b h = refl
     and_first false b h = absurd (cc)
+
     and_rest : (a b : Bool) → (a && b) ≡ true → b ≡ true
     and_rest true b h = h
     and_rest false b h = absurd (cc)

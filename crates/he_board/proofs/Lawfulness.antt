@@ -45,19 +45,22 @@ module _ (jobs races : ℕ) (words : List ℕ) (views : List View) where
   offered_or_not law race near =
       let word : get_or words (winner_word race) 0 ≡ least_offer race views = law.offered race near in
       dite (ℕ_discrete (least_offer race views) NO_OFFER)
-      (λ (e : least_offer race views ≡ NO_OFFER). inr (word ∙ e, λ i v at key has.
-          (let m : least_offer race views ≤ least_of race v.offers = least-at (offer_of race) views i v at in
-          let c : least_of race v.offers ≤ key = least_of-contains race key v.offers has in
-          let k : key < NO_OFFER = are_keys-contains race key v.offers (law.keys i v at) has in absurd (omega arith))))
+      (λ (e : least_offer race views ≡ NO_OFFER). inr (
+        word ∙ e,
+        λ i v at key has.
+            (let m : least_offer race views ≤ least_of race v.offers = least-at (offer_of race) views i v at in
+            let c : least_of race v.offers ≤ key = least_of-contains race key v.offers has in
+            let k : key < NO_OFFER = are_keys-contains race key v.offers (law.keys i v at) has in absurd (omega arith)),
+      ))
       (λ (ne : least_offer race views ≢ NO_OFFER). let s = least-some (offer_of race) views ne in
-          let is : least_of race s.view.offers ≡ get_or words (winner_word race) 0 = s.holds ∙ sym word in
-          inl record {
-            by = s.by;
-            offerer = s.view;
-            stands = s.at;
-            offers = ⊎_elim (λ (has : Contains s.view.offers (race, least_of race s.view.offers)). subst (λ (n : ℕ). Contains s.view.offers (race, n)) is has)
-                (λ (top : least_of race s.view.offers ≡ NO_OFFER). absurd (ne (sym s.holds ∙ top))) (least_of-one_of race s.view.offers);
-          })
+      let is : least_of race s.view.offers ≡ get_or words (winner_word race) 0 = s.holds ∙ sym word in
+      inl record {
+        by = s.by;
+        offerer = s.view;
+        stands = s.at;
+        offers = ⊎_elim (λ (has : Contains s.view.offers (race, least_of race s.view.offers)). subst (λ (n : ℕ). Contains s.view.offers (race, n)) is has)
+            (λ (top : least_of race s.view.offers ≡ NO_OFFER). absurd (ne (sym s.holds ∙ top))) (least_of-one_of race s.view.offers);
+      })
 
   pub lawful : Balanced jobs races words views → Lawful jobs races words views
   lawful law = record {
@@ -66,7 +69,7 @@ module _ (jobs races : ℕ) (words : List ℕ) (views : List View) where
     job_words = λ job. dite (ℕ_discrete (takers job views) 0)
         (λ (e : takers job views ≡ 0). inr ((λ near. law.job_words job near ∙ e), free law job e))
         (λ (ne : takers job views ≢ 0). let one : takers job views ≤ 1 = law.one_taker job in
-            inl ((λ near. let word : get_or words (job_word job) 0 ≡ takers job views = law.job_words job near in omega arith), taken_once law job (omega arith)));
+        inl ((λ near. let word : get_or words (job_word job) 0 ≡ takers job views = law.job_words job near in omega arith), taken_once law job (omega arith)));
     winner_words = λ race near. offered_or_not law race near;
     offers = λ race near i v at key has. (let word : get_or words (winner_word race) 0 ≡ least_offer race views = law.offered race near in
         let m : least_offer race views ≤ least_of race v.offers = least-at (offer_of race) views i v at in let c : least_of race v.offers ≤ key = least_of-contains race key v.offers has in omega arith);
@@ -96,12 +99,12 @@ module _ (jobs races : ℕ) (words : List ℕ) (views : List View) where
   word_is_least law race near =
       let range : get_or words (winner_word race) 0 ≤ NO_OFFER = word_in_range law race near in
       let below : get_or words (winner_word race) 0 ≤ least_offer race views = least-ge (offer_of race) views (get_or words (winner_word race) 0) range
-          (λ i v at. least_of-ge race (get_or words (winner_word race) 0) v.offers range (λ key has. law.offers race near i v at key has)) in
+      (λ i v at. least_of-ge race (get_or words (winner_word race) 0) v.offers range (λ key has. law.offers race near i v at key has)) in
       ⊎_elim
       (λ (o : IsOffered views race (get_or words (winner_word race) 0)). let m : least_offer race views ≤ least_of race o.offerer.offers = least-at (offer_of race) views o.by o.offerer o.stands in
-          let c : least_of race o.offerer.offers ≤ get_or words (winner_word race) 0 = least_of-contains race (get_or words (winner_word race) 0) o.offerer.offers o.offers in omega arith)
+      let c : least_of race o.offerer.offers ≤ get_or words (winner_word race) 0 = least_of-contains race (get_or words (winner_word race) 0) o.offerer.offers o.offers in omega arith)
       (λ (n : (get_or words (winner_word race) 0 ≡ NO_OFFER) × IsUnoffered views race). let e : get_or words (winner_word race) 0 ≡ NO_OFFER = n.0 in
-          let t : least_offer race views ≤ NO_OFFER = least-le_top (offer_of race) views in omega arith)
+      let t : least_offer race views ≤ NO_OFFER = least-le_top (offer_of race) views in omega arith)
       (law.winner_words race near)
 
   pub balanced : Lawful jobs races words views → Balanced jobs races words views

@@ -33,10 +33,10 @@ module _ (f : View → ℕ) where
   least-some (x ∷ xs) ne = dite (dec_le (f x) (least f xs))
       (λ (le : f x ≤ least f xs). record { by = 0; view = x; at = refl; holds = omega arith })
       (λ (gt : f x ≤ least f xs → ⊥). let m : least f xs ≡ min (f x) (least f xs) = omega arith in
-          let s = least-some xs (λ e. ne (sym m ∙ e)) in record { by = suc s.by; view = s.view; at = s.at; holds = s.holds ∙ m })
+      let s = least-some xs (λ e. ne (sym m ∙ e)) in record { by = suc s.by; view = s.view; at = s.at; holds = s.holds ∙ m })
 
   -- a sum of at most 1 has one place
   pub total-one : (views : List View) (i j : ℕ) (v u : View) → total f views ≤ 1 → f (blank 0) ≡ 0 → get_elem? views i ≡ some v → get_elem? views j ≡ some u → 0 < f v → 0 < f u → j ≡ i
   total-one views i j v u one none at at' pos pos' = dite (ℕ_discrete j i) (λ e. e)
       (λ ne. let t : total f (set views i (blank 0)) + f v ≡ total f views + f (blank 0) = total-set f views i v (blank 0) at in
-          let m : f u ≤ total f (set views i (blank 0)) = total-at f (set views i (blank 0)) j u (set_else views i j (blank 0) ne ∙ at') in absurd (omega arith))
+      let m : f u ≤ total f (set views i (blank 0)) = total-at f (set views i (blank 0)) j u (set_else views i j (blank 0) ne ∙ at') in absurd (omega arith))

@@ -9,6 +9,8 @@ mod limits;
 mod pass;
 mod rule;
 mod steps;
+#[cfg(test)]
+mod tests;
 mod view;
 
 pub use board::Board;
