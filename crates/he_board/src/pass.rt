@@ -5,7 +5,10 @@ ghost use Rattle.he_board.specs.Notes.{are_keys};
 use crate::view::View;
 use atomic_table::Seat;
 
-/// A share of a board's parts, with what its holder has noted.
+/// A pass of one board. It has at least one of the board's parts, and has noted what was done with it (see `View`).
+///
+/// Every call on a board takes a pass of that board: the one that came with it, or one made of that by forks and
+/// rejoins there.
 #[derive(Drop)]
 pub struct Pass {
     pub(crate) seat: Seat<(), View>,
@@ -19,9 +22,10 @@ pub struct Pass {
 impl Pass {
     ghost use Rattle.he_board.specs.Passes.{notes};
 
-    /// How many of the board's parts the pass has, at least 1.
+    /// How many of the board's parts the pass has. With all `PARTS` there is no other pass.
     pub fn parts(&self) -> u32
-        ensures { result ≡ (notes self.now).parts }
+        ensures value { result ≡ (notes self.now).parts }
+        ensures positive { 0 < result }
     {
         self.parts
     }
