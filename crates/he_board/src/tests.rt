@@ -3,6 +3,7 @@ ghost use Rattle.std.specs.Prelude.{◌≡◌, ◌<◌, ◌≤◌};
 ghost use Rattle.he_board.specs.Passes.{IsPassOf, jobs_of, notes, races_of};
 
 use crate::{Board, BoardFault, NO_OFFER, PARTS, Pass};
+use refusing::{Refusing, each_growth_refused};
 use std::test::Fail;
 use std::thread;
 use std::thread::Threads;
@@ -116,4 +117,21 @@ fn sizes(rt: HostRuntime) -> Result<(), Fail> {
     assert!(rt; board.take(&mut pass, 131_071));
     assert_eq!(rt; board.winner(&mut pass, 1_023), None);
     Ok(())
+}
+
+#[test]
+fn refused_growths(rt: HostRuntime) {
+    let heap = Refusing::new(rt.alloc());
+    let refused = each_growth_refused(&heap, || match Board::new(&heap, 3, 1) {
+        Ok((board, mut pass)) => {
+            assert!(rt; board.take(&mut pass, 2));
+            assert_eq!(rt; board.winner(&mut pass, 0), None);
+        }
+        Err(fault) => {
+            assert!(rt; heap.has_refused());
+            assert_eq!(rt; fault, BoardFault::Memory);
+        }
+    });
+    // At least the list of the first words, and the table.
+    assert!(rt; refused > 1);
 }
