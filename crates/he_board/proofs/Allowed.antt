@@ -1,9 +1,8 @@
 -- What the table asks of each step, for the steps of a pass.
-use Rattle.std.proofs.Common.{◌≡◌, ◌≢◌, ℕ, ◌+◌, ◌<◌, ◌≤◌, cond, nat_eq, min, List, [], ◌∷◌, ◌++◌, get_or, set, refl, sym, ap, ◌∙◌, subst, arith}
-use mathlib.Core.Option.{none, some}
-use lib.ListN.{get_elem?}
+use Rattle.std.proofs.Common.{◌≡◌, ℕ, ◌<◌, ◌≤◌, cond, nat_eq, min, List, get_or, set, refl, sym, subst, arith}
+use mathlib.Core.Option.{none}
 use Rattle.std.proofs.lemmas.List.{set-get_or}
-use Rattle.atomic_table.specs.Table.{State, Me, step, Act, keeps, Allows, Splits, Joins}
+use Rattle.atomic_table.specs.Table.{Me, step, keeps, Allows, Splits, Joins}
 use Rattle.atomic_table.proofs.Lists.{set_again}
 use Rattle.he_board.specs.declared.limits.TheConstants.{PARTS, NO_OFFER}
 use Rattle.he_board.specs.declared.view.View.{View}

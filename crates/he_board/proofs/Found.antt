@@ -1,13 +1,12 @@
 -- What stands in a list of notes, and what the words on lists say of it.
-use Rattle.std.proofs.Common.{◌≡◌, ◌≢◌, ◌⊎◌, ℕ, zero, suc, ◌+◌, ◌<◌, ◌≤◌, Bool, true, false, cond, nat_eq, eqb, eq-eqb, ne_eqb, min, List, [], ◌∷◌, ◌++◌, length, get_or, refl, sym, ap, ◌∙◌, subst, inl, inr, ⊎_elim, arith}
+use Rattle.std.proofs.Common.{◌≡◌, ◌≢◌, ◌⊎◌, ℕ, zero, suc, ◌+◌, ◌<◌, ◌≤◌, Bool, true, false, cond, nat_eq, eq-eqb, ne_eqb, min, List, [], ◌∷◌, refl, sym, ap, subst, inl, inr, ⊎_elim, arith}
 use Rattle.std.specs.Prelude.{◌&&◌, nat_lt, Contains}
 use Rattle.std.proofs.lemmas.Bool.Decides.{nat_tests}
 use borrow.Author.Tests.{ltb-true}
 use mathlib.Core.Logic.{dite}
 use native.Mathlib.Decide.{ℕ_discrete, dec_le}
 use Rattle.he_board.specs.declared.limits.TheConstants.{NO_OFFER}
-use Rattle.he_board.specs.Notes.{times, least_of, count_of, are_keys}
-use Rattle.he_board.proofs.Lists.{least_of-le_top}
+use Rattle.he_board.specs.Notes.{times, least_of, are_keys}
 
 module _ {X : Type 0} where
   pub contains_first : (x : X) (xs : List X) → Contains (x ∷ xs) x

@@ -1,20 +1,17 @@
 -- The rule by sums and minima holds exactly of the lawful states.
-use Rattle.std.proofs.Common.{◌≡◌, ◌≢◌, ◌⊎◌, ℕ, zero, suc, ◌+◌, ◌<◌, ◌≤◌, true, List, get_or, refl, sym, ap, ◌∙◌, subst, inl, inr, ⊎_elim, arith}
+use Rattle.std.proofs.Common.{◌≡◌, ◌≢◌, ◌⊎◌, ℕ, zero, suc, ◌<◌, ◌≤◌, List, get_or, refl, sym, ◌∙◌, subst, inl, inr, ⊎_elim, arith}
 use Rattle.std.specs.Prelude.{Contains}
 use mathlib.Core.Logic.{dite}
-use mathlib.Core.Option.{some}
 use native.Mathlib.Decide.{ℕ_discrete}
-use lib.ListN.{get_elem?}
-use Rattle.he_board.specs.declared.limits.TheConstants.{RACES, PARTS, NO_OFFER}
+use Rattle.he_board.specs.declared.limits.TheConstants.{NO_OFFER}
 use Rattle.he_board.specs.declared.view.View.{View}
-use Rattle.he_board.specs.Notes.{times, least_of, are_keys, blank}
-use Rattle.he_board.specs.Balance.{total, least, winner_word, job_word, takers, knowers, least_offer, least_looked, Balanced}
-use Rattle.he_board.specs.Lawful.{EachView, TakenOnce, IsFree, IsOffered, IsUnoffered, Lawful}
-use Rattle.he_board.proofs.Found.{times-contains, times-none, contains-times, least_of-contains, least_of-ge, least_of-one_of, are_keys-contains, are_keys-each}
+use Rattle.he_board.specs.Notes.{times, least_of}
+use Rattle.he_board.specs.Balance.{winner_word, job_word, takers, knowers, least_offer, least_looked, Balanced}
+use Rattle.he_board.specs.Lawful.{TakenOnce, IsFree, IsOffered, IsUnoffered, Lawful}
+use Rattle.he_board.proofs.Found.{times-contains, times-none, least_of-contains, least_of-ge, least_of-one_of, are_keys-contains, are_keys-each}
 use Rattle.he_board.proofs.Keeping.{taken_of, known_of, offer_of, looked_of}
-use Rattle.he_board.proofs.Lists.{least_of-le_top}
 use Rattle.he_board.proofs.Sums.{total-at, total-none, total-alone, least-at, least-ge, least-le_top}
-use Rattle.he_board.proofs.Witnesses.{Stands, total-some, least-some, total-one}
+use Rattle.he_board.proofs.Witnesses.{total-some, least-some, total-one}
 
 not_positive : (n : ℕ) → (0 < n → ⊥) → n ≡ 0
 not_positive zero none = refl

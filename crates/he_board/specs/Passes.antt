@@ -1,6 +1,5 @@
 -- What a clause says of a board and of a pass.
 use Rattle.std.specs.Prelude.{◌≡◌, ℕ}
-use Rattle.atomic_table.specs.Seated.{TableId}
 use Rattle.he_board.specs.declared.view.View.{View}
 use Rattle.he_board.specs.declared.pass.Pass.{Pass}
 use Rattle.he_board.specs.declared.board.Board.{Board}
