@@ -8,6 +8,8 @@ use std::test::Fail;
 use std::thread;
 use std::thread::Threads;
 
+// The second pass has to see what the first one offered. No clause of `least` says so: an answer from the pass's own
+// notes alone would meet them.
 #[test]
 fn board_walk(rt: HostRuntime) -> Result<(), Fail> {
     let (board, pass) = Board::new(rt.alloc(), 3, 1)?;
