@@ -1,0 +1,4 @@
+pub mod Hosts
+pub mod Rules
+pub mod Tables
+pub mod Walking

@@ -1,0 +1,11 @@
+// Default address selection.
+#![tactic(auto)]
+
+pub(crate) mod distinct;
+pub mod host;
+pub mod limits;
+pub(crate) mod lookup;
+pub mod policy;
+
+pub use host::{HostFault, Route, Source};
+pub use policy::{Policy, PolicyFault, Row};
