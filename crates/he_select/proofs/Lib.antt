@@ -1,2 +1,3 @@
 pub mod LookUps
+pub mod Standards
 pub mod Walks

@@ -1,4 +1,7 @@
 pub mod Hosts
+pub mod Preference
 pub mod Rules
+pub mod Selection
+pub mod Standard
 pub mod Tables
 pub mod Walking

@@ -3,7 +3,8 @@
 ghost use Rattle.std.specs.Prelude.{◌≡◌, ℕ, ◌+◌, ◌≤◌, drop, length, IfOk, IfErr, IsOk, IsOkUnless};
 ghost use Rattle.std.specs.List.{list_any, position_from};
 ghost use Rattle.he_select.specs.Tables.{precedence_of, label_of, same_row, has_row, any_address, any_v4_address, shares_precedence, shared_from, table_fault, table_of, IsAdmitted};
-ghost use Rattle.he_addr.specs.Prefix.{PrefixBits};
+ghost use Rattle.he_addr.specs.Prefix.{IsPrefix};
+ghost use Rattle.he_select.specs.Standard.{standard_rows};
 
 use crate::distinct::{Distinct, first_repeated, stands_in};
 use crate::limits::ROWS;
@@ -147,6 +148,35 @@ fn sharing_row(row: &Row, rows: &[Row], from: usize) -> Option<usize>
     None
 }
 
+/// The rows of the standard table (RFC 6724 section 2.1).
+fn standard_table() -> [Row; 9]
+    ensures { result ≡ standard_rows }
+{
+    [
+        standard_row(1, 128, 50, 0),
+        standard_row(0, 0, 40, 1),
+        standard_row(0xffff << 32, 96, 35, 4),
+        standard_row(0x2002 << 112, 16, 30, 2),
+        standard_row(0x2001 << 112, 32, 5, 5),
+        standard_row(0xfc00 << 112, 7, 3, 13),
+        standard_row(0, 96, 1, 3),
+        standard_row(0xfec0 << 112, 10, 1, 11),
+        standard_row(0x3ffe << 112, 16, 1, 12),
+    ]
+}
+
+fn standard_row(bits: u128, len: u8, precedence: u16, label: u16) -> Row
+    requires { IsPrefix bits len }
+    ensures { result ≡ record { prefix = record { bits = bits; len = len }; precedence = precedence; label = label } }
+{
+    let prefix = Prefix::new(bits, len);
+    Row {
+        prefix,
+        precedence,
+        label,
+    }
+}
+
 /// A policy table: 1 to [`ROWS`] rows, no prefix twice, with `::/0` and `::ffff:0:0/96`, and no precedence both inside and
 /// outside `::ffff:0:0/96`. Contracts see it as its rows.
 #[derive(Drop)]
@@ -168,6 +198,15 @@ impl<A: Allocator> Model for Policy<A> {
 }
 
 impl<A: Allocator + Copy> Policy<A> {
+    /// The standard table (RFC 6724 section 2.1).
+    #[tactic(auto, using(crate::proofs::Standards::standard_admits))]
+    pub fn standard(alloc: A) -> Result<Policy<A>, Memory>
+        ensures { IfOk result (λ policy. policy ≡ standard_rows) }
+    {
+        let rows = Vec::from_slice(alloc, &standard_table()).map_err(|_| Memory)?;
+        Ok(Policy { rows })
+    }
+
     /// The table of these rows.
     ///
     /// # Errors
