@@ -1,10 +1,16 @@
 // A host's sources and routes.
 
-ghost use Rattle.std.specs.Prelude.{◌≡◌};
-ghost use Rattle.he_select.specs.Hosts.{same_source, same_route};
+ghost use Rattle.std.specs.Prelude.{◌≡◌, not, IfOk, IfErr, IsOk, IsOkUnless};
+ghost use Rattle.he_addr.specs.Prefix.{width_of};
+ghost use Rattle.std.specs.List.{list_any, position_from};
+ghost use Rattle.he_select.specs.Hosts.{same_source, same_route, is_sound_source, is_sound_route, host_fault, host_of, IsHost};
 
-use crate::distinct::Distinct;
-use he_addr::{Ip, Prefix};
+use crate::distinct::{Distinct, first_repeated, stands_in};
+use crate::limits::{NO_INTERFACE, ROUTES, SOURCES};
+use he_addr::prefix::{V4_BITS, V6_BITS};
+use he_addr::{Family, Ip, Memory, Prefix};
+use std::alloc::{Allocator, Global};
+use std::marker::Model;
 use thiserror::Error;
 
 /// An address of the host.
@@ -25,6 +31,32 @@ pub struct Source {
     pub temporary: bool,
 }
 
+impl Source {
+    /// Whether one of the earlier sources has this source's address.
+    pub fn repeats(&self, earlier: &[Source]) -> bool
+        ensures { result ≡ list_any (same_source self.now) earlier.now }
+    {
+        stands_in(self, earlier)
+    }
+
+    /// Whether the address is usable, its prefix length is that of its family at most, and its interface has a number.
+    pub fn is_sound(&self) -> bool
+        ensures { result ≡ is_sound_source self.now }
+    {
+        self.ip.is_usable() && self.plen <= width(self.ip) && self.interface != NO_INTERFACE
+    }
+}
+
+/// The number of bits of an address.
+fn width(ip: Ip) -> u8
+    ensures { result ≡ width_of ip }
+{
+    match ip.family() {
+        Family::V4 => V4_BITS,
+        Family::V6 => V6_BITS,
+    }
+}
+
 /// A route of the host.
 #[derive(Clone, Copy, Debug, PartialEq, Eq)]
 pub struct Route {
@@ -35,6 +67,22 @@ pub struct Route {
 
     /// The route leads through an encapsulating transport.
     pub tunnel: bool,
+}
+
+impl Route {
+    /// Whether one of the earlier routes has this route's prefix.
+    pub fn repeats(&self, earlier: &[Route]) -> bool
+        ensures { result ≡ list_any (same_route self.now) earlier.now }
+    {
+        stands_in(self, earlier)
+    }
+
+    /// Whether the interface has a number.
+    pub fn is_sound(&self) -> bool
+        ensures { result ≡ is_sound_route self.now }
+    {
+        self.interface != NO_INTERFACE
+    }
 }
 
 /// Why lists are no host. Both lists are counted from 0.
@@ -78,5 +126,115 @@ impl Distinct for Route {
 
     fn is_same(&self, other: &Route) -> bool {
         self.prefix == other.prefix
+    }
+}
+
+impl HostFault {
+    /// Why the lists are no host, the first cause in the order of the variants; `None` for a host's lists. Never `Memory`.
+    #[tactic(auto, unfolding(crate::specs::Hosts::host_fault))]
+    pub fn find(sources: &[Source], routes: &[Route]) -> Option<HostFault>
+        ensures { result ≡ host_fault sources.now routes.now }
+    {
+        if sources.len() > SOURCES || routes.len() > ROUTES {
+            return Some(HostFault::TooMany);
+        }
+        if let Some(place) = first_repeated(sources) {
+            return Some(HostFault::RepeatedSource(place));
+        }
+        if let Some(place) = first_repeated(routes) {
+            return Some(HostFault::RepeatedRoute(place));
+        }
+        if let Some(place) = first_unsound_source(sources) {
+            return Some(HostFault::BadSource(place));
+        }
+        let place = first_unsound_route(routes)?;
+        Some(HostFault::BadRoute(place))
+    }
+}
+
+fn first_unsound_source(sources: &[Source]) -> Option<usize>
+    ensures { result ≡ position_from (λ source. not (is_sound_source source)) 0 sources.now }
+{
+    for (i, source) in sources.iter().enumerate() {
+        if !source.is_sound() {
+            return Some(i);
+        }
+    }
+    None
+}
+
+fn first_unsound_route(routes: &[Route]) -> Option<usize>
+    ensures { result ≡ position_from (λ route. not (is_sound_route route)) 0 routes.now }
+{
+    for (i, route) in routes.iter().enumerate() {
+        if !route.is_sound() {
+            return Some(i);
+        }
+    }
+    None
+}
+
+/// A host: at most [`SOURCES`] sources, no address twice, and at most [`ROUTES`] routes, no prefix twice. Contracts see it as
+/// its two lists.
+#[derive(Drop)]
+pub struct Host<A: Allocator = Global> {
+    sources: Vec<Source, A>,
+    routes: Vec<Route, A>,
+}
+
+impl<A: Allocator> Model for Host<A> {
+    ghost use Rattle.he_select.specs.Hosts.{Interfaces, IsHost};
+
+    ghost Value = { Interfaces };
+
+    ghost view = { λ h. record { sources = h.sources.items; routes = h.routes.items } };
+
+    ghost invariant = { λ h. IsHost (record { sources = h.sources.items; routes = h.routes.items }) };
+}
+
+impl<A: Allocator + Copy> Host<A> {
+    /// The host of these sources and routes.
+    ///
+    /// # Errors
+    ///
+    /// The first cause that there is, in the order of [`HostFault`].
+    pub fn new(alloc: A, sources: &[Source], routes: &[Route]) -> Result<Host<A>, HostFault>
+        ensures refused { IfErr (host_of sources.now routes.now) (λ fault. result ≡ Err fault) }
+        ensures made { IfOk (host_of sources.now routes.now) (λ lists. IfOk result (λ host. host ≡ lists)) }
+        ensures memory { IsOk (host_of sources.now routes.now) → IsOkUnless result HostFault.Memory }
+    {
+        if let Some(fault) = HostFault::find(sources, routes) {
+            return Err(fault);
+        }
+        let sources = Vec::from_slice(alloc, sources).map_err(|_| HostFault::Memory)?;
+        let routes = Vec::from_slice(alloc, routes).map_err(|_| HostFault::Memory)?;
+        Ok(Host { sources, routes })
+    }
+}
+
+impl<A: Allocator> Host<A> {
+    /// The sources, in the order in which they were given.
+    pub fn sources(&self) -> &[Source]
+        ensures sources { result.now ≡ self.now.sources }
+        ensures host { IsHost self.now }
+    {
+        &self.sources
+    }
+
+    /// The routes, in the order in which they were given.
+    pub fn routes(&self) -> &[Route]
+        ensures routes { result.now ≡ self.now.routes }
+        ensures host { IsHost self.now }
+    {
+        &self.routes
+    }
+
+    /// The same host with memory of this allocator.
+    pub fn copy<B: Allocator + Copy>(&self, alloc: B) -> Result<Host<B>, Memory>
+        ensures { IfOk result (λ host. host ≡ self.now) }
+    {
+        let sources = Vec::from_slice(alloc, &self.sources).map_err(|_| Memory)?;
+        let routes = Vec::from_slice(alloc, &self.routes).map_err(|_| Memory)?;
+        Ok(Host { sources, routes })
     }
 }

@@ -7,5 +7,5 @@ pub mod limits;
 pub(crate) mod lookup;
 pub mod policy;
 
-pub use host::{HostFault, Route, Source};
+pub use host::{Host, HostFault, Route, Source};
 pub use policy::{Policy, PolicyFault, Row};
