@@ -1,4 +1,5 @@
 pub mod Hosts
+pub mod Keys
 pub mod Preference
 pub mod Rules
 pub mod Selection

@@ -32,8 +32,11 @@ abbrev pub serves : Ip → Route → Bool
 serves ip route = contains route.prefix ip && beq (is_inside_mapped route.prefix) (not (is_v6 ip))
 
 -- the route of a destination: the route of greatest length among those of its family that contain it
-unfoldable pub route_of : World → Ip → Option Route
-route_of world ip = best_by is_longer_route (filter (serves ip) world.routes)
+unfoldable pub longest_route : List Route → Ip → Option Route
+longest_route routes ip = best_by is_longer_route (filter (serves ip) routes)
+
+abbrev pub route_of : World → Ip → Option Route
+route_of world ip = longest_route world.routes ip
 
 -- the scope of a link, whose addresses are reached from that link alone
 abbrev pub link_scope : ℕ

@@ -6,6 +6,7 @@ pub mod host;
 pub mod limits;
 pub(crate) mod lookup;
 pub mod policy;
+pub(crate) mod selection;
 
 pub use host::{Host, HostFault, Route, Source};
 pub use policy::{Policy, PolicyFault, Row};

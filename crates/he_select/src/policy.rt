@@ -8,7 +8,7 @@ ghost use Rattle.he_select.specs.Standard.{standard_rows};
 
 use crate::distinct::{Distinct, first_repeated, stands_in};
 use crate::limits::ROWS;
-use crate::lookup::find_row;
+use crate::lookup::{find_label, find_row};
 use he_addr::{Ip, Memory, Prefix};
 use std::alloc::{Allocator, Global};
 use std::marker::Model;
@@ -243,11 +243,10 @@ impl<A: Allocator> Policy<A> {
     }
 
     /// The label of an address, that of the containing row with the longest prefix (RFC 6724 section 2.1).
-    #[tactic(auto, unfolding(crate::specs::Tables::label_of))]
     pub fn label(&self, ip: Ip) -> u16
         ensures { result ≡ label_of self.now ip }
     {
-        find_row(&self.rows, ip).map_or(0, |row| row.label)
+        find_label(&self.rows, ip)
     }
 
     /// The same table with memory of this allocator.
