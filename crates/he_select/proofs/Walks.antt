@@ -19,7 +19,7 @@ walk_filtered fits better best (x ∷ xs) =
       | inr false_here ↦ rw false_here (walk_filtered fits better best xs)
     ]
 
-find-same : {X : Type 0} (p q : X → Bool) → ((x : X) → p x ≡ q x) → (xs : List X) → find p xs ≡ find q xs
+pub find-same : {X : Type 0} (p q : X → Bool) → ((x : X) → p x ≡ q x) → (xs : List X) → find p xs ≡ find q xs
 find-same p q e [] = refl
 find-same p q e (x ∷ xs) = ap (λ b. cond b (Some x) (find p xs)) (e x) ∙ ap (λ r. cond (q x) (Some x) r) (find-same p q e xs)
 

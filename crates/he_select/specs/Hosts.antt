@@ -38,15 +38,19 @@ is_sound_source source = is_usable source.ip && nat_le source.plen (width_of sou
 abbrev pub is_sound_route : Route → Bool
 is_sound_route route = not (route.interface == 0)
 
--- why a host is refused, the causes in their order
-unfoldable pub host_fault : List Source → List Route → Option HostFault
-host_fault sources routes =
-    first_cause (cause_if (nat_lt SOURCES (length sources) || nat_lt ROUTES (length routes)) faults.TooMany
+-- why lists are refused, in their order
+abbrev pub host_causes : List Source → List Route → List (Option HostFault)
+host_causes sources routes =
+    cause_if (nat_lt SOURCES (length sources) || nat_lt ROUTES (length routes)) faults.TooMany
     ∷ option_map faults.RepeatedSource (first_repeat same_source sources)
     ∷ option_map faults.RepeatedRoute (first_repeat same_route routes)
     ∷ option_map faults.BadSource (position_from (λ source. not (is_sound_source source)) 0 sources)
     ∷ option_map faults.BadRoute (position_from (λ route. not (is_sound_route route)) 0 routes)
-    ∷ [])
+    ∷ []
+
+-- why there is no host of these lists: the first cause
+unfoldable pub host_fault : List Source → List Route → Option HostFault
+host_fault sources routes = first_cause (host_causes sources routes)
 
 -- a host's lists: no cause to refuse them
 abbrev pub IsHost : Interfaces → Type 0

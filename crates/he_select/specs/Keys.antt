@@ -13,6 +13,7 @@ use Rattle.he_select.specs.declared.selection.Destination.{Destination}
 use Rattle.he_select.specs.declared.selection.Labelled.{Labelled}
 use Rattle.he_select.specs.declared.selection.Candidate.{Candidate}
 use Rattle.std.specs.declared.cmp.Reverse.{Reverse}
+use Rattle.he_select.specs.declared.host.Route.{Route}
 use Rattle.he_select.specs.declared.host.Source.{Source}
 use Rattle.he_select.specs.declared.policy.Row.{Row}
 use Rattle.he_select.specs.Hosts.{same_ip}
@@ -57,3 +58,7 @@ candidate_of destination labelled = record { key = source_key destination labell
 
 abbrev pub comes_before : Candidate → Candidate → Bool
 comes_before a b = is_lt (source_key_cmp a.key b.key)
+
+-- what the source rules look at of a destination with this label and route
+abbrev pub destination_of : Ip → ℕ → Route → Destination
+destination_of ip label route = record { ip = ip; scope = scope_of ip; label = label; interface = route.interface }

@@ -55,15 +55,19 @@ shared_from place [] = None
 shared_from place (row ∷ rows) =
     option_or (option_map (λ later. (place, later)) (position_from (shares_precedence row) (place + 1) rows)) (shared_from (place + 1) rows)
 
--- why a table is refused, the causes in their order
-unfoldable pub table_fault : List Row → Option PolicyFault
-table_fault rows =
-    first_cause (cause_if (length rows == 0 || nat_lt ROWS (length rows)) faults.Size
+-- why rows are refused, in their order
+abbrev pub table_causes : List Row → List (Option PolicyFault)
+table_causes rows =
+    cause_if (length rows == 0 || nat_lt ROWS (length rows)) faults.Size
     ∷ option_map faults.Repeated (first_repeat same_row rows)
     ∷ cause_if (not (has_row rows any_address)) faults.NoDefault
     ∷ cause_if (not (has_row rows any_v4_address)) faults.NoMapped
     ∷ option_map (λ pair. faults.SharedPrecedence pair.0 pair.1) (shared_from 0 rows)
-    ∷ [])
+    ∷ []
+
+-- why there is no table of these rows: the first cause
+unfoldable pub table_fault : List Row → Option PolicyFault
+table_fault rows = first_cause (table_causes rows)
 
 -- an admitted table: no cause to refuse it
 abbrev pub IsAdmitted : List Row → Type 0

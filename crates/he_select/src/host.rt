@@ -1,11 +1,15 @@
 // A host's sources and routes.
 
-ghost use Rattle.std.specs.Prelude.{◌≡◌, not, IfOk, IfErr, IsOk, IsOkUnless};
+ghost use Rattle.std.specs.Prelude.{◌≡◌, not, option_map, IsTrue, IfOk, IfErr, IsOk, IsOkUnless};
 ghost use Rattle.he_addr.specs.Prefix.{width_of};
-ghost use Rattle.std.specs.List.{list_any, position_from};
+ghost use Rattle.std.specs.List.{list_all, list_any, position_from};
 ghost use Rattle.he_select.specs.Hosts.{same_source, same_route, is_sound_source, is_sound_route, host_fault, host_of, IsHost};
+ghost use Rattle.he_select.specs.Selection.{source_of, world_of};
 
 use crate::distinct::{Distinct, first_repeated, stands_in};
+use crate::lookup::{find_label, find_route};
+use crate::policy::{Policy, Row};
+use crate::selection::{Destination, best_source};
 use crate::limits::{NO_INTERFACE, ROUTES, SOURCES};
 use he_addr::prefix::{V4_BITS, V6_BITS};
 use he_addr::{Family, Ip, Memory, Prefix};
@@ -229,6 +233,15 @@ impl<A: Allocator> Host<A> {
         &self.routes
     }
 
+    /// The source that the host uses for a destination (RFC 6724 section 5): of the candidates the best by the source rules;
+    /// `None` where the destination has no route or no candidate.
+    #[tactic(auto, using(crate::proofs::Causes::all_sound))]
+    pub fn source<B: Allocator>(&self, policy: &Policy<B>, ip: Ip) -> Option<Ip>
+        ensures { result ≡ option_map (λ source. source.ip) (source_of (world_of policy.now self.now) ip) }
+    {
+        source_ip(policy.rows(), self.sources(), self.routes(), ip)
+    }
+
     /// The same host with memory of this allocator.
     pub fn copy<B: Allocator + Copy>(&self, alloc: B) -> Result<Host<B>, Memory>
         ensures { IfOk result (λ host. host ≡ self.now) }
@@ -237,4 +250,13 @@ impl<A: Allocator> Host<A> {
         let routes = Vec::from_slice(alloc, &self.routes).map_err(|_| Memory)?;
         Ok(Host { sources, routes })
     }
+}
+
+fn source_ip(rows: &[Row], sources: &[Source], routes: &[Route], ip: Ip) -> Option<Ip>
+    requires { IsTrue (list_all is_sound_source sources.now) }
+    ensures { result ≡ option_map (λ source. source.ip) (source_of (record { rows = rows.now; sources = sources.now; routes = routes.now }) ip) }
+{
+    let route = find_route(routes, ip)?;
+    let destination = Destination::new(ip, find_label(rows, ip), &route);
+    best_source(rows, sources, &destination).map(|best| best.source.ip)
 }

@@ -7,10 +7,10 @@ ghost use Rattle.std.specs.Ordering.{is_lt};
 ghost use Rattle.he_addr.specs.Ip.{family_of};
 ghost use Rattle.he_addr.specs.Prefix.{common_of};
 ghost use Rattle.he_select.specs.Hosts.{is_sound_source};
-ghost use Rattle.he_select.specs.Keys.{source_key, source_key_cmp, candidate_of, labelled_of, admits, comes_before};
+ghost use Rattle.he_select.specs.Keys.{source_key, source_key_cmp, candidate_of, destination_of, labelled_of, admits, comes_before};
 ghost use Rattle.he_select.specs.Walking.{keep_better, keep_fitting, walk_fitting};
 
-use crate::host::Source;
+use crate::host::{Route, Source};
 use crate::lookup::find_label;
 use crate::policy::Row;
 use he_addr::ip::LINK_LOCAL_SCOPE;
@@ -95,6 +95,17 @@ impl Candidate {
 }
 
 impl Destination {
+    pub(crate) fn new(ip: Ip, label: u16, route: &Route) -> Destination
+        ensures { result ≡ destination_of ip label route.now }
+    {
+        Destination {
+            ip,
+            scope: ip.scope(),
+            label,
+            interface: route.interface,
+        }
+    }
+
     /// The best of the sources that may be used for this destination.
     pub(crate) fn best_of(&self, sources: &[Labelled]) -> Option<Candidate>
         requires { IsTrue (list_all (λ labelled. is_sound_source labelled.source) sources.now) }
@@ -158,4 +169,16 @@ impl Destination {
             common: Reverse(common_len(source.ip, source.plen, self.ip)),
         }
     }
+}
+
+/// The best of the sources that may be used for the destination, each with the label that the table gives it.
+pub(crate) fn best_source(rows: &[Row], sources: &[Source], destination: &Destination) -> Option<Candidate>
+    requires { IsTrue (list_all is_sound_source sources.now) }
+    ensures { result ≡ walk_fitting (λ candidate. admits destination.now candidate.source) comes_before None (map (λ source. candidate_of destination.now (labelled_of rows.now source)) sources.now) }
+{
+    let mut best = None;
+    for source in sources {
+        best = destination.keep(best, &Labelled::new(rows, source));
+    }
+    best
 }
