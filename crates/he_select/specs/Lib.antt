@@ -1,3 +1,4 @@
+pub mod DestinationKeys
 pub mod Hosts
 pub mod Keys
 pub mod Preference
