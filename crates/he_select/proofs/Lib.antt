@@ -1,4 +1,9 @@
+pub mod Arranged
 pub mod Causes
+pub mod Chosen
+pub mod Counting
+pub mod Families
+pub mod Keyed
 pub mod Listing
 pub mod LookUps
 pub mod Orders

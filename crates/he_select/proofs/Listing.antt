@@ -1,5 +1,7 @@
 -- The best of a mapped list, and of equal comparisons.
 use Rattle.std.proofs.Common.{◌≡◌, Bool, true, false, not, ◌||◌, cond, List, [], ◌∷◌, map, refl, sym, ◌∙◌, ap, inl, inr}
+use Rattle.std.proofs.Common.{ℕ, ◌++◌, length, take, drop, arith}
+use Rattle.std.proofs.lemmas.Grind.{common_steps}
 use Rattle.std.specs.Prelude.{Option, None, Some, find, filter, option_map}
 use Rattle.std.specs.List.{list_any}
 use Rattle.std.proofs.lemmas.Bool.{cases_Bool}
@@ -41,3 +43,7 @@ module _ {X : Type 0} where
   best_by-same better other e xs =
       find-same (λ x. not (list_any (λ y. better y x) xs)) (λ x. not (list_any (λ y. other y x) xs))
       (λ x. ap not (any-same (λ y. better y x) (λ y. other y x) (λ y. e y x) xs)) xs
+
+-- what a vector holds after its slice was changed to ys
+pub written_back : {X : Type 0} (xs ys : List X) (n : ℕ) → length ys ≡ length xs → length xs ≡ n → take n (ys ++ drop (length ys) xs) ≡ ys
+written_back xs ys n same whole = grind (arith, common_steps)

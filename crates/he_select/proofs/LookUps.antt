@@ -12,7 +12,7 @@ use Rattle.he_select.specs.Tables.{row_of, is_longer_row}
 use Rattle.he_select.specs.Walking.{walk_fitting}
 use Rattle.he_select.proofs.Walks.{best_fitting}
 
-rows_by_length : IsStrictWeakOrder is_longer_row
+pub rows_by_length : IsStrictWeakOrder is_longer_row
 rows_by_length = IsStrictWeakOrder-flip _ (IsStrictWeakOrder-by_number (λ (row : Row). row.prefix.len))
 
 pub row_walked : (rows : List Row) (ip : Ip) → walk_fitting (λ row. contains row.prefix ip) is_longer_row None rows ≡ row_of rows ip

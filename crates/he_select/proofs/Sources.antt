@@ -63,7 +63,7 @@ by_source_keys world ip route e a b =
     (then_same (yes_as_less a.temporary b.temporary)
     (then_equal (nat_cmp (common_of b.ip b.plen ip) (common_of a.ip a.plen ip))))))))
 
-abbrev made : World → Ip → Route → Source → Candidate
+abbrev pub made : World → Ip → Route → Source → Candidate
 made world ip route source = candidate_of (destination_of ip (label_of world.rows ip) route) (labelled_of world.rows source)
 
 keys_rank : IsStrictWeakOrder comes_before

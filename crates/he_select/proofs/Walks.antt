@@ -7,7 +7,7 @@ use Rattle.std.proofs.lemmas.Bool.{cases_Bool, both_ways}
 use Rattle.he_select.specs.Rules.{best_by}
 use Rattle.he_select.specs.Walking.{keep_better, keep_fitting, walk_fitting}
 
-abbrev walk : {X : Type 0} → (X → X → Bool) → Option X → List X → Option X
+abbrev pub walk : {X : Type 0} → (X → X → Bool) → Option X → List X → Option X
 walk better best [] = best
 walk better best (x ∷ xs) = walk better (keep_better better best x) xs
 
@@ -96,7 +96,7 @@ module _ {X : Type 0} (better : X → X → Bool) (o : IsStrictWeakOrder better)
         | inr best ↦ rw (not_itself b, best) refl
       ]
 
-  walked : (b : X) (xs : List X) → walk better (Some b) xs ≡ best_by better (b ∷ xs)
+  pub walked : (b : X) (xs : List X) → walk better (Some b) xs ≡ best_by better (b ∷ xs)
   walked b [] = rw (not_itself b) refl
   walked b (x ∷ xs) =
       walked (cond (better x b) x b) xs

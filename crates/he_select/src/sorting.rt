@@ -8,6 +8,7 @@ ghost use Rattle.he_select.specs.Hosts.{is_sound_source};
 ghost use Rattle.he_select.specs.Keys.{labelled_of};
 ghost use Rattle.he_select.specs.Preference.{IsOrder, members_from};
 ghost use Rattle.he_select.specs.Selection.{world_of};
+ghost use Rattle.he_select.specs.Tables.{IsAdmitted};
 
 use crate::host::{Host, Route, Source};
 use crate::policy::{Policy, Row};
@@ -18,6 +19,7 @@ use std::alloc::{AllocError, Allocator};
 
 /// The addresses in the order in which they are to be tried (RFC 6724 section 6): each stands at the place that equals the
 /// number of addresses preferred to it. Each address is usable.
+#[tactic(auto, using(crate::proofs::Causes::all_sound))]
 pub fn order<A: Allocator + Copy, P: Allocator, H: Allocator>(
     alloc: A,
     policy: &Policy<P>,
@@ -27,11 +29,27 @@ pub fn order<A: Allocator + Copy, P: Allocator, H: Allocator>(
     requires { IsTrue (list_all is_usable addresses.now) }
     ensures { IfOk result (λ sorted. IsOrder (world_of policy.now host.now) addresses.now sorted.items) }
 {
-    let rows = policy.rows();
-    let sources = label_sources(alloc, rows, host.sources()).map_err(|_| Memory)?;
-    let mut ranked = rank_all(alloc, rows, host.routes(), &sources, addresses)?;
+    sort_addresses(alloc, policy.rows(), host.sources(), host.routes(), addresses).map_err(|_| Memory)
+}
+
+/// The addresses in the order of preference: what the rules look at is computed once for each source and for each address,
+/// and the addresses are sorted by what came of it.
+fn sort_addresses<A: Allocator + Copy>(
+    alloc: A,
+    rows: &[Row],
+    sources: &[Source],
+    routes: &[Route],
+    addresses: &[Ip],
+) -> Result<Vec<Ip, A>, AllocError>
+    requires admitted { IsAdmitted rows.now }
+    requires sound { IsTrue (list_all is_sound_source sources.now) }
+    requires usable { IsTrue (list_all is_usable addresses.now) }
+    ensures { IfOk result (λ sorted. IsOrder (record { rows = rows.now; sources = sources.now; routes = routes.now }) addresses.now sorted.items) }
+{
+    let labelled = label_sources(alloc, rows, sources)?;
+    let mut ranked = rank_all(alloc, rows, routes, &labelled, addresses)?;
     sort(&mut ranked);
-    addresses_of(alloc, &ranked).map_err(|_| Memory)
+    addresses_of(alloc, &ranked)
 }
 
 fn label_sources<A: Allocator + Copy>(alloc: A, rows: &[Row], sources: &[Source]) -> Result<Vec<Labelled, A>, AllocError>
@@ -53,14 +71,14 @@ fn rank_all<A: Allocator + Copy>(
     routes: &[Route],
     sources: &[Labelled],
     addresses: &[Ip],
-) -> Result<Vec<Ranked, A>, Memory>
+) -> Result<Vec<Ranked, A>, AllocError>
     requires { IsTrue (list_all (λ labelled. is_sound_source labelled.source) sources.now) }
     ensures keys { IfOk result (λ ranked. ranked.items ≡ map (ranked_by rows.now routes.now sources.now) (members_from 0 addresses.now)) }
     ensures range { OnOk result (All InRange addresses.now) }
 {
-    let mut ranked = Vec::with_capacity(alloc, addresses.len()).map_err(|_| Memory)?;
+    let mut ranked = Vec::with_capacity(alloc, addresses.len())?;
     for (place, ip) in addresses.iter().enumerate() {
-        ranked.push(rank(rows, routes, sources, *ip, place)).map_err(|_| Memory)?;
+        ranked.push(rank(rows, routes, sources, *ip, place))?;
     }
     Ok(ranked)
 }
