@@ -1,0 +1,68 @@
+// The allocator. Its `allocate` and `deallocate` are proved by hand.
+ghost use Rattle.std.specs.Prelude.{◌≡◌};
+
+use crate::countdown::Countdown;
+use std::alloc::{AllocError, Allocator, Global};
+use std::fmt;
+
+/// An allocator that refuses one growth, and grants the others from `inner`. A growth is a call of `allocate`, and so
+/// are `grow` and `shrink`, which move the block. It is lent to what allocates, as a `&`.
+pub struct Refusing<B: Allocator = Global> {
+    inner: B,
+    countdown: Countdown,
+}
+
+impl<B: Allocator> Refusing<B> {
+    ghost use Rattle.refusing.specs.Refusing.{inner_of};
+
+    /// It refuses nothing until `refuse` is called.
+    pub fn new(inner: B) -> Refusing<B>
+        ensures { inner_of result ≡ inner }
+    {
+        Refusing {
+            inner,
+            countdown: Countdown::new(),
+        }
+    }
+
+    /// From now on the `nth` growth is refused, counted from 1, and those before and after it are granted. At 0 none is
+    /// refused. What an earlier call asked is forgotten.
+    pub fn refuse(&self, nth: u64) {
+        self.countdown.start(nth);
+    }
+
+    /// Whether a growth was refused since the last call of `refuse`.
+    pub fn has_refused(&self) -> bool {
+        self.countdown.is_past()
+    }
+}
+
+impl<B: Allocator> Drop for Refusing<B> {
+    fn drop(self) {
+        let Self {
+            inner: _,
+            countdown: _,
+        } = self;
+    }
+}
+
+impl<B: Allocator> fmt::Debug for Refusing<B> {
+    fn fmt<W: fmt::Write>(&self, f: &mut fmt::Formatter<W>) -> fmt::Result {
+        f.write_str("Refusing")
+    }
+}
+
+unsafe impl<B: Allocator> Allocator for Refusing<B> {
+    ghost dealloc_token = { λ heap ty ptr. B.dealloc_token heap.inner ty ptr };
+
+    fn allocate(&self, size: usize, align: usize) -> Result<*mut u8, AllocError> {
+        if self.countdown.is_due() {
+            return Err(AllocError);
+        }
+        self.inner.allocate(size, align)
+    }
+
+    unsafe fn deallocate(&self, ptr: *mut u8, size: usize, align: usize) {
+        self.inner.deallocate(ptr, size, align);
+    }
+}

@@ -1,0 +1,52 @@
+//! An allocator for tests, which refuses exactly one growth and grants all others.
+//!
+//! Whatever allocates in Rattle may be told that there is no memory. A test of that hands a `&Refusing` to the code as
+//! its allocator, has each of its growths refused in turn, and looks at what the refusal left:
+//!
+//! ```text
+//! let heap = Refusing::new(rt.alloc());
+//! let refused = each_growth_refused(&heap, || {
+//!     let mut out = Vec::new(&heap);
+//!     match write_address(address, &mut out) {
+//!         Ok(()) => assert_eq!(rt; out.as_slice(), expected),
+//!         Err(_) => {
+//!             assert!(rt; heap.has_refused());
+//!             assert!(rt; out.is_empty());
+//!         }
+//!     }
+//! });
+//! assert!(rt; refused > 0);
+//! ```
+//!
+//! The closure makes what it changes anew in each run, on the heap, and what it only reads is made before, on
+//! `rt.alloc()`, where nothing is refused. It is proved with no proof file and no clause. Where the closure form does
+//! not fit, as for a `?`, write the loop out:
+//!
+//! ```text
+//! for nth in 1..=MOST_RUNS {
+//!     heap.refuse(nth);
+//!     ..
+//!     if !heap.has_refused() {
+//!         break;
+//!     }
+//! }
+//! ```
+//!
+//! A `&Refusing<Global>` is `Allocator + Copy + Send + Sync`, so threads may share it: of all their growths one is
+//! refused. A call of code over `A: Allocator + Send` asks that any thread may give a block back, which the check finds
+//! by itself, from `proofs/heap/RefusingAllocator/TheSendSync`.
+//!
+//! Proved: what `Allocator` asks, so that a granted block is the inner allocator's, and each block goes back to it; and
+//! that `each_growth_refused` runs the closure more often than it says. Which growth is refused stands in an atomic
+//! word, of which no contract can speak, so that is tested only.
+#![tactic(auto)]
+
+mod countdown;
+mod heap;
+mod runs;
+
+pub use heap::Refusing;
+pub use runs::{MOST_RUNS, each_growth_refused};
+
+#[cfg(test)]
+mod tests;

@@ -1,0 +1,29 @@
+// Each growth of a piece of code refused in turn.
+ghost use Rattle.std.specs.Prelude.{◌<◌};
+ghost use Rattle.refusing.specs.Runs.{RanMoreThan};
+
+use crate::heap::Refusing;
+use std::alloc::Allocator;
+
+/// The most runs that `each_growth_refused` makes.
+pub const MOST_RUNS: u64 = 1_000;
+
+/// Calls `run` with its first growth on `heap` refused, then with its second, and so on up to a call that is granted
+/// all. Answers how many calls were refused one, or 0 if `MOST_RUNS` calls were: so a test asserts that it is above 0.
+/// Afterwards `heap` refuses nothing.
+pub fn each_growth_refused<B: Allocator, F: FnMut()>(heap: &Refusing<B>, mut run: F) -> u64
+    requires { F.IsAlwaysCallable run }
+    ensures few { result < MOST_RUNS }
+    ensures ran { RanMoreThan (λ state next. F.step state tt next) result run }
+{
+    for refused in 0..MOST_RUNS {
+        heap.refuse(refused + 1);
+        run();
+        let is_granted_all = !heap.has_refused();
+        heap.refuse(0);
+        if is_granted_all {
+            return refused;
+        }
+    }
+    0
+}
