@@ -25,7 +25,7 @@ use Rattle.he_select.proofs.LookUps.{rows_by_length}
 use Rattle.he_select.proofs.Walks.{walk, walked}
 
 -- x is a member of the list
-abbrev Among : {X : Type 0} → X → List X → Type 0
+abbrev pub Among : {X : Type 0} → X → List X → Type 0
 Among x [] = ⊥
 Among x (y ∷ ys) = (x ≡ y) ⊎ Among x ys
 
@@ -85,7 +85,7 @@ module _ {X : Type 0} where
   walk_some better (x ∷ xs) b = walk_some better xs (cond (better x b) x b)
 
   -- where the list has a member, there is a best one, which is a member, and no member is better
-  best_is : (better : X → X → Bool) → IsStrictWeakOrder better → (xs : List X) (x : X) → Among x xs
+  pub best_is : (better : X → X → Bool) → IsStrictWeakOrder better → (xs : List X) (x : X) → Among x xs
       → (z : X) × (best_by better xs ≡ Some z) × Among z xs × (better x z ≡ false)
   best_is better o [] x h = absurd h
   best_is better o (y ∷ ys) x h =
@@ -153,7 +153,7 @@ has_prefix rows prefix e =
     (some.0, some.1, eqb-true _ _ both.0, eqb-true _ _ both.1)
 
 -- the row of an address that a row with this prefix contains
-row_at : (rows : List Row) (ip : Ip) (prefix : PrefixBits) → has_row rows prefix ≡ true → contains prefix ip ≡ true
+pub row_at : (rows : List Row) (ip : Ip) (prefix : PrefixBits) → has_row rows prefix ≡ true → contains prefix ip ≡ true
     → (row : Row) × (row_of rows ip ≡ Some row) × Among row rows × (contains row.prefix ip ≡ true) × (prefix.len ≤ row.prefix.len)
 unfolding row_of
 row_at rows ip prefix e here =
@@ -168,7 +168,7 @@ row_at rows ip prefix e here =
 v4_starts : (n : ℕ) → n < 2 ^ 32 → contains any_v4_address (V4 n) ≡ true
 v4_starts n small = eq-eqb ((65535 * 2 ^ 32 + n) / 2 ^ 32) 65535 (div-mul-add 65535 (2 ^ 32) n small)
 
-v6_starts : (n : ℕ) → n < 2 ^ 128 → contains any_address (V6 n) ≡ true
+pub v6_starts : (n : ℕ) → n < 2 ^ 128 → contains any_address (V6 n) ≡ true
 v6_starts n small = eq-eqb (n / 2 ^ 128) 0 (div-eq_of_lt small)
 
 inside : (row : Row) (n : ℕ) → n < 2 ^ 32 → 96 ≤ row.prefix.len → contains row.prefix (V4 n) ≡ true → is_inside_mapped row.prefix ≡ true

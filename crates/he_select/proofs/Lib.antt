@@ -5,6 +5,7 @@ pub mod Counting
 pub mod Families
 pub mod Keyed
 pub mod Listing
+pub mod LawsOfOrder
 pub mod LookUps
 pub mod Orders
 pub mod Sources

@@ -40,7 +40,7 @@ source_keys_total =
     (then_total (on_total (λ (k : SourceKey). k.lasting) bool_cmp_total)
     (back_total (on_total (λ (k : SourceKey). k.common.0) nat_cmp_total))))))))
 
-abbrev key_for : World → Ip → Route → Source → SourceKey
+abbrev pub key_for : World → Ip → Route → Source → SourceKey
 key_for world ip route source = source_key (destination_of ip (label_of world.rows ip) route) (labelled_of world.rows source)
 
 -- a route that there is decides rule 5 by its interface

@@ -1,6 +1,7 @@
 pub mod DestinationKeys
 pub mod Hosts
 pub mod Keys
+pub mod Laws
 pub mod Preference
 pub mod Rules
 pub mod Selection

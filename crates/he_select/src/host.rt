@@ -196,6 +196,33 @@ impl<A: Allocator> Model for Host<A> {
     ghost invariant = { λ h. IsHost (record { sources = h.sources.items; routes = h.routes.items }) };
 }
 
+impl<A: Allocator> PartialEq for Host<A> {
+    ghost use Rattle.std.specs.Prelude.{◌&&◌};
+    ghost use Rattle.std.specs.Cmp.{and_per, on_per};
+    ghost use Rattle.std.specs.Cmp.Lexicographic.{pointwise, lists_per};
+    ghost use Rattle.he_select.specs.Hosts.{Interfaces};
+    ghost use Rattle.he_select.specs.contracts.host.SourcePartialEq.TheImpl.Laws as of_sources;
+    ghost use Rattle.he_select.specs.contracts.host.RoutePartialEq.TheImpl.Laws as of_routes;
+
+    ghost eq = { λ a b. pointwise ⟦<Source as PartialEq>⟧.eq a.sources b.sources && pointwise ⟦<Route as PartialEq>⟧.eq a.routes b.routes };
+
+    ghost laws = { and_per (on_per (λ (h : Interfaces). h.sources) (lists_per of_sources.laws-law)) (on_per (λ (h : Interfaces). h.routes) (lists_per of_routes.laws-law)) };
+
+    fn eq(&self, other: &Host<A>) -> bool {
+        self.sources == other.sources && self.routes == other.routes
+    }
+}
+
+impl<A: Allocator> Eq for Host<A> {
+    ghost use Rattle.std.specs.Cmp.{and_equiv, on_equiv};
+    ghost use Rattle.std.specs.Cmp.Lexicographic.{lists_equiv};
+    ghost use Rattle.he_select.specs.Hosts.{Interfaces};
+    ghost use Rattle.he_select.specs.contracts.host.SourceEq.TheImpl.Laws as of_sources;
+    ghost use Rattle.he_select.specs.contracts.host.RouteEq.TheImpl.Laws as of_routes;
+
+    ghost laws = { and_equiv (on_equiv (λ (h : Interfaces). h.sources) (lists_equiv of_sources.laws-law)) (on_equiv (λ (h : Interfaces). h.routes) (lists_equiv of_routes.laws-law)) };
+}
+
 impl<A: Allocator + Copy> Host<A> {
     /// The host of these sources and routes.
     ///

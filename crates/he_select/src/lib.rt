@@ -3,6 +3,7 @@
 
 pub(crate) mod distinct;
 pub mod host;
+pub mod laws;
 pub mod limits;
 pub(crate) mod lookup;
 pub mod policy;

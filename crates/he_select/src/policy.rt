@@ -197,6 +197,27 @@ impl<A: Allocator> Model for Policy<A> {
     ghost invariant = { λ p. IsAdmitted p.rows.items };
 }
 
+impl<A: Allocator> PartialEq for Policy<A> {
+    ghost use Rattle.std.specs.Cmp.Lexicographic.{pointwise, lists_per};
+    ghost use Rattle.he_select.specs.contracts.policy.RowPartialEq.TheImpl.Laws as rows;
+
+    ghost eq = { λ a b. pointwise ⟦<Row as PartialEq>⟧.eq a b };
+
+    ghost laws = { lists_per rows.laws-law };
+
+    fn eq(&self, other: &Policy<A>) -> bool {
+        self.rows == other.rows
+    }
+}
+
+impl<A: Allocator> Eq for Policy<A> {
+
+    ghost use Rattle.std.specs.Cmp.Lexicographic.{lists_equiv};
+    ghost use Rattle.he_select.specs.contracts.policy.RowEq.TheImpl.Laws as rows;
+
+    ghost laws = { lists_equiv rows.laws-law };
+}
+
 impl<A: Allocator + Copy> Policy<A> {
     /// The standard table (RFC 6724 section 2.1).
     #[tactic(auto, using(crate::proofs::Standards::standard_admits))]
