@@ -62,9 +62,9 @@ module _ (world : World) where
       let same : x ≡ ip = cc in
       let here : place ≡ q = omega arith in
       let tied : test (ranked_of world (record { ip = x; place = place })) ≡ true =
-          ap (λ i. is_eq (key_cmp (key_of world (record { ip = i; place = place })) (key_of world (record { ip = ip; place = q })))) same
-          ∙ ap (λ p. is_eq (key_cmp (key_of world (record { ip = ip; place = p })) (key_of world (record { ip = ip; place = q })))) here
-          ∙ ap is_eq (tied_itself keys_total (key_of world (record { ip = ip; place = q }))) in
+      ap (λ i. is_eq (key_cmp (key_of world (record { ip = i; place = place })) (key_of world (record { ip = ip; place = q })))) same
+      ∙ ap (λ p. is_eq (key_cmp (key_of world (record { ip = ip; place = p })) (key_of world (record { ip = ip; place = q })))) here
+      ∙ ap is_eq (tied_itself keys_total (key_of world (record { ip = ip; place = q }))) in
       let counted = count_cons test (ranked_of world (record { ip = x; place = place })) (keyed (place + 1) xs) ∙ ap (λ b. one_if b + count_by test (keyed (place + 1) xs)) tied in
       omega (arith, counted)
   ties_itself (x ∷ xs) place (suc n) q ip e at =
@@ -93,23 +93,23 @@ module _ (world : World) where
   is_order parts ips usable ys moved sorted = record {
     members = subst (λ l. IsPermutation l (map (λ (r : Ranked). r.ip) ys)) (ips_back 0 ips) (IsPermutation-map (λ (r : Ranked). r.ip) (keyed 0 ips) ys moved);
     places = λ n ip at.
-      let m : Member = record { ip = ip; place = n } in
-      let ties : Ranked → Bool = λ r. is_eq (key_cmp r.key (key_of world m)) in
-      let less : Ranked → Bool = λ r. is_lt (key_cmp r.key (key_of world m)) in
-      let stands : 1 ≤ count_by ties (keyed 0 ips) = ties_itself ips 0 n n ip (omega arith) at in
-      let some : 1 ≤ count_by ties ys = omega (arith, count-permutation ties (keyed 0 ips) ys moved) in
-      let z = found key_cmp keys_total (λ (r : Ranked). r.key) (key_of world m) ys (rising key_cmp keys_total (λ (r : Ranked). r.key) ys sorted) some in
-      let place : z.0.key.place ≡ n = same_place z.0.key (key_of world m) z.2 in
-      let own : slice_get ips z.0.key.place ≡ Some z.0.ip = each_at (λ (r : Ranked). slice_get ips r.key.place ≡ Some r.ip) ys (each-permutation _ (keyed 0 ips) ys moved (own_places ips ips 0 (λ i. ap (slice_get ips) (omega arith)))) _ z.0 z.1 in
-      let same : Some z.0.ip ≡ Some ip = sym own ∙ ap (slice_get ips) place ∙ at in
-      let counts : count_by less ys ≡ count_by (λ other. prefers world other m) (members_from 0 ips) =
-          count-permutation less (keyed 0 ips) ys moved
-          ∙ count-map less (ranked_of world) (members_from 0 ips)
-          ∙ count-same _ _ (members_from 0 ips) (preferred_by_keys parts ips 0 usable m (each_at IsUsable ips usable n ip at)) in
-      slice_get-map (λ (r : Ranked). r.ip) ys (count_by (λ other. prefers world other m) (members_from 0 ips))
-      ∙ ap (λ c. option_map (λ (r : Ranked). r.ip) (slice_get ys c)) (sym counts)
-      ∙ ap (option_map (λ (r : Ranked). r.ip)) z.1
-      ∙ same;
+        let m : Member = record { ip = ip; place = n } in
+        let ties : Ranked → Bool = λ r. is_eq (key_cmp r.key (key_of world m)) in
+        let less : Ranked → Bool = λ r. is_lt (key_cmp r.key (key_of world m)) in
+        let stands : 1 ≤ count_by ties (keyed 0 ips) = ties_itself ips 0 n n ip (omega arith) at in
+        let some : 1 ≤ count_by ties ys = omega (arith, count-permutation ties (keyed 0 ips) ys moved) in
+        let z = found key_cmp keys_total (λ (r : Ranked). r.key) (key_of world m) ys (rising key_cmp keys_total (λ (r : Ranked). r.key) ys sorted) some in
+        let place : z.0.key.place ≡ n = same_place z.0.key (key_of world m) z.2 in
+        let own : slice_get ips z.0.key.place ≡ Some z.0.ip = each_at (λ (r : Ranked). slice_get ips r.key.place ≡ Some r.ip) ys (each-permutation _ (keyed 0 ips) ys moved (own_places ips ips 0 (λ i. ap (slice_get ips) (omega arith)))) _ z.0 z.1 in
+        let same : Some z.0.ip ≡ Some ip = sym own ∙ ap (slice_get ips) place ∙ at in
+        let counts : count_by less ys ≡ count_by (λ other. prefers world other m) (members_from 0 ips) =
+        count-permutation less (keyed 0 ips) ys moved
+        ∙ count-map less (ranked_of world) (members_from 0 ips)
+        ∙ count-same _ _ (members_from 0 ips) (preferred_by_keys parts ips 0 usable m (each_at IsUsable ips usable n ip at)) in
+        slice_get-map (λ (r : Ranked). r.ip) ys (count_by (λ other. prefers world other m) (members_from 0 ips))
+        ∙ ap (λ c. option_map (λ (r : Ranked). r.ip) (slice_get ys c)) (sym counts)
+        ∙ ap (option_map (λ (r : Ranked). r.ip)) z.1
+        ∙ same;
   }
 
 pub each_usable : (ips : List Ip) → IsTrue (list_all is_usable ips) → All InRange ips → Each IsUsable ips

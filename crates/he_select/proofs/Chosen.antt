@@ -77,8 +77,8 @@ keys_by world m None e =
 keys_by world m (Some route) e =
     let find : Route → Option Candidate = λ route. walk_fitting (λ candidate. admits (destination_of m.ip (label_of world.rows m.ip) route) candidate.source) comes_before None (map (candidate_of (destination_of m.ip (label_of world.rows m.ip) route)) (map (labelled_of world.rows) world.sources)) in
     let found : find route ≡ option_map (made world m.ip route) (source_of world m.ip) =
-        ap (walk_fitting (λ candidate. admits (destination_of m.ip (label_of world.rows m.ip) route) candidate.source) comes_before None) (map-map (candidate_of (destination_of m.ip (label_of world.rows m.ip) route)) (labelled_of world.rows) world.sources)
-        ∙ source_walked world m.ip route e in
+    ap (walk_fitting (λ candidate. admits (destination_of m.ip (label_of world.rows m.ip) route) candidate.source) comes_before None) (map-map (candidate_of (destination_of m.ip (label_of world.rows m.ip) route)) (labelled_of world.rows) world.sources)
+    ∙ source_walked world m.ip route e in
     ap (λ o. code_key world m o (option_and_then find o)) e
     ∙ ap (code_key world m (Some route)) found
     ∙ same_with world m route (source_of world m.ip)

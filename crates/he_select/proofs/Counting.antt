@@ -41,9 +41,10 @@ module _ {K : Type 0} (R : K → K → Ordering) (o : IsTotalOrder R) {X : Type 
 
   rising_from : (xs : List X) → ((i j : ℕ) (d : X) → i ≤ j → j < length xs → is_lt (R (key (get_or xs j d)) (key (get_or xs i d))) ≡ false) → Rising xs
   rising_from [] far = tt
-  rising_from (x ∷ xs) far =
-      (each-get (λ y. is_lt (R (key y) (key x)) ≡ false) xs (λ j d lt. far 0 (suc j) d (omega arith) (omega arith))
-      , rising_from xs (λ i j d le lt. far (suc i) (suc j) d (omega arith) (omega arith)))
+  rising_from (x ∷ xs) far = (
+    each-get (λ y. is_lt (R (key y) (key x)) ≡ false) xs (λ j d lt. far 0 (suc j) d (omega arith) (omega arith)),
+    rising_from xs (λ i j d le lt. far (suc i) (suc j) d (omega arith) (omega arith)),
+  )
 
   pub rising : (xs : List X) → IsSortedByKey key R xs → Rising xs
   rising xs sorted = rising_from xs (sorted_far (λ a b. is_lt (R (key a) (key b))) (ranks_by o key) xs sorted)
@@ -79,26 +80,26 @@ module _ {K : Type 0} (R : K → K → Ordering) (o : IsTotalOrder R) {X : Type 
   found_next : (k : K) (y : X) (ys : List X) → R (key y) k ≡ Less → Found k ys → Found k (y ∷ ys)
   found_next k y ys less (z, at, tied) =
       let more : count_by (λ x. is_lt (R (key x) k)) (y ∷ ys) ≡ suc (count_by (λ x. is_lt (R (key x) k)) ys) =
-          count_cons (λ x. is_lt (R (key x) k)) y ys ∙ ap (λ b. one_if b + count_by (λ x. is_lt (R (key x) k)) ys) (ap is_lt less) ∙ omega arith in
+      count_cons (λ x. is_lt (R (key x) k)) y ys ∙ ap (λ b. one_if b + count_by (λ x. is_lt (R (key x) k)) ys) (ap is_lt less) ∙ omega arith in
       (z, ap (slice_get (y ∷ ys)) more ∙ at, tied)
 
   found_here : (k : K) (y : X) (ys : List X) → R (key y) k ≡ Equal → Each (λ z. is_lt (R (key z) (key y)) ≡ false) ys → Found k (y ∷ ys)
   found_here k y ys tied h =
       let none : count_by (λ x. is_lt (R (key x) k)) ys ≡ 0 = none_less k y ys tied h in
       let first : count_by (λ x. is_lt (R (key x) k)) (y ∷ ys) ≡ 0 =
-          count_cons (λ x. is_lt (R (key x) k)) y ys ∙ ap (λ b. one_if b + count_by (λ x. is_lt (R (key x) k)) ys) (ap is_lt tied) ∙ omega arith in
+      count_cons (λ x. is_lt (R (key x) k)) y ys ∙ ap (λ b. one_if b + count_by (λ x. is_lt (R (key x) k)) ys) (ap is_lt tied) ∙ omega arith in
       (y, ap (slice_get (y ∷ ys)) first, tied)
 
   found_by : (k : K) (y : X) (ys : List X) → Rising (y ∷ ys) → 1 ≤ count_by (λ x. is_eq (R (key x) k)) (y ∷ ys)
       → (1 ≤ count_by (λ x. is_eq (R (key x) k)) ys → Found k ys) → (answer : Ordering) → R (key y) k ≡ answer → Found k (y ∷ ys)
   found_by k y ys up some rest Less e =
       let same : count_by (λ x. is_eq (R (key x) k)) (y ∷ ys) ≡ 0 + count_by (λ x. is_eq (R (key x) k)) ys =
-          count_cons (λ x. is_eq (R (key x) k)) y ys ∙ ap (λ b. one_if b + count_by (λ x. is_eq (R (key x) k)) ys) (ap is_eq e) in
+      count_cons (λ x. is_eq (R (key x) k)) y ys ∙ ap (λ b. one_if b + count_by (λ x. is_eq (R (key x) k)) ys) (ap is_eq e) in
       found_next k y ys e (rest (omega arith))
   found_by k y ys up some rest Equal e = found_here k y ys e up.0
   found_by k y ys up some rest Greater e =
       let same : count_by (λ x. is_eq (R (key x) k)) (y ∷ ys) ≡ 0 + count_by (λ x. is_eq (R (key x) k)) ys =
-          count_cons (λ x. is_eq (R (key x) k)) y ys ∙ ap (λ b. one_if b + count_by (λ x. is_eq (R (key x) k)) ys) (ap is_eq e) in
+      count_cons (λ x. is_eq (R (key x) k)) y ys ∙ ap (λ b. one_if b + count_by (λ x. is_eq (R (key x) k)) ys) (ap is_eq e) in
       let none : count_by (λ x. is_eq (R (key x) k)) ys ≡ 0 = none_tied k y ys e up.0 in
       absurd (omega arith)
 

@@ -159,7 +159,7 @@ unfolding row_of
 row_at rows ip prefix e here =
     let member = has_prefix rows prefix e in
     let holds : contains member.0.prefix ip ≡ true =
-        ap (λ (b : ℕ). contains (record { bits = b; len = member.0.prefix.len }) ip) member.2 ∙ ap (λ (n : ℕ). contains (record { bits = prefix.bits; len = n }) ip) member.3 ∙ here in
+    ap (λ (b : ℕ). contains (record { bits = b; len = member.0.prefix.len }) ip) member.2 ∙ ap (λ (n : ℕ). contains (record { bits = prefix.bits; len = n }) ip) member.3 ∙ here in
     let best = best_is is_longer_row rows_by_length (filter (λ row. contains row.prefix ip) rows) member.0 (passes_filter (λ row. contains row.prefix ip) rows member.0 member.1 holds) in
     let among = filter_passes (λ row. contains row.prefix ip) rows best.0 best.2 in
     let long : member.0.prefix.len ≤ best.0.prefix.len = ltb-false _ _ best.3 in
@@ -199,10 +199,10 @@ crossed rows admitted m n um un even =
     let ia : is_inside_mapped a.0.prefix ≡ true = inside a.0 m um.1 a.4 a.3 in
     let ib : is_inside_mapped b.0.prefix ≡ false = outside b.0 n un.0 b.3 in
     let equal : a.0.precedence ≡ b.0.precedence =
-        sym (ap (λ o. option_map_or (λ (row : Row). row.precedence) o 0) a.1) ∙ even ∙ ap (λ o. option_map_or (λ (row : Row). row.precedence) o 0) b.1 in
+    sym (ap (λ o. option_map_or (λ (row : Row). row.precedence) o 0) a.1) ∙ even ∙ ap (λ o. option_map_or (λ (row : Row). row.precedence) o 0) b.1 in
     shared_anyway rows a.0 b.0 none a.2 b.2
-        (apart_by a.0.precedence b.0.precedence (is_inside_mapped a.0.prefix) (is_inside_mapped b.0.prefix) equal ia ib)
-        (apart_back a.0.precedence b.0.precedence (is_inside_mapped a.0.prefix) (is_inside_mapped b.0.prefix) equal ia ib)
+    (apart_by a.0.precedence b.0.precedence (is_inside_mapped a.0.prefix) (is_inside_mapped b.0.prefix) equal ia ib)
+    (apart_back a.0.precedence b.0.precedence (is_inside_mapped a.0.prefix) (is_inside_mapped b.0.prefix) equal ia ib)
 
 pub parts_families : (rows : List Row) → IsAdmitted rows → PartsFamilies rows
 parts_families rows admitted (V4 m) (V4 n) ux uy even = refl

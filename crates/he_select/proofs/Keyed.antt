@@ -83,7 +83,7 @@ by_keys world parts a b ua ub =
     step (yes_as_less (is_native world a.ip) (is_native world b.ip)) (λ _.
     step {o = nat_cmp (scope_of a.ip) (scope_of b.ip)} refl (λ _.
     step (sourced_common ra rb (beq (is_v6 a.ip) (is_v6 b.ip)) (common_with_source world a.ip) (common_with_source world b.ip) both
-        (same_family (is_v6 a.ip) (is_v6 b.ip) (parts a.ip b.ip ua ub (sym (tied_numbers _ _ even))))
-        (nothing_common (source_of world a.ip) (λ s. common_of s.ip s.plen a.ip))
-        (nothing_common (source_of world b.ip) (λ s. common_of s.ip s.plen b.ip))) (λ _.
+    (same_family (is_v6 a.ip) (is_v6 b.ip) (parts a.ip b.ip ua ub (sym (tied_numbers _ _ even))))
+    (nothing_common (source_of world a.ip) (λ s. common_of s.ip s.plen a.ip))
+    (nothing_common (source_of world b.ip) (λ s. common_of s.ip s.plen b.ip))) (λ _.
     then_equal (nat_cmp a.place b.place)))))))))

@@ -51,12 +51,12 @@ preference_orders world admitted =
     record {
       irreflexive = λ a ua. keyed a a ua ua ∙ ap is_lt (tied_itself keys_total (key_of world a));
       transitive = λ a b c ua ub uc ab bc.
-        keyed a c ua uc ∙ ap is_lt (keys_total.trans (key_of world a) (key_of world b) (key_of world c) (was_less _ (sym (keyed a b ua ub) ∙ ab)) (was_less _ (sym (keyed b c ub uc) ∙ bc)));
+          keyed a c ua uc ∙ ap is_lt (keys_total.trans (key_of world a) (key_of world b) (key_of world c) (was_less _ (sym (keyed a b ua ub) ∙ ab)) (was_less _ (sym (keyed b c ub uc) ∙ bc)));
       total = λ a b ua ub apart.
-        elim (one_first (key_cmp (key_of world a) (key_of world b)) (key_cmp (key_of world b) (key_of world a)) (keys_total.antisymm (key_of world b) (key_of world a)) (λ tied. apart (same_place (key_of world a) (key_of world b) tied))) [
-          | inl ab ↦ inl (keyed a b ua ub ∙ ab)
-          | inr ba ↦ inr (keyed b a ub ua ∙ ba)
-        ];
+          elim (one_first (key_cmp (key_of world a) (key_of world b)) (key_cmp (key_of world b) (key_of world a)) (keys_total.antisymm (key_of world b) (key_of world a)) (λ tied. apart (same_place (key_of world a) (key_of world b) tied))) [
+            | inl ab ↦ inl (keyed a b ua ub ∙ ab)
+            | inr ba ↦ inr (keyed b a ub ua ∙ ba)
+          ];
     }
 
 ranks_alike : {X : Type 0} (lt other : X → X → Bool) → ((a b : X) → other a b ≡ lt a b) → IsStrictWeakOrder lt → IsStrictWeakOrder other

@@ -42,10 +42,10 @@ scope_then goal x y {q} {r} e = then_same (scope_as_less goal x y) e ∙ then_re
 pub step : {o p q r : Ordering} → o ≡ p → (o ≡ Equal → q ≡ r) → ordering_then o q ≡ ordering_then p r
 step {o} {p} {q} {r} e more = ap (λ t. ordering_then t q) e ∙ later p (λ tied. more (e ∙ tied))
   where
-  later : (p : Ordering) → (p ≡ Equal → q ≡ r) → ordering_then p q ≡ ordering_then p r
-  later Less h = refl
-  later Equal h = h refl
-  later Greater h = refl
+    later : (p : Ordering) → (p ≡ Equal → q ≡ r) → ordering_then p q ≡ ordering_then p r
+    later Less h = refl
+    later Equal h = h refl
+    later Greater h = refl
 
 pub alike : (x y : Bool) → bool_cmp y x ≡ Equal → x ≡ y
 alike true true e = refl

@@ -37,9 +37,9 @@ any_follows p q h (x ∷ xs) e =
     elim (cases_Bool (p x)) [
       | inl true_here ↦ rw (h x true_here) refl
       | inr false_here ↦ elim (cases_Bool (q x)) [
-          | inl also ↦ rw also refl
-          | inr neither ↦ rw neither (any_follows p q h xs (rw false_here at e))
-        ]
+        | inl also ↦ rw also refl
+        | inr neither ↦ rw neither (any_follows p q h xs (rw false_here at e))
+      ]
     ]
 
 module _ {X : Type 0} (better : X → X → Bool) (o : IsStrictWeakOrder better) where

@@ -7,10 +7,10 @@ ghost use Rattle.he_select.specs.Hosts.{same_source, same_route, is_sound_source
 ghost use Rattle.he_select.specs.Selection.{source_of, world_of};
 
 use crate::distinct::{Distinct, first_repeated, stands_in};
+use crate::limits::{NO_INTERFACE, ROUTES, SOURCES};
 use crate::lookup::{find_label, find_route};
 use crate::policy::{Policy, Row};
 use crate::selection::{Destination, best_source};
-use crate::limits::{NO_INTERFACE, ROUTES, SOURCES};
 use he_addr::prefix::{V4_BITS, V6_BITS};
 use he_addr::{Family, Ip, Memory, Prefix};
 use std::alloc::{Allocator, Global};
@@ -249,7 +249,7 @@ impl<A: Allocator> Host<A> {
         ensures sources { result.now ≡ self.now.sources }
         ensures host { IsHost self.now }
     {
-        &self.sources
+        self.sources.as_slice()
     }
 
     /// The routes, in the order in which they were given.
@@ -257,7 +257,7 @@ impl<A: Allocator> Host<A> {
         ensures routes { result.now ≡ self.now.routes }
         ensures host { IsHost self.now }
     {
-        &self.routes
+        self.routes.as_slice()
     }
 
     /// The source that the host uses for a destination (RFC 6724 section 5): of the candidates the best by the source rules;

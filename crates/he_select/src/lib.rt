@@ -11,7 +11,9 @@ pub(crate) mod ranking;
 pub(crate) mod selection;
 pub mod sorting;
 
-
 pub use host::{Host, HostFault, Route, Source};
 pub use policy::{Policy, PolicyFault, Row};
 pub use sorting::order;
+
+#[cfg(test)]
+mod tests;

@@ -211,7 +211,6 @@ impl<A: Allocator> PartialEq for Policy<A> {
 }
 
 impl<A: Allocator> Eq for Policy<A> {
-
     ghost use Rattle.std.specs.Cmp.Lexicographic.{lists_equiv};
     ghost use Rattle.he_select.specs.contracts.policy.RowEq.TheImpl.Laws as rows;
 
@@ -252,7 +251,7 @@ impl<A: Allocator> Policy<A> {
         ensures rows { result.now ≡ self.now }
         ensures admitted { IsAdmitted self.now }
     {
-        &self.rows
+        self.rows.as_slice()
     }
 
     /// The precedence of an address, that of the containing row with the longest prefix (RFC 6724 section 2.1).

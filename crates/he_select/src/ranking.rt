@@ -45,7 +45,13 @@ struct Attributes {
 }
 
 /// The destination that stands at this place of the list, with its key.
-pub(crate) fn rank(rows: &[Row], routes: &[Route], sources: &[Labelled], ip: Ip, place: usize) -> Ranked
+pub(crate) fn rank(
+    rows: &[Row],
+    routes: &[Route],
+    sources: &[Labelled],
+    ip: Ip,
+    place: usize,
+) -> Ranked
     requires { IsTrue (list_all (λ labelled. is_sound_source labelled.source) sources.now) }
     ensures key { result ≡ ranked_by rows.now routes.now sources.now (record { ip = ip; place = place }) }
     ensures range { InRange ip }

@@ -172,7 +172,11 @@ impl Destination {
 }
 
 /// The best of the sources that may be used for the destination, each with the label that the table gives it.
-pub(crate) fn best_source(rows: &[Row], sources: &[Source], destination: &Destination) -> Option<Candidate>
+pub(crate) fn best_source(
+    rows: &[Row],
+    sources: &[Source],
+    destination: &Destination,
+) -> Option<Candidate>
     requires { IsTrue (list_all is_sound_source sources.now) }
     ensures { result ≡ walk_fitting (λ candidate. admits destination.now candidate.source) comes_before None (map (λ source. candidate_of destination.now (labelled_of rows.now source)) sources.now) }
 {

@@ -29,7 +29,14 @@ pub fn order<A: Allocator + Copy, P: Allocator, H: Allocator>(
     requires { IsTrue (list_all is_usable addresses.now) }
     ensures { IfOk result (λ sorted. IsOrder (world_of policy.now host.now) addresses.now sorted.items) }
 {
-    sort_addresses(alloc, policy.rows(), host.sources(), host.routes(), addresses).map_err(|_| Memory)
+    sort_addresses(
+        alloc,
+        policy.rows(),
+        host.sources(),
+        host.routes(),
+        addresses,
+    )
+    .map_err(|_| Memory)
 }
 
 /// The addresses in the order of preference: what the rules look at is computed once for each source and for each address,
@@ -52,10 +59,17 @@ fn sort_addresses<A: Allocator + Copy>(
     addresses_of(alloc, &ranked)
 }
 
-fn label_sources<A: Allocator + Copy>(alloc: A, rows: &[Row], sources: &[Source]) -> Result<Vec<Labelled, A>, AllocError>
+fn label_sources<A: Allocator + Copy>(
+    alloc: A,
+    rows: &[Row],
+    sources: &[Source],
+) -> Result<Vec<Labelled, A>, AllocError>
     ensures { IfOk result (λ labelled. labelled.items ≡ map (labelled_of rows.now) sources.now) }
 {
-    sources.iter().map(|source| Labelled::new(rows, source)).collect(alloc)
+    sources
+        .iter()
+        .map(|source| Labelled::new(rows, source))
+        .collect(alloc)
 }
 
 /// What a list of ranked destinations holds, in its order.

@@ -28,13 +28,13 @@ returns g c =
     let ips : List Ip = c.args.addresses.now in
     let labelled : c.deref.result.now ≡ map (labelled_of c.args.rows.now) c.args.sources.now = c.deref.ensures.value ∙ c.in_ok-labelled.ensures in
     let keyed : c.deref_mut.result.now ≡ map (ranked_of world) (members_from 0 ips) =
-        c.deref_mut.ensures.value ∙ c.in_ok-ranked.ensures.keys
-        ∙ ap (λ l. map (ranked_by c.args.rows.now c.args.routes.now l) (members_from 0 ips)) labelled
-        ∙ map-same (ranked_by c.args.rows.now c.args.routes.now (map (labelled_of c.args.rows.now) c.args.sources.now)) (ranked_of world) (ranked_is world) (members_from 0 ips) in
+    c.deref_mut.ensures.value ∙ c.in_ok-ranked.ensures.keys
+    ∙ ap (λ l. map (ranked_by c.args.rows.now c.args.routes.now l) (members_from 0 ips)) labelled
+    ∙ map-same (ranked_by c.args.rows.now c.args.routes.now (map (labelled_of c.args.rows.now) c.args.sources.now)) (ranked_of world) (ranked_is world) (members_from 0 ips) in
     let kept = length_permutation c.deref_mut.result.now c.sort.new.ranked c.sort.ensures.permutation ∙ ap (λ (l : List Ranked). length l) c.deref_mut.ensures.value in
     let now : c.deref-2.result.now ≡ c.sort.new.ranked =
-        c.deref-2.ensures.value ∙ written_back c.in_ok-ranked.ranked.items c.sort.new.ranked c.in_ok-ranked.ranked.len kept (sym (ap (λ (l : List Ranked). length l) c.deref_mut.ensures.value) ∙ c.deref_mut.ensures.len) in
+    c.deref-2.ensures.value ∙ written_back c.in_ok-ranked.ranked.items c.sort.new.ranked c.in_ok-ranked.ranked.len kept (sym (ap (λ (l : List Ranked). length l) c.deref_mut.ensures.value) ∙ c.deref_mut.ensures.len) in
     let order : IsOrder world ips (map (λ (r : Ranked). r.ip) c.sort.new.ranked) =
-        is_order world (parts_families c.args.rows.now c.requires.admitted) ips (each_usable ips c.requires.usable c.in_ok-ranked.ensures.range) c.sort.new.ranked
-        (subst (λ (l : List Ranked). IsPermutation l c.sort.new.ranked) keyed c.sort.ensures.permutation) c.sort.ensures.sorted in
+    is_order world (parts_families c.args.rows.now c.requires.admitted) ips (each_usable ips c.requires.usable c.in_ok-ranked.ensures.range) c.sort.new.ranked
+    (subst (λ (l : List Ranked). IsPermutation l c.sort.new.ranked) keyed c.sort.ensures.permutation) c.sort.ensures.sorted in
     IfOk-weaker c.addresses_of.result _ _ (λ v e. subst (IsOrder world ips) (sym (e ∙ ap (map (λ (r : Ranked). r.ip)) now)) order) c.addresses_of.ensures
