@@ -1,8 +1,6 @@
 -- Destinations sorted by their keys are in the order of preference.
 use Rattle.std.proofs.Common.{◌≡◌, ℕ, zero, suc, ◌+◌, ◌<◌, ◌≤◌, Bool, true, List, [], ◌∷◌, map, length, refl, sym, ◌∙◌, ap, subst, arith, get_or, slice_get}
-use Rattle.std.specs.Prelude.{Option, Some, None, option_map, count_by, All, IsPermutation, IsSortedByKey}
-use Rattle.std.specs.declared.cmp.Ordering.{Ordering}
-use Rattle.std.specs.declared.cmp.Ordering.TheVariants.{Less, Equal, Greater}
+use Rattle.std.specs.Prelude.{Some, option_map, count_by, All, IsPermutation, IsSortedByKey}
 use Rattle.std.specs.Ordering.{is_lt, is_eq}
 use Rattle.std.proofs.lemmas.Cmp.{tied_itself}
 use Rattle.std.proofs.lemmas.List.Sorted.{All-permutation, IsPermutation-map}
@@ -12,7 +10,6 @@ use Rattle.std.specs.List.{AllPass, list_all}
 use Rattle.std.proofs.lemmas.List.Sums.{AllPass-from_list_all}
 use Rattle.std.proofs.Common.{IsTrue}
 use Rattle.he_addr.specs.Ip.{InRange, IsUsable, is_usable}
-use Rattle.he_select.specs.declared.ranking.Key.{Key}
 use Rattle.he_select.specs.declared.ranking.Ranked.{Ranked}
 use Rattle.he_select.specs.DestinationKeys.{key_cmp, key_of, ranked_of}
 use Rattle.he_select.specs.Preference.{IsOrder, Member, members_from, prefers}

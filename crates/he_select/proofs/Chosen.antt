@@ -1,9 +1,8 @@
 -- The key that the code makes of a destination is the key of the rules.
-use Rattle.std.proofs.Common.{◌≡◌, ℕ, Bool, true, false, not, List, [], ◌∷◌, map, refl, sym, ◌∙◌, ap}
+use Rattle.std.proofs.Common.{◌≡◌, Bool, true, false, not, List, [], ◌∷◌, map, refl, sym, ◌∙◌, ap}
 use Rattle.std.specs.Prelude.{Option, None, Some, option_map, option_and_then, is_some, nat_eq, ◌&&◌}
 use Rattle.std.specs.List.{list_all}
 use Rattle.std.specs.Option.{option_map_or}
-use Rattle.he_addr.specs.declared.ip.Ip.{Ip}
 use Rattle.he_addr.specs.Ip.{scope_of}
 use Rattle.he_addr.specs.Prefix.{common_of}
 use Rattle.he_select.specs.declared.host.Source.{Source}
@@ -13,12 +12,11 @@ use Rattle.he_select.specs.declared.ranking.Attributes.{Attributes}
 use Rattle.he_select.specs.declared.ranking.Key.{Key}
 use Rattle.he_select.specs.declared.ranking.Ranked.{Ranked}
 use Rattle.he_select.specs.declared.selection.Candidate.{Candidate}
-use Rattle.he_select.specs.declared.selection.Labelled.{Labelled}
 use Rattle.he_select.specs.DestinationKeys.{attributes_of, chosen_by, key_by, key_of, ranked_by, ranked_of}
 use Rattle.he_select.specs.Hosts.{is_sound_source}
 use Rattle.he_select.specs.Keys.{admits, candidate_of, comes_before, destination_of, labelled_of, source_key}
-use Rattle.he_select.specs.Preference.{Member, members_from}
-use Rattle.he_select.specs.Selection.{World, longest_route, route_of, source_of}
+use Rattle.he_select.specs.Preference.{Member}
+use Rattle.he_select.specs.Selection.{World, route_of, source_of}
 use Rattle.he_select.specs.Tables.{label_of, precedence_of}
 use Rattle.he_select.specs.Walking.{walk_fitting}
 use Rattle.he_select.proofs.Sources.{made, no_source, source_walked}

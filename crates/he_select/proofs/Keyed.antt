@@ -1,6 +1,6 @@
 -- The destination rules by keys, and that keys are in a total order.
-use Rattle.std.proofs.Common.{◌≡◌, ℕ, Bool, true, false, not, cond, refl, sym, ◌∙◌, ap, inl, inr, map, List}
-use Rattle.std.specs.Prelude.{Option, None, Some, option_map, is_some, nat_eq, ◌&&◌}
+use Rattle.std.proofs.Common.{◌≡◌, ℕ, Bool, true, false, refl, sym, List}
+use Rattle.std.specs.Prelude.{Option, None, Some, is_some}
 use Rattle.std.specs.Bool.{beq}
 use Rattle.std.specs.Option.{option_map_or}
 use Rattle.std.specs.Cmp.{IsTotalOrder, bool_cmp_total}
@@ -12,13 +12,12 @@ use Rattle.he_addr.specs.declared.ip.Ip.{Ip}
 use Rattle.he_addr.specs.Ip.{is_v6, scope_of, IsUsable}
 use Rattle.he_addr.specs.Prefix.{common_of}
 use Rattle.he_select.specs.declared.host.Source.{Source}
-use Rattle.he_select.specs.declared.host.Route.{Route}
 use Rattle.he_select.specs.declared.policy.Row.{Row}
 use Rattle.he_select.specs.declared.ranking.Key.{Key}
 use Rattle.he_select.specs.DestinationKeys.{key_of, key_cmp}
 use Rattle.he_select.specs.Preference.{Member, common_with_source, destination_rules, has_current_source, has_like_label, has_like_scope, is_native}
 use Rattle.he_select.specs.Rules.{first_of}
-use Rattle.he_select.specs.Selection.{World, is_reachable, route_of, source_of}
+use Rattle.he_select.specs.Selection.{World, is_reachable, source_of}
 use Rattle.he_select.specs.Tables.{precedence_of}
 use Rattle.he_select.proofs.Orders.{alike, sourced, sourced_common, step, then_equal, tied_numbers, yes_as_less}
 

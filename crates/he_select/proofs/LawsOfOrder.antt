@@ -1,8 +1,8 @@
 -- The laws that src/laws.rt states.
-use Rattle.std.proofs.Common.{◌≡◌, ℕ, ◌<◌, ◌≢◌, ◌⊎◌, Bool, true, false, List, [], ◌∷◌, length, refl, sym, ◌∙◌, ap, subst, arith, inl, inr, IsTrue}
-use Rattle.std.specs.Prelude.{Option, None, Some, filter, is_some, IsSome}
+use Rattle.std.proofs.Common.{◌≡◌, ◌<◌, ◌⊎◌, Bool, true, List, [], ◌∷◌, length, refl, sym, ◌∙◌, ap, arith, inl, inr}
+use Rattle.std.specs.Prelude.{Option, None, Some, filter, is_some}
 use Rattle.std.specs.Option.{option_map_or}
-use Rattle.std.specs.Cmp.{IsTotalOrder, IsStrictWeakOrder}
+use Rattle.std.specs.Cmp.{IsStrictWeakOrder}
 use Rattle.std.specs.declared.cmp.Ordering.{Ordering}
 use Rattle.std.specs.declared.cmp.Ordering.TheVariants.{Less, Equal, Greater}
 use Rattle.std.specs.Ordering.{is_lt, ordering_reverse}
@@ -13,23 +13,20 @@ use Rattle.std.proofs.Math.Nat.{div-eq_of_lt}
 use Rattle.std.proofs.Common.{eq-eqb, ◌+◌, ◌*◌, ◌/◌, ◌^◌}
 use Rattle.he_addr.specs.declared.ip.Ip.{Ip}
 use Rattle.he_addr.specs.declared.ip.Ip.TheVariants.{V4, V6}
-use Rattle.he_addr.specs.Ip.{InRange, IsUsable}
+use Rattle.he_addr.specs.Ip.{InRange}
 use Rattle.he_addr.specs.Prefix.{contains}
 use Rattle.he_select.specs.declared.host.Route.{Route}
 use Rattle.he_select.specs.declared.host.Source.{Source}
-use Rattle.he_select.specs.declared.policy.Row.{Row}
-use Rattle.he_select.specs.declared.ranking.Key.{Key}
 use Rattle.he_select.specs.DestinationKeys.{key_cmp, key_of}
-use Rattle.he_select.specs.Laws.{EveryAddressHasRow, IsStrictTotalOrderOn, PreferenceIsByKeys, PreferenceIsStrictTotalOrder, ReachableWhereCandidates}
-use Rattle.he_select.specs.Preference.{Member, prefers}
+use Rattle.he_select.specs.Laws.{EveryAddressHasRow, PreferenceIsByKeys, PreferenceIsStrictTotalOrder, ReachableWhereCandidates}
 use Rattle.he_select.specs.Rules.{best_by}
-use Rattle.he_select.specs.Selection.{World, candidates, is_better, is_candidate, is_reachable, route_of, source_of}
-use Rattle.he_select.specs.Tables.{IsAdmitted, any_address, has_row, row_of, table_causes, table_fault}
+use Rattle.he_select.specs.Selection.{World, candidates, is_better, is_candidate, route_of, source_of}
+use Rattle.he_select.specs.Tables.{any_address, has_row, table_causes, table_fault}
 use Rattle.he_select.proofs.Causes.{none_stands, not_caused}
 use Rattle.std.proofs.lemmas.Bool.{not-false}
 use Rattle.he_select.proofs.Families.{best_is, parts_families, row_at, v6_starts}
 use Rattle.he_select.proofs.Keyed.{by_keys, keys_total, same_place}
-use Rattle.he_select.proofs.Sources.{by_source_keys, key_for, no_source, source_keys_total}
+use Rattle.he_select.proofs.Sources.{by_source_keys, key_for, source_keys_total}
 
 pub preference_by_keys : PreferenceIsByKeys
 preference_by_keys world admitted a b ua ub = ap is_lt (by_keys world (parts_families world.rows admitted) a b ua ub)

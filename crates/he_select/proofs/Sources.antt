@@ -1,12 +1,9 @@
 -- The source rules by keys, and the source that a loop over keys finds.
-use Rattle.std.proofs.Common.{◌≡◌, ℕ, ◌+◌, Bool, true, false, not, cond, List, [], ◌∷◌, map, refl, sym, ◌∙◌, ap, subst, inl, inr, IsTrue}
-use Rattle.std.specs.Prelude.{Option, None, Some, filter, option_map, is_none, nat_eq}
-use Rattle.std.specs.List.{list_all, position_from}
+use Rattle.std.proofs.Common.{◌≡◌, Bool, false, not, [], map, refl, sym, ◌∙◌, ap}
+use Rattle.std.specs.Prelude.{Option, None, Some, filter, option_map, nat_eq}
 use Rattle.std.specs.Option.{option_map_or}
 use Rattle.std.specs.Cmp.{IsTotalOrder, IsStrictWeakOrder, bool_cmp_total}
-use Rattle.std.specs.declared.cmp.Ordering.{Ordering}
-use Rattle.std.specs.Ordering.{nat_cmp, bool_cmp, ordering_then, is_lt}
-use Rattle.std.proofs.lemmas.Bool.{cases_Bool, false≢true}
+use Rattle.std.specs.Ordering.{nat_cmp, bool_cmp, is_lt}
 use Rattle.std.proofs.lemmas.Cmp.{nat_cmp_total, then_total, on_total, back_total}
 use Rattle.std.proofs.lemmas.List.Sorted.{ranks_by}
 use Rattle.he_addr.specs.declared.ip.Ip.{Ip}
@@ -14,14 +11,12 @@ use Rattle.he_addr.specs.Ip.{scope_of}
 use Rattle.he_addr.specs.Prefix.{common_of}
 use Rattle.he_select.specs.declared.host.Source.{Source}
 use Rattle.he_select.specs.declared.host.Route.{Route}
-use Rattle.he_select.specs.declared.policy.Row.{Row}
 use Rattle.he_select.specs.declared.selection.Candidate.{Candidate}
-use Rattle.he_select.specs.declared.selection.Destination.{Destination}
 use Rattle.he_select.specs.declared.selection.SourceKey.{SourceKey}
-use Rattle.he_select.specs.Hosts.{Interfaces, IsHost, host_fault, is_sound_source, same_ip}
+use Rattle.he_select.specs.Hosts.{same_ip}
 use Rattle.he_select.specs.Keys.{admits, candidate_of, comes_before, destination_of, labelled_of, source_key, source_key_cmp}
-use Rattle.he_select.specs.Rules.{first_of, first_cause, best_by}
-use Rattle.he_select.specs.Selection.{World, candidates, is_better, is_candidate, route_of, source_of, source_rules, longest_route}
+use Rattle.he_select.specs.Rules.{first_of, best_by}
+use Rattle.he_select.specs.Selection.{World, candidates, is_better, is_candidate, route_of, source_of, source_rules}
 use Rattle.he_select.specs.Tables.{label_of}
 use Rattle.he_select.specs.Walking.{walk_fitting}
 use Rattle.he_select.proofs.Listing.{best_by-map, best_by-same, filter-map}

@@ -5,7 +5,7 @@ use Rattle.std.specs.List.{list_any}
 use Rattle.std.specs.Cmp.{IsStrictWeakOrder}
 use Rattle.std.proofs.lemmas.Bool.{cases_Bool, both_ways}
 use Rattle.he_select.specs.Rules.{best_by}
-use Rattle.he_select.specs.Walking.{keep_better, keep_fitting, walk_fitting}
+use Rattle.he_select.specs.Walking.{keep_better, walk_fitting}
 
 abbrev pub walk : {X : Type 0} → (X → X → Bool) → Option X → List X → Option X
 walk better best [] = best

@@ -1,8 +1,7 @@
 -- The keys by which sources and destinations are compared: one number for each rule, the least key is preferred.
-use Rattle.std.specs.Prelude.{ℕ, ◌-◌, ◌==◌, ◌&&◌, ◌||◌, Bool, not, cond, nat_lt, List, Option, option_map}
+use Rattle.std.specs.Prelude.{ℕ, ◌==◌, ◌&&◌, ◌||◌, Bool, not, nat_lt, List}
 use Rattle.std.specs.Bool.{beq}
 use Rattle.std.specs.Int.{abs_diff}
-use Rattle.std.specs.Option.{option_map_or}
 use Rattle.std.specs.declared.cmp.Ordering.{Ordering}
 use Rattle.std.specs.Ordering.{nat_cmp, bool_cmp, ordering_then, is_lt}
 use Rattle.he_addr.specs.declared.ip.Ip.{Ip}
@@ -12,7 +11,6 @@ use Rattle.he_select.specs.declared.selection.SourceKey.{SourceKey}
 use Rattle.he_select.specs.declared.selection.Destination.{Destination}
 use Rattle.he_select.specs.declared.selection.Labelled.{Labelled}
 use Rattle.he_select.specs.declared.selection.Candidate.{Candidate}
-use Rattle.std.specs.declared.cmp.Reverse.{Reverse}
 use Rattle.he_select.specs.declared.host.Route.{Route}
 use Rattle.he_select.specs.declared.host.Source.{Source}
 use Rattle.he_select.specs.declared.policy.Row.{Row}

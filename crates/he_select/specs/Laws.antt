@@ -1,11 +1,10 @@
 -- What follows from the definitions, in words of its own.
-use Rattle.std.specs.Prelude.{ℕ, ◌≡◌, ◌≢◌, ◌<◌, ◌⊎◌, ◌↔◌, Bool, List, [], length, IsTrue, IsFalse, IsSome}
+use Rattle.std.specs.Prelude.{◌≡◌, ◌≢◌, ◌<◌, ◌⊎◌, ◌↔◌, Bool, List, length, IsTrue, IsFalse, IsSome}
 use Rattle.std.specs.Ordering.{is_lt}
 use Rattle.he_addr.specs.declared.ip.Ip.{Ip}
 use Rattle.he_addr.specs.Ip.{InRange, IsUsable}
 use Rattle.he_select.specs.DestinationKeys.{key_cmp, key_of}
 use Rattle.he_select.specs.Preference.{Member, prefers}
-use Rattle.he_select.specs.Rules.{Rule}
 use Rattle.he_select.specs.Selection.{World, candidates, is_reachable}
 use Rattle.he_select.specs.Tables.{IsAdmitted, row_of}
 use Rattle.he_select.specs.declared.policy.Row.{Row}

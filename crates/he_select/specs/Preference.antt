@@ -1,8 +1,7 @@
 -- Which of two destinations is preferred (RFC 6724 section 6), and a list in this order.
-use Rattle.std.specs.Prelude.{ℕ, zero, ◌+◌, ◌≡◌, ◌==◌, ◌&&◌, Bool, true, false, not, cond, List, [], ◌∷◌, length, slice_get, count_by, Option, Some, IsPermutation}
+use Rattle.std.specs.Prelude.{ℕ, ◌+◌, ◌≡◌, ◌==◌, Bool, true, false, not, cond, List, [], ◌∷◌, slice_get, count_by, Some, IsPermutation}
 use Rattle.std.specs.Bool.{beq}
 use Rattle.std.specs.Option.{option_map_or}
-use Rattle.std.specs.declared.cmp.Ordering.{Ordering}
 use Rattle.std.specs.declared.cmp.Ordering.TheVariants.{Equal}
 use Rattle.std.specs.Ordering.{is_lt}
 use Rattle.he_addr.specs.declared.ip.Ip.{Ip}

@@ -1,5 +1,4 @@
 use Rattle.std.proofs.Common.{◌≡◌, option_map, None, Some, rules, sym, ◌∙◌, ap}
-use Rattle.he_addr.specs.declared.ip.Ip.{Ip}
 use Rattle.he_select.specs.declared.host.Source.{Source}
 use Rattle.he_select.specs.declared.selection.Candidate.{Candidate}
 use Rattle.he_select.specs.Selection.{World, longest_route}
