@@ -8,6 +8,7 @@ pub mod Listing
 pub mod LawsOfOrder
 pub mod LookUps
 pub mod Orders
+pub mod Repeats
 pub mod Sources
 pub mod Standards
 pub mod Walks

@@ -5,6 +5,10 @@ use Rattle.he_addr.specs.declared.ip.Ip.{Ip}
 use Rattle.he_addr.specs.Ip.{InRange, IsUsable}
 use Rattle.he_select.specs.DestinationKeys.{key_cmp, key_of}
 use Rattle.he_select.specs.Preference.{Member, prefers}
+use Rattle.he_select.specs.Rules.{cause_if, first_repeat}
+use Rattle.std.specs.List.{list_any}
+use Rattle.std.specs.Option.{option_or}
+use Rattle.std.specs.Prelude.{[], ◌∷◌, ◌++◌}
 use Rattle.he_select.specs.Selection.{World, candidates, is_reachable}
 use Rattle.he_select.specs.Tables.{IsAdmitted, row_of}
 use Rattle.he_select.specs.declared.policy.Row.{Row}
@@ -34,3 +38,8 @@ ReachableWhereCandidates = (world : World) (ip : Ip) → IsTrue (is_reachable wo
 -- every address has a row of an admitted table
 abbrev pub EveryAddressHasRow : Type 0
 EveryAddressHasRow = (rows : List Row) → IsAdmitted rows → (ip : Ip) → InRange ip → IsSome (row_of rows ip)
+
+-- a list with one more member has the first repeat of the list, or else one at its end, where the member stands in the list
+abbrev pub RepeatsByOneMore : {X : Type 0} → (X → X → Bool) → Type 0
+RepeatsByOneMore {X} same =
+    (xs : List X) (x : X) → first_repeat same (xs ++ x ∷ []) ≡ option_or (first_repeat same xs) (cause_if (list_any (same x) xs) (length xs))

@@ -1,11 +1,8 @@
 // The source that the host uses for a destination (RFC 6724 section 5).
 
-ghost use Rattle.std.specs.Prelude.{◌≡◌, ℕ, Bool, Option, None, map, IsTrue};
-ghost use Rattle.std.specs.Bool.{beq};
+ghost use Rattle.std.specs.Prelude.{◌≡◌, Some, None, map, IsTrue};
 ghost use Rattle.std.specs.List.{list_all};
-ghost use Rattle.std.specs.Ordering.{is_lt};
 ghost use Rattle.he_addr.specs.Ip.{family_of};
-ghost use Rattle.he_addr.specs.Prefix.{common_of};
 ghost use Rattle.he_select.specs.Hosts.{is_sound_source};
 ghost use Rattle.he_select.specs.Keys.{source_key, source_key_cmp, candidate_of, destination_of, labelled_of, admits, comes_before};
 ghost use Rattle.he_select.specs.Walking.{keep_better, keep_fitting, walk_fitting};
