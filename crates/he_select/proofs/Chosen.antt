@@ -1,0 +1,90 @@
+-- The key that the code makes of a destination is the key of the rules.
+use Rattle.std.proofs.Common.{◌≡◌, Bool, true, false, not, List, [], ◌∷◌, map, refl, sym, ◌∙◌, ap}
+use Rattle.std.specs.Prelude.{Option, None, Some, option_map, option_and_then, is_some, nat_eq, ◌&&◌}
+use Rattle.std.specs.List.{list_all}
+use Rattle.std.specs.Option.{option_map_or}
+use Rattle.he_addr.specs.Ip.{scope_of}
+use Rattle.he_addr.specs.Prefix.{common_of}
+use Rattle.he_select.specs.declared.host.Source.{Source}
+use Rattle.he_select.specs.declared.host.Route.{Route}
+use Rattle.he_select.specs.declared.policy.Row.{Row}
+use Rattle.he_select.specs.declared.ranking.Attributes.{Attributes}
+use Rattle.he_select.specs.declared.ranking.Key.{Key}
+use Rattle.he_select.specs.declared.ranking.Ranked.{Ranked}
+use Rattle.he_select.specs.declared.selection.Candidate.{Candidate}
+use Rattle.he_select.specs.DestinationKeys.{attributes_of, chosen_by, key_by, key_of, ranked_by, ranked_of}
+use Rattle.he_select.specs.Hosts.{is_sound_source}
+use Rattle.he_select.specs.Keys.{admits, candidate_of, comes_before, destination_of, labelled_of, source_key}
+use Rattle.he_select.specs.Preference.{Member}
+use Rattle.he_select.specs.Selection.{World, route_of, source_of}
+use Rattle.he_select.specs.Tables.{label_of, precedence_of}
+use Rattle.he_select.specs.Walking.{walk_fitting}
+use Rattle.he_select.proofs.Sources.{made, no_source, source_walked}
+
+not_not : (b : Bool) → not (not b) ≡ b
+not_not true = refl
+not_not false = refl
+
+map-map : {X Y Z : Type 0} (f : Y → Z) (g : X → Y) (xs : List X) → map f (map g xs) ≡ map (λ x. f (g x)) xs
+map-map f g [] = refl
+map-map f g (x ∷ xs) = ap (λ ys. f (g x) ∷ ys) (map-map f g xs)
+
+pub map-same : {X Y : Type 0} (f g : X → Y) → ((x : X) → f x ≡ g x) → (xs : List X) → map f xs ≡ map g xs
+map-same f g e [] = refl
+map-same f g e (x ∷ xs) = ap (λ y. y ∷ map f xs) (e x) ∙ ap (λ ys. g x ∷ ys) (map-same f g e xs)
+
+-- the rules' key by the route and the source, and the code's by the route and the candidate
+abbrev rules_key : World → Member → Option Route → Option Source → Key
+rules_key world m route source = record {
+  unreachable = not (is_some source);
+  other_scope = is_some source && not (option_map_or (λ s. nat_eq (scope_of s.ip) (scope_of m.ip)) source false);
+  deprecated = is_some source && not (option_map_or (λ s. not s.deprecated) source false);
+  other_label = is_some source && not (option_map_or (λ s. nat_eq (label_of world.rows s.ip) (label_of world.rows m.ip)) source false);
+  precedence = record { 0 = precedence_of world.rows m.ip };
+  tunnel = not (option_map_or (λ r. not r.tunnel) route true);
+  scope = scope_of m.ip;
+  common = record { 0 = option_map_or (λ s. common_of s.ip s.plen m.ip) source 0 };
+  place = m.place;
+}
+
+abbrev code_key : World → Member → Option Route → Option Candidate → Key
+code_key world m route chosen = key_by (record { ip = m.ip; scope = scope_of m.ip; precedence = precedence_of world.rows m.ip; label = label_of world.rows m.ip; route = route }) chosen m.place
+
+same_without : (world : World) (m : Member) (route : Option Route) → code_key world m route None ≡ rules_key world m route None
+unfolding key_by
+same_without world m None = refl
+same_without world m (Some route) = simp not_not refl
+
+same_with : (world : World) (m : Member) (route : Route) (source : Option Source)
+    → code_key world m (Some route) (option_map (made world m.ip route) source) ≡ rules_key world m (Some route) source
+unfolding key_by source_key
+same_with world m route None = simp not_not refl
+same_with world m route (Some source) = simp not_not refl
+
+keys_by : (world : World) (m : Member) (route : Option Route) → route_of world m.ip ≡ route
+    → key_by (attributes_of world.rows world.routes m.ip) (chosen_by (attributes_of world.rows world.routes m.ip) (map (labelled_of world.rows) world.sources)) m.place
+    ≡ key_of world m
+unfolding chosen_by key_of
+keys_by world m None e =
+    let goal : Attributes = attributes_of world.rows world.routes m.ip in
+    let find : Route → Option Candidate = λ route. walk_fitting (λ candidate. admits (destination_of m.ip (label_of world.rows m.ip) route) candidate.source) comes_before None (map (candidate_of (destination_of m.ip (label_of world.rows m.ip) route)) (map (labelled_of world.rows) world.sources)) in
+    ap (λ o. code_key world m o (option_and_then find o)) e
+    ∙ same_without world m None
+    ∙ ap (λ o. rules_key world m o None) (sym e)
+    ∙ ap (rules_key world m (route_of world m.ip)) (sym (no_source world m.ip e))
+keys_by world m (Some route) e =
+    let find : Route → Option Candidate = λ route. walk_fitting (λ candidate. admits (destination_of m.ip (label_of world.rows m.ip) route) candidate.source) comes_before None (map (candidate_of (destination_of m.ip (label_of world.rows m.ip) route)) (map (labelled_of world.rows) world.sources)) in
+    let found : find route ≡ option_map (made world m.ip route) (source_of world m.ip) =
+    ap (walk_fitting (λ candidate. admits (destination_of m.ip (label_of world.rows m.ip) route) candidate.source) comes_before None) (map-map (candidate_of (destination_of m.ip (label_of world.rows m.ip) route)) (labelled_of world.rows) world.sources)
+    ∙ source_walked world m.ip route e in
+    ap (λ o. code_key world m o (option_and_then find o)) e
+    ∙ ap (code_key world m (Some route)) found
+    ∙ same_with world m route (source_of world m.ip)
+    ∙ ap (λ o. rules_key world m o (source_of world m.ip)) (sym e)
+
+pub ranked_is : (world : World) (m : Member) → ranked_by world.rows world.routes (map (labelled_of world.rows) world.sources) m ≡ ranked_of world m
+ranked_is world m = ap (λ (k : Key). let r : Ranked = record { key = k; ip = m.ip } in r) (keys_by world m (route_of world m.ip) refl)
+
+pub labelled_sound : (rows : List Row) (sources : List Source) → list_all is_sound_source sources ≡ list_all (λ labelled. is_sound_source labelled.source) (map (labelled_of rows) sources)
+labelled_sound rows [] = refl
+labelled_sound rows (source ∷ sources) = ap (λ t. is_sound_source source && t) (labelled_sound rows sources)

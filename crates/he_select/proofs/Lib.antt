@@ -1,0 +1,14 @@
+pub mod Arranged
+pub mod Causes
+pub mod Chosen
+pub mod Counting
+pub mod Families
+pub mod Keyed
+pub mod Listing
+pub mod LawsOfOrder
+pub mod LookUps
+pub mod Orders
+pub mod Repeats
+pub mod Sources
+pub mod Standards
+pub mod Walks

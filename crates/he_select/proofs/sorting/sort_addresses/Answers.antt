@@ -1,0 +1,40 @@
+use Rattle.std.proofs.Common.{◌≡◌, sym, ◌∙◌, ap, subst, List, map, length}
+use Rattle.std.specs.List.{list_all}
+use Rattle.std.specs.Prelude.{IsPermutation}
+use Rattle.std.proofs.lemmas.List.Sorted.{length_permutation}
+use Rattle.std.proofs.lemmas.Result.{IfOk-weaker}
+use Rattle.he_addr.specs.declared.ip.Ip.{Ip}
+use Rattle.he_select.specs.declared.ranking.Ranked.{Ranked}
+use Rattle.he_select.specs.declared.selection.Labelled.{Labelled}
+use Rattle.he_select.specs.DestinationKeys.{ranked_by, ranked_of}
+use Rattle.he_select.specs.Hosts.{is_sound_source}
+use Rattle.he_select.specs.Keys.{labelled_of}
+use Rattle.he_select.specs.Preference.{IsOrder, members_from}
+use Rattle.he_select.specs.Selection.{World}
+use Rattle.he_select.proofs.Arranged.{each_usable, is_order}
+use Rattle.he_select.proofs.Chosen.{labelled_sound, map-same, ranked_is}
+use Rattle.he_select.proofs.Families.{parts_families}
+use Rattle.he_select.proofs.Listing.{written_back}
+use Rattle.he_select.proofs.sorting.sort_addresses.Goals as goal
+
+pub rank_all-requires : goal.rank_all-requires
+rank_all-requires g c =
+    let items : c.deref.result.now ≡ map (labelled_of c.args.rows.now) c.args.sources.now = c.deref.ensures.value ∙ c.in_ok-labelled.ensures in
+    ap (list_all (λ (labelled : Labelled). is_sound_source labelled.source)) items ∙ sym (labelled_sound c.args.rows.now c.args.sources.now) ∙ c.requires.sound
+
+pub returns : goal.returns
+returns g c =
+    let world : World = record { rows = c.args.rows.now; sources = c.args.sources.now; routes = c.args.routes.now } in
+    let ips : List Ip = c.args.addresses.now in
+    let labelled : c.deref.result.now ≡ map (labelled_of c.args.rows.now) c.args.sources.now = c.deref.ensures.value ∙ c.in_ok-labelled.ensures in
+    let keyed : c.deref_mut.result.now ≡ map (ranked_of world) (members_from 0 ips) =
+    c.deref_mut.ensures.value ∙ c.in_ok-ranked.ensures.keys
+    ∙ ap (λ l. map (ranked_by c.args.rows.now c.args.routes.now l) (members_from 0 ips)) labelled
+    ∙ map-same (ranked_by c.args.rows.now c.args.routes.now (map (labelled_of c.args.rows.now) c.args.sources.now)) (ranked_of world) (ranked_is world) (members_from 0 ips) in
+    let kept = length_permutation c.deref_mut.result.now c.sort.new.ranked c.sort.ensures.permutation ∙ ap (λ (l : List Ranked). length l) c.deref_mut.ensures.value in
+    let now : c.deref-2.result.now ≡ c.sort.new.ranked =
+    c.deref-2.ensures.value ∙ written_back c.in_ok-ranked.ranked.items c.sort.new.ranked c.in_ok-ranked.ranked.len kept (sym (ap (λ (l : List Ranked). length l) c.deref_mut.ensures.value) ∙ c.deref_mut.ensures.len) in
+    let order : IsOrder world ips (map (λ (r : Ranked). r.ip) c.sort.new.ranked) =
+    is_order world (parts_families c.args.rows.now c.requires.admitted) ips (each_usable ips c.requires.usable c.in_ok-ranked.ensures.range) c.sort.new.ranked
+    (subst (λ (l : List Ranked). IsPermutation l c.sort.new.ranked) keyed c.sort.ensures.permutation) c.sort.ensures.sorted in
+    IfOk-weaker c.addresses_of.result _ _ (λ v e. subst (IsOrder world ips) (sym (e ∙ ap (map (λ (r : Ranked). r.ip)) now)) order) c.addresses_of.ensures

@@ -1,0 +1,45 @@
+-- What follows from the definitions, in words of its own.
+use Rattle.std.specs.Prelude.{◌≡◌, ◌≢◌, ◌<◌, ◌⊎◌, ◌↔◌, Bool, List, length, IsTrue, IsFalse, IsSome}
+use Rattle.std.specs.Ordering.{is_lt}
+use Rattle.he_addr.specs.declared.ip.Ip.{Ip}
+use Rattle.he_addr.specs.Ip.{InRange, IsUsable}
+use Rattle.he_select.specs.DestinationKeys.{key_cmp, key_of}
+use Rattle.he_select.specs.Preference.{Member, prefers}
+use Rattle.he_select.specs.Rules.{cause_if, first_repeat}
+use Rattle.std.specs.List.{list_any}
+use Rattle.std.specs.Option.{option_or}
+use Rattle.std.specs.Prelude.{[], ◌∷◌, ◌++◌}
+use Rattle.he_select.specs.Selection.{World, candidates, is_reachable}
+use Rattle.he_select.specs.Tables.{IsAdmitted, row_of}
+use Rattle.he_select.specs.declared.policy.Row.{Row}
+
+-- of members of which P holds none is before itself, what is before one that is before a third is before the third, and
+-- of two at different places one is before the other
+pub record IsStrictTotalOrderOn (P : Member → Type 0) (before : Member → Member → Bool) : Type 0 where
+  pub irreflexive : (a : Member) → P a → IsFalse (before a a)
+  pub transitive : (a b c : Member) → P a → P b → P c → IsTrue (before a b) → IsTrue (before b c) → IsTrue (before a c)
+  pub total : (a b : Member) → P a → P b → a.place ≢ b.place → IsTrue (before a b) ⊎ IsTrue (before b a)
+
+-- under an admitted table the preference between usable addresses is the lexicographic comparison of keys, one number for
+-- each rule
+abbrev pub PreferenceIsByKeys : Type 0
+PreferenceIsByKeys =
+    (world : World) → IsAdmitted world.rows → (a b : Member) → IsUsable a.ip → IsUsable b.ip
+    → prefers world a b ≡ is_lt (key_cmp (key_of world a) (key_of world b))
+
+-- hence it is a strict total order on the members of a list
+abbrev pub PreferenceIsStrictTotalOrder : Type 0
+PreferenceIsStrictTotalOrder = (world : World) → IsAdmitted world.rows → IsStrictTotalOrderOn (λ m. IsUsable m.ip) (prefers world)
+
+-- an address is reachable where it has a route and a candidate: there is a best candidate where there is any
+abbrev pub ReachableWhereCandidates : Type 0
+ReachableWhereCandidates = (world : World) (ip : Ip) → IsTrue (is_reachable world ip) ↔ (0 < length (candidates world ip))
+
+-- every address has a row of an admitted table
+abbrev pub EveryAddressHasRow : Type 0
+EveryAddressHasRow = (rows : List Row) → IsAdmitted rows → (ip : Ip) → InRange ip → IsSome (row_of rows ip)
+
+-- a list with one more member has the first repeat of the list, or else one at its end, where the member stands in the list
+abbrev pub RepeatsByOneMore : {X : Type 0} → (X → X → Bool) → Type 0
+RepeatsByOneMore {X} same =
+    (xs : List X) (x : X) → first_repeat same (xs ++ x ∷ []) ≡ option_or (first_repeat same xs) (cause_if (list_any (same x) xs) (length xs))

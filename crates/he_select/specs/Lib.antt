@@ -1,0 +1,10 @@
+pub mod DestinationKeys
+pub mod Hosts
+pub mod Keys
+pub mod Laws
+pub mod Preference
+pub mod Rules
+pub mod Selection
+pub mod Standard
+pub mod Tables
+pub mod Walking

@@ -1,0 +1,56 @@
+-- Rules of preference between two things, the first that decides, the best of a list, and the first cause of refusal.
+use Rattle.std.specs.Prelude.{ℕ, ◌+◌, Bool, not, cond, ◌&&◌, List, [], ◌∷◌, ◌++◌, Option, None, Some, find}
+use Rattle.std.specs.List.{list_any}
+use Rattle.std.specs.Option.{option_or}
+use Rattle.std.specs.declared.cmp.Ordering.{Ordering}
+use Rattle.std.specs.declared.cmp.Ordering.TheVariants.{Equal}
+use Rattle.std.specs.Ordering.{nat_cmp, bool_cmp, ordering_then}
+
+-- what a rule says of two things. Less: the first is preferred; Greater: the second; Equal: the rule doesn't decide
+abbrev pub Rule : Type 0 → Type 0
+Rule X = X → X → Ordering
+
+-- prefers the one of which the test holds
+abbrev pub yes_first : {X : Type 0} → (X → Bool) → Rule X
+yes_first is a b = bool_cmp (is b) (is a)
+
+-- prefers the one of the smaller number
+abbrev pub lower_first : {X : Type 0} → (X → ℕ) → Rule X
+lower_first number a b = nat_cmp (number a) (number b)
+
+-- prefers the one of the greater number
+abbrev pub higher_first : {X : Type 0} → (X → ℕ) → Rule X
+higher_first number a b = nat_cmp (number b) (number a)
+
+-- the rule, where the test holds of both; else it doesn't decide
+abbrev pub where_both : {X : Type 0} → (X → Bool) → Rule X → Rule X
+where_both is rule a b = cond (is a && is b) (rule a b) Equal
+
+-- the first rule that decides
+abbrev pub first_of : {X : Type 0} → List (Rule X) → Rule X
+first_of [] a b = Equal
+first_of (rule ∷ rules) a b = ordering_then (rule a b) (first_of rules a b)
+
+-- the first member of the list than which no member is better
+abbrev pub best_by : {X : Type 0} → (X → X → Bool) → List X → Option X
+best_by better xs = find (λ x. not (list_any (λ y. better y x) xs)) xs
+
+-- the first member, counted from `place`, that is the same as one of those before it; `before` are the members before
+-- `place`
+abbrev pub repeat_from : {X : Type 0} → (X → X → Bool) → List X → ℕ → List X → Option ℕ
+repeat_from same before place [] = None
+repeat_from same before place (x ∷ xs) =
+    cond (list_any (same x) before) (Some place) (repeat_from same (before ++ x ∷ []) (place + 1) xs)
+
+-- the least place at which a member is the same as an earlier one
+abbrev pub first_repeat : {X : Type 0} → (X → X → Bool) → List X → Option ℕ
+first_repeat same xs = repeat_from same [] 0 xs
+
+-- the cause, where the test holds
+abbrev pub cause_if : {F : Type 0} → Bool → F → Option F
+cause_if holds cause = cond holds (Some cause) None
+
+-- the first cause that there is
+abbrev pub first_cause : {F : Type 0} → List (Option F) → Option F
+first_cause [] = None
+first_cause (cause ∷ causes) = option_or cause (first_cause causes)

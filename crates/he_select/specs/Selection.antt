@@ -1,0 +1,116 @@
+-- Which route and which source the host uses for a destination (RFC 6724 sections 4 and 5).
+use Rattle.std.specs.Prelude.{ℕ, ◌==◌, ◌&&◌, ◌||◌, Bool, false, not, cond, nat_lt, List, [], ◌∷◌, filter, Option, is_some}
+use Rattle.std.specs.Bool.{beq}
+use Rattle.std.specs.Option.{option_map_or}
+use Rattle.std.specs.declared.cmp.Ordering.TheVariants.{Less, Equal, Greater}
+use Rattle.std.specs.Ordering.{is_lt}
+use Rattle.he_addr.specs.declared.ip.Ip.{Ip}
+use Rattle.he_addr.specs.Ip.{is_v6, scope_of}
+use Rattle.he_addr.specs.Prefix.{contains, is_inside_mapped, common_of}
+use Rattle.he_select.specs.declared.policy.Row.{Row}
+use Rattle.he_select.specs.declared.host.Source.{Source}
+use Rattle.he_select.specs.declared.host.Route.{Route}
+use Rattle.he_select.specs.Rules.{Rule, yes_first, higher_first, first_of, best_by}
+use Rattle.he_select.specs.Tables.{label_of}
+use Rattle.he_select.specs.Hosts.{Interfaces, same_ip}
+
+-- what the rules look at
+pub record World : Type 0 where
+  pub rows : List Row
+  pub sources : List Source
+  pub routes : List Route
+
+abbrev pub world_of : List Row → Interfaces → World
+world_of rows host = record { rows = rows; sources = host.sources; routes = host.routes }
+
+abbrev pub is_longer_route : Route → Route → Bool
+is_longer_route a b = nat_lt b.prefix.len a.prefix.len
+
+-- a route inside ::ffff:0:0/96 serves IPv4 destinations alone, any other route IPv6 destinations alone
+abbrev pub serves : Ip → Route → Bool
+serves ip route = contains route.prefix ip && beq (is_inside_mapped route.prefix) (not (is_v6 ip))
+
+-- the route of a destination: the route of greatest length among those of its family that contain it
+unfoldable pub longest_route : List Route → Ip → Option Route
+longest_route routes ip = best_by is_longer_route (filter (serves ip) routes)
+
+abbrev pub route_of : World → Ip → Option Route
+route_of world ip = longest_route world.routes ip
+
+-- the scope of a link, whose addresses are reached from that link alone
+abbrev pub link_scope : ℕ
+link_scope = 2
+
+-- a source that may be used over this route: one of the destination's family on any interface, since all interfaces count
+-- as one site (RFC 6724 section 4 recommends those of the outgoing interface); for a destination of link scope only one on
+-- the route's interface, which counts as the link
+abbrev pub is_candidate : Route → Ip → Source → Bool
+is_candidate route ip source =
+    beq (is_v6 source.ip) (is_v6 ip) && (not (scope_of ip == link_scope) || source.interface == route.interface)
+
+-- the candidate set of a destination (RFC 6724 section 4); none where there is no route
+unfoldable pub candidates : World → Ip → List Source
+candidates world ip = option_map_or (λ route. filter (is_candidate route ip) world.sources) (route_of world ip) []
+
+-- Rule 1: prefer same address
+abbrev pub prefers_same_address : Ip → Rule Source
+prefers_same_address ip = yes_first (λ source. same_ip source.ip ip)
+
+-- Rule 2: prefer appropriate scope. Of two scopes the smaller is preferred, unless it is smaller than the destination's;
+-- then the larger
+abbrev pub by_appropriate_scope : ℕ → Rule ℕ
+by_appropriate_scope scope a b =
+    cond (nat_lt a b) (cond (nat_lt a scope) Greater Less) (cond (nat_lt b a) (cond (nat_lt b scope) Less Greater) Equal)
+
+abbrev pub prefers_appropriate_scope : Ip → Rule Source
+prefers_appropriate_scope ip a b = by_appropriate_scope (scope_of ip) (scope_of a.ip) (scope_of b.ip)
+
+-- Rule 3: avoid deprecated addresses
+abbrev pub avoids_deprecated : Rule Source
+avoids_deprecated = yes_first (λ source. not source.deprecated)
+
+-- Rule 4, prefer home addresses, never decides: there are no home addresses here
+
+-- Rule 5: prefer outgoing interface
+abbrev pub prefers_outgoing_interface : World → Ip → Rule Source
+prefers_outgoing_interface world ip =
+    yes_first (λ source. option_map_or (λ route. source.interface == route.interface) (route_of world ip) false)
+
+-- Rule 5.5, prefer addresses in a prefix advertised by the next hop, is left out: a host doesn't tell it
+
+-- Rule 6: prefer matching label
+abbrev pub prefers_matching_label : World → Ip → Rule Source
+prefers_matching_label world ip = yes_first (λ source. label_of world.rows source.ip == label_of world.rows ip)
+
+-- Rule 7: prefer temporary addresses
+abbrev pub prefers_temporary : Rule Source
+prefers_temporary = yes_first (λ source. source.temporary)
+
+-- Rule 8: use longest matching prefix
+abbrev pub prefers_longest_match : Ip → Rule Source
+prefers_longest_match ip = higher_first (λ source. common_of source.ip source.plen ip)
+
+-- the rules of source selection (RFC 6724 section 5), used for both families
+unfoldable pub source_rules : World → Ip → List (Rule Source)
+source_rules world ip =
+    prefers_same_address ip
+    ∷ prefers_appropriate_scope ip
+    ∷ avoids_deprecated
+    ∷ prefers_outgoing_interface world ip
+    ∷ prefers_matching_label world ip
+    ∷ prefers_temporary
+    ∷ prefers_longest_match ip
+    ∷ []
+
+-- one source is better than another for a destination: the first rule that decides prefers it
+abbrev pub is_better : World → Ip → Source → Source → Bool
+is_better world ip a b = is_lt (first_of (source_rules world ip) a b)
+
+-- Source(D): the candidate than which no candidate is better, of several the one that was given first; none where there is
+-- no candidate
+unfoldable pub source_of : World → Ip → Option Source
+source_of world ip = best_by (is_better world ip) (candidates world ip)
+
+-- an address is reachable if it has a route and a candidate
+abbrev pub is_reachable : World → Ip → Bool
+is_reachable world ip = is_some (source_of world ip)

@@ -1,0 +1,37 @@
+// Lists in which no two members are the same.
+
+ghost use Rattle.std.specs.Prelude.{◌≡◌, ℕ, Bool, ◌≤◌, length, take};
+ghost use Rattle.std.specs.List.{list_any};
+ghost use Rattle.he_select.specs.Rules.{first_repeat};
+
+/// What may stand only once in a list.
+pub(crate) trait Distinct {
+    ghost same: { Self → Self → Bool };
+
+    fn is_same(&self, other: &Self) -> bool
+        ensures { result ≡ same self.now other.now };
+}
+
+/// Whether one of the earlier members is the same as this one.
+pub(crate) fn stands_in<T: Distinct>(item: &T, earlier: &[T]) -> bool
+    ensures { result ≡ list_any (T.same item.now) earlier.now }
+{
+    for other in earlier {
+        if item.is_same(other) {
+            return true;
+        }
+    }
+    false
+}
+
+/// The least place at which a member is the same as an earlier one.
+pub(crate) fn first_repeated<T: Distinct>(items: &[T]) -> Option<usize>
+    ensures { result ≡ first_repeat T.same items.now }
+{
+    for i in 0..items.len() {
+        if stands_in(&items[i], &items[..i]) {
+            return Some(i);
+        }
+    }
+    None
+}

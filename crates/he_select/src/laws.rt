@@ -1,0 +1,30 @@
+// Laws of the definitions. Each is the contract of a function that does nothing.
+
+ghost use Rattle.he_select.specs.Laws.{EveryAddressHasRow, PreferenceIsByKeys, PreferenceIsStrictTotalOrder, ReachableWhereCandidates, RepeatsByOneMore};
+ghost use Rattle.he_select.specs.Hosts.{same_route, same_source};
+ghost use Rattle.he_select.specs.Tables.{same_row};
+
+/// Under an admitted table the preference of destinations is the lexicographic comparison of keys, one number for each rule,
+/// hence a strict total order.
+pub fn preference_is_by_keys()
+    ensures keys { PreferenceIsByKeys }
+    ensures order { PreferenceIsStrictTotalOrder }
+{}
+
+/// An address is reachable exactly where it has a route and a candidate: of candidates there is always a best one.
+pub fn reachable_where_candidates()
+    ensures { ReachableWhereCandidates }
+{}
+
+/// Every address has a row of an admitted table, and so a precedence and a label.
+pub fn every_address_has_row()
+    ensures { EveryAddressHasRow }
+{}
+
+/// Whether a list repeats a member can be told one by one: with one more member it has the repeat that it had, or else one at
+/// its end, where [`crate::Row::repeats`], [`crate::Source::repeats`] or [`crate::Route::repeats`] tells so.
+pub fn repeats_by_one_more()
+    ensures rows { RepeatsByOneMore same_row }
+    ensures sources { RepeatsByOneMore same_source }
+    ensures routes { RepeatsByOneMore same_route }
+{}

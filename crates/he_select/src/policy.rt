@@ -1,0 +1,279 @@
+// Policy tables (RFC 6724 section 2.1).
+
+ghost use Rattle.std.specs.Prelude.{◌≡◌, ℕ, ◌+◌, ◌≤◌, drop, length, IfOk, IfErr, IsOk, IsOkUnless};
+ghost use Rattle.std.specs.List.{list_any, position_from};
+ghost use Rattle.he_select.specs.Tables.{precedence_of, label_of, same_row, has_row, any_address, any_v4_address, shares_precedence, shared_from, table_fault, table_of, IsAdmitted};
+ghost use Rattle.he_addr.specs.Prefix.{IsPrefix};
+ghost use Rattle.he_select.specs.Standard.{standard_rows};
+
+use crate::distinct::{Distinct, first_repeated, stands_in};
+use crate::limits::ROWS;
+use crate::lookup::{find_label, find_row};
+use he_addr::{Ip, Memory, Prefix};
+use std::alloc::{Allocator, Global};
+use std::marker::Model;
+use thiserror::Error;
+
+/// A row of a policy table.
+#[derive(Clone, Copy, Debug, PartialEq, Eq)]
+pub struct Row {
+    /// The addresses that the row is about, IPv4 addresses as mapped ones.
+    pub prefix: Prefix,
+
+    /// How much the addresses are preferred.
+    pub precedence: u16,
+
+    /// Sources are preferred for destinations of their own label.
+    pub label: u16,
+}
+
+impl Row {
+    /// Whether one of the earlier rows has this row's prefix.
+    pub fn repeats(&self, earlier: &[Row]) -> bool
+        ensures { result ≡ list_any (same_row self.now) earlier.now }
+    {
+        stands_in(self, earlier)
+    }
+
+    /// Whether just one of the rows lies inside `::ffff:0:0/96` and both have one precedence.
+    fn shares_precedence(&self, other: &Row) -> bool
+        ensures { result ≡ shares_precedence self.now other.now }
+    {
+        self.precedence == other.precedence && self.prefix.is_v4() != other.prefix.is_v4()
+    }
+}
+
+impl Distinct for Row {
+    ghost same = { same_row };
+
+    fn is_same(&self, other: &Row) -> bool {
+        self.prefix == other.prefix
+    }
+}
+
+/// Why rows are no policy table. Rows are counted from 0.
+#[derive(Clone, Copy, Debug, PartialEq, Eq, Error)]
+pub enum PolicyFault {
+    /// No row, or more than [`ROWS`].
+    #[error("policy has no row or too many")]
+    Size,
+
+    /// The prefix of this row, the least one, stands in an earlier row.
+    #[error("policy row {0} has a prefix that stands earlier")]
+    Repeated(usize),
+
+    /// No row is `::/0`.
+    #[error("policy has no ::/0")]
+    NoDefault,
+
+    /// No row is `::ffff:0:0/96`.
+    #[error("policy has no ::ffff:0:0/96")]
+    NoMapped,
+
+    /// Of these two rows one lies inside `::ffff:0:0/96` and one outside it, and their precedences are equal.
+    #[error("policy rows {0} and {1} share a precedence")]
+    SharedPrecedence(usize, usize),
+
+    /// An allocation was refused.
+    #[error("out of memory")]
+    Memory,
+}
+
+impl PolicyFault {
+    /// Why the rows are no policy table, the first cause in the order of the variants; `None` for an admitted table. Never
+    /// `Memory`.
+    #[tactic(auto, unfolding(crate::specs::Tables::table_fault))]
+    pub fn find(rows: &[Row]) -> Option<PolicyFault>
+        ensures { result ≡ table_fault rows.now }
+    {
+        if rows.is_empty() || rows.len() > ROWS {
+            return Some(PolicyFault::Size);
+        }
+        if let Some(place) = first_repeated(rows) {
+            return Some(PolicyFault::Repeated(place));
+        }
+        if !has_any_address(rows) {
+            return Some(PolicyFault::NoDefault);
+        }
+        if !has_any_v4_address(rows) {
+            return Some(PolicyFault::NoMapped);
+        }
+        let (place, later) = shared_precedence(rows)?;
+        Some(PolicyFault::SharedPrecedence(place, later))
+    }
+}
+
+/// Whether a row is `::/0`.
+fn has_any_address(rows: &[Row]) -> bool
+    ensures { result ≡ has_row rows.now any_address }
+{
+    has_prefix(rows, Prefix::new(0, 0))
+}
+
+/// Whether a row is `::ffff:0:0/96`.
+fn has_any_v4_address(rows: &[Row]) -> bool
+    ensures { result ≡ has_row rows.now any_v4_address }
+{
+    has_prefix(rows, Prefix::new(0xffff_0000_0000, 96))
+}
+
+fn has_prefix(rows: &[Row], prefix: Prefix) -> bool
+    ensures { result ≡ has_row rows.now prefix }
+{
+    rows.iter().any(|row| row.prefix == prefix)
+}
+
+/// The first row that shares its precedence with a later one, and the first such later one.
+fn shared_precedence(rows: &[Row]) -> Option<(usize, usize)>
+    ensures { result ≡ shared_from 0 rows.now }
+{
+    for i in 0..rows.len() {
+        if let Some(later) = sharing_row(&rows[i], rows, i + 1) {
+            return Some((i, later));
+        }
+    }
+    None
+}
+
+/// The first row, from this place on, that shares its precedence with the given one.
+fn sharing_row(row: &Row, rows: &[Row], from: usize) -> Option<usize>
+    requires { from ≤ length rows.now }
+    ensures { result ≡ position_from (shares_precedence row.now) from (drop from rows.now) }
+{
+    for i in from..rows.len() {
+        if row.shares_precedence(&rows[i]) {
+            return Some(i);
+        }
+    }
+    None
+}
+
+/// The rows of the standard table (RFC 6724 section 2.1).
+fn standard_table() -> [Row; 9]
+    ensures { result ≡ standard_rows }
+{
+    [
+        standard_row(1, 128, 50, 0),
+        standard_row(0, 0, 40, 1),
+        standard_row(0xffff << 32, 96, 35, 4),
+        standard_row(0x2002 << 112, 16, 30, 2),
+        standard_row(0x2001 << 112, 32, 5, 5),
+        standard_row(0xfc00 << 112, 7, 3, 13),
+        standard_row(0, 96, 1, 3),
+        standard_row(0xfec0 << 112, 10, 1, 11),
+        standard_row(0x3ffe << 112, 16, 1, 12),
+    ]
+}
+
+fn standard_row(bits: u128, len: u8, precedence: u16, label: u16) -> Row
+    requires { IsPrefix bits len }
+    ensures { result ≡ record { prefix = record { bits = bits; len = len }; precedence = precedence; label = label } }
+{
+    let prefix = Prefix::new(bits, len);
+    Row {
+        prefix,
+        precedence,
+        label,
+    }
+}
+
+/// A policy table: 1 to [`ROWS`] rows, no prefix twice, with `::/0` and `::ffff:0:0/96`, and no precedence both inside and
+/// outside `::ffff:0:0/96`. Contracts see it as its rows.
+#[derive(Drop)]
+pub struct Policy<A: Allocator = Global> {
+    rows: Vec<Row, A>,
+}
+
+impl<A: Allocator> Model for Policy<A> {
+    ghost use Rattle.std.specs.Prelude.{List};
+    ghost use Rattle.he_select.specs.declared.policy.Row.{Row};
+
+    ghost Value = { List Row };
+
+    ghost use Rattle.he_select.specs.Tables.{IsAdmitted};
+
+    ghost view = { λ p. p.rows.items };
+
+    ghost invariant = { λ p. IsAdmitted p.rows.items };
+}
+
+impl<A: Allocator> PartialEq for Policy<A> {
+    ghost use Rattle.std.specs.Cmp.Lexicographic.{pointwise, lists_per};
+    ghost use Rattle.he_select.specs.contracts.policy.RowPartialEq.TheImpl.Laws as rows;
+
+    ghost eq = { λ a b. pointwise ⟦<Row as PartialEq>⟧.eq a b };
+
+    ghost laws = { lists_per rows.laws-law };
+
+    fn eq(&self, other: &Policy<A>) -> bool {
+        self.rows == other.rows
+    }
+}
+
+impl<A: Allocator> Eq for Policy<A> {
+    ghost use Rattle.std.specs.Cmp.Lexicographic.{lists_equiv};
+    ghost use Rattle.he_select.specs.contracts.policy.RowEq.TheImpl.Laws as rows;
+
+    ghost laws = { lists_equiv rows.laws-law };
+}
+
+impl<A: Allocator + Copy> Policy<A> {
+    /// The standard table (RFC 6724 section 2.1).
+    #[tactic(auto, using(crate::proofs::Standards::standard_admits))]
+    pub fn standard(alloc: A) -> Result<Policy<A>, Memory>
+        ensures { IfOk result (λ policy. policy ≡ standard_rows) }
+    {
+        let rows = Vec::from_slice(alloc, &standard_table()).map_err(|_| Memory)?;
+        Ok(Policy { rows })
+    }
+
+    /// The table of these rows.
+    ///
+    /// # Errors
+    ///
+    /// The first cause that there is, in the order of [`PolicyFault`].
+    pub fn from_rows(alloc: A, rows: &[Row]) -> Result<Policy<A>, PolicyFault>
+        ensures refused { IfErr (table_of rows.now) (λ fault. result ≡ Err fault) }
+        ensures made { IfOk (table_of rows.now) (λ table. IfOk result (λ policy. policy ≡ table)) }
+        ensures memory { IsOk (table_of rows.now) → IsOkUnless result PolicyFault.Memory }
+    {
+        if let Some(fault) = PolicyFault::find(rows) {
+            return Err(fault);
+        }
+        let rows = Vec::from_slice(alloc, rows).map_err(|_| PolicyFault::Memory)?;
+        Ok(Policy { rows })
+    }
+}
+
+impl<A: Allocator> Policy<A> {
+    /// The rows, in the order in which they were given.
+    pub fn rows(&self) -> &[Row]
+        ensures rows { result.now ≡ self.now }
+        ensures admitted { IsAdmitted self.now }
+    {
+        self.rows.as_slice()
+    }
+
+    /// The precedence of an address, that of the containing row with the longest prefix (RFC 6724 section 2.1).
+    #[tactic(auto, unfolding(crate::specs::Tables::precedence_of))]
+    pub fn precedence(&self, ip: Ip) -> u16
+        ensures { result ≡ precedence_of self.now ip }
+    {
+        find_row(&self.rows, ip).map_or(0, |row| row.precedence)
+    }
+
+    /// The label of an address, that of the containing row with the longest prefix (RFC 6724 section 2.1).
+    pub fn label(&self, ip: Ip) -> u16
+        ensures { result ≡ label_of self.now ip }
+    {
+        find_label(&self.rows, ip)
+    }
+
+    /// The same table with memory of this allocator.
+    pub fn copy<B: Allocator + Copy>(&self, alloc: B) -> Result<Policy<B>, Memory>
+        ensures { IfOk result (λ policy. policy ≡ self.now) }
+    {
+        let rows = Vec::from_slice(alloc, &self.rows).map_err(|_| Memory)?;
+        Ok(Policy { rows })
+    }
+}
