@@ -61,18 +61,10 @@ may_untried race t [] None e m = begins_untried race t m
 may_untried race t (x ∷ xs) None e m = absurd (last_of-some xs x e)
 may_untried race t done (Some last) e m = m.some
 
-find_by : (p : Ip → Bool) (ip : Ip) (ips : List Ip) (b : Bool) → (list_any p ips ≡ true → find p ips ≡ None → ⊥) → (b || list_any p ips) ≡ true → (if b then Some ip else find p ips) ≡ None → ⊥
-find_by p ip ips true rest h e = cc
-find_by p ip ips false rest h e = rest h e
-
-find_one : (p : Ip → Bool) (ips : List Ip) → list_any p ips ≡ true → find p ips ≡ None → ⊥
-find_one p [] h e = cc
-find_one p (ip ∷ ips) h e = find_by p ip ips (p ip) (find_one p ips) h e
-
 -- where an attempt may start, an address is untried
-pub starts_untried : (race : Race) (done : List Attempt) (t : ℕ) → MayStart race done t → find (is_untried done) (order_at race t) ≡ None → ⊥
-starts_untried race done t m e =
-    find_one (is_untried done) (order_at race t) (list_any-interlace (is_untried done) (received race t) race.settings.count ∙ may_untried race t done (last_of done) refl m.1) e
+pub starts_any : (race : Race) (done : List Attempt) (t : ℕ) → MayStart race done t → list_any (is_untried done) (order_at race t) ≡ true
+starts_any race done t m =
+    list_any-interlace (is_untried done) (received race t) race.settings.count ∙ may_untried race t done (last_of done) refl m.1
 
 later_by : (race : Race) (done : List Attempt) (t : ℕ) (last : Option Attempt) → IsRace race → MatchOption last (MayBegin race t) (MayFollow race done t) → IfSome last (λ x. x.tick < t)
 later_by race done t None r m = tt
