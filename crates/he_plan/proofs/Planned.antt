@@ -1,5 +1,5 @@
 -- An attempt that may start has an address to try, and comes after the one before it.
-use Rattle.std.proofs.Common.{◌≡◌, ℕ, suc, ◌+◌, ◌-◌, ◌≤◌, ◌<◌, ◌⊎◌, ◌&&◌, ◌||◌, ◌++◌, Bool, true, false, List, [], ◌∷◌, if◌then◌else◌, length, filter, Option, Some, None, MatchOption, IfSome, find, IsTrue, nat_le, refl, sym, ◌∙◌, ap, arith, inl, inr, length-append, append_assoc}
+use Rattle.std.proofs.Common.{◌≡◌, ℕ, ◌+◌, ◌-◌, ◌≤◌, ◌<◌, ◌||◌, ◌++◌, Bool, true, false, List, [], ◌∷◌, if◌then◌else◌, length, filter, Option, Some, None, MatchOption, IfSome, refl, ◌∙◌, arith, inl, inr, length-append, append_assoc}
 use Rattle.std.specs.List.{list_any, slice_get}
 use Rattle.std.specs.Option.{option_map_or}
 use Rattle.std.proofs.lemmas.Grind.{common_steps}
@@ -8,7 +8,7 @@ use Rattle.he_addr.specs.declared.ip.Ip.{Ip}
 use Rattle.he_addr.specs.Ip.{is_usable}
 use Rattle.he_plan.specs.declared.attempts.Attempt.{Attempt}
 use Rattle.he_plan.specs.declared.limits.TheConstants.{MAX_LIMIT}
-use Rattle.he_plan.specs.Attempts.{IsLeast, IsNext, IsPositive, MayBegin, MayFollow, MayStart, Continues, received_of, received, order_at, is_untried, last_of, seen}
+use Rattle.he_plan.specs.Attempts.{IsNext, IsPositive, MayBegin, MayFollow, MayStart, Continues, received_of, received, order_at, is_untried, last_of, seen}
 use Rattle.he_plan.specs.Planning.{IsLater}
 use Rattle.he_plan.specs.Race.{Race, Reply}
 use Rattle.he_plan.specs.Timeline.{IsRace}

@@ -1,4 +1,3 @@
-use Rattle.std.proofs.Common.{sym}
 use Rattle.he_plan.proofs.Queued.{at_next}
 use Rattle.he_plan.proofs.planning.advance.Goals as goal
 
