@@ -33,14 +33,14 @@ impl Ip {
     pub fn v4(number: u32) -> Ip
         ensures { result ≡ Ip.V4 number }
     {
-        Ip::V4(number)
+        Self::V4(number)
     }
 
     /// The IPv6 address with this number, its first byte the highest.
     pub fn v6(number: u128) -> Ip
         ensures { result ≡ Ip.V6 number }
     {
-        Ip::V6(number)
+        Self::V6(number)
     }
 
     /// The address's family.

@@ -1,12 +1,48 @@
-// Addresses.
+//! IP addresses, address prefixes and their texts.
+//!
+//! [`Ip`] is an address of either family, [`Prefix`] the first bits of one, with IPv4 prefixes as the mapped ones of
+//! IPv6. Their calls answer what RFC 6724 asks of them: scope, whether an address can be connected to, whether it lies in
+//! a prefix, and how long a part a source and a destination have in common.
+//!
+//! Texts are bytes. [`read_ip`], [`read_prefix`], [`read_source`] and [`read_number`] answer a value exactly where the
+//! whole text spells it, and None for every other text; they allocate nothing. [`write_ip`], [`write_prefix`],
+//! [`write_source`] and [`write_number`] append to a vector by at most one growth, and leave it as it was where that is
+//! refused ([`Memory`]).
+//!
+//! Proved, for all texts and values:
+//!
+//! - the grammar: an IPv4 text is four decimal numbers joined by dots, an IPv6 text one of RFC 4291 section 2.2. The
+//!   definitions (`specs/Text.antt`) are relations on whole texts and know nothing of the reading;
+//! - the printed text is that of RFC 5952 section 4, said without a search for the longest run of zero groups
+//!   (`specs/Printed.antt`), and an address has one such text;
+//! - laws ([`laws`]): a text spells at most one value, what is written spells what was written and is read as it, and it
+//!   has neither a space nor a line's end;
+//! - scope, usable, mapped, containment and common length are their definitions (`specs/Ip.antt`, `specs/Prefix.antt`),
+//!   and the common length is the greatest that qualifies.
+//!
+//! Only tested: that a write succeeds where memory is granted.
 #![tactic(auto)]
 
 pub mod common;
+pub mod decimal;
+mod dotted;
+mod groups;
 pub mod ip;
+pub mod laws;
 pub mod memory;
+mod parts;
 pub mod prefix;
+pub mod printing;
+pub mod reading;
+pub mod writing;
 
 pub use common::common_len;
+pub use decimal::{read_number, write_number};
 pub use ip::{Family, Ip};
 pub use memory::Memory;
 pub use prefix::Prefix;
+pub use reading::{read_ip, read_prefix, read_source};
+pub use writing::{write_ip, write_prefix, write_source};
+
+#[cfg(test)]
+mod tests;

@@ -1,6 +1,6 @@
 // Address prefixes and the common part of two addresses.
 
-ghost use Rattle.std.specs.Prelude.{◌≡◌, ◌<◌, ◌≤◌, if◌then◌else◌};
+ghost use Rattle.std.specs.Prelude.{◌≡◌, ◌-◌, ◌%◌, ◌^◌, ◌≤◌, ◌==◌, IfSome, IfNone};
 ghost use Rattle.he_addr.specs.Ip.{family_of, is_v6};
 ghost use Rattle.he_addr.specs.Prefix.{PrefixBits, IsPrefix, contains, is_inside_mapped, common_of};
 
@@ -38,12 +38,26 @@ impl Model for Prefix {
 }
 
 impl Prefix {
+    ghost use Rattle.he_addr.specs.Reading.{checked};
+
     /// The prefix of the first `len` bits of `bits`; the bits past them are zero.
     pub fn new(bits: u128, len: u8) -> Prefix
         requires { IsPrefix bits len }
         ensures { result ≡ record { bits = bits; len = len } }
     {
-        Prefix { bits, len }
+        Self { bits, len }
+    }
+
+    /// The prefix of the first `len` bits of `bits`: None where `len` is above 128 or a bit past the length is set.
+    pub fn try_new(bits: u128, len: u8) -> Option<Prefix>
+        ensures value { result ≡ checked (record { bits = bits; len = len }) }
+        ensures found { IfSome result (λ prefix. (prefix.bits ≡ bits) × (prefix.len ≡ len) × IsPrefix bits len) }
+        ensures none { IfNone result (IsPrefix bits len → ⊥) }
+    {
+        if len > V6_BITS || !is_clear(bits, len) {
+            return None;
+        }
+        Some(Prefix { bits, len })
     }
 
     /// The bits, the first one the highest.
@@ -65,14 +79,23 @@ impl Prefix {
     pub fn contains(self, ip: Ip) -> bool
         ensures { result ≡ contains self ip }
     {
-        self.len == 0
-            || (ip.mapped() >> (V6_BITS - self.len)) == (self.bits >> (V6_BITS - self.len))
+        let free = V6_BITS - self.len;
+        free == V6_BITS || ip.mapped() >> free == self.bits >> free
     }
 
     /// Whether the prefix lies inside `::ffff:0:0/96`, so that it holds IPv4 addresses alone.
     pub fn is_v4(self) -> bool
         ensures { result ≡ is_inside_mapped self }
     {
-        self.len >= MAPPED_LEN && self.bits >> V4_BITS == MAPPED
+        MAPPED_LEN <= self.len && self.bits >> V4_BITS == MAPPED
     }
+}
+
+// Whether no bit past the length is set.
+fn is_clear(bits: u128, len: u8) -> bool
+    requires { len ≤ V6_BITS }
+    ensures { result ≡ (bits % 2 ^ (128 - len) == 0) }
+{
+    let free = V6_BITS - len;
+    bits == 0 || (free < V6_BITS && bits % (1 << free) == 0)
 }

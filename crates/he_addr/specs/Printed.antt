@@ -1,0 +1,42 @@
+-- The text that is printed for an address, stated without the work of finding it (RFC 5952 section 4).
+use Rattle.std.specs.Prelude.{◌≡◌, ◌⊎◌, ℕ, ◌+◌, ◌*◌, ◌/◌, ◌%◌, ◌^◌, ◌<◌, ◌≤◌, false, List, [], ◌∷◌, ◌++◌, map, take, drop, replicate}
+use Rattle.std.specs.Fmt.{digits}
+use Rattle.std.specs.List.{join_with_byte}
+use Rattle.he_addr.specs.declared.ip.Ip.{Ip}
+use Rattle.he_addr.specs.declared.ip.Ip.TheVariants.{V4, V6}
+use Rattle.he_addr.specs.Text.{dotted}
+
+-- the eight groups of sixteen bits of an IPv6 number, the highest first
+abbrev pub groups_of : ℕ → List ℕ
+groups_of n = map (λ place. n / 2 ^ (16 * place) % 65536) (7 ∷ 6 ∷ 5 ∷ 4 ∷ 3 ∷ 2 ∷ 1 ∷ 0 ∷ [])
+
+-- a group in hexadecimal: lower case, no leading zeros
+abbrev pub hex : ℕ → List ℕ
+hex group = digits 16 false group
+
+-- groups parted by colons
+abbrev pub joined : List ℕ → List ℕ
+joined groups = join_with_byte 58 (map hex groups)
+
+-- the `len` groups from `start` on are there, and zero
+abbrev pub IsZeroRun : List ℕ → ℕ → ℕ → Type 0
+IsZeroRun groups start len = take len (drop start groups) ≡ replicate len 0
+
+-- the run that is shortened: at least two zero groups, no run longer, and the first of its length
+pub record IsShortened (groups : List ℕ) (start len : ℕ) : Type 0 where
+  pub two : 2 ≤ len
+  pub run : IsZeroRun groups start len
+  pub first : (other n : ℕ) → IsZeroRun groups other n → (n < len) ⊎ ((n ≡ len) × (start ≤ other))
+
+-- the groups with `::` for that run
+abbrev pub shortened : List ℕ → ℕ → ℕ → List ℕ
+shortened groups start len = joined (take start groups) ++ 58 ∷ 58 ∷ joined (drop (start + len) groups)
+
+abbrev pub IsPrintedV6 : List ℕ → List ℕ → Type 0
+IsPrintedV6 groups text = (((start len : ℕ) → IsZeroRun groups start len → len < 2) × (text ≡ joined groups))
+    ⊎ ((start : ℕ) × (len : ℕ) × IsShortened groups start len × (text ≡ shortened groups start len))
+
+-- the text that is printed for an address
+abbrev pub IsPrinted : Ip → List ℕ → Type 0
+IsPrinted (V4 n) text = text ≡ dotted n
+IsPrinted (V6 n) text = IsPrintedV6 (groups_of n) text

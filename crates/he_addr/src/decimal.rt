@@ -1,0 +1,68 @@
+// Numbers in the texts: one to ten decimal digits without leading zeros.
+
+ghost use Rattle.std.specs.Prelude.{◌≡◌, ℕ, ◌≤◌, ◌⊎◌, ◌++◌, IfSome, IfNone, OnOk, OnErr, decimal};
+ghost use Rattle.he_addr.specs.Reading.{digits_in, numeral_in, number_in};
+ghost use Rattle.he_addr.specs.Text.{SpellsNumber};
+
+use crate::memory::Memory;
+use itoa::Buffer;
+use std::alloc::Allocator;
+
+/// The most digits of a number in the texts.
+pub const NUMBER_DIGITS: usize = 10;
+
+pub(crate) const DECIMAL: u32 = 10;
+
+pub(crate) const HEXADECIMAL: u32 = 16;
+
+// The number that one to `most` digits write.
+#[tactic(auto, unfolding(crate::specs::Reading::digits_in))]
+pub(crate) fn read_digits(text: &[u8], radix: u32, most: usize) -> Option<u64>
+    requires radix { (radix ≡ DECIMAL) ⊎ (radix ≡ HEXADECIMAL) }
+    requires most { most ≤ NUMBER_DIGITS }
+    ensures { result ≡ digits_in radix most text.now }
+{
+    if text.is_empty() || text.len() > most {
+        return None;
+    }
+    let mut value = 0;
+    for byte in text {
+        let digit = char::from(*byte).to_digit(radix)?;
+        value = value * radix as u64 + digit as u64;
+    }
+    Some(value)
+}
+
+// One to `most` decimal digits without leading zeros.
+#[tactic(auto, unfolding(crate::specs::Reading::numeral_in))]
+pub(crate) fn read_numeral(text: &[u8], most: usize) -> Option<u64>
+    requires { most ≤ NUMBER_DIGITS }
+    ensures { result ≡ numeral_in most text.now }
+{
+    if text.len() > 1 && text[0] == b'0' {
+        return None;
+    }
+    read_digits(text, DECIMAL, most)
+}
+
+/// The number that a text of one to ten decimal digits without leading zeros writes (`0` itself is one). None for every
+/// other text.
+#[tactic(auto, unfolding(crate::specs::Reading::number_in))]
+pub fn read_number(text: &[u8]) -> Option<u64>
+    ensures value { result ≡ number_in text.now }
+    ensures found { IfSome result (λ number. SpellsNumber text.now number) }
+    ensures none { IfNone result ((number : ℕ) → SpellsNumber text.now number → ⊥) }
+{
+    read_numeral(text, NUMBER_DIGITS)
+}
+
+/// Appends the number in decimal. After [`Memory`] the text is as it was. A number below 10 to the tenth is read again by
+/// [`read_number`].
+pub fn write_number<A: Allocator + Copy>(number: u64, out: &mut Vec<u8, A>) -> Result<(), Memory>
+    ensures ok { OnOk result (out.new.items ≡ out.old.items ++ decimal number) }
+    ensures err { OnErr result (out.new.items ≡ out.old.items) }
+{
+    let mut digits = Buffer::new();
+    out.extend_from_slice(digits.format(number).as_bytes())?;
+    Ok(())
+}

@@ -1,0 +1,93 @@
+// Addresses, sources and prefixes read from texts.
+
+ghost use Rattle.std.specs.Prelude.{◌≡◌, ◌≤◌, ℕ, IfSome, IfNone};
+ghost use Rattle.he_addr.specs.Ip.{InRange};
+ghost use Rattle.he_addr.specs.Prefix.{PrefixBits, width_of};
+ghost use Rattle.he_addr.specs.Reading.{ip_in, source_in, prefix_in};
+ghost use Rattle.he_addr.specs.Text.{Spells, SpellsSource, SpellsPrefix};
+
+use crate::decimal::read_numeral;
+use crate::dotted::read_v4;
+use crate::groups::read_v6;
+use crate::ip::Ip;
+use crate::parts::cut;
+use crate::prefix::{MAPPED_LEN, Prefix, V4_BITS, V6_BITS};
+use crate::printing::{BYTE_DIGITS, SLASH};
+
+#[tactic(auto, unfolding(crate::specs::Reading::ip_in))]
+fn ip_of(text: &[u8]) -> Option<Ip>
+    ensures value { result ≡ ip_in text.now }
+    ensures range { IfSome result InRange }
+{
+    match read_v4(text) {
+        Some(number) => Some(Ip::V4(number)),
+        None => Some(Ip::V6(read_v6(text)?)),
+    }
+}
+
+/// The address that a text spells; None for every other text. An IPv4 text is four decimal numbers up to 255 without leading
+/// zeros, joined by dots; an IPv6 text is one of RFC 4291 section 2.2, without a zone index.
+pub fn read_ip(text: &[u8]) -> Option<Ip>
+    ensures value { result ≡ ip_in text.now }
+    ensures found { IfSome result (λ ip. Spells text.now ip) }
+    ensures none { IfNone result ((ip : Ip) → Spells text.now ip → ⊥) }
+    ensures range { IfSome result InRange }
+{
+    ip_of(text)
+}
+
+// The bits of an address of this family.
+fn width(ip: Ip) -> u8
+    ensures { result ≡ width_of ip }
+{
+    match ip {
+        Ip::V4(_) => V4_BITS,
+        Ip::V6(_) => V6_BITS,
+    }
+}
+
+#[tactic(auto, unfolding(crate::specs::Reading::source_in))]
+fn source_of(text: &[u8]) -> Option<(Ip, u8)>
+    ensures value { result ≡ source_in text.now }
+    ensures within { IfSome result (λ source. source.1 ≤ width_of source.0) }
+{
+    let (address, digits) = cut(text, SLASH)?;
+    let ip = ip_of(address)?;
+    let len = read_numeral(digits, BYTE_DIGITS)?;
+    if len > u64::from(width(ip)) {
+        return None;
+    }
+    Some((ip, len as u8))
+}
+
+/// The address and the prefix length that a source text spells: an address, `/`, and a length of one to three digits without
+/// leading zeros, at most 32 for IPv4 and 128 for IPv6. Bits past the length are free. None for every other text.
+pub fn read_source(text: &[u8]) -> Option<(Ip, u8)>
+    ensures value { result ≡ source_in text.now }
+    ensures found { IfSome result (λ source. SpellsSource text.now source.0 source.1) }
+    ensures none { IfNone result ((ip : Ip) (len : ℕ) → SpellsSource text.now ip len → ⊥) }
+    ensures within { IfSome result (λ source. source.1 ≤ width_of source.0) }
+{
+    source_of(text)
+}
+
+#[tactic(auto, unfolding(crate::specs::Reading::prefix_in))]
+fn prefix_of(text: &[u8]) -> Option<Prefix>
+    ensures { result ≡ prefix_in text.now }
+{
+    let (ip, len) = source_of(text)?;
+    match ip {
+        Ip::V4(_) => Prefix::try_new(ip.mapped(), MAPPED_LEN + len),
+        Ip::V6(number) => Prefix::try_new(number, len),
+    }
+}
+
+/// The prefix that a text spells: a source text with no bit set past the length. An IPv4 prefix of length n is the mapped
+/// prefix of length 96 + n. None for every other text.
+pub fn read_prefix(text: &[u8]) -> Option<Prefix>
+    ensures value { result ≡ prefix_in text.now }
+    ensures found { IfSome result (λ prefix. SpellsPrefix text.now prefix) }
+    ensures none { IfNone result ((prefix : PrefixBits) → SpellsPrefix text.now prefix → ⊥) }
+{
+    prefix_of(text)
+}

@@ -1,0 +1,58 @@
+// Addresses, sources and prefixes written to texts.
+
+ghost use Rattle.std.specs.Prelude.{◌≡◌, ◌++◌, OnOk, OnErr};
+ghost use Rattle.he_addr.specs.Prefix.{width_of};
+ghost use Rattle.he_addr.specs.Printed.{IsPrinted};
+ghost use Rattle.he_addr.specs.Printing.{printed, source_text, prefix_text};
+
+use crate::ip::Ip;
+use crate::memory::Memory;
+use crate::prefix::{MAPPED_LEN, Prefix};
+use crate::printing::{push_ip, push_source};
+use arrayvec::ArrayVec;
+use std::alloc::Allocator;
+
+/// Appends the text of the address (RFC 5952 section 4): for IPv6 lower case, no leading zeros in a group, `::` for the first
+/// of the longest runs of at least two zero groups, no dotted part. After [`Memory`] the text is as it was.
+pub fn write_ip<A: Allocator + Copy>(ip: Ip, out: &mut Vec<u8, A>) -> Result<(), Memory>
+    ensures ok { OnOk result (out.new.items ≡ out.old.items ++ printed ip) }
+    ensures text { IsPrinted ip (printed ip) }
+    ensures err { OnErr result (out.new.items ≡ out.old.items) }
+{
+    let mut text = ArrayVec::new();
+    push_ip(&mut text, ip);
+    out.extend_from_slice(text.as_slice())?;
+    Ok(())
+}
+
+/// Appends the address, `/` and the length. After [`Memory`] the text is as it was.
+pub fn write_source<A: Allocator + Copy>(
+    ip: Ip,
+    len: u8,
+    out: &mut Vec<u8, A>,
+) -> Result<(), Memory>
+    ensures ok { OnOk result (out.new.items ≡ out.old.items ++ source_text ip len) }
+    ensures err { OnErr result (out.new.items ≡ out.old.items) }
+{
+    let mut text = ArrayVec::new();
+    push_source(&mut text, ip, len);
+    out.extend_from_slice(text.as_slice())?;
+    Ok(())
+}
+
+/// Appends the text of the prefix, its bits, `/` and its length: with `dotted` a prefix of IPv4 addresses in IPv4 form, and
+/// every other one in IPv6 form. After [`Memory`] the text is as it was.
+pub fn write_prefix<A: Allocator + Copy>(
+    prefix: Prefix,
+    dotted: bool,
+    out: &mut Vec<u8, A>,
+) -> Result<(), Memory>
+    ensures ok { OnOk result (out.new.items ≡ out.old.items ++ prefix_text dotted prefix) }
+    ensures err { OnErr result (out.new.items ≡ out.old.items) }
+{
+    if dotted && prefix.is_v4() {
+        let number = (prefix.bits() & 0xffff_ffff) as u32;
+        return write_source(Ip::V4(number), prefix.len() - MAPPED_LEN, out);
+    }
+    write_source(Ip::V6(prefix.bits()), prefix.len(), out)
+}

@@ -1,0 +1,8 @@
+use Rattle.he_board.specs.Passes.{IsPassOf}
+use Rattle.he_board.proofs.tests.work.Given as goal
+
+abbrev pub invariant-loop-job : goal.invariant-loop-job
+invariant-loop-job l = IsPassOf l.board l.pass
+
+abbrev pub invariant-loop-step : goal.invariant-loop-step
+invariant-loop-step l = IsPassOf l.board l.pass

@@ -1,0 +1,5 @@
+pub mod Balance
+pub mod Lawful
+pub mod Notes
+pub mod Passes
+pub mod Plays

@@ -1,0 +1,29 @@
+//! What the words of the clauses mean. Each law holds of all values; its function does nothing.
+ghost use Rattle.std.specs.Prelude.{◌≡◌, ◌<◌, ◌≤◌, ◌⊎◌, ◌↔◌, ℕ, Contains, List, Some};
+ghost use Rattle.he_board.specs.Balance.{Balanced};
+ghost use Rattle.he_board.specs.Lawful.{Lawful};
+ghost use Rattle.he_board.specs.Notes.{key_of, least_of, winner_of};
+ghost use Rattle.he_board.specs.declared.limits.TheConstants.{LAST_TICK, NO_OFFER, PLACES};
+ghost use Rattle.he_board.specs.declared.view.View.{View};
+
+/// The rule of a board's table, by sums and minima, holds exactly of the lawful states. The table keeps its rule from
+/// the moment at which the board is made, through each step of each pass in every order, so the board is always lawful.
+pub fn board_is_lawful()
+    ensures { (jobs races : ℕ) (words : List ℕ) (views : List View) → (Balanced jobs races words views ↔ Lawful jobs races words views) }
+{}
+
+/// `least_of` is at most each value noted of the race, and is one of them or `NO_OFFER`.
+pub fn least_is_least()
+    ensures at_most { (race value : ℕ) (noted : List (ℕ × ℕ)) → Contains noted (race, value) → least_of race noted ≤ value }
+    ensures one_of { (race : ℕ) (noted : List (ℕ × ℕ)) → Contains noted (race, least_of race noted) ⊎ (least_of race noted ≡ NO_OFFER) }
+{}
+
+/// A key gives back its tick and its place.
+pub fn keys_read_back()
+    ensures { (tick place : ℕ) → tick ≤ LAST_TICK → place < PLACES → winner_of (key_of tick place) ≡ Some (tick, place) }
+{}
+
+/// Keys are ordered by tick, and at one tick by place.
+pub fn keys_are_ordered()
+    ensures { (tick place other_tick other_place : ℕ) → place < PLACES → other_place < PLACES → ((key_of tick place < key_of other_tick other_place) ↔ ((tick < other_tick) ⊎ (tick ≡ other_tick) × (place < other_place))) }
+{}
