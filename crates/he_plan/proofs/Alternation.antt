@@ -1,5 +1,5 @@
 -- Interlacing two lists: a step of it, its end, and what it keeps.
-use Rattle.std.proofs.Common.{◌≡◌, ℕ, ◌+◌, ◌≤◌, ◌<◌, ◌⊎◌, ◌||◌, ◌++◌, Bool, true, false, not, List, [], ◌∷◌, filter, take, drop, length, get_or, refl, sym, ◌∙◌, ap, arith, inl, inr, drop-cons, add-one}
+use Rattle.std.proofs.Common.{◌≡◌, ℕ, ◌≤◌, ◌⊎◌, ◌||◌, ◌++◌, Bool, true, false, not, List, [], ◌∷◌, filter, take, drop, length, refl, sym, ◌∙◌, ap, arith, inl, inr}
 use Rattle.std.specs.List.{list_any}
 use Rattle.std.proofs.lemmas.Grind.{common_steps}
 use Rattle.std.proofs.lemmas.List.{drop_all, append-nil, take-append-drop}

@@ -1,5 +1,5 @@
 -- Tests and what they mean.
-use Rattle.std.proofs.Common.{◌≡◌, ℕ, ◌≤◌, ◌<◌, ◌&&◌, ◌||◌, Bool, true, false, nat_le, nat_lt, refl, arith}
+use Rattle.std.proofs.Common.{◌≡◌, ℕ, ◌≤◌, ◌<◌, ◌&&◌, ◌||◌, Bool, true, false, nat_le, nat_lt, arith}
 use Rattle.std.proofs.lemmas.Grind.{common_steps}
 
 pub and_left : (a b : Bool) → (a && b) ≡ true → a ≡ true

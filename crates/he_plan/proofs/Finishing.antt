@@ -1,10 +1,9 @@
 -- Outcomes, and the winner of a list of fates.
-use Rattle.std.proofs.Common.{◌≡◌, ℕ, zero, suc, ◌≤◌, ◌<◌, ◌⊎◌, ◌+◌, ◌++◌, Bool, true, false, List, [], ◌∷◌, if◌then◌else◌, length, take, get_or, Option, Some, None, IfSome, nat_le, refl, sym, ◌∙◌, ap, arith, inl, inr}
+use Rattle.std.proofs.Common.{◌≡◌, ℕ, zero, suc, ◌≤◌, ◌<◌, ◌⊎◌, ◌+◌, ◌++◌, Bool, true, false, List, [], ◌∷◌, if◌then◌else◌, length, take, get_or, Option, Some, None, IfSome, nat_le, refl, ap, arith, inl, inr}
 use Rattle.std.specs.List.{list_all, slice_get, find}
 use Rattle.std.specs.Option.{option_map}
 use Rattle.std.proofs.lemmas.Bool.{cases_lt}
 use Rattle.std.proofs.lemmas.List.{take_more, length-take}
-use Rattle.std.proofs.lemmas.Grind.{common_steps}
 use Rattle.he_addr.specs.declared.ip.Ip.{Ip}
 use Rattle.he_plan.specs.declared.attempts.Attempt.{Attempt}
 use Rattle.he_plan.specs.declared.finish.Fate.{Fate}
@@ -15,7 +14,7 @@ use Rattle.he_plan.specs.declared.outcome.Outcome.TheVariants as outcomes
 use Rattle.he_plan.specs.Attempts.{IsSeen}
 use Rattle.he_plan.specs.Race.{Race, same_ip}
 use Rattle.he_plan.specs.Timeline.{IsRace, is_outcome, duration_of}
-use Rattle.he_plan.specs.Finish.{outcome_in, outcome_of, finish_of, fate_by, fate_of, IsSuccess, ComesFirst, IsWinner}
+use Rattle.he_plan.specs.Finish.{outcome_in, outcome_of, finish_of, fate_by, fate_of, ComesFirst, IsWinner}
 use Rattle.he_plan.specs.Planning.{next_winner}
 use Rattle.he_plan.proofs.Bools.{and_left, and_right, le_from, above, not_le}
 use Rattle.he_plan.proofs.Starting.{IsSeen-seen}

@@ -1,12 +1,11 @@
 -- Laws of the definitions.
-use Rattle.std.proofs.Common.{◌≡◌, ℕ, ◌+◌, ◌≤◌, ◌<◌, ◌↔◌, ◌||◌, ◌++◌, Bool, true, false, List, [], ◌∷◌, if◌then◌else◌, filter, find, length, ◌&&◌, All, Option, Some, None, MatchOption, nat_le, nat_lt, refl, sym, ◌∙◌, ap, subst, arith, append_assoc}
+use Rattle.std.proofs.Common.{◌≡◌, ℕ, ◌+◌, ◌≤◌, ◌↔◌, ◌||◌, ◌++◌, true, false, List, [], ◌∷◌, if◌then◌else◌, filter, find, ◌&&◌, Option, Some, None, MatchOption, nat_le, nat_lt, refl, sym, ◌∙◌, ap, subst, arith, append_assoc}
 use Rattle.std.specs.List.{list_all}
-use Rattle.std.proofs.lemmas.Grind.{common_steps}
 use Rattle.std.proofs.lemmas.List.{append-nil}
 use Rattle.std.proofs.lemmas.List.Folds.{list_any-append}
 use Rattle.he_addr.specs.declared.ip.Ip.{Ip}
 use Rattle.he_plan.specs.declared.attempts.Attempt.{Attempt}
-use Rattle.he_plan.specs.Attempts.{AreAttempts, Continues, Follow, IsFree, IsLeast, IsNext, MayBegin, MayFollow, MayStart, is_paused, is_untried, last_of, order_at, seen, seen_past}
+use Rattle.he_plan.specs.Attempts.{AreAttempts, Continues, Follow, IsFree, IsNext, MayBegin, MayFollow, MayStart, is_paused, is_untried, last_of, order_at, seen, seen_past}
 use Rattle.he_plan.specs.Race.{Race}
 use Rattle.he_plan.specs.Timeline.{IsRace}
 use Rattle.he_plan.proofs.Bools.{not_lt, and_left, and_right}

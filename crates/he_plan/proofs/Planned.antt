@@ -1,5 +1,5 @@
 -- An attempt that may start has an address to try, and comes after the one before it.
-use Rattle.std.proofs.Common.{◌≡◌, ℕ, suc, ◌+◌, ◌-◌, ◌≤◌, ◌<◌, ◌⊎◌, ◌&&◌, ◌||◌, ◌++◌, Bool, true, false, List, [], ◌∷◌, if◌then◌else◌, length, filter, Option, Some, None, MatchOption, IfSome, find, IsTrue, nat_le, refl, sym, ◌∙◌, ap, arith, inl, inr, length-append, append_assoc}
+use Rattle.std.proofs.Common.{◌≡◌, ℕ, ◌+◌, ◌-◌, ◌≤◌, ◌<◌, ◌||◌, ◌++◌, Bool, true, false, List, [], ◌∷◌, if◌then◌else◌, length, filter, Option, Some, None, MatchOption, IfSome, refl, ◌∙◌, arith, inl, inr, length-append, append_assoc}
 use Rattle.std.specs.List.{list_any, slice_get}
 use Rattle.std.specs.Option.{option_map_or}
 use Rattle.std.proofs.lemmas.Grind.{common_steps}
@@ -8,7 +8,7 @@ use Rattle.he_addr.specs.declared.ip.Ip.{Ip}
 use Rattle.he_addr.specs.Ip.{is_usable}
 use Rattle.he_plan.specs.declared.attempts.Attempt.{Attempt}
 use Rattle.he_plan.specs.declared.limits.TheConstants.{MAX_LIMIT}
-use Rattle.he_plan.specs.Attempts.{IsLeast, IsNext, IsPositive, MayBegin, MayFollow, MayStart, Continues, received_of, received, order_at, is_untried, last_of, seen}
+use Rattle.he_plan.specs.Attempts.{IsNext, IsPositive, MayBegin, MayFollow, MayStart, Continues, received_of, received, order_at, is_untried, last_of, seen}
 use Rattle.he_plan.specs.Planning.{IsLater}
 use Rattle.he_plan.specs.Race.{Race, Reply}
 use Rattle.he_plan.specs.Timeline.{IsRace}
@@ -61,18 +61,10 @@ may_untried race t [] None e m = begins_untried race t m
 may_untried race t (x ∷ xs) None e m = absurd (last_of-some xs x e)
 may_untried race t done (Some last) e m = m.some
 
-find_by : (p : Ip → Bool) (ip : Ip) (ips : List Ip) (b : Bool) → (list_any p ips ≡ true → find p ips ≡ None → ⊥) → (b || list_any p ips) ≡ true → (if b then Some ip else find p ips) ≡ None → ⊥
-find_by p ip ips true rest h e = cc
-find_by p ip ips false rest h e = rest h e
-
-find_one : (p : Ip → Bool) (ips : List Ip) → list_any p ips ≡ true → find p ips ≡ None → ⊥
-find_one p [] h e = cc
-find_one p (ip ∷ ips) h e = find_by p ip ips (p ip) (find_one p ips) h e
-
 -- where an attempt may start, an address is untried
-pub starts_untried : (race : Race) (done : List Attempt) (t : ℕ) → MayStart race done t → find (is_untried done) (order_at race t) ≡ None → ⊥
-starts_untried race done t m e =
-    find_one (is_untried done) (order_at race t) (list_any-interlace (is_untried done) (received race t) race.settings.count ∙ may_untried race t done (last_of done) refl m.1) e
+pub starts_any : (race : Race) (done : List Attempt) (t : ℕ) → MayStart race done t → list_any (is_untried done) (order_at race t) ≡ true
+starts_any race done t m =
+    list_any-interlace (is_untried done) (received race t) race.settings.count ∙ may_untried race t done (last_of done) refl m.1
 
 later_by : (race : Race) (done : List Attempt) (t : ℕ) (last : Option Attempt) → IsRace race → MatchOption last (MayBegin race t) (MayFollow race done t) → IfSome last (λ x. x.tick < t)
 later_by race done t None r m = tt

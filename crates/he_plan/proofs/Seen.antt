@@ -1,6 +1,5 @@
 -- What `seen` answers: the least free tick at or after a tick.
-use Rattle.std.proofs.Common.{◌≡◌, ℕ, ◌≤◌, ◌<◌, ◌&&◌, ◌||◌, Bool, true, false, List, [], ◌∷◌, if◌then◌else◌, nat_le, nat_lt, max, refl, sym, ◌∙◌, arith}
-use Rattle.std.proofs.lemmas.Grind.{common_steps}
+use Rattle.std.proofs.Common.{◌≡◌, ℕ, ◌≤◌, ◌<◌, ◌&&◌, Bool, true, false, List, [], ◌∷◌, if◌then◌else◌, nat_le, nat_lt, max, refl, arith}
 use Rattle.he_plan.specs.declared.limits.TheConstants.{MAX_PAUSE_END}
 use Rattle.he_plan.specs.Attempts.{IsLeast, is_paused, seen_past}
 use Rattle.he_plan.specs.Timeline.{are_pauses}

@@ -1,5 +1,5 @@
 -- When the next attempt may start: at a free tick that the answers and the last attempt allow, pauses not looked at.
-use Rattle.std.proofs.Common.{◌≡◌, ℕ, ◌+◌, ◌≤◌, ◌<◌, ◌⊎◌, ◌&&◌, ◌||◌, ◌++◌, Bool, true, false, List, [], ◌∷◌, if◌then◌else◌, filter, Option, Some, None, MatchOption, IsSomeAnd, IsTrue, nat_le, nat_lt, min, max, refl, sym, ◌∙◌, arith, inl, inr}
+use Rattle.std.proofs.Common.{◌≡◌, ℕ, ◌+◌, ◌≤◌, ◌<◌, ◌⊎◌, ◌&&◌, ◌||◌, Bool, true, false, List, [], ◌∷◌, if◌then◌else◌, filter, Option, Some, None, MatchOption, IsSomeAnd, nat_le, min, max, refl, sym, ◌∙◌, arith, inl, inr}
 use Rattle.std.specs.List.{list_any}
 use Rattle.std.specs.Option.{option_map}
 use Rattle.std.proofs.lemmas.Grind.{common_steps}
@@ -8,11 +8,11 @@ use Rattle.std.proofs.lemmas.Bool.{cases_lt}
 use Rattle.he_addr.specs.declared.ip.Ip.{Ip}
 use Rattle.he_addr.specs.Ip.{is_usable}
 use Rattle.he_plan.specs.declared.attempts.Attempt.{Attempt}
-use Rattle.he_plan.specs.Attempts.{IsLeast, IsFree, IsSeen, seen, received_of, received, IsAnswered, IsPositive, IsDelayOver, MayBegin, MayFollow, MayStart, is_untried, last_of}
-use Rattle.he_plan.specs.Planning.{earlier, positive_tick, v4_tick, begin_tick, waiting_tick, follow_tick, start_after, start_tick}
+use Rattle.he_plan.specs.Attempts.{IsLeast, IsFree, IsSeen, seen, received_of, IsAnswered, IsPositive, MayBegin, MayFollow, MayStart, is_untried, last_of}
+use Rattle.he_plan.specs.Planning.{earlier, positive_tick, v4_tick, waiting_tick, follow_tick, start_after, start_tick}
 use Rattle.he_plan.specs.Race.{Race, Reply}
 use Rattle.he_plan.specs.Timeline.{IsRace}
-use Rattle.he_plan.proofs.Bools.{and_left, and_right, and_both, le_test, le_from}
+use Rattle.he_plan.proofs.Bools.{le_test, le_from}
 use Rattle.he_plan.proofs.Seen.{seen_past-is}
 
 -- at a free tick t a tick is seen by t exactly where it is at most t

@@ -1,16 +1,15 @@
 -- The transcript of told fates is that of the race's own.
-use Rattle.std.proofs.Common.{◌≡◌, ℕ, zero, suc, ◌≤◌, ◌<◌, ◌⊎◌, ◌+◌, ◌++◌, Bool, true, false, List, [], ◌∷◌, if◌then◌else◌, length, drop, get_or, map, filter, Option, Some, None, nat_lt, refl, sym, ◌∙◌, ap, arith, inl, inr, subst, append_assoc, add-one, drop-cons}
+use Rattle.std.proofs.Common.{◌≡◌, ℕ, zero, suc, ◌≤◌, ◌<◌, ◌+◌, ◌++◌, Bool, true, false, List, [], ◌∷◌, if◌then◌else◌, length, drop, get_or, map, filter, Option, Some, None, nat_lt, refl, sym, ◌∙◌, ap, arith, inl, inr, subst, append_assoc, add-one, drop-cons}
 use Rattle.std.specs.List.{AllZip, slice_get}
-use Rattle.std.proofs.lemmas.Grind.{common_steps}
 use Rattle.he_plan.specs.declared.attempts.Attempt.{Attempt}
 use Rattle.he_plan.specs.declared.finish.Fate.{Fate}
-use Rattle.he_plan.specs.declared.finish.Fate.TheVariants.{Succeeded, Skipped}
+use Rattle.he_plan.specs.declared.finish.Fate.TheVariants.{Succeeded}
 use Rattle.he_plan.specs.declared.transcript.Line.{Line}
 use Rattle.he_plan.specs.Finish.{fate_of, IsSuccess, ComesFirst, IsWinner}
 use Rattle.he_plan.specs.Planning.{told_line, told_one, told_lines}
 use Rattle.he_plan.specs.Race.{Race}
 use Rattle.he_plan.specs.Timeline.{IsRace}
-use Rattle.he_plan.specs.Transcript.{Report, IsTranscript, AreTold, IsToldFate, IsBeaten, stop_of, line_of, lines_of, result_of}
+use Rattle.he_plan.specs.Transcript.{IsTranscript, AreTold, IsToldFate, stop_of, line_of, lines_of, result_of}
 use Rattle.he_plan.proofs.Bools.{lt_from}
 use Rattle.he_plan.proofs.Finishing.{success_after}
 

@@ -1,5 +1,5 @@
 -- What the calls of the builder answer: the race with what was added, or the first fault.
-use Rattle.std.specs.Prelude.{ℕ, ◌≡◌, ◌-◌, ◌&&◌, ◌++◌, Bool, not, if◌then◌else◌, List, [], ◌∷◌, length, Option, Some, None, is_some, slice_get, nat_le, nat_lt, Result, Ok, Err, IsOk}
+use Rattle.std.specs.Prelude.{ℕ, ◌≡◌, ◌-◌, ◌&&◌, ◌++◌, not, if◌then◌else◌, List, [], ◌∷◌, length, Some, None, is_some, slice_get, nat_le, nat_lt, Result, Ok, Err, IsOk}
 use Rattle.std.specs.Option.{option_map_or}
 use Rattle.he_addr.specs.declared.ip.Family.{Family}
 use Rattle.he_addr.specs.declared.ip.Family.TheVariants as families

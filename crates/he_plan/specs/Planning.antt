@@ -1,7 +1,7 @@
 -- What private functions answer: ticks that look at no pause, and the winner so far.
-use Rattle.std.specs.Prelude.{ℕ, ◌+◌, ◌≤◌, ◌<◌, ◌&&◌, if◌then◌else◌, ◌++◌, List, [], ◌∷◌, min, max, Option, Some, None, option_map, IfSome, nat_le, nat_lt}
+use Rattle.std.specs.Prelude.{ℕ, ◌+◌, ◌≤◌, ◌<◌, ◌&&◌, if◌then◌else◌, ◌++◌, List, [], ◌∷◌, min, max, Option, Some, None, option_map, IfSome, nat_le, nat_lt, ◌≡◌, Bool, false, length, take, filter, find, slice_index_or}
 use Rattle.std.specs.List.{list_any}
-use Rattle.std.specs.Option.{option_map_or}
+use Rattle.he_addr.specs.declared.ip.Ip.{Ip}
 use Rattle.he_addr.specs.Ip.{is_usable}
 use Rattle.he_plan.specs.declared.attempts.Attempt.{Attempt}
 use Rattle.he_plan.specs.declared.finish.Fate.{Fate}
@@ -10,7 +10,8 @@ use Rattle.he_plan.specs.declared.limits.TheConstants.{MAX_LIMIT}
 use Rattle.he_plan.specs.Race.{Race, Reply}
 use Rattle.he_plan.specs.declared.transcript.Line.{Line}
 use Rattle.he_plan.specs.Transcript.{mark_at}
-use Rattle.he_plan.specs.Attempts.{is_untried, last_of}
+use Rattle.he_plan.specs.Attempts.{is_untried, last_of, order, order_at, seen}
+use Rattle.he_plan.specs.Interlacing.{interlace}
 
 abbrev pub earlier : Option ℕ → Option ℕ → Option ℕ
 earlier None y = y
@@ -53,6 +54,32 @@ start_tick race done = start_after race done (last_of done)
 -- a start at t comes after the last of these, and within the greatest limit
 abbrev pub IsLater : List Attempt → ℕ → Type 0
 IsLater done t = (t ≤ MAX_LIMIT) × IfSome (last_of done) (λ last. last.tick < t)
+
+-- the answer is seen at t or earlier
+abbrev pub is_received : Race → ℕ → Option Reply → Bool
+is_received race t None = false
+is_received race t (Some reply) = nat_le (seen race reply.tick) t
+
+-- the usable addresses of an answer, where it counts
+abbrev pub part_of : Bool → Option Reply → List Ip
+part_of counts None = []
+part_of counts (Some reply) = if counts then filter is_usable reply.addresses else []
+
+-- the interlaced list of the answers that count
+abbrev pub order_of : Race → Bool → Bool → List Ip
+order_of race v6 v4 = interlace (order race (part_of v6 race.aaaa ++ part_of v4 race.a)) race.settings.count
+
+-- the interlaced list of the answers that count, of which the addresses before `next` were tried
+pub record IsQueue (race : Race) (done : List Attempt) (v6 v4 : Bool) (ips : List Ip) (next : ℕ) : Type 0 where
+  pub order : ips ≡ order_of race v6 v4
+  pub bound : next ≤ length ips
+  pub tried : list_any (is_untried done) (take next ips) ≡ false
+
+-- and `next` is the place of the address that is tried at t
+pub record IsAtNext (race : Race) (done : List Attempt) (t : ℕ) (v6 v4 : Bool) (ips : List Ip) (next : ℕ) : Type 0 where
+  pub queue : IsQueue race done v6 v4 ips next
+  pub below : next < length ips
+  pub first : (d : Ip) → find (is_untried done) (order_at race t) ≡ Some (slice_index_or ips next d)
 
 -- the winner so far, after one more fate, which stands at this place
 abbrev pub better : Option (ℕ × ℕ) → ℕ → ℕ → Option (ℕ × ℕ)

@@ -1,6 +1,6 @@
 -- What a race's transcript says: the attempts that were made, what became of each, and how the race ended (RFC 8305
 -- section 5).
-use Rattle.std.specs.Prelude.{ℕ, ◌≡◌, ◌≤◌, ◌⊎◌, ◌&&◌, ◌||◌, Bool, true, false, not, if◌then◌else◌, List, [], ◌∷◌, length, map, filter, max, Option, Some, None, slice_get, nat_eq, nat_le, nat_lt}
+use Rattle.std.specs.Prelude.{ℕ, ◌≡◌, ◌≤◌, ◌⊎◌, ◌&&◌, ◌||◌, Bool, true, false, not, if◌then◌else◌, List, [], ◌∷◌, map, filter, max, Option, Some, None, nat_eq, nat_le, nat_lt}
 use Rattle.std.specs.List.{list_all, AllZip}
 use Rattle.std.specs.Option.{option_map_or}
 use Rattle.he_addr.specs.Ip.{is_usable}
@@ -12,7 +12,7 @@ use Rattle.he_plan.specs.declared.transcript.Mark.{Mark}
 use Rattle.he_plan.specs.declared.transcript.Mark.TheVariants as marks
 use Rattle.he_plan.specs.declared.transcript.Outcome3.{Outcome3}
 use Rattle.he_plan.specs.declared.transcript.Outcome3.TheVariants as results
-use Rattle.he_plan.specs.Race.{Race, Reply, addresses_of}
+use Rattle.he_plan.specs.Race.{Race, Reply}
 use Rattle.he_plan.specs.Attempts.{AreAttempts, seen, is_tried}
 use Rattle.he_plan.specs.Finish.{fate_of, IsWinner, IsSuccess}
 

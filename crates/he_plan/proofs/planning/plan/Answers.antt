@@ -1,25 +1,29 @@
-use Rattle.std.proofs.Common.{◌≡◌, ◌++◌, [], ◌∷◌, List, sym, ◌∙◌, subst, arith}
+use Rattle.std.proofs.Common.{◌≡◌, ◌++◌, [], ◌∷◌, List, Some, length, sym, ◌∙◌, ap, subst, arith}
 use Rattle.std.proofs.lemmas.List.{append-nil}
 use Rattle.std.proofs.lemmas.Grind.{common_steps}
 use Rattle.he_plan.specs.declared.attempts.Attempt.{Attempt}
-use Rattle.he_plan.specs.Attempts.{IsNext, AreAttempts, Continues}
-use Rattle.he_plan.specs.Planning.{IsLater}
-use Rattle.he_plan.proofs.Planned.{AreFirst, AreFirst-more, last_in_range, ticks_left-more}
+use Rattle.he_plan.specs.Attempts.{AreAttempts, Continues, IsLeast, IsNext, MayStart}
+use Rattle.he_plan.specs.Planning.{IsAtNext, IsLater}
+use Rattle.he_plan.proofs.Planned.{AreFirst-more, last_in_range}
+use Rattle.he_plan.proofs.Queued.{IsQueue-more}
 use Rattle.he_plan.proofs.planning.plan.Goals as goal
 
-pub loop-attempts-preserved : goal.loop-attempts-preserved
-loop-attempts-preserved g c =
-    let items : c.push.new.self.items ≡ c.loop-attempts.attempts.items ++ c.in-Some.next ∷ [] = grind (arith, common_steps, c.push.ensures.items, c.map_err.ensures.variant) in
-    let here : c.deref.result.now ≡ c.loop-attempts.attempts.items = c.deref.ensures.value in
-    let is : IsNext c.args.timeline.now c.loop-attempts.attempts.items c.in-Some.next = subst (λ (done : List Attempt). IsNext c.args.timeline.now done c.in-Some.next) here (rw c.in-Some.is at c.in_ok-next.ensures.next) in
-    let later : IsLater c.loop-attempts.attempts.items c.in-Some.next.tick = subst (λ (done : List Attempt). IsLater done c.in-Some.next.tick) here (rw c.in-Some.is at c.in_ok-next.ensures.later) in
+pub loop-tick-preserved : goal.loop-tick-preserved
+loop-tick-preserved g c =
+    let x : Attempt = record { place = c.len.result; tick = c.in-Some.tick; ip = c.index.result.now } in
+    let items : c.push.new.self.items ≡ c.loop-tick.attempts.items ++ x ∷ [] = grind (arith, common_steps, c.push.ensures.items, c.map_err.ensures.variant) in
+    let at : IsAtNext c.args.timeline.now c.loop-tick.attempts.items c.in-Some.tick c.in_ok-queue.queue.v6 c.in_ok-queue.queue.v4 c.in_ok-queue.queue.ips.items c.in_ok-queue.queue.next = subst (λ (done : List Attempt). IsAtNext c.args.timeline.now done c.in-Some.tick c.in_ok-queue.queue.v6 c.in_ok-queue.queue.v4 c.in_ok-queue.queue.ips.items c.in_ok-queue.queue.next) c.deref-in-Some.ensures.value c.in_ok-queue.ensures in
+    let least : IsLeast (MayStart c.args.timeline.now c.loop-tick.attempts.items) c.in-Some.tick = subst (λ (done : List Attempt). IsLeast (MayStart c.args.timeline.now done) c.in-Some.tick) c.deref.ensures.value c.in-Some.ensures.some in
+    let later : IsLater c.loop-tick.attempts.items c.in-Some.tick = subst (λ (done : List Attempt). IsLater done c.in-Some.tick) c.deref.ensures.value c.in-Some.ensures.later in
+    let is : IsNext c.args.timeline.now c.loop-tick.attempts.items x = record { place = c.len.ensures ∙ sym c.deref.ensures.len ∙ ap length c.deref.ensures.value; tick = least; ip = at.first c.index.result.now ∙ ap Some (sym c.index.ensures) } in
     rw items (record {
-      first = AreFirst-more c.args.timeline.now c.loop-attempts.attempts.items c.in-Some.next c.loop-attempts.invariant.first is;
-      in_range = last_in_range c.loop-attempts.attempts.items c.in-Some.next later;
+      first = AreFirst-more c.args.timeline.now c.loop-tick.attempts.items x c.loop-tick.invariant.first is;
+      in_range = last_in_range c.loop-tick.attempts.items x later;
+      queue = IsQueue-more c.args.timeline.now c.loop-tick.attempts.items x c.in_ok-queue.queue.v6 c.in_ok-queue.queue.v4 c.in_ok-queue.queue.ips.items c.in_ok-queue.queue.next at.queue;
     })
 
 pub returns : goal.returns
 returns g c =
-    let none : Continues c.args.timeline.now c.loop-attempts.attempts.items [] = subst (λ (done : List Attempt). Continues c.args.timeline.now done []) c.deref.ensures.value (rw c.in_default.is at c.in_ok-next.ensures.next) in
-    let whole : Continues c.args.timeline.now [] (c.loop-attempts.attempts.items ++ []) = c.loop-attempts.invariant.first [] none in
-    rw c.new.ensures (subst (λ (done : List Attempt). AreAttempts c.args.timeline.now done) (append-nil c.loop-attempts.attempts.items) whole)
+    let none : Continues c.args.timeline.now c.loop-tick.attempts.items [] = subst (λ (done : List Attempt). Continues c.args.timeline.now done []) c.deref.ensures.value c.in_default.ensures.none in
+    let whole : Continues c.args.timeline.now [] (c.loop-tick.attempts.items ++ []) = c.loop-tick.invariant.first [] none in
+    rw c.new.ensures (subst (λ (done : List Attempt). AreAttempts c.args.timeline.now done) (append-nil c.loop-tick.attempts.items) whole)

@@ -1,5 +1,4 @@
-use Rattle.std.proofs.Common.{◌≡◌, map, List, ◌∙◌, ap}
-use Rattle.he_plan.specs.declared.finish.Fate.{Fate}
+use Rattle.std.proofs.Common.{◌≡◌, map, ◌∙◌, ap}
 use Rattle.he_plan.specs.Finish.{fate_of}
 use Rattle.he_plan.proofs.Told.{own-told}
 use Rattle.he_plan.proofs.transcript.transcript_of.Goals as goal

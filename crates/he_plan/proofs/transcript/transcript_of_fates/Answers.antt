@@ -1,4 +1,4 @@
-use Rattle.std.proofs.Common.{sym, ◌∙◌, ap, length}
+use Rattle.std.proofs.Common.{◌∙◌, ap, length}
 use Rattle.he_plan.proofs.Told.{told-is, length-told}
 use Rattle.he_plan.proofs.transcript.transcript_of_fates.Goals as goal
 

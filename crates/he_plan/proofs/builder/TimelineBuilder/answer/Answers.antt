@@ -1,5 +1,5 @@
 use Rattle.std.proofs.Common.{arith, sym, ◌∙◌, ap}
-use Rattle.std.specs.Option.{is_some, option_map}
+use Rattle.std.specs.Option.{is_some}
 use Rattle.std.proofs.lemmas.Grind.{common_steps}
 use Rattle.he_plan.proofs.Ranges.{IsRace-with_answer}
 use Rattle.he_plan.proofs.builder.TimelineBuilder.answer.Goals as goal

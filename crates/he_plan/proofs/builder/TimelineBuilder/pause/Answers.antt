@@ -1,4 +1,4 @@
-use Rattle.std.proofs.Common.{arith, sym, ◌∙◌}
+use Rattle.std.proofs.Common.{arith}
 use Rattle.std.proofs.lemmas.Grind.{common_steps}
 use Rattle.he_plan.proofs.Ranges.{IsRace-with_pause}
 use Rattle.he_plan.proofs.builder.TimelineBuilder.pause.Goals as goal

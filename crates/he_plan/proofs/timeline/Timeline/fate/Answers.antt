@@ -1,5 +1,4 @@
-use Rattle.std.proofs.Common.{◌≡◌, ◌+◌, ◌<◌, ◌≤◌, Some, sym, ◌∙◌, ap, arith}
-use Rattle.std.proofs.lemmas.Grind.{common_steps}
+use Rattle.std.proofs.Common.{◌≡◌, ◌+◌, ◌<◌, Some, sym, ◌∙◌, ap, arith}
 use Rattle.he_plan.specs.Finish.{outcome_of, fate_by}
 use Rattle.he_plan.specs.Timeline.{duration_of}
 use Rattle.he_plan.proofs.Finishing.{late_runs}
