@@ -1,7 +1,7 @@
 -- Lines that are written token by token.
-use Rattle.std.proofs.Common.{◌≡◌, ℕ, zero, suc, ◌+◌, ◌<◌, ◌≤◌, List, [], ◌∷◌, ◌++◌, length, take, map, get_or, refl, sym, ◌∙◌, ap, subst, arith, append_assoc, length-append, min}
-use Rattle.std.specs.List.{flat_map, join_with_byte}
-use Rattle.std.proofs.lemmas.List.{take_at, map-append, append-nil}
+use Rattle.std.proofs.Common.{◌≡◌, ℕ, zero, suc, ◌≤◌, List, [], ◌∷◌, ◌++◌, length, take, refl, sym, ◌∙◌, ap, subst, arith, append_assoc, length-append}
+use Rattle.std.specs.List.{join_with_byte}
+use Rattle.std.proofs.lemmas.List.{take_at, append-nil}
 use Rattle.std.proofs.lemmas.List.Concat.{flat_map-cons}
 use Rattle.std.proofs.lemmas.Grind.{flat_map-append}
 use Rattle.std.specs.Prelude.{Result, Ok, Err, OnOk, OnErr}
@@ -54,9 +54,9 @@ pub listed_written : {E : Type 0} (old one two new word number : List ℕ) (othe
     → Writes result old new (written_line (word ∷ number ∷ others))
 listed_written old one two new word number others result h1 h2 ok err =
     let first : two ≡ (old ++ word) ++ spaced (number ∷ others) =
-        h2 ∙ ap (λ t. t ++ spaced others) (h1 ∙ sym (append_assoc old word (32 ∷ number)))
-        ∙ append_assoc (old ++ word) (32 ∷ number) (spaced others)
-        ∙ ap (λ t. (old ++ word) ++ t) (sym (flat_map-cons (λ t. 32 ∷ t) number others)) in
+    h2 ∙ ap (λ t. t ++ spaced others) (h1 ∙ sym (append_assoc old word (32 ∷ number)))
+    ∙ append_assoc (old ++ word) (32 ∷ number) (spaced others)
+    ∙ ap (λ t. (old ++ word) ++ t) (sym (flat_map-cons (λ t. 32 ∷ t) number others)) in
     line_written old (old ++ word) two new word (number ∷ others) result refl first ok err
 
 -- one text and then another

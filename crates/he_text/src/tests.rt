@@ -23,17 +23,29 @@ fn refused(rt: HostRuntime) -> Result<(), Fail> {
         ("race 1;set attempt 9;end;", 2, TextKind::Range),
         ("race 1;aaaa 20 198.51.100.1;end;", 2, TextKind::Address),
         ("race 1;a 010 none;end;", 2, TextKind::Number),
-        ("race 1;a 5 198.51.100.1 198.51.100.1;end;", 2, TextKind::Repeated),
+        (
+            "race 1;a 5 198.51.100.1 198.51.100.1;end;",
+            2,
+            TextKind::Repeated,
+        ),
         ("race 1;a 5 none;aaaa 6 none;end;", 3, TextKind::Word),
         ("race 1;a 5 none;a 6 none;end;", 3, TextKind::Repeated),
-        ("race 1;connect 198.51.100.1 ok 5;end;", 2, TextKind::Address),
+        (
+            "race 1;connect 198.51.100.1 ok 5;end;",
+            2,
+            TextKind::Address,
+        ),
         ("race 1;a 5;end;", 2, TextKind::Word),
         ("race 1;pause 30 30;end;", 2, TextKind::Range),
         ("race 1;pause 30 40;pause 39 50;end;", 3, TextKind::Range),
         ("race 1;end", 2, TextKind::Unfinished),
         ("race 1;;end;", 2, TextKind::Word),
         ("race 1;set count 1;set count 1;end;", 3, TextKind::Repeated),
-        ("race 1;connect 198.51.100.1 soon 5;end;", 2, TextKind::Address),
+        (
+            "race 1;connect 198.51.100.1 soon 5;end;",
+            2,
+            TextKind::Address,
+        ),
         ("race 1;a 5 ;end;", 2, TextKind::Address),
         ("race 1;a  none;end;", 2, TextKind::Number),
         ("race 1;pause  1 2;end;", 2, TextKind::Word),
@@ -55,7 +67,7 @@ fn accepted(rt: HostRuntime) -> Result<(), Fail> {
         "race 1;set limit 9;aaaa 20 2001:DB8:1::1;a 25 none;connect 2001:db8:1::1 ok 35;pause 30 40;pause 40 50;end;race 1;end;",
     )?;
     let (race, behind) = read_race(rt.alloc(), &bytes, 0)?.ok_or("a race")?;
-    assert_eq!(rt; behind, bytes.len() - 11);
+    assert_eq!(rt; behind, 107);
     assert_eq!(rt; race.settings().limit(), 9);
     assert_eq!(rt; race.settings().attempt(), 250);
     assert_eq!(rt; race.pauses(), [(30, 40), (40, 50)].as_slice());
@@ -102,7 +114,10 @@ fn transcript(rt: HostRuntime) -> Result<(), Fail> {
 
 #[test]
 fn refused_memory(rt: HostRuntime) -> Result<(), Fail> {
-    let text = lines(rt.alloc(), "race 1;aaaa 20 2001:db8:1::1;a 25 192.0.2.1;connect 192.0.2.1 fail 35;pause 30 40;end;")?;
+    let text = lines(
+        rt.alloc(),
+        "race 1;aaaa 20 2001:db8:1::1;a 25 192.0.2.1;connect 192.0.2.1 fail 35;pause 30 40;end;",
+    )?;
     let heap = Refusing::new(rt.alloc());
     let refused = each_growth_refused(&heap, || match read_race(&heap, &text, 0) {
         Ok(found) => assert!(rt; found.is_some()),

@@ -21,20 +21,14 @@ fn write_setting<A: Allocator + Copy>(
     write_line(b"set", &[Token::Word(name), Token::Number(value)], out)
 }
 
-fn write_delays<A: Allocator + Copy>(
-    settings: Settings,
-    out: &mut Vec<u8, A>,
-) -> Result<(), Memory>
+fn write_delays<A: Allocator + Copy>(settings: Settings, out: &mut Vec<u8, A>) -> Result<(), Memory>
     ensures { Writes result out.old.items out.new.items (delays_text settings) }
 {
     write_setting(b"resolution", settings.resolution(), out)?;
     write_setting(b"attempt", settings.attempt(), out)
 }
 
-fn write_bounds<A: Allocator + Copy>(
-    settings: Settings,
-    out: &mut Vec<u8, A>,
-) -> Result<(), Memory>
+fn write_bounds<A: Allocator + Copy>(settings: Settings, out: &mut Vec<u8, A>) -> Result<(), Memory>
     ensures { Writes result out.old.items out.new.items (bounds_text settings) }
 {
     write_setting(b"count", settings.count(), out)?;

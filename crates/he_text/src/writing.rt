@@ -43,10 +43,7 @@ fn write_spaced<A: Allocator + Copy>(token: Token, out: &mut Vec<u8, A>) -> Resu
 }
 
 // The tokens, each behind a space.
-fn write_tokens<A: Allocator + Copy>(
-    tokens: &[Token],
-    out: &mut Vec<u8, A>,
-) -> Result<(), Memory>
+fn write_tokens<A: Allocator + Copy>(tokens: &[Token], out: &mut Vec<u8, A>) -> Result<(), Memory>
     ensures { Writes result out.old.items out.new.items (spaced (map token_text tokens.now)) }
 {
     for token in tokens {
@@ -56,10 +53,7 @@ fn write_tokens<A: Allocator + Copy>(
 }
 
 // The addresses, each behind a space.
-fn write_addresses<A: Allocator + Copy>(
-    ips: &[Ip],
-    out: &mut Vec<u8, A>,
-) -> Result<(), Memory>
+fn write_addresses<A: Allocator + Copy>(ips: &[Ip], out: &mut Vec<u8, A>) -> Result<(), Memory>
     ensures { Writes result out.old.items out.new.items (spaced (map printed ips.now)) }
 {
     for ip in ips {

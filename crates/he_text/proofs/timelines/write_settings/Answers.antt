@@ -1,12 +1,10 @@
-use Rattle.std.proofs.Common.{◌≡◌, ◌++◌, ◌∷◌, [], List, ℕ}
-use Rattle.std.specs.Prelude.{codes}
-use Rattle.he_text.specs.Written.{written_line, setting_text, delays_text, bounds_text, top_text, answer_text, answers_text, told_text}
+use Rattle.he_text.specs.Written.{delays_text, bounds_text}
 use Rattle.he_text.proofs.WritingLaws.{writes_then}
 use Rattle.he_text.proofs.timelines.write_settings.Goals as goal
 
 pub returns : goal.returns
 returns g c =
     writes_then c.args.out.now.items c.write_delays.new.out.items c.write_bounds.new.out.items
-        (delays_text c.args.settings)
-        (bounds_text c.args.settings)
-        c.write_bounds.result c.in_ok-write_delays.ensures c.write_bounds.ensures
+    (delays_text c.args.settings)
+    (bounds_text c.args.settings)
+    c.write_bounds.result c.in_ok-write_delays.ensures c.write_bounds.ensures
