@@ -1,11 +1,10 @@
 -- The readers answer what the checks say: the race of the lines up to `end` where every one is right, else the first fault of the
 -- least faulty line.
-use Rattle.std.proofs.Common.{◌≡◌, ℕ, suc, ◌+◌, ◌<◌, ◌≤◌, ◌==◌, Bool, true, false, cond, leb, ltb, not, List, [], ◌∷◌, ◌++◌, length, Option, Some, None, Result, Ok, Err, refl, sym, ◌∙◌, ap, subst, inl, inr, ⊎_elim, arith}
+use Rattle.std.proofs.Common.{◌≡◌, ℕ, ◌+◌, ◌≤◌, Bool, true, false, cond, ltb, not, List, [], ◌∷◌, ◌++◌, length, Option, Some, None, Result, Ok, Err, refl, sym, ◌∙◌, ap, subst, inl, inr, arith}
 use Rattle.std.specs.Prelude.{◌⊎◌, codes}
 use Rattle.std.specs.Option.{ok_or}
 use Rattle.std.specs.Str.{bytes_eq}
-use Rattle.std.proofs.lemmas.Bool.{ltb-false, leb-false, leb-true, le-leb, lt-leb}
-use Rattle.he_plan.specs.Building.{empty_race}
+use Rattle.std.proofs.lemmas.Bool.{ltb-false, leb-false, lt-leb}
 use Rattle.he_plan.specs.Race.{Race}
 use Rattle.he_text.specs.declared.draft.Given.{Given}
 use Rattle.he_text.specs.declared.draft.Order.{Order}
@@ -15,12 +14,12 @@ use Rattle.he_text.specs.declared.limits.TheConstants.{MAX_LINE}
 use Rattle.he_text.specs.declared.words.Word.{Word}
 use Rattle.he_text.specs.declared.words.Word.TheVariants as words
 use Rattle.he_text.specs.Faults.{first_fault, test, group_on, last_group, known_to, said_before, too_long, unfinished, wrong_header, wrong_word, too_often, wrong_form, wrong_bounds, repeated, of_said, line_fault, at_line_number, ends_by, ends, fault_from, fault_in}
-use Rattle.he_text.specs.Forms.{◌>>=◌, word_of, said_by, said_in}
+use Rattle.he_text.specs.Forms.{◌>>=◌, word_of, said_by}
 use Rattle.he_text.specs.Parts.{tokens_of}
-use Rattle.he_text.specs.Reading.{at_line, ended_by, wholeness, admit, take_told, take_line, read_body, head_part, head_of, take_setting, take_head, settle, read_head, read_lines, order_at_start, none_given}
+use Rattle.he_text.specs.Reading.{at_line, ended_by, wholeness, admit, take_told, take_line, read_body, head_part, head_of, take_setting, take_head, read_head, read_lines, order_at_start, none_given}
 use Rattle.he_text.specs.Said.{Said, settings_given, race_of}
 use Rattle.he_text.specs.Words.{word_in, group_of, is_head_word, is_end}
-use Rattle.he_text.proofs.GivenLaws.{given_of, setting_agrees, AllFit, none_fits, settings_agree, IsHead, is_head}
+use Rattle.he_text.proofs.GivenLaws.{given_of, setting_agrees, AllFit, none_fits, settings_agree, is_head}
 use Rattle.he_text.proofs.OrderLaws.{Under, order_of, last_more, under_more, group_is, admit_agrees}
 use Rattle.he_text.proofs.PlaceLaws.{has_place, said_more}
 use Rattle.he_text.proofs.ReadingLaws.{settle_reads, body_unwhole, head_after}
@@ -54,8 +53,8 @@ taken_in_order None None (Ok s) bounds again order admitted told after final giv
 abbrev pub line_checks : List (List ℕ) → List ℕ → Result (Word × List (List ℕ)) TextKind → Option TextKind
 line_checks before line word =
     later_checks (wrong_word (last_group 0 before) word) (too_often before word)
-        (word >>= λ parts. said_by (known_to (said_before before)) parts.0 parts.1)
-        (wrong_bounds (said_before before)) (repeated (said_before before))
+    (word >>= λ parts. said_by (known_to (said_before before)) parts.0 parts.1)
+    (wrong_bounds (said_before before)) (repeated (said_before before))
 
 not_earlier : (b : Bool) → test b kinds.Word ≡ None → b ≡ false
 not_earlier true h = cc
@@ -65,31 +64,31 @@ not_earlier false h = refl
 told_line : (before : List (List ℕ)) (line : List ℕ) (word : Word) (tokens : List (List ℕ)) → word_of (tokens_of line) ≡ Ok (word, tokens) → Under (last_group 0 before) before
     → (ltb (group_of word) (last_group 0 before) ≡ false → is_head_word word ≡ false)
     → take_line (tokens_of line) (order_of before) (race_of (said_before before))
-        ≡ outcome (line_checks before line (Ok (word, tokens))) (word, order_of (before ++ line ∷ []), race_of (said_before (before ++ line ∷ [])))
+    ≡ outcome (line_checks before line (Ok (word, tokens))) (word, order_of (before ++ line ∷ []), race_of (said_before (before ++ line ∷ [])))
 unfolding take_line
 told_line before line word tokens is under late =
     let told : List Said = said_before before in
     ap (λ w. w >>= λ parts. admit parts.0 (order_of before) >>= λ next. take_told parts.0 parts.1 (race_of told) >>= λ t. Ok (parts.0, next, t)) is
     ∙ taken_in_order (wrong_word (last_group 0 before) (Ok (word, tokens))) (too_often before (Ok (word, tokens))) (said_by (known_to told) word tokens) (wrong_bounds told) (repeated told)
-        (order_of (before ++ line ∷ [])) (admit word (order_of before)) (take_told word tokens (race_of told)) (λ s. race_of (told ++ s ∷ [])) (race_of (said_before (before ++ line ∷ [])))
-        (λ next t. (word, next, t))
-        (admit_agrees word tokens before line is under)
-        (λ hw ho. told_agrees word tokens told (late (not_earlier _ hw)) (has_place word tokens before ho))
-        (λ s h. ap race_of (sym (said_more (known_to told) before line word tokens s is h)))
+    (order_of (before ++ line ∷ [])) (admit word (order_of before)) (take_told word tokens (race_of told)) (λ s. race_of (told ++ s ∷ [])) (race_of (said_before (before ++ line ∷ [])))
+    (λ next t. (word, next, t))
+    (admit_agrees word tokens before line is under)
+    (λ hw ho. told_agrees word tokens told (late (not_earlier _ hw)) (has_place word tokens before ho))
+    (λ s h. ap race_of (sym (said_more (known_to told) before line word tokens s is h)))
 
 -- a line of the first groups
 head_line : (before : List (List ℕ)) (line : List ℕ) (word : Word) (tokens : List (List ℕ)) → word_of (tokens_of line) ≡ Ok (word, tokens) → Under (last_group 0 before) before → is_head_word word ≡ true
     → take_head (word, tokens) (order_of before) (given_of (said_before before))
-        ≡ outcome (line_checks before line (Ok (word, tokens))) (order_of (before ++ line ∷ []), given_of (said_before (before ++ line ∷ [])))
+    ≡ outcome (line_checks before line (Ok (word, tokens))) (order_of (before ++ line ∷ []), given_of (said_before (before ++ line ∷ [])))
 unfolding take_head
 head_line before line word tokens is under head =
     let told : List Said = said_before before in
     taken_in_order (wrong_word (last_group 0 before) (Ok (word, tokens))) (too_often before (Ok (word, tokens))) (said_by (known_to told) word tokens) (wrong_bounds told) (repeated told)
-        (order_of (before ++ line ∷ [])) (admit word (order_of before)) (take_setting word tokens (given_of told)) (λ s. given_of (told ++ s ∷ [])) (given_of (said_before (before ++ line ∷ [])))
-        (λ next t. (next, t))
-        (admit_agrees word tokens before line is under)
-        (λ hw ho. setting_agrees (known_to told) word tokens told head)
-        (λ s h. ap given_of (sym (said_more (known_to told) before line word tokens s is h)))
+    (order_of (before ++ line ∷ [])) (admit word (order_of before)) (take_setting word tokens (given_of told)) (λ s. given_of (told ++ s ∷ [])) (given_of (said_before (before ++ line ∷ [])))
+    (λ next t. (next, t))
+    (admit_agrees word tokens before line is under)
+    (λ hw ho. setting_agrees (known_to told) word tokens told head)
+    (λ s h. ap given_of (sym (said_more (known_to told) before line word tokens s is h)))
 
 -- the lines up to `end` and what stands behind them, or the first fault
 abbrev pub stop : {B : Type 0} → ℕ → Option TextKind → Result B (ℕ × TextKind) → Result B (ℕ × TextKind)
@@ -133,9 +132,9 @@ pub line_fault_is : (before : List (List ℕ)) (line : List ℕ) (after : List (
 unfolding line_fault
 line_fault_is before line after word is =
     let at : Result (Word × List (List ℕ)) TextKind → Option TextKind = λ w. first_fault (too_long line ∷ unfinished after ∷ wrong_word (last_group 0 before) w ∷ too_often before w
-        ∷ wrong_form (w >>= λ parts. said_by (known_to (said_before before)) parts.0 parts.1)
-        ∷ of_said (wrong_bounds (said_before before)) (w >>= λ parts. said_by (known_to (said_before before)) parts.0 parts.1)
-        ∷ of_said (repeated (said_before before)) (w >>= λ parts. said_by (known_to (said_before before)) parts.0 parts.1) ∷ []) in
+    ∷ wrong_form (w >>= λ parts. said_by (known_to (said_before before)) parts.0 parts.1)
+    ∷ of_said (wrong_bounds (said_before before)) (w >>= λ parts. said_by (known_to (said_before before)) parts.0 parts.1)
+    ∷ of_said (repeated (said_before before)) (w >>= λ parts. said_by (known_to (said_before before)) parts.0 parts.1) ∷ []) in
     let bound : Result Said TextKind = word >>= λ parts. said_by (known_to (said_before before)) parts.0 parts.1 in
     ap at is ∙ first_again (too_long line) (unfinished after) (wrong_word (last_group 0 before) word) (too_often before word) (wrong_form bound) (of_said (wrong_bounds (said_before before)) bound) (of_said (repeated (said_before before)) bound)
 
@@ -222,9 +221,9 @@ word_fault (token ∷ tokens) kind h = by_word (word_in token) h
 -- a whole line and what follows it, by its word
 body_later : (n : ℕ) (before : List (List ℕ)) (line : List ℕ) (after : List (List ℕ)) (word : Result (Word × List (List ℕ)) TextKind) → word_of (tokens_of line) ≡ word → Under (last_group 0 before) before → IsLate before line
     → (Under (last_group 0 (before ++ line ∷ [])) (before ++ line ∷ []) → FirstIsLate (before ++ line ∷ []) after
-        → read_body (n + 1) (order_of (before ++ line ∷ [])) (race_of (said_before (before ++ line ∷ []))) after ≡ raced (walk (n + 1) (before ++ line ∷ []) after))
+    → read_body (n + 1) (order_of (before ++ line ∷ [])) (race_of (said_before (before ++ line ∷ []))) after ≡ raced (walk (n + 1) (before ++ line ∷ []) after))
     → body_next n after (take_line (tokens_of line) (order_of before) (race_of (said_before before)))
-        ≡ stop n (line_checks before line word) (raced (cond (ends line) (Ok (before ++ line ∷ [], after)) (walk (n + 1) (before ++ line ∷ []) after)))
+    ≡ stop n (line_checks before line word) (raced (cond (ends line) (Ok (before ++ line ∷ [], after)) (walk (n + 1) (before ++ line ∷ []) after)))
 unfolding take_line
 body_later n before line after (Err kind) is under late later =
     ap (λ w. body_next n after (w >>= λ parts. admit parts.0 (order_of before) >>= λ next. take_told parts.0 parts.1 (race_of (said_before before)) >>= λ t. Ok (parts.0, next, t))) is
@@ -232,9 +231,9 @@ body_later n before line after (Err kind) is under late later =
 body_later n before line after (Ok parts) is under late later =
     ap (body_next n after) (told_line before line parts.0 parts.1 is under (late parts.0 parts.1 is))
     ∙ body_known n after (line_checks before line (Ok parts)) parts.0 (order_of (before ++ line ∷ [])) (race_of (said_before (before ++ line ∷ []))) (walk (n + 1) (before ++ line ∷ []) after) (before ++ line ∷ []) refl
-        (λ right goes. let order = in_order before line parts.0 parts.1 right in
-            later (under_next before line parts.0 parts.1 is under order)
-                (all_late (before ++ line ∷ []) after (late_last before line parts.0 parts.1 is (late parts.0 parts.1 is order))))
+    (λ right goes. let order = in_order before line parts.0 parts.1 right in
+    later (under_next before line parts.0 parts.1 is under order)
+    (all_late (before ++ line ∷ []) after (late_last before line parts.0 parts.1 is (late parts.0 parts.1 is order))))
     ∙ ap (λ b. stop n (line_checks before line (Ok parts)) (raced (cond b (Ok (before ++ line ∷ [], after)) (walk (n + 1) (before ++ line ∷ []) after)))) (sym (ends_known line parts.0 parts.1 is))
 
 body_step : (n : ℕ) (before : List (List ℕ)) (line : List ℕ) (after : List (List ℕ)) (later : Result (Race × List (List ℕ)) (ℕ × TextKind)) (walked : Result (List (List ℕ) × List (List ℕ)) (ℕ × TextKind)) (word : Result (Word × List (List ℕ)) TextKind)
@@ -252,8 +251,8 @@ unfolding read_body walk
 body_agrees n before [] under late = refl
 body_agrees n before (line ∷ after) under late =
     body_step n before line after (body_next n after (take_line (tokens_of line) (order_of before) (race_of (said_before before))))
-        (cond (ends line) (Ok (before ++ line ∷ [], after)) (walk (n + 1) (before ++ line ∷ []) after)) (word_of (tokens_of line)) refl
-        (body_later n before line after (word_of (tokens_of line)) refl under late (body_agrees (n + 1) (before ++ line ∷ []) after))
+    (cond (ends line) (Ok (before ++ line ∷ [], after)) (walk (n + 1) (before ++ line ∷ []) after)) (word_of (tokens_of line)) refl
+    (body_later n before line after (word_of (tokens_of line)) refl under late (body_agrees (n + 1) (before ++ line ∷ []) after))
 
 -- the first groups
 abbrev pub head_next : ℕ → List (List ℕ) → Result (Order × Given) TextKind → Result (Race × List (List ℕ)) (ℕ × TextKind)
@@ -273,12 +272,13 @@ head_cases line = by_word (word_of (tokens_of line)) refl
   where
     by_head : (parts : Word × List (List ℕ)) (b : Bool) → word_of (tokens_of line) ≡ Ok parts → is_head_word parts.0 ≡ b
         → ((head_part (word_of (tokens_of line)) ≡ None) × ((word : Word) (tokens : List (List ℕ)) → word_of (tokens_of line) ≡ Ok (word, tokens) → is_head_word word ≡ false))
-            ⊎ ((parts : Word × List (List ℕ)) × (head_part (word_of (tokens_of line)) ≡ Some parts) × (word_of (tokens_of line) ≡ Ok parts) × (is_head_word parts.0 ≡ true))
+        ⊎ ((parts : Word × List (List ℕ)) × (head_part (word_of (tokens_of line)) ≡ Some parts) × (word_of (tokens_of line) ≡ Ok parts) × (is_head_word parts.0 ≡ true))
     by_head parts true e h = inr (parts, ap head_part e ∙ ap (λ b. cond b (Some parts) None) h, e, h)
     by_head parts false e h = inl (ap head_part e ∙ ap (λ b. cond b (Some parts) None) h, λ word tokens e'. let same : parts ≡ (word, tokens) = cc (e, e') in ap (λ (p : Word × List (List ℕ)). is_head_word p.0) (sym same) ∙ h)
+
     by_word : (r : Result (Word × List (List ℕ)) TextKind) → word_of (tokens_of line) ≡ r
         → ((head_part (word_of (tokens_of line)) ≡ None) × ((word : Word) (tokens : List (List ℕ)) → word_of (tokens_of line) ≡ Ok (word, tokens) → is_head_word word ≡ false))
-            ⊎ ((parts : Word × List (List ℕ)) × (head_part (word_of (tokens_of line)) ≡ Some parts) × (word_of (tokens_of line) ≡ Ok parts) × (is_head_word parts.0 ≡ true))
+        ⊎ ((parts : Word × List (List ℕ)) × (head_part (word_of (tokens_of line)) ≡ Some parts) × (word_of (tokens_of line) ≡ Ok parts) × (is_head_word parts.0 ≡ true))
     by_word (Err kind) e = inl (ap head_part e, λ word tokens e'. let wrong : Err kind ≡ Ok (word, tokens) = sym e ∙ e' in cc)
     by_word (Ok parts) e = by_head parts (is_head_word parts.0) e refl
 
@@ -322,25 +322,25 @@ head_only_more before line parts is head only right =
 head_by_word : (n : ℕ) (before : List (List ℕ)) (line : List ℕ) (after : List (List ℕ)) → IsHeadOnly before
     → (IsHeadOnly (before ++ line ∷ []) → read_head (n + 1) (order_of (before ++ line ∷ [])) (given_of (said_before (before ++ line ∷ []))) after ≡ raced (walk (n + 1) (before ++ line ∷ []) after))
     → (at_line n (wholeness (line ∷ after)) >>= λ _. head_after n (order_of before) (given_of (said_before before)) (line ∷ after) after (head_of (tokens_of line)))
-        ≡ raced (walk n before (line ∷ after))
+    ≡ raced (walk n before (line ∷ after))
 unfolding walk
 head_by_word n before line after only later = elim (head_cases line) [
-    | inl late ↦ by_whole late.0 late.1 (wholeness (line ∷ after)) refl
-    | inr head ↦
-        body_step n before line after (head_after n (order_of before) (given_of (said_before before)) (line ∷ after) after (head_of (tokens_of line)))
-            (cond (ends line) (Ok (before ++ line ∷ [], after)) (walk (n + 1) (before ++ line ∷ []) after)) (Ok head.0) head.2
-            (ap (head_after n (order_of before) (given_of (said_before before)) (line ∷ after) after) head.1
-            ∙ ap (head_next n after) (head_line before line head.0.0 head.0.1 head.2 only.under head.3)
-            ∙ head_known n after (line_checks before line (Ok head.0)) (order_of (before ++ line ∷ [])) (given_of (said_before (before ++ line ∷ [])))
-                (raced (cond (ends line) (Ok (before ++ line ∷ [], after)) (walk (n + 1) (before ++ line ∷ []) after)))
-                (λ right. later (head_only_more before line head.0 head.2 head.3 only right)
-                    ∙ ap (λ b. raced (cond b (Ok (before ++ line ∷ [], after)) (walk (n + 1) (before ++ line ∷ []) after))) (sym (ends_known line head.0.0 head.0.1 head.2 ∙ head_no_end head.0.0 head.3))))
-  ]
+  | inl late ↦ by_whole late.0 late.1 (wholeness (line ∷ after)) refl
+  | inr head ↦
+      body_step n before line after (head_after n (order_of before) (given_of (said_before before)) (line ∷ after) after (head_of (tokens_of line)))
+      (cond (ends line) (Ok (before ++ line ∷ [], after)) (walk (n + 1) (before ++ line ∷ []) after)) (Ok head.0) head.2
+      (ap (head_after n (order_of before) (given_of (said_before before)) (line ∷ after) after) head.1
+      ∙ ap (head_next n after) (head_line before line head.0.0 head.0.1 head.2 only.under head.3)
+      ∙ head_known n after (line_checks before line (Ok head.0)) (order_of (before ++ line ∷ [])) (given_of (said_before (before ++ line ∷ [])))
+      (raced (cond (ends line) (Ok (before ++ line ∷ [], after)) (walk (n + 1) (before ++ line ∷ []) after)))
+      (λ right. later (head_only_more before line head.0 head.2 head.3 only right)
+      ∙ ap (λ b. raced (cond b (Ok (before ++ line ∷ [], after)) (walk (n + 1) (before ++ line ∷ []) after))) (sym (ends_known line head.0.0 head.0.1 head.2 ∙ head_no_end head.0.0 head.3))))
+]
   where
     by_whole : head_of (tokens_of line) ≡ None → ((word : Word) (tokens : List (List ℕ)) → word_of (tokens_of line) ≡ Ok (word, tokens) → is_head_word word ≡ false)
         → (w : Result (Unit {0}) TextKind) → wholeness (line ∷ after) ≡ w
         → (at_line n (wholeness (line ∷ after)) >>= λ _. head_after n (order_of before) (given_of (said_before before)) (line ∷ after) after (head_of (tokens_of line)))
-            ≡ raced (walk n before (line ∷ after))
+        ≡ raced (walk n before (line ∷ after))
     by_whole none late (Err kind) e =
         ap (λ w. at_line n w >>= λ _. head_after n (order_of before) (given_of (said_before before)) (line ∷ after) after (head_of (tokens_of line))) e
         ∙ sym (body_unwhole n (order_of before) (race_of (said_before before)) (line ∷ after) kind e)
@@ -380,7 +380,7 @@ unfolding read_lines walk_all wholeness
 lines_agree [] = refl
 lines_agree (line ∷ after) =
     whole_first 1 (ltb MAX_LINE (length line)) after (wrong_header line) (cond (bytes_eq line (codes "race 1")) (read_head 2 order_at_start none_given after) (Err (1, kinds.Header))) (raced (walk 2 [] after))
-        (begins line after (bytes_eq line (codes "race 1")) (read_head 2 order_at_start none_given after) (raced (walk 2 [] after)) (start_agrees after))
+    (begins line after (bytes_eq line (codes "race 1")) (read_head 2 order_at_start none_given after) (raced (walk 2 [] after)) (start_agrees after))
     ∙ sym (raced_stop 1 (first_fault (too_long line ∷ unfinished after ∷ wrong_header line ∷ [])) (walk 2 [] after))
 
 -- the fault is where the walk stops
@@ -398,7 +398,7 @@ walk_fault n before [] = refl
 walk_fault n before (line ∷ after) =
     fault_stop n (line_fault before line after) (cond (ends line) (Ok (before ++ line ∷ [], after)) (walk (n + 1) (before ++ line ∷ []) after))
     ∙ ap (at_line_number n (line_fault before line after)) (fault_end (ends line) (before ++ line ∷ [], after) (walk (n + 1) (before ++ line ∷ []) after)
-        ∙ ap (λ f. cond (ends line) None f) (walk_fault (n + 1) (before ++ line ∷ []) after))
+    ∙ ap (λ f. cond (ends line) None f) (walk_fault (n + 1) (before ++ line ∷ []) after))
 
 pub walk_all_fault : (lines : List (List ℕ)) → fault_told (walk_all lines) ≡ fault_in lines
 unfolding walk_all fault_in

@@ -1,11 +1,10 @@
 -- What the readers tell of a text, in the words of its definitions.
-use Rattle.std.proofs.Common.{◌≡◌, ℕ, ◌+◌, ◌-◌, ◌<◌, ◌≤◌, List, length, take, drop, Option, Some, None, Result, Ok, Err, refl, sym, ◌∙◌, ap, subst, inl, inr, arith}
+use Rattle.std.proofs.Common.{◌≡◌, ℕ, ◌-◌, ◌<◌, ◌≤◌, List, length, take, drop, Option, None, Result, Ok, Err, sym, ◌∙◌, ap, subst, inl, inr, arith}
 use Rattle.std.specs.Prelude.{slice_range, MatchOption, IfErr}
 use Rattle.std.proofs.lemmas.List.{length-drop}
 use Rattle.he_plan.specs.Race.{Race}
 use Rattle.he_plan.specs.Timeline.{IsRace}
 use Rattle.he_text.specs.declared.fault.TextKind.{TextKind}
-use Rattle.he_text.specs.declared.fault.TextKind.TheVariants as kinds
 use Rattle.he_text.specs.Faults.{fault_in}
 use Rattle.he_text.specs.Parts.{lines_of}
 use Rattle.he_text.specs.Reading.{FailsAt, read_lines}
@@ -19,10 +18,10 @@ told_after n (Err fault) h = h
 
 pub tells_fault : (n : ℕ) (kind : TextKind) (lines : List (List ℕ)) → FailsAt n kind (read_lines lines) → TellsFault n kind (fault_in lines)
 tells_fault n kind lines fails = elim fails [
-    | inl memory ↦ let P : Option (ℕ × TextKind) → Type 0 = λ f. MatchOption f (Unit {0}) (λ fault. n ≤ fault.0) in
-        inl (memory.0, subst P (fault_agrees lines) (told_after n (read_lines lines) memory.1))
-    | inr same ↦ inr (sym (fault_agrees lines) ∙ ap fault_told same)
-  ]
+  | inl memory ↦ let P : Option (ℕ × TextKind) → Type 0 = λ f. MatchOption f (Unit {0}) (λ fault. n ≤ fault.0) in
+      inl (memory.0, subst P (fault_agrees lines) (told_after n (read_lines lines) memory.1))
+  | inr same ↦ inr (sym (fault_agrees lines) ∙ ap fault_told same)
+]
 
 pub no_fault : (lines : List (List ℕ)) (x : Race × List (List ℕ)) → read_lines lines ≡ Ok x → fault_in lines ≡ None
 no_fault lines x h = sym (fault_agrees lines) ∙ ap fault_told h

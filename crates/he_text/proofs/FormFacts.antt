@@ -1,11 +1,11 @@
 -- What a line that is right by itself keeps to.
-use Rattle.std.proofs.Common.{◌≡◌, ℕ, suc, ◌+◌, ◌<◌, ◌≤◌, ◌&&◌, Bool, true, false, cond, leb, ltb, not, List, [], ◌∷◌, length, Option, Some, None, Result, Ok, Err, refl, sym, ◌∙◌, ap, subst, inl, inr, arith}
+use Rattle.std.proofs.Common.{◌≡◌, ℕ, suc, ◌<◌, ◌≤◌, ◌&&◌, Bool, true, false, cond, leb, ltb, List, [], ◌∷◌, length, Some, Ok, Err, refl, sym, ◌∙◌, ap, subst, inl, inr, arith}
 use Rattle.std.specs.Prelude.{codes, ◌⊎◌}
 use Rattle.std.specs.List.{AllZip}
 use Rattle.std.specs.Option.{ok_or}
 use Rattle.std.specs.Str.{bytes_eq}
 use Rattle.std.proofs.lemmas.Slice.Eq.{bytes_eq-Decides}
-use Rattle.std.proofs.lemmas.Bool.{le-leb, leb-true, ltb-false, le-ltb, and_parts, and_from}
+use Rattle.std.proofs.lemmas.Bool.{leb-true, ltb-false, and_parts, and_from}
 use Rattle.he_addr.specs.declared.ip.Family.{Family}
 use Rattle.he_addr.specs.declared.ip.Ip.{Ip}
 use Rattle.he_addr.specs.Reading.{number_in, ip_in}
@@ -13,8 +13,7 @@ use Rattle.he_plan.specs.declared.limits.TheConstants.{MAX_TICK, MIN_DURATION, M
 use Rattle.he_plan.specs.declared.outcome.Outcome.{Outcome}
 use Rattle.he_plan.specs.declared.outcome.Outcome.TheVariants as outcomes
 use Rattle.he_plan.specs.Race.{Reply}
-use Rattle.he_plan.specs.Timeline.{is_of, are_of, is_duration, duration_of}
-use Rattle.he_text.specs.declared.fault.TextKind.{TextKind}
+use Rattle.he_plan.specs.Timeline.{is_of, are_of, duration_of}
 use Rattle.he_text.specs.declared.fault.TextKind.TheVariants as kinds
 use Rattle.he_text.specs.declared.words.Name.{Name}
 use Rattle.he_text.specs.Forms.{◌>>=◌, within, number_from, setting_in, address_in, addresses_in, listed_in, answer_in, known_in, mark_in, connect_in, pause_in, least_of, most_of}
@@ -53,7 +52,9 @@ setting_ok (a ∷ b ∷ []) s h =
     let P : Name × ℕ → Type 0 = λ s. IsSetting (a ∷ b ∷ []) s.0 s.1 in
     let same : (name.0, value.0) ≡ s = cc (value.2) in
     subst P same (record {
-      first = a; second = b; tokens_are = refl;
+      first = a;
+      second = b;
+      tokens_are = refl;
       name_is = ok_or_ok (name_in a) kinds.Word name.0 name.1;
       value_is = number_ok (least_of name.0) (most_of name.0) b value.0 value.1;
     })
@@ -138,7 +139,10 @@ answer_ok family (number ∷ first ∷ more) reply h =
     let same : made ≡ reply = cc (ips.2) in
     let P : Reply → Type 0 = IsAnswer family (number ∷ first ∷ more) in
     subst P same (record {
-      first = number; others = first ∷ more; tokens_are = refl; some = omega arith;
+      first = number;
+      others = first ∷ more;
+      tokens_are = refl;
+      some = omega arith;
       few = ltb-false MAX_ADDRESSES (length (first ∷ more)) few.0;
       tick = number_ok 0 MAX_TICK number tick.0 tick.1;
       addresses = listed_ok family (first ∷ more) ips.0 (omega arith) ips.1;
@@ -200,9 +204,11 @@ connect_ok known (a ∷ b ∷ c ∷ []) told h =
     let N : ℕ → Type 0 = IsNumber MIN_DURATION MAX_DURATION c in
     let P : Ip × Outcome → Type 0 = λ told. IsTold known (a ∷ b ∷ c ∷ []) told.0 told.1 in
     subst P same (record {
-      first = a; last = c;
+      first = a;
+      last = c;
       tokens_are = ap (λ m. a ∷ m ∷ c ∷ []) (mark_ok b mark.0 ticks.0 mark.1);
-      ip_is = is.0; known_is = is.1;
+      ip_is = is.0;
+      known_is = is.1;
       ticks = subst N (sym (duration_is mark.0 ticks.0)) number;
     })
 

@@ -1,14 +1,12 @@
 -- A line of the first groups is taken as its checks say, and the settings that the lines give are settings.
-use Rattle.std.proofs.Common.{◌≡◌, ℕ, ◌+◌, ◌<◌, ◌≤◌, ◌&&◌, ◌||◌, Bool, true, false, cond, leb, ltb, not, List, [], ◌∷◌, ◌++◌, length, Option, Some, None, Result, Ok, Err, refl, sym, ◌∙◌, ap, subst, arith}
+use Rattle.std.proofs.Common.{◌≡◌, ℕ, ◌≤◌, ◌||◌, Bool, true, false, cond, List, [], ◌∷◌, ◌++◌, Option, Some, None, Result, Ok, Err, refl, sym, ◌∙◌, ap, subst, arith}
 use Rattle.std.specs.Prelude.{is_some, unwrap_or}
 use Rattle.std.specs.List.{filter_map}
 use Rattle.std.proofs.lemmas.Bool.{le-ltb}
 use Rattle.he_addr.specs.declared.ip.Ip.{Ip}
-use Rattle.he_addr.specs.declared.ip.Family.TheVariants as families
 use Rattle.he_plan.specs.declared.limits.TheConstants.{MAX_RESOLUTION, MIN_ATTEMPT, MAX_ATTEMPT, MIN_COUNT, MAX_COUNT, MIN_LIMIT, MAX_LIMIT, DEFAULT_RESOLUTION, DEFAULT_ATTEMPT, DEFAULT_COUNT, DEFAULT_LIMIT}
-use Rattle.he_plan.specs.declared.settings.Range.{Range}
 use Rattle.he_plan.specs.declared.settings.Range.TheVariants as ranges
-use Rattle.he_plan.specs.Settings.{SettingValues, settings_of}
+use Rattle.he_plan.specs.Settings.{SettingValues}
 use Rattle.he_text.specs.declared.draft.Given.{Given}
 use Rattle.he_text.specs.declared.fault.TextKind.{TextKind}
 use Rattle.he_text.specs.declared.fault.TextKind.TheVariants as kinds
@@ -19,11 +17,11 @@ use Rattle.he_text.specs.declared.words.Word.TheVariants as words
 use Rattle.he_text.specs.Faults.{first_fault, test, wrong_bounds, repeated}
 use Rattle.he_text.specs.Forms.{◌>>=◌, setting_in, said_by, least_of, most_of}
 use Rattle.he_text.specs.Reading.{once, put, ranged, settings_from, take_setting}
-use Rattle.he_text.specs.Said.{Said, Setting, Passed, Answer, Told, Paused, Ended, same_name, setting_said, first_of, setting_given, settings_given}
+use Rattle.he_text.specs.Said.{Said, Setting, Passed, same_name, setting_said, first_of, setting_given, settings_given}
 use Rattle.he_text.specs.Words.{is_head_word}
 use Rattle.he_text.proofs.FormFacts.{setting_ok}
 use Rattle.he_text.proofs.Results.{bind_ok}
-use Rattle.he_text.proofs.SaidLaws.{none_more, one_more, first_more, setting_kept, IsQuiet, quiet_more}
+use Rattle.he_text.proofs.SaidLaws.{one_more, first_more, setting_kept, IsQuiet, quiet_more}
 use Rattle.he_text.proofs.ToldLaws.{outcome}
 
 -- the settings that were given
@@ -128,7 +126,7 @@ fits_here : (name : Name) (value : ℕ) (said : List Said) → same_name name na
 fits_here name value said same before new =
     let P : List ℕ → Type 0 = λ xs. Fits name (first_of xs) in
     subst P (sym (one_more (setting_said name) said (Setting name value) value (ap (λ b. cond b (Some value) None) same)))
-        (first_or (filter_map (setting_said name) said) value name before new)
+    (first_or (filter_map (setting_said name) said) value name before new)
 
 fits_kept : (name : Name) (said : List Said) (s : Said) → setting_said name s ≡ None → Fits name (setting_given name said) → Fits name (setting_given name (said ++ s ∷ []))
 fits_kept name said s none before = let P : Option ℕ → Type 0 = Fits name in subst P (sym (setting_kept name said s none)) before

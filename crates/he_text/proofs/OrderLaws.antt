@@ -1,8 +1,8 @@
 -- The order of the lines: what is kept of it while they are read is what the lines before give.
-use Rattle.std.proofs.Common.{◌≡◌, ℕ, suc, ◌+◌, ◌<◌, ◌≤◌, ◌==◌, ◌&&◌, ◌||◌, Bool, true, false, cond, leb, ltb, eqb, not, List, [], ◌∷◌, ◌++◌, length, Option, Some, None, Result, Ok, Err, refl, sym, ◌∙◌, ap, subst, inl, inr, ⊎_elim, arith}
-use Rattle.std.specs.Prelude.{◌⊎◌, sum_by, count_by}
+use Rattle.std.proofs.Common.{◌≡◌, ℕ, ◌+◌, ◌<◌, ◌≤◌, ◌==◌, ◌||◌, Bool, true, false, cond, leb, ltb, List, [], ◌∷◌, ◌++◌, Some, None, Ok, Err, refl, sym, ◌∙◌, ap, subst, inl, inr, ⊎_elim, arith}
+use Rattle.std.specs.Prelude.{◌⊎◌}
 use Rattle.std.specs.List.{AllByRecursion}
-use Rattle.std.proofs.lemmas.Bool.{cases_lt, ltb-true, ltb-false, eqb-true, eqb-false, eq-eqb, ne_eqb}
+use Rattle.std.proofs.lemmas.Bool.{cases_lt, ltb-false, eqb-true, eqb-false, eq-eqb, ne_eqb}
 use Rattle.std.proofs.lemmas.List.Sums.{sum_by-append, sum_by-cons}
 use Rattle.he_text.specs.declared.draft.Order.{Order}
 use Rattle.he_text.specs.declared.fault.TextKind.{TextKind}
@@ -97,31 +97,32 @@ counted_some group most n false = refl
 
 admit_later : (word : Word) (tokens : List (List ℕ)) (before : List (List ℕ)) (line : List ℕ) → group_on line ≡ group_of word → Under (last_group 0 before) before → ltb (group_of word) (last_group 0 before) ≡ false
     → counted (group_of word) (most_lines word) (cond (group_of word == last_group 0 before) (counted_lines (last_group 0 before) before) 0)
-        ≡ outcome (first_fault (None ∷ too_often before (Ok (word, tokens)) ∷ [])) (order_of (before ++ line ∷ []))
+    ≡ outcome (first_fault (None ∷ too_often before (Ok (word, tokens)) ∷ [])) (order_of (before ++ line ∷ []))
 unfolding counted
 admit_later word tokens before line e under later = elim (counted_word word) [
-    | inl none ↦
-        ap (λ m. counted (group_of word) m (cond (group_of word == last_group 0 before) (counted_lines (last_group 0 before) before) 0)) none.0
-        ∙ ap Ok (sym (order_more before line (group_of word) e ∙ ap (λ b. none_order b) none.1))
-        ∙ ap (λ m. outcome (first_fault (None ∷ excess m (lines_with (group_of word) before) ∷ [])) (order_of (before ++ line ∷ []))) (sym none.0)
-    | inr some ↦
-        let n : ℕ = lines_with (group_of word) before in
-        let lines = known_lines before (group_of word) (group_of word == last_group 0 before) refl some.2 under later in
-        ap (λ m. counted (group_of word) m (cond (group_of word == last_group 0 before) (counted_lines (last_group 0 before) before) 0)) some.1
-        ∙ ap (λ k. counted (group_of word) (Some some.0) k) lines
-        ∙ counted_some (group_of word) some.0 n (leb some.0.0 n)
-        ∙ ap (λ o. outcome (first_fault (None ∷ test (leb some.0.0 n) some.0.1 ∷ [])) o) (sym (order_more before line (group_of word) e ∙ ap (λ b. some_order b) some.2))
-        ∙ ap (λ m. outcome (first_fault (None ∷ excess m n ∷ [])) (order_of (before ++ line ∷ []))) (sym some.1)
-  ]
+  | inl none ↦
+      ap (λ m. counted (group_of word) m (cond (group_of word == last_group 0 before) (counted_lines (last_group 0 before) before) 0)) none.0
+      ∙ ap Ok (sym (order_more before line (group_of word) e ∙ ap (λ b. none_order b) none.1))
+      ∙ ap (λ m. outcome (first_fault (None ∷ excess m (lines_with (group_of word) before) ∷ [])) (order_of (before ++ line ∷ []))) (sym none.0)
+  | inr some ↦
+      let n : ℕ = lines_with (group_of word) before in
+      let lines = known_lines before (group_of word) (group_of word == last_group 0 before) refl some.2 under later in
+      ap (λ m. counted (group_of word) m (cond (group_of word == last_group 0 before) (counted_lines (last_group 0 before) before) 0)) some.1
+      ∙ ap (λ k. counted (group_of word) (Some some.0) k) lines
+      ∙ counted_some (group_of word) some.0 n (leb some.0.0 n)
+      ∙ ap (λ o. outcome (first_fault (None ∷ test (leb some.0.0 n) some.0.1 ∷ [])) o) (sym (order_more before line (group_of word) e ∙ ap (λ b. some_order b) some.2))
+      ∙ ap (λ m. outcome (first_fault (None ∷ excess m n ∷ [])) (order_of (before ++ line ∷ []))) (sym some.1)
+]
   where
     none_order : Bool → Order
     none_order b = record { group = group_of word; lines = cond b (lines_with (group_of word) before + 1) 0 }
+
     some_order : Bool → Order
     some_order b = record { group = group_of word; lines = cond b (lines_with (group_of word) before + 1) 0 }
 
 by_group : (word : Word) (tokens : List (List ℕ)) (before : List (List ℕ)) (line : List ℕ) (earlier : Bool) → ltb (group_of word) (last_group 0 before) ≡ earlier → group_on line ≡ group_of word → Under (last_group 0 before) before
     → cond earlier (Err kinds.Word) (counted (group_of word) (most_lines word) (cond (group_of word == last_group 0 before) (counted_lines (last_group 0 before) before) 0))
-        ≡ outcome (first_fault (test earlier kinds.Word ∷ too_often before (Ok (word, tokens)) ∷ [])) (order_of (before ++ line ∷ []))
+    ≡ outcome (first_fault (test earlier kinds.Word ∷ too_often before (Ok (word, tokens)) ∷ [])) (order_of (before ++ line ∷ []))
 by_group word tokens before line true h e under = refl
 by_group word tokens before line false h e under = admit_later word tokens before line e under h
 

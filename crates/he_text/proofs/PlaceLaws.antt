@@ -1,25 +1,23 @@
 -- What the lines before gave is told by how many there are of each word; and what a line says, once its addresses are known.
-use Rattle.std.proofs.Common.{◌≡◌, ℕ, suc, ◌+◌, ◌<◌, ◌≤◌, ◌==◌, Bool, true, false, cond, leb, ltb, not, List, [], ◌∷◌, ◌++◌, length, Option, Some, None, Result, Ok, Err, refl, sym, ◌∙◌, ap, subst, arith}
-use Rattle.std.specs.Prelude.{is_some}
+use Rattle.std.proofs.Common.{◌≡◌, ℕ, ◌+◌, ◌≤◌, ◌==◌, Bool, true, false, cond, leb, List, [], ◌∷◌, ◌++◌, length, Option, Some, None, Result, Ok, Err, refl, sym, ◌∙◌, ap, subst, arith}
 use Rattle.std.specs.Option.{ok_or}
 use Rattle.std.specs.List.{filter_map, cons_option}
 use Rattle.std.specs.Result.{result_ok}
-use Rattle.std.proofs.lemmas.Bool.{eq-eqb, leb-false, ltb-false}
-use Rattle.he_addr.specs.declared.ip.Family.{Family}
+use Rattle.std.proofs.lemmas.Bool.{eq-eqb, leb-false}
 use Rattle.he_addr.specs.declared.ip.Family.TheVariants as families
 use Rattle.he_addr.specs.declared.ip.Ip.{Ip}
 use Rattle.he_addr.specs.Reading.{ip_in}
 use Rattle.he_plan.specs.declared.limits.TheConstants.{MIN_DURATION, MAX_DURATION, MAX_PAUSES}
 use Rattle.he_plan.specs.declared.outcome.Outcome.{Outcome}
-use Rattle.he_plan.specs.Race.{Reply, reply_of}
+use Rattle.he_plan.specs.Race.{Reply}
 use Rattle.he_text.specs.declared.fault.TextKind.{TextKind}
 use Rattle.he_text.specs.declared.fault.TextKind.TheVariants as kinds
 use Rattle.he_text.specs.declared.words.Word.{Word}
 use Rattle.he_text.specs.declared.words.Word.TheVariants as words
-use Rattle.he_text.specs.Faults.{test, group_on, lines_with, too_often, anyone, known_to, said_before}
+use Rattle.he_text.specs.Faults.{test, group_on, lines_with, too_often, anyone, said_before}
 use Rattle.he_text.specs.Forms.{◌>>=◌, number_from, setting_in, answer_in, known_in, mark_in, connect_in, pause_in, end_in, word_of, said_by, said_in}
 use Rattle.he_text.specs.Parts.{tokens_of}
-use Rattle.he_text.specs.Said.{Said, Setting, Passed, Answer, Told, Paused, Ended, answer_said, pause_said, first_of, answer_given, pauses_given, race_of}
+use Rattle.he_text.specs.Said.{Said, Setting, Passed, Answer, Told, Paused, Ended, answer_said, pause_said, first_of, race_of}
 use Rattle.he_text.specs.Text.{group_said}
 use Rattle.he_text.specs.Words.{group_of}
 use Rattle.he_text.proofs.FormFacts.{outcome_of}
@@ -114,9 +112,11 @@ given_count {Y = Y} h group tells (line ∷ lines) =
   where
     count : ℕ
     count = lines_with group lines
+
     by_said : (s : Said) (o : Option Y) → h s ≡ o → group_on line ≡ group_said s → length (filter_map h (said_before lines)) ≤ count → length (cons_option o (filter_map h (said_before lines))) ≤ cond (group_on line == group) 1 0 + count
     by_said s None e on rest = omega (arith, rest)
     by_said s (Some y) e on rest = let here : (group_on line == group) ≡ true = eq-eqb (group_on line) group (on ∙ tells s y e) in rw here (omega (arith, rest))
+
     by_line : (o : Option Said) → result_ok (said_in anyone line) ≡ o → length (filter_map h (said_before lines)) ≤ count → length (filter_map h (cons_option o (said_before lines))) ≤ cond (group_on line == group) 1 0 + count
     by_line None e rest = omega (arith, rest)
     by_line (Some s) e rest = by_said s (h s) refl (line_group line s e) rest

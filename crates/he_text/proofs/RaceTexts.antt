@@ -1,19 +1,18 @@
 -- Where the readers find a race, the text is one of it.
-use Rattle.std.proofs.Common.{◌≡◌, ℕ, suc, ◌+◌, ◌-◌, ◌<◌, ◌≤◌, ◌==◌, ◌&&◌, Bool, true, false, cond, leb, ltb, eqb, not, List, [], ◌∷◌, ◌++◌, length, take, drop, Option, Some, None, Result, Ok, Err, refl, sym, ◌∙◌, ap, subst, inl, inr, ⊎_elim, arith, append_assoc, length-append}
-use Rattle.std.specs.Prelude.{◌⊎◌, codes, is_some}
-use Rattle.std.specs.List.{AllByRecursion, AllZip, filter_map, cons_option, join_with_byte}
+use Rattle.std.proofs.Common.{◌≡◌, ℕ, ◌+◌, ◌-◌, ◌<◌, ◌≤◌, Bool, true, false, cond, leb, ltb, not, List, [], ◌∷◌, ◌++◌, length, take, Option, Some, None, Result, Ok, Err, refl, sym, ◌∙◌, ap, subst, arith, append_assoc, length-append}
+use Rattle.std.specs.Prelude.{codes, is_some}
+use Rattle.std.specs.List.{AllByRecursion, AllZip, filter_map, join_with_byte}
 use Rattle.std.specs.Option.{ok_or}
 use Rattle.std.specs.Str.{bytes_eq}
 use Rattle.std.proofs.lemmas.Slice.Eq.{bytes_eq-Decides}
-use Rattle.std.proofs.lemmas.Bool.{ltb-false, le-leb, leb-true, and_from, and_parts}
+use Rattle.std.proofs.lemmas.Bool.{ltb-false, le-leb, and_from, and_parts}
 use Rattle.std.proofs.lemmas.List.{take_at}
 use Rattle.std.proofs.lemmas.List.Splits.{join_with_byte-slice_split}
 use Rattle.he_addr.specs.declared.ip.Family.{Family}
 use Rattle.he_addr.specs.declared.ip.Family.TheVariants as families
 use Rattle.he_addr.specs.declared.ip.Ip.{Ip}
-use Rattle.he_plan.specs.declared.limits.TheConstants.{MAX_ADDRESSES}
 use Rattle.he_plan.specs.declared.outcome.Outcome.{Outcome}
-use Rattle.he_plan.specs.Race.{Race, Reply, reply_of}
+use Rattle.he_plan.specs.Race.{Race, Reply}
 use Rattle.he_plan.specs.Timeline.{IsRace}
 use Rattle.he_text.specs.declared.fault.TextKind.{TextKind}
 use Rattle.he_text.specs.declared.fault.TextKind.TheVariants as kinds
@@ -23,12 +22,12 @@ use Rattle.he_text.specs.declared.words.Name.TheVariants.{Resolution, Attempt, C
 use Rattle.he_text.specs.declared.words.Word.{Word}
 use Rattle.he_text.specs.declared.words.Word.TheVariants as words
 use Rattle.std.specs.Result.{result_ok}
-use Rattle.he_text.specs.Faults.{anyone, first_fault, test, group_on, last_group, known_to, said_before, too_long, unfinished, wrong_header, wrong_word, too_often, wrong_form, wrong_bounds, repeated, of_said, line_fault, ends}
+use Rattle.he_text.specs.Faults.{anyone, first_fault, test, group_on, last_group, known_to, said_before, too_long, unfinished, wrong_header, wrong_word, too_often, wrong_bounds, repeated, line_fault, ends}
 use Rattle.he_text.specs.Forms.{◌>>=◌, setting_in, answer_in, connect_in, pause_in, end_in, word_of, said_by, said_in}
-use Rattle.he_text.specs.Parts.{parts_of, lines_of, tokens_of}
+use Rattle.he_text.specs.Parts.{lines_of, tokens_of}
 use Rattle.he_text.specs.Reading.{read_lines}
 use Rattle.he_text.specs.Said.{Said, Setting, Passed, Answer, Told, Paused, Ended, same_name, setting_said, answer_said, first_of, setting_given, race_of}
-use Rattle.he_text.specs.Text.{Says, Lists, group_said, are_in_order, AreLines, IsRaceText, answer_word}
+use Rattle.he_text.specs.Text.{Says, group_said, are_in_order, AreLines, IsRaceText}
 use Rattle.he_text.specs.Words.{group_of, spelling_of, name_spelling, word_in, name_in, is_end}
 use Rattle.he_text.proofs.Agreement.{line_checks, stop, walk, walk_all, raced, lines_agree, line_fault_is, checks_said, in_order, ends_known, later_checks}
 use Rattle.he_text.proofs.FormFacts.{setting_ok, answer_ok, connect_ok, pause_ok}
@@ -346,6 +345,7 @@ end_line known line parts s is ends said = by_word parts.0 parts.1 (word_tokens 
     by_tokens : (tokens : List (List ℕ)) → tokens_of line ≡ spelling_of words.End ∷ tokens → (end_in tokens >>= λ _. Ok Ended) ≡ Ok s → line ≡ codes "end"
     by_tokens [] e h = sym (join_with_byte-slice_split 32 line) ∙ ap (join_with_byte 32) e
     by_tokens (token ∷ tokens) e h = cc
+
     by_word : (word : Word) (tokens : List (List ℕ)) → tokens_of line ≡ spelling_of word ∷ tokens → is_end word ≡ true → said_by known word tokens ≡ Ok s → line ≡ codes "end"
     by_word words.End tokens e h said = by_tokens tokens e said
     by_word words.Set tokens e h said = cc
@@ -379,6 +379,7 @@ walked n before (line ∷ after) x right h =
   where
     joined : (before ++ line ∷ []) ++ after ≡ before ++ line ∷ after
     joined = append_assoc before (line ∷ []) after
+
     by_end : (r : IsRight before line after) (b : Bool) → b ≡ is_end r.parts.0 → cond b (Ok (before ++ line ∷ [], after)) (walk (n + 1) (before ++ line ∷ []) after) ≡ Ok x
         → (AreRight (before ++ line ∷ []) → walk (n + 1) (before ++ line ∷ []) after ≡ Ok x → IsWalked ((before ++ line ∷ []) ++ after) x.0 x.1)
         → IsWalked (before ++ line ∷ after) x.0 x.1
@@ -389,7 +390,12 @@ walked n before (line ∷ after) x right h =
         let is : line ≡ codes "end" = end_line known line r.parts said.0 r.word (sym e) said.1 in
         let P : List (List ℕ) × List (List ℕ) → Type 0 = λ p. IsWalked (before ++ line ∷ after) p.0 p.1 in
         subst P same (record {
-          body = before; used_are = ap (λ l. before ++ l ∷ []) is; right = right; all_are = sym joined; some = r.ended })
+          body = before;
+          used_are = ap (λ l. before ++ l ∷ []) is;
+          right = right;
+          all_are = sym joined;
+          some = r.ended;
+        })
     by_end r false e got later =
         let P : List (List ℕ) → Type 0 = λ all. IsWalked all x.0 x.1 in
         subst P joined (later (right_more before line after right r (sym e)) got)
@@ -398,7 +404,8 @@ none_right : AreRight []
 unfolding said_before
 none_right = record {
   are = record { short = tt; say = tt; order = refl; settings_once = λ name. omega arith; answers_once = λ family. omega arith };
-  last = refl }
+  last = refl;
+}
 
 -- the whole text of the lines that were read, with the line end behind each
 read_part : (text rest : List ℕ) (first : List ℕ) (used behind : List (List ℕ)) → lines_of text ≡ (first ∷ used) ++ behind → behind ≡ lines_of rest → 0 < length behind
@@ -408,10 +415,9 @@ read_part text rest first used (next ∷ behind) all e some =
     let whole : text ≡ join_with_byte 10 ((first ∷ used) ++ next ∷ behind) = sym (join_with_byte-slice_split 10 text) ∙ ap (join_with_byte 10) all in
     let tail : join_with_byte 10 (next ∷ behind) ≡ rest = ap (join_with_byte 10) e ∙ join_with_byte-slice_split 10 rest in
     let L : List (List ℕ) → Type 0 = AllByRecursion (Lacks 10) in
-    let lack : AllByRecursion (Lacks 10) (first ∷ used) = front_lacks 10 (first ∷ used) (next ∷ behind) (subst L all (parts_lack 10 text)) in
-    (
+    let lack : AllByRecursion (Lacks 10) (first ∷ used) = front_lacks 10 (first ∷ used) (next ∷ behind) (subst L all (parts_lack 10 text)) in (
       whole ∙ join_behind 10 first used next behind ∙ ap (λ t. join_with_byte 10 (first ∷ used) ++ 10 ∷ t) tail,
-      ap lines_of (sym (join_behind 10 first used [] [])) ∙ joined_parts 10 first (used ++ [] ∷ []) (lacks_more 10 (first ∷ used) [] lack tt)
+      ap lines_of (sym (join_behind 10 first used [] [])) ∙ joined_parts 10 first (used ++ [] ∷ []) (lacks_more 10 (first ∷ used) [] lack tt),
     )
 
 raced_ok : (w : Result (List (List ℕ) × List (List ℕ)) (ℕ × TextKind)) (race : Race) (rest : List (List ℕ)) → raced w ≡ Ok (race, rest) → (used : List (List ℕ)) × (w ≡ Ok (used, rest)) × (race ≡ race_of (said_before used))
@@ -454,10 +460,10 @@ begins_by text rest race line after used all header is value fits =
     let front : List ℕ = join_with_byte 10 (line ∷ used) in
     let longer : length text ≡ length front + length (10 ∷ rest) = ap length parts.0 ∙ length-append front (10 ∷ rest) in
     let split : lines_of (front ++ 10 ∷ []) ≡ codes "race 1" ∷ is.body ++ codes "end" ∷ [] ∷ [] =
-        parts.1
-        ∙ ap (λ l. (l ∷ used) ++ [] ∷ []) header
-        ∙ ap (λ u. (codes "race 1" ∷ u) ++ [] ∷ []) is.used_are
-        ∙ ap (λ ls. codes "race 1" ∷ ls) (append_assoc is.body (codes "end" ∷ []) ([] ∷ [])) in
+    parts.1
+    ∙ ap (λ l. (l ∷ used) ++ [] ∷ []) header
+    ∙ ap (λ u. (codes "race 1" ∷ u) ++ [] ∷ []) is.used_are
+    ∙ ap (λ ls. codes "race 1" ∷ ls) (append_assoc is.body (codes "end" ∷ []) ([] ∷ [])) in
     let value_is : race ≡ race_of (said_before is.body) = value ∙ ap (λ u. race_of (said_before u)) is.used_are ∙ ended_race is.body in
     let P : List ℕ → Type 0 = λ t. IsRaceText t race in
     record {

@@ -1,5 +1,5 @@
 -- Reading on, line by line.
-use Rattle.std.proofs.Common.{◌≡◌, ◌==◌, ℕ, suc, ◌+◌, ◌<◌, ◌≤◌, Bool, true, false, not, cond, ltb, List, [], ◌∷◌, length, Option, Some, None, Result, Ok, Err, Bor, refl, sym, ◌∙◌, ap, subst, inl, inr, arith}
+use Rattle.std.proofs.Common.{◌≡◌, ◌==◌, ℕ, ◌+◌, ◌<◌, ◌≤◌, Bool, true, false, not, cond, List, [], ◌∷◌, length, Option, Some, None, Result, Ok, Err, Bor, refl, sym, ◌∙◌, ap, subst, inl, inr, arith}
 use Rattle.std.specs.Prelude.{IfErr, codes}
 use Rattle.std.specs.Str.{bytes_eq}
 use Rattle.std.proofs.lemmas.Bool.{le-ltb}
@@ -73,6 +73,7 @@ not_before_after n after (Ok next) later = by_end (is_end next.0)
     weaker : (read : Result (Race × List (List ℕ)) (ℕ × TextKind)) → IfErr read (λ fault. n + 1 ≤ fault.0) → IfErr read (λ fault. n ≤ fault.0)
     weaker (Ok x) h = tt
     weaker (Err fault) h = omega arith
+
     by_end : (b : Bool) → IfErr (cond b (Ok (next.2, after)) (read_body (n + 1) next.1 next.2 after)) (λ fault. n ≤ fault.0)
     by_end true = tt
     by_end false = weaker (read_body (n + 1) next.1 next.2 after) (later next.1 next.2)
@@ -93,9 +94,9 @@ body_not_before n order race (line ∷ after) =
 -- the first four groups: what follows a whole line
 abbrev pub head_after : ℕ → Order → Given → List (List ℕ) → List (List ℕ) → Option (Word × List (List ℕ)) → Result (Race × List (List ℕ)) (ℕ × TextKind)
 head_after n order given lines after head = elim head [
-    | None ↦ settle n order given lines
-    | Some parts ↦ at_line n (take_head parts order given) >>= λ next. read_head (n + 1) next.0 next.1 after
-  ]
+  | None ↦ settle n order given lines
+  | Some parts ↦ at_line n (take_head parts order given) >>= λ next. read_head (n + 1) next.0 next.1 after
+]
 
 pub head_unwhole : (n : ℕ) (order : Order) (given : Given) (lines : List (List ℕ)) (kind : TextKind) → wholeness lines ≡ Err kind → read_head n order given lines ≡ Err (n, kind)
 unfolding read_head wholeness
@@ -132,10 +133,10 @@ pub fails_body : (n : ℕ) (order : Order) (race : Race) (lines after : List (Li
     → read ≡ read_body n order race lines → lines ≡ line ∷ after → wholeness lines ≡ Ok tt
     → Fails kind (take_line (tokens_of line) order race) → FailsAt n kind read
 fails_body n order race lines after line kind read reads is whole fails = elim fails [
-    | inl memory ↦ let P : Result (Race × List (List ℕ)) (ℕ × TextKind) → Type 0 = λ r. IfErr r (λ fault. n ≤ fault.0) in
-        inl (memory, subst P (sym reads) (body_not_before n order race lines))
-    | inr wrong ↦ inr (reads ∙ body_wrong n order race lines after line kind is whole wrong)
-  ]
+  | inl memory ↦ let P : Result (Race × List (List ℕ)) (ℕ × TextKind) → Type 0 = λ r. IfErr r (λ fault. n ≤ fault.0) in
+      inl (memory, subst P (sym reads) (body_not_before n order race lines))
+  | inr wrong ↦ inr (reads ∙ body_wrong n order race lines after line kind is whole wrong)
+]
 
 -- the settings are known
 pub settle_wrong : (n : ℕ) (order : Order) (given : Given) (lines : List (List ℕ)) (kind : TextKind) → settings_from given ≡ Err kind → settle n order given lines ≡ Err (n, kind)

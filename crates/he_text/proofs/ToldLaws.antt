@@ -1,7 +1,7 @@
 -- A line of the last groups is taken as its checks say.
-use Rattle.std.proofs.Common.{◌≡◌, ℕ, ◌+◌, ◌<◌, ◌≤◌, ◌&&◌, Bool, true, false, cond, leb, ltb, not, List, [], ◌∷◌, ◌++◌, length, Option, Some, None, Result, Ok, Err, refl, sym, ◌∙◌, ap, subst, arith}
+use Rattle.std.proofs.Common.{◌≡◌, ℕ, ◌<◌, ◌≤◌, ◌&&◌, Bool, true, false, cond, leb, ltb, not, List, [], ◌∷◌, ◌++◌, length, Option, Some, None, Result, Ok, Err, refl, sym, ◌∙◌, ap, subst, arith}
 use Rattle.std.specs.Prelude.{is_some}
-use Rattle.std.proofs.lemmas.Bool.{le-leb, le-ltb, lt-leb, lt-ltb, and_from, leb-true}
+use Rattle.std.proofs.lemmas.Bool.{le-leb, le-ltb, lt-leb, and_from}
 use Rattle.he_addr.specs.declared.ip.Family.{Family}
 use Rattle.he_addr.specs.declared.ip.Family.TheVariants as families
 use Rattle.he_addr.specs.declared.ip.Ip.{Ip}
@@ -18,8 +18,8 @@ use Rattle.he_text.specs.declared.words.Word.{Word}
 use Rattle.he_text.specs.declared.words.Word.TheVariants as words
 use Rattle.he_text.specs.Faults.{first_fault, test, wrong_bounds, repeated, known_to}
 use Rattle.he_text.specs.Forms.{◌>>=◌, answer_in, connect_in, pause_in, end_in, said_by}
-use Rattle.he_text.specs.Reading.{built, kind_of, take_answer, take_told}
-use Rattle.he_text.specs.Said.{Said, Setting, Passed, Answer, Told, Paused, Ended, outcomes_given, pauses_given, race_of}
+use Rattle.he_text.specs.Reading.{built, take_answer, take_told}
+use Rattle.he_text.specs.Said.{Said, Answer, Told, Paused, Ended, outcomes_given, pauses_given, race_of}
 use Rattle.he_text.specs.Words.{is_head_word}
 use Rattle.he_text.proofs.FormFacts.{IsAnswer, IsTold, IsPause, answer_ok, connect_ok, pause_ok}
 use Rattle.he_text.proofs.SaidLaws.{race_answered, race_told, race_paused, race_ended}
@@ -56,8 +56,8 @@ answer_judged family tokens said reply none is =
     let count : length reply.addresses ≤ length is.others = is.addresses.count in
     let few : length is.others ≤ MAX_ADDRESSES = is.few in
     admitted (is_some (reply_of (race_of said) family)) (ltb MAX_TICK reply.tick) (ltb MAX_ADDRESSES (length reply.addresses)) (are_of family reply.addresses)
-        (cond (not (are_distinct reply.addresses)) (Err faults.Repeated) (Ok (with_answer (race_of said) family reply)))
-        (is_none _ none) (le-ltb MAX_TICK reply.tick tick) (le-ltb MAX_ADDRESSES (length reply.addresses) (omega arith)) is.addresses.of_family
+    (cond (not (are_distinct reply.addresses)) (Err faults.Repeated) (Ok (with_answer (race_of said) family reply)))
+    (is_none _ none) (le-ltb MAX_TICK reply.tick tick) (le-ltb MAX_ADDRESSES (length reply.addresses) (omega arith)) is.addresses.of_family
     ∙ distinct_judged (are_distinct reply.addresses) (with_answer (race_of said) family reply) (race_of (said ++ Answer family reply ∷ [])) (sym (race_answered family said reply none))
 
 by_answer : (family : Family) (tokens : List (List ℕ)) (said : List Said) (read : Result Reply TextKind) → reply_of (race_of said) family ≡ None → ((reply : Reply) → read ≡ Ok reply → IsAnswer family tokens reply)
@@ -116,7 +116,7 @@ pause_judged said tokens from to few is =
     let ends : to ≤ MAX_PAUSE_END = is.to_is.most in
     let count : length (race_of said).pauses < MAX_PAUSES = (let P : List (ℕ × ℕ) → Type 0 = λ ps. length ps < MAX_PAUSES in subst P (sym (pauses_of said)) few) in
     pause_checked (leb (last_end (race_of said).pauses) from) (ltb from to) (leb to MAX_PAUSE_END) (leb MAX_PAUSES (length (race_of said).pauses)) _ (race_of (said ++ Paused from to ∷ []))
-        (le-leb to MAX_PAUSE_END ends) (lt-leb MAX_PAUSES (length (race_of said).pauses) count) (sym (race_paused said from to))
+    (le-leb to MAX_PAUSE_END ends) (lt-leb MAX_PAUSES (length (race_of said).pauses) count) (sym (race_paused said from to))
     ∙ ap (λ ps. outcome (first_fault (test (not (leb (last_end ps) from && ltb from to)) kinds.Range ∷ None ∷ [])) (race_of (said ++ Paused from to ∷ []))) (pauses_of said)
 
 by_pause : (said : List Said) (tokens : List (List ℕ)) (read : Result (ℕ × ℕ) TextKind) → length (pauses_given said) < MAX_PAUSES → ((p : ℕ × ℕ) → read ≡ Ok p → IsPause tokens p.0 p.1)

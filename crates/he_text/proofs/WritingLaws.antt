@@ -1,7 +1,7 @@
 -- Lines that are written token by token.
-use Rattle.std.proofs.Common.{◌≡◌, ℕ, zero, suc, ◌+◌, ◌<◌, ◌≤◌, List, [], ◌∷◌, ◌++◌, length, take, map, get_or, refl, sym, ◌∙◌, ap, subst, arith, append_assoc, length-append, min}
-use Rattle.std.specs.List.{flat_map, join_with_byte}
-use Rattle.std.proofs.lemmas.List.{take_at, map-append, append-nil}
+use Rattle.std.proofs.Common.{◌≡◌, ℕ, zero, suc, ◌≤◌, List, [], ◌∷◌, ◌++◌, length, take, refl, sym, ◌∙◌, ap, subst, arith, append_assoc, length-append}
+use Rattle.std.specs.List.{join_with_byte}
+use Rattle.std.proofs.lemmas.List.{take_at, append-nil}
 use Rattle.std.proofs.lemmas.List.Concat.{flat_map-cons}
 use Rattle.std.proofs.lemmas.Grind.{flat_map-append}
 use Rattle.std.specs.Prelude.{Result, Ok, Err, OnOk, OnErr}
@@ -47,3 +47,19 @@ line_written old one two new first others (Err fault) h1 h2 ok err =
     let joined : two ≡ old ++ (first ++ spaced others) = h2 ∙ ap (λ t. t ++ spaced others) h1 ∙ append_assoc old first (spaced others) in
     let P : List ℕ → Type 0 = λ t. Grows old t in
     subst P (sym (err ∙ joined)) (grows_append old (first ++ spaced others))
+
+-- a line of a word, a number and other tokens
+pub listed_written : {E : Type 0} (old one two new word number : List ℕ) (others : List (List ℕ)) (result : Result (Unit {0}) E)
+    → one ≡ old ++ (word ++ 32 ∷ number) → two ≡ one ++ spaced others → OnOk result (new ≡ two ++ 10 ∷ []) → OnErr result (new ≡ two)
+    → Writes result old new (written_line (word ∷ number ∷ others))
+listed_written old one two new word number others result h1 h2 ok err =
+    let first : two ≡ (old ++ word) ++ spaced (number ∷ others) =
+    h2 ∙ ap (λ t. t ++ spaced others) (h1 ∙ sym (append_assoc old word (32 ∷ number)))
+    ∙ append_assoc (old ++ word) (32 ∷ number) (spaced others)
+    ∙ ap (λ t. (old ++ word) ++ t) (sym (flat_map-cons (λ t. 32 ∷ t) number others)) in
+    line_written old (old ++ word) two new word (number ∷ others) result refl first ok err
+
+-- one text and then another
+pub writes_then : {E : Type 0} (old one new a b : List ℕ) (result : Result (Unit {0}) E) → one ≡ old ++ a → Writes result one new b → Writes result old new (a ++ b)
+writes_then old one new a b (Ok done) h w = w ∙ ap (λ t. t ++ b) h ∙ append_assoc old a b
+writes_then old one new a b (Err fault) h w = grows_after old a one new h w

@@ -111,14 +111,14 @@ line_fault before line after =
     let told = said_before before in
     let said = said_in (known_to told) line in
     first_fault (
-      too_long line
-      ∷ unfinished after
-      ∷ wrong_word (last_group 0 before) word
-      ∷ too_often before word
-      ∷ wrong_form said
-      ∷ of_said (wrong_bounds told) said
-      ∷ of_said (repeated told) said
-      ∷ [])
+    too_long line
+    ∷ unfinished after
+    ∷ wrong_word (last_group 0 before) word
+    ∷ too_often before word
+    ∷ wrong_form said
+    ∷ of_said (wrong_bounds told) said
+    ∷ of_said (repeated told) said
+    ∷ [])
 
 abbrev pub at_line_number : ℕ → Option TextKind → Option (ℕ × TextKind) → Option (ℕ × TextKind)
 at_line_number n (Some kind) later = Some (n, kind)

@@ -1,14 +1,13 @@
 -- What the private readers answer, as functions on lists. They help the proofs; what the lines of a race are stands in
 -- `Text`, what is wrong with them in `Faults`.
-use Rattle.std.specs.Prelude.{ℕ, ◌≡◌, ◌⊎◌, ◌≤◌, ◌+◌, ◌++◌, ◌==◌, Bool, true, false, List, [], ◌∷◌, length, Option, Some, None, is_some, Result, Ok, Err, if◌then◌else◌, nat_le, nat_lt, unwrap_or, IfErr, codes}
-use Rattle.std.specs.Option.{ok_or}
+use Rattle.std.specs.Prelude.{ℕ, ◌≡◌, ◌⊎◌, ◌≤◌, ◌+◌, ◌++◌, ◌==◌, List, [], ◌∷◌, length, Option, Some, None, Result, Ok, Err, if◌then◌else◌, nat_le, nat_lt, unwrap_or, IfErr, codes}
 use Rattle.std.specs.Str.{bytes_eq}
 use Rattle.he_addr.specs.declared.ip.Ip.{Ip}
 use Rattle.he_addr.specs.declared.ip.Family.{Family}
 use Rattle.he_addr.specs.declared.ip.Family.TheVariants as families
 use Rattle.he_plan.specs.declared.builder.BuildFault.{BuildFault}
 use Rattle.he_plan.specs.declared.builder.BuildFault.TheVariants as faults
-use Rattle.he_plan.specs.declared.limits.TheConstants.{DEFAULT_RESOLUTION, DEFAULT_ATTEMPT, DEFAULT_COUNT, DEFAULT_LIMIT, MAX_PAUSES}
+use Rattle.he_plan.specs.declared.limits.TheConstants.{DEFAULT_RESOLUTION, DEFAULT_ATTEMPT, DEFAULT_COUNT, DEFAULT_LIMIT}
 use Rattle.he_plan.specs.Building.{add_answer, add_outcome, add_pause, empty_race}
 use Rattle.he_plan.specs.Race.{Race, stands}
 use Rattle.he_plan.specs.Settings.{SettingValues, settings_of}
@@ -16,14 +15,14 @@ use Rattle.he_text.specs.declared.draft.Order.{Order}
 use Rattle.he_text.specs.declared.draft.Given.{Given}
 use Rattle.he_text.specs.declared.fault.TextKind.{TextKind}
 use Rattle.he_text.specs.declared.fault.TextKind.TheVariants as kinds
-use Rattle.he_text.specs.declared.limits.TheConstants.{MAX_LINE, MAX_ANSWERS}
+use Rattle.he_text.specs.declared.limits.TheConstants.{MAX_LINE}
 use Rattle.he_text.specs.declared.words.Name.{Name}
 use Rattle.he_text.specs.declared.words.Name.TheVariants.{Resolution, Attempt, Count, Limit}
 use Rattle.he_text.specs.declared.words.Word.{Word}
-use Rattle.he_text.specs.declared.words.Word.TheVariants.{Set, Policy, Source, Route, Aaaa, A, Connect, Pause, End}
+use Rattle.he_text.specs.declared.words.Word.TheVariants.{Set, Aaaa, A, Connect, Pause, End}
 use Rattle.he_text.specs.Forms.{◌>>=◌, word_of, setting_in, answer_in, connect_in, pause_in, end_in}
 use Rattle.he_text.specs.Parts.{tokens_of}
-use Rattle.he_text.specs.Words.{word_in, group_of, most_lines, is_head_word, is_end}
+use Rattle.he_text.specs.Words.{group_of, most_lines, is_head_word, is_end}
 
 -- a call that failed did so as `read` does, unless it was for memory
 abbrev pub Fails : {B : Type 0} → TextKind → Result B TextKind → Type 0

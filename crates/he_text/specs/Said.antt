@@ -1,5 +1,5 @@
 -- What the lines of a race say, and the race that they make.
-use Rattle.std.specs.Prelude.{ℕ, ◌==◌, ◌&&◌, Bool, true, false, List, [], ◌∷◌, Option, Some, None, if◌then◌else◌, unwrap_or}
+use Rattle.std.specs.Prelude.{ℕ, Bool, true, false, List, [], ◌∷◌, Option, Some, None, if◌then◌else◌, unwrap_or}
 use Rattle.std.specs.List.{filter_map}
 use Rattle.he_addr.specs.declared.ip.Family.{Family}
 use Rattle.he_addr.specs.declared.ip.Family.TheVariants as families
@@ -11,7 +11,6 @@ use Rattle.he_plan.specs.Race.{Race, Reply}
 use Rattle.he_text.specs.declared.words.Name.{Name}
 use Rattle.he_text.specs.declared.words.Name.TheVariants.{Resolution, Attempt, Count, Limit}
 use Rattle.he_text.specs.declared.words.Word.{Word}
-use Rattle.he_text.specs.declared.words.Word.TheVariants as words
 
 -- what a line says: a setting, something that is passed over, an answer, an outcome, a pause, or that the race ends
 pub data Said : Type 0 where
@@ -69,7 +68,8 @@ settings_given said = record {
   resolution = unwrap_or (setting_given Resolution said) DEFAULT_RESOLUTION;
   attempt = unwrap_or (setting_given Attempt said) DEFAULT_ATTEMPT;
   count = unwrap_or (setting_given Count said) DEFAULT_COUNT;
-  limit = unwrap_or (setting_given Limit said) DEFAULT_LIMIT }
+  limit = unwrap_or (setting_given Limit said) DEFAULT_LIMIT;
+}
 
 unfoldable pub race_of : List Said → Race
 race_of said = record {
@@ -77,4 +77,5 @@ race_of said = record {
   aaaa = answer_given families.V6 said;
   a = answer_given families.V4 said;
   outcomes = outcomes_given said;
-  pauses = pauses_given said }
+  pauses = pauses_given said;
+}

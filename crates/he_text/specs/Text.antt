@@ -1,5 +1,5 @@
 -- The texts of races: which lines stand in them, what they say, and the race that they make.
-use Rattle.std.specs.Prelude.{ℕ, ◌≡◌, ◌⊎◌, ◌<◌, ◌≤◌, ◌&&◌, Bool, true, false, IsTrue, List, [], ◌∷◌, ◌++◌, length, Option, Some, None, nat_le, codes, MatchOption}
+use Rattle.std.specs.Prelude.{ℕ, ◌≡◌, ◌⊎◌, ◌<◌, ◌≤◌, ◌&&◌, Bool, true, false, IsTrue, List, [], ◌∷◌, ◌++◌, length, Option, Some, nat_le, codes, MatchOption}
 use Rattle.std.specs.List.{AllByRecursion, AllZip, filter_map}
 use Rattle.he_addr.specs.declared.ip.Family.{Family}
 use Rattle.he_addr.specs.declared.ip.Family.TheVariants as families
@@ -8,7 +8,7 @@ use Rattle.he_addr.specs.Reading.{number_in, ip_in}
 use Rattle.he_plan.specs.declared.limits.TheConstants.{MAX_TICK, MIN_DURATION, MAX_DURATION, MAX_PAUSE_END, MAX_ADDRESSES}
 use Rattle.he_plan.specs.declared.outcome.Outcome.{Outcome}
 use Rattle.he_plan.specs.declared.outcome.Outcome.TheVariants as outcomes
-use Rattle.he_plan.specs.Race.{Race, Reply}
+use Rattle.he_plan.specs.Race.{Race}
 use Rattle.he_plan.specs.Timeline.{IsRace, duration_of}
 use Rattle.he_text.specs.declared.fault.TextKind.{TextKind}
 use Rattle.he_text.specs.declared.fault.TextKind.TheVariants as kinds
@@ -19,7 +19,7 @@ use Rattle.he_text.specs.declared.words.Word.TheVariants as words
 use Rattle.he_text.specs.Forms.{least_of, most_of}
 use Rattle.he_text.specs.Parts.{lines_of, tokens_of}
 use Rattle.he_text.specs.Said.{Said, Setting, Passed, Answer, Told, Paused, Ended, setting_said, answer_said, race_of}
-use Rattle.he_text.specs.Words.{group_of, spelling_of, name_spelling, is_head_word}
+use Rattle.he_text.specs.Words.{group_of, spelling_of, name_spelling}
 
 -- a token that spells a number from `low` to `high`
 pub record IsNumber (low high : ℕ) (token : List ℕ) (n : ℕ) : Type 0 where

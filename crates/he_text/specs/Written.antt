@@ -1,5 +1,5 @@
 -- The texts that are written.
-use Rattle.std.specs.Prelude.{ℕ, ◌≡◌, List, [], ◌∷◌, ◌++◌, map, take, length, decimal, Result, codes, MatchResult}
+use Rattle.std.specs.Prelude.{ℕ, ◌≡◌, List, [], ◌∷◌, ◌++◌, map, take, length, decimal, Option, Some, None, Result, codes, MatchResult}
 use Rattle.std.specs.List.{flat_map, join_with_byte}
 use Rattle.he_addr.specs.declared.ip.Ip.{Ip}
 use Rattle.he_plan.specs.declared.transcript.Line.{Line}
@@ -8,6 +8,11 @@ use Rattle.he_plan.specs.declared.transcript.Mark.TheVariants as marks
 use Rattle.he_plan.specs.declared.transcript.Outcome3.{Outcome3}
 use Rattle.he_plan.specs.declared.transcript.Outcome3.TheVariants as results
 use Rattle.he_plan.specs.Transcript.{Report}
+use Rattle.he_plan.specs.declared.outcome.Outcome.{Outcome}
+use Rattle.he_plan.specs.Race.{Race, Reply}
+use Rattle.he_plan.specs.Settings.{SettingValues}
+use Rattle.he_plan.specs.Timeline.{duration_of}
+use Rattle.he_text.specs.Text.{mark_text}
 use Rattle.he_text.specs.declared.writing.Token.{Token}
 use Rattle.he_text.specs.declared.writing.Token.TheVariants.{Word, Number, Address}
 use Rattle.he_addr.specs.Printing.{printed}
@@ -35,14 +40,14 @@ abbrev pub spaced : List (List ℕ) → List ℕ
 spaced tokens = flat_map (λ token. 32 ∷ token) tokens
 
 -- what became of an attempt
-abbrev pub mark_text : Mark → List (List ℕ)
-mark_text (marks.Won tick) = codes "won" ∷ decimal tick ∷ []
-mark_text (marks.Failed tick) = codes "failed" ∷ decimal tick ∷ []
-mark_text (marks.Cancelled tick) = codes "cancelled" ∷ decimal tick ∷ []
+abbrev pub fate_text : Mark → List (List ℕ)
+fate_text (marks.Won tick) = codes "won" ∷ decimal tick ∷ []
+fate_text (marks.Failed tick) = codes "failed" ∷ decimal tick ∷ []
+fate_text (marks.Cancelled tick) = codes "cancelled" ∷ decimal tick ∷ []
 
 -- attempt PLACE START ADDRESS MARK TICK
 abbrev pub attempt_text : Line → List ℕ
-attempt_text line = written_line (codes "attempt" ∷ decimal line.place ∷ decimal line.tick ∷ printed line.ip ∷ mark_text line.mark)
+attempt_text line = written_line (codes "attempt" ∷ decimal line.place ∷ decimal line.tick ∷ printed line.ip ∷ fate_text line.mark)
 
 -- won PLACE TICK, exhausted TICK or limit TICK
 abbrev pub result_text : Outcome3 → List ℕ
@@ -56,3 +61,44 @@ attempts_text lines = flat_map attempt_text lines
 -- the text of a transcript: its attempts by place, and how the race ended
 abbrev pub transcript_text : Report → List ℕ
 transcript_text report = attempts_text report.lines ++ result_text report.result
+
+-- set NAME N
+abbrev pub setting_text : List ℕ → ℕ → List ℕ
+setting_text name value = written_line (codes "set" ∷ name ∷ decimal value ∷ [])
+
+abbrev pub delays_text : SettingValues → List ℕ
+delays_text settings = setting_text (codes "resolution") settings.resolution ++ setting_text (codes "attempt") settings.attempt
+
+abbrev pub bounds_text : SettingValues → List ℕ
+bounds_text settings = setting_text (codes "count") settings.count ++ setting_text (codes "limit") settings.limit
+
+-- the first line and the settings, all four
+abbrev pub top_text : SettingValues → List ℕ
+top_text settings = written_line (codes "race 1" ∷ []) ++ (delays_text settings ++ bounds_text settings)
+
+-- WORD TICK none, or WORD TICK ADDRESS ..
+abbrev pub reply_text : List ℕ → ℕ → List Ip → List ℕ
+reply_text word tick [] = written_line (word ∷ decimal tick ∷ codes "none" ∷ [])
+reply_text word tick (ip ∷ ips) = written_line (word ∷ decimal tick ∷ map printed (ip ∷ ips))
+
+abbrev pub answer_text : List ℕ → Option Reply → List ℕ
+answer_text word None = []
+answer_text word (Some reply) = reply_text word reply.tick reply.addresses
+
+abbrev pub answers_text : Race → List ℕ
+answers_text race = answer_text (codes "aaaa") race.aaaa ++ answer_text (codes "a") race.a
+
+-- connect ADDRESS ok N, connect ADDRESS fail N
+abbrev pub outcome_text : Ip × Outcome → List ℕ
+outcome_text told = written_line (codes "connect" ∷ printed told.0 ∷ mark_text told.1 ∷ decimal (duration_of told.1) ∷ [])
+
+-- pause FROM TO
+abbrev pub pause_text : ℕ × ℕ → List ℕ
+pause_text pause = written_line (codes "pause" ∷ decimal pause.0 ∷ decimal pause.1 ∷ [])
+
+abbrev pub told_text : Race → List ℕ
+told_text race = flat_map outcome_text race.outcomes ++ flat_map pause_text race.pauses
+
+-- the text of a timeline
+abbrev pub timeline_text : Race → List ℕ
+timeline_text race = (top_text race.settings ++ (answers_text race ++ told_text race)) ++ written_line (codes "end" ∷ [])

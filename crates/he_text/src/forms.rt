@@ -186,9 +186,12 @@ pub(crate) fn connect<A: Allocator + Copy>(
     ensures { result ≡ connect_in (stands race.now) (tokens_left tokens.entry) }
 {
     let mut left = tokens;
-    let (Some(address), Some(mark), Some(ticks), None) =
-        (left.next(), left.next(), left.next(), left.next())
-    else {
+    let (Some(address), Some(mark), Some(ticks), None) = (
+        left.next(),
+        left.next(),
+        left.next(),
+        left.next(),
+    ) else {
         return Err(TextKind::Word);
     };
     let ip = known(address, race)?;

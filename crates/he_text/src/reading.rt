@@ -130,10 +130,7 @@ fn read_header(lines: &mut Lines) -> Result<(), TextKind>
 }
 
 // A whole race.
-fn read_timeline<A: Allocator + Copy>(
-    alloc: A,
-    lines: &mut Lines,
-) -> Result<Timeline<A>, TextKind>
+fn read_timeline<A: Allocator + Copy>(alloc: A, lines: &mut Lines) -> Result<Timeline<A>, TextKind>
     requires room { HasRoom lines.old }
     requires first { lines.old.number ≡ 1 }
     ensures read { MatchResult result (λ race. read_lines (lines_left lines.old) ≡ Ok (race, lines_left lines.new)) (λ kind. FailsAt lines.new.number kind (read_lines (lines_left lines.old))) }
@@ -147,10 +144,7 @@ fn read_timeline<A: Allocator + Copy>(
 }
 
 // The race with which the text begins, and how many bytes stand behind it.
-fn read_first<A: Allocator + Copy>(
-    alloc: A,
-    text: &[u8],
-) -> Result<(Timeline<A>, usize), TextFault>
+fn read_first<A: Allocator + Copy>(alloc: A, text: &[u8]) -> Result<(Timeline<A>, usize), TextFault>
     ensures read { MatchResult result (λ x. (rest : List ℕ) × (length rest ≡ x.1) × (read_lines (lines_of text.now) ≡ Ok (x.0, lines_of rest))) (λ fault. FailsAt fault.line fault.kind (read_lines (lines_of text.now))) }
     ensures fits { IfOk result (λ x. IsRace x.0) }
     ensures shorter { MatchResult result (λ x. x.1 ≤ length text.now) (λ _. Unit {0}) }

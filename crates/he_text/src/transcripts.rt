@@ -42,10 +42,7 @@ fn write_result<A: Allocator + Copy>(ending: Outcome3, out: &mut Vec<u8, A>) -> 
     }
 }
 
-fn write_attempts<A: Allocator + Copy>(
-    lines: &[Line],
-    out: &mut Vec<u8, A>,
-) -> Result<(), Memory>
+fn write_attempts<A: Allocator + Copy>(lines: &[Line], out: &mut Vec<u8, A>) -> Result<(), Memory>
     ensures { Writes result out.old.items out.new.items (attempts_text lines.now) }
 {
     for line in lines {

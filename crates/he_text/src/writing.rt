@@ -1,6 +1,6 @@
 // Lines written to a text.
 
-ghost use Rattle.std.specs.Prelude.{◌≡◌, ◌++◌, ◌∷◌, [], map, OnOk, OnErr};
+ghost use Rattle.std.specs.Prelude.{◌≡◌, ◌++◌, ◌∷◌, [], decimal, map, OnOk, OnErr};
 ghost use Rattle.he_addr.specs.Printing.{printed};
 ghost use Rattle.he_text.specs.Written.{token_text, written_line, Writes, spaced, Grows};
 
@@ -43,10 +43,7 @@ fn write_spaced<A: Allocator + Copy>(token: Token, out: &mut Vec<u8, A>) -> Resu
 }
 
 // The tokens, each behind a space.
-fn write_tokens<A: Allocator + Copy>(
-    tokens: &[Token],
-    out: &mut Vec<u8, A>,
-) -> Result<(), Memory>
+fn write_tokens<A: Allocator + Copy>(tokens: &[Token], out: &mut Vec<u8, A>) -> Result<(), Memory>
     ensures { Writes result out.old.items out.new.items (spaced (map token_text tokens.now)) }
 {
     for token in tokens {
@@ -56,10 +53,7 @@ fn write_tokens<A: Allocator + Copy>(
 }
 
 // The addresses, each behind a space.
-pub(crate) fn write_addresses<A: Allocator + Copy>(
-    ips: &[Ip],
-    out: &mut Vec<u8, A>,
-) -> Result<(), Memory>
+fn write_addresses<A: Allocator + Copy>(ips: &[Ip], out: &mut Vec<u8, A>) -> Result<(), Memory>
     ensures { Writes result out.old.items out.new.items (spaced (map printed ips.now)) }
 {
     for ip in ips {
@@ -79,4 +73,29 @@ pub(crate) fn write_line<A: Allocator + Copy>(
     write_bytes(first, out)?;
     write_tokens(others, out)?;
     write_bytes(&[LINE_END], out)
+}
+
+// A line of a word, a number and addresses.
+pub(crate) fn write_listed<A: Allocator + Copy>(
+    word: &[u8],
+    number: u64,
+    ips: &[Ip],
+    out: &mut Vec<u8, A>,
+) -> Result<(), Memory>
+    ensures { Writes result out.old.items out.new.items (written_line (word.now ∷ decimal number ∷ map printed ips.now)) }
+{
+    write_word(word, number, out)?;
+    write_addresses(ips, out)?;
+    write_bytes(&[LINE_END], out)
+}
+
+fn write_word<A: Allocator + Copy>(
+    word: &[u8],
+    number: u64,
+    out: &mut Vec<u8, A>,
+) -> Result<(), Memory>
+    ensures { Writes result out.old.items out.new.items (word.now ++ (32 ∷ decimal number)) }
+{
+    write_bytes(word, out)?;
+    write_spaced(Token::Number(number), out)
 }

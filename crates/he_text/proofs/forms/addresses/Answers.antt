@@ -1,16 +1,16 @@
-use Rattle.std.proofs.Common.{rules, ◌≡◌, [], ◌∷◌, ◌++◌, List, Err, Ok, ℕ, sym, ◌∙◌, ap}
+use Rattle.std.proofs.Common.{rules, ◌≡◌, [], ◌∷◌, ◌++◌, List, Err, sym, ◌∙◌, ap}
 use Rattle.he_addr.specs.declared.ip.Ip.{Ip}
-use Rattle.he_text.specs.Forms.{address_in, addresses_in}
+use Rattle.he_text.specs.Forms.{addresses_in}
 use Rattle.he_text.specs.Parts.{tokens_left}
 use Rattle.he_text.specs.Reading.{prepend}
-use Rattle.he_text.proofs.FormLaws.{prepend_nothing, addresses_more, addresses_wrong, addresses_end}
+use Rattle.he_text.proofs.FormLaws.{addresses_more, addresses_wrong, addresses_end}
 use Rattle.he_text.proofs.forms.addresses.Goals as goal
 
 pub returns-in_err-address : goal.returns-in_err-address
 returns-in_err-address g c =
     let wrong : addresses_in c.args.family (tokens_left c.args.tokens) ≡ Err c.in_err-address.field-0.0 =
-        sym c.loop-token.invariant
-        ∙ addresses_wrong c.loop-token.ips.items c.args.family (tokens_left c.loop-token.left) (tokens_left c.next.new.self) c.in-Some.token.now c.in_err-address.field-0.0 c.in-Some.ensures.token (sym c.in_err-address.ensures) in
+    sym c.loop-token.invariant
+    ∙ addresses_wrong c.loop-token.ips.items c.args.family (tokens_left c.loop-token.left) (tokens_left c.next.new.self) c.in-Some.token.now c.in_err-address.field-0.0 c.in-Some.ensures.token (sym c.in_err-address.ensures) in
     search rules
 
 pub loop-token-preserved : goal.loop-token-preserved

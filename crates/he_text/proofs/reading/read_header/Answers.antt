@@ -1,4 +1,4 @@
-use Rattle.std.proofs.Common.{rules, ◌≡◌, ◌+◌, ◌∷◌, ℕ, List, Ok, Err, Bool, true, false, Bor, sym, ◌∙◌, ap}
+use Rattle.std.proofs.Common.{rules, ◌≡◌, ◌+◌, ℕ, List, Err, true, false, Bor, sym, ◌∙◌, ap}
 use Rattle.std.specs.Prelude.{codes}
 use Rattle.std.specs.Str.{bytes_eq}
 use Rattle.he_text.specs.declared.fault.TextKind.TheVariants as kinds
@@ -10,8 +10,8 @@ use Rattle.he_text.proofs.reading.read_header.Goals as goal
 pub returns-in_err-line-clause-read : goal.returns-in_err-line-clause-read
 returns-in_err-line-clause-read c =
     let wrong : read_lines (lines_left c.args.lines.now) ≡ Err (c.args.lines.now.number, c.in_err-line.field-0.0) =
-        lines_unwhole (lines_left c.args.lines.now) c.in_err-line.field-0.0 c.in_err-line.ensures.whole
-        ∙ ap (λ (n : ℕ). Err (n, c.in_err-line.field-0.0)) (sym c.requires.first) in
+    lines_unwhole (lines_left c.args.lines.now) c.in_err-line.field-0.0 c.in_err-line.ensures.whole
+    ∙ ap (λ (n : ℕ). Err (n, c.in_err-line.field-0.0)) (sym c.requires.first) in
     search rules
 
 pub returns-then-ne-clause-read : goal.returns-then-ne-clause-read

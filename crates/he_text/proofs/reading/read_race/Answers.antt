@@ -1,11 +1,9 @@
-use Rattle.std.proofs.Common.{rules, ◌≡◌, ◌≤◌, ◌<◌, ◌+◌, ◌-◌, ℕ, List, length, take, drop, Option, Some, None, Result, Ok, Err, refl, sym, ◌∙◌, ap, subst, arith}
-use Rattle.std.proofs.lemmas.List.{take_rest, length-drop}
-use Rattle.he_plan.specs.Race.{Race}
-use Rattle.he_text.specs.declared.fault.TextKind.{TextKind}
-use Rattle.he_text.specs.Faults.{fault_in, fault_of}
+use Rattle.std.proofs.Common.{rules, ℕ, List, drop, sym, ◌∙◌, ap, subst}
+use Rattle.std.proofs.lemmas.List.{take_rest}
+use Rattle.he_text.specs.Faults.{fault_of}
 use Rattle.he_text.specs.Parts.{lines_of}
 use Rattle.he_text.specs.Reading.{FailsAt, read_lines}
-use Rattle.he_text.specs.Text.{IsRaceText, TellsFault}
+use Rattle.he_text.specs.Text.{TellsFault}
 use Rattle.he_text.proofs.FaultTexts.{tells_fault, no_fault, race_at}
 use Rattle.he_text.proofs.reading.read_race.Goals as goal
 

@@ -1,41 +1,42 @@
-use Rattle.std.proofs.Common.{rules, ◌≡◌, ◌+◌, ◌∷◌, ℕ, List, Some, Ok, Err, Result, Bor, sym, ◌∙◌, ap, refl}
+use Rattle.std.proofs.Common.{rules, ◌≡◌, ℕ, List, Ok, Err, Bor, sym, ◌∙◌, ap}
 use Rattle.he_plan.specs.Race.{Race}
-use Rattle.he_text.specs.Parts.{lines_of, lines_left, tokens_left, tokens_of}
-use Rattle.he_text.specs.Reading.{FailsAt, wholeness, take_line, read_body}
-use Rattle.he_text.proofs.ReadingLaws.{shrinks, body_unwhole, body_wrong, body_ends, body_more, fails_body}
+use Rattle.he_text.specs.Parts.{lines_of, lines_left}
+use Rattle.he_text.specs.Reading.{FailsAt, read_body}
+use Rattle.he_text.proofs.ReadingLaws.{shrinks, body_unwhole, body_ends, body_more, fails_body}
 use Rattle.he_text.proofs.reading.read_rest.Goals as goal
 
 pub returns-in_err-line-clause-read : goal.returns-in_err-line-clause-read
 returns-in_err-line-clause-read g c =
     let wrong : read_body c.args.lines.now.number c.args.first c.args.start (lines_left c.args.lines.now) ≡ Err (c.loop-race.lines.number, c.in_err-line.field-0.0) =
-        c.loop-race.invariant.0
-        ∙ body_unwhole c.loop-race.lines.number c.loop-race.order c.loop-race.race (lines_left c.loop-race.lines) c.in_err-line.field-0.0 c.in_err-line.ensures.whole in
+    c.loop-race.invariant.0
+    ∙ body_unwhole c.loop-race.lines.number c.loop-race.order c.loop-race.race (lines_left c.loop-race.lines) c.in_err-line.field-0.0 c.in_err-line.ensures.whole in
     search rules
 
 pub returns-in_err-word-clause-read : goal.returns-in_err-word-clause-read
 returns-in_err-word-clause-read g c =
     let wrong : FailsAt c.loop-race.lines.number c.in_err-word.field-0.0 (read_body c.args.lines.now.number c.args.first c.args.start (lines_left c.args.lines.now)) =
-        fails_body c.loop-race.lines.number c.loop-race.order c.loop-race.race (lines_left c.loop-race.lines) (lines_of c.in_ok-line.rest.now) c.in_ok-line.line.now c.in_err-word.field-0.0
-            (read_body c.args.lines.now.number c.args.first c.args.start (lines_left c.args.lines.now))
-            c.loop-race.invariant.0 c.in_ok-line.ensures.parts c.in_ok-line.ensures.whole c.in_err-word.ensures in
+    fails_body c.loop-race.lines.number c.loop-race.order c.loop-race.race (lines_left c.loop-race.lines) (lines_of c.in_ok-line.rest.now) c.in_ok-line.line.now c.in_err-word.field-0.0
+    (read_body c.args.lines.now.number c.args.first c.args.start (lines_left c.args.lines.now))
+    c.loop-race.invariant.0 c.in_ok-line.ensures.parts c.in_ok-line.ensures.whole c.in_err-word.ensures in
     search rules
 
 pub returns-then-is_end-clause-read : goal.returns-then-is_end-clause-read
 returns-then-is_end-clause-read g c =
     let read : read_body c.args.lines.now.number c.args.first c.args.start (lines_left c.args.lines.now) ≡ Ok (c.take_told.new.race, lines_of c.in_ok-line.rest.now) =
-        c.loop-race.invariant.0
-        ∙ body_ends c.loop-race.lines.number c.loop-race.order c.in_ok-word.next c.loop-race.race c.take_told.new.race c.in_ok-word.word (lines_left c.loop-race.lines) (lines_of c.in_ok-line.rest.now) c.in_ok-line.line.now
-            c.in_ok-line.ensures.parts c.in_ok-line.ensures.whole c.in_ok-word.ensures (search rules) in
+    c.loop-race.invariant.0
+    ∙ body_ends c.loop-race.lines.number c.loop-race.order c.in_ok-word.next c.loop-race.race c.take_told.new.race c.in_ok-word.word (lines_left c.loop-race.lines) (lines_of c.in_ok-line.rest.now) c.in_ok-line.line.now
+    c.in_ok-line.ensures.parts c.in_ok-line.ensures.whole c.in_ok-word.ensures (search rules) in
     read
-        ∙ ap (λ (told : Race). Ok (told, lines_of c.in_ok-line.rest.now)) (sym c.finish.ensures)
-        ∙ ap (λ (rest : Bor (List ℕ)). Ok (c.finish.result, lines_of rest.now)) (sym c.pass.ensures.rest)
+    ∙ ap (λ (told : Race). Ok (told, lines_of c.in_ok-line.rest.now)) (sym c.finish.ensures)
+    ∙ ap (λ (rest : Bor (List ℕ)). Ok (c.finish.result, lines_of rest.now)) (sym c.pass.ensures.rest)
 
 pub loop-race-preserved : goal.loop-race-preserved
 loop-race-preserved g c = (
-    c.loop-race.invariant.0
-    ∙ body_more c.loop-race.lines.number c.loop-race.order c.in_ok-word.next c.loop-race.race c.take_told.new.race c.in_ok-word.word (lines_left c.loop-race.lines) (lines_of c.in_ok-line.rest.now) c.in_ok-line.line.now
-        c.in_ok-line.ensures.parts c.in_ok-line.ensures.whole c.in_ok-word.ensures (search rules)
-    ∙ ap (λ (n : ℕ). read_body n c.in_ok-word.next c.take_told.new.race (lines_of c.in_ok-line.rest.now)) (sym c.pass.ensures.number)
-    ∙ ap (λ (rest : Bor (List ℕ)). read_body c.pass.new.self.number c.in_ok-word.next c.take_told.new.race (lines_of rest.now)) (sym c.pass.ensures.rest),
-    c.pass.ensures.room,
-    shrinks c.pass.new.self.rest c.in_ok-line.rest c.loop-race.lines.rest c.pass.ensures.rest c.in_ok-line.ensures.shorter c.loop-race.invariant.2)
+  c.loop-race.invariant.0
+      ∙ body_more c.loop-race.lines.number c.loop-race.order c.in_ok-word.next c.loop-race.race c.take_told.new.race c.in_ok-word.word (lines_left c.loop-race.lines) (lines_of c.in_ok-line.rest.now) c.in_ok-line.line.now
+      c.in_ok-line.ensures.parts c.in_ok-line.ensures.whole c.in_ok-word.ensures (search rules)
+      ∙ ap (λ (n : ℕ). read_body n c.in_ok-word.next c.take_told.new.race (lines_of c.in_ok-line.rest.now)) (sym c.pass.ensures.number)
+      ∙ ap (λ (rest : Bor (List ℕ)). read_body c.pass.new.self.number c.in_ok-word.next c.take_told.new.race (lines_of rest.now)) (sym c.pass.ensures.rest),
+  c.pass.ensures.room,
+  shrinks c.pass.new.self.rest c.in_ok-line.rest c.loop-race.lines.rest c.pass.ensures.rest c.in_ok-line.ensures.shorter c.loop-race.invariant.2,
+)

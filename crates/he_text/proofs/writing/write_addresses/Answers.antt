@@ -1,11 +1,11 @@
-use Rattle.std.proofs.Common.{rules, ◌≡◌, ◌++◌, map, take, List, ℕ}
+use Rattle.std.proofs.Common.{rules, map, take}
 use Rattle.he_addr.specs.Printing.{printed}
-use Rattle.he_text.specs.Written.{token_text, spaced, Grows}
+use Rattle.he_text.specs.Written.{spaced, Grows}
 use Rattle.he_text.proofs.WritingLaws.{grows_after}
 use Rattle.he_text.proofs.writing.write_addresses.Goals as goal
 
 pub returns-in_err-write_spaced : goal.returns-in_err-write_spaced
 returns-in_err-write_spaced g c =
     let kept : Grows c.args.out.now.items c.write_spaced.new.out.items =
-        grows_after c.args.out.now.items (spaced (map printed (take c.loop-ip.ip-index c.args.ips.now))) c.loop-ip.out.items c.write_spaced.new.out.items c.loop-ip.invariant c.in_err-write_spaced.ensures in
+    grows_after c.args.out.now.items (spaced (map printed (take c.loop-ip.ip-index c.args.ips.now))) c.loop-ip.out.items c.write_spaced.new.out.items c.loop-ip.invariant c.in_err-write_spaced.ensures in
     search rules

@@ -1,0 +1,11 @@
+use Rattle.std.proofs.Common.{rules, take}
+use Rattle.std.specs.List.{flat_map}
+use Rattle.he_text.specs.Written.{outcome_text, Grows}
+use Rattle.he_text.proofs.WritingLaws.{grows_after}
+use Rattle.he_text.proofs.timelines.write_outcomes.Goals as goal
+
+pub returns-in_err-write_outcome : goal.returns-in_err-write_outcome
+returns-in_err-write_outcome g c =
+    let kept : Grows c.args.out.now.items c.write_outcome.new.out.items =
+    grows_after c.args.out.now.items (flat_map outcome_text (take c.loop-told.told-index c.args.outcomes.now)) c.loop-told.out.items c.write_outcome.new.out.items c.loop-told.invariant c.in_err-write_outcome.ensures in
+    search rules

@@ -1,0 +1,11 @@
+use Rattle.std.proofs.Common.{rules, take}
+use Rattle.std.specs.List.{flat_map}
+use Rattle.he_text.specs.Written.{pause_text, Grows}
+use Rattle.he_text.proofs.WritingLaws.{grows_after}
+use Rattle.he_text.proofs.timelines.write_pauses.Goals as goal
+
+pub returns-in_err-write_pause : goal.returns-in_err-write_pause
+returns-in_err-write_pause g c =
+    let kept : Grows c.args.out.now.items c.write_pause.new.out.items =
+    grows_after c.args.out.now.items (flat_map pause_text (take c.loop-pause.pause-index c.args.pauses.now)) c.loop-pause.out.items c.write_pause.new.out.items c.loop-pause.invariant c.in_err-write_pause.ensures in
+    search rules
