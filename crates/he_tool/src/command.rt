@@ -13,7 +13,7 @@ pub enum Action {
     Replay { workers: u16 },
 }
 
-const ABOUT: &str = "Replays Happy Eyeballs races (RFC 8305, addresses ordered by RFC 6724)";
+const ABOUT: &str = "Replays Happy Eyeballs races (RFC 8305)";
 
 const REPLAY_ABOUT: &str = "Reads timelines of races and writes what happens in them";
 
