@@ -14,6 +14,12 @@ abbrev pub is_v6 : Ip → Bool
 is_v6 (V4 n) = false
 is_v6 (V6 n) = true
 
+abbrev pub same_ip : Ip → Ip → Bool
+same_ip (V4 m) (V4 n) = m == n
+same_ip (V6 m) (V6 n) = m == n
+same_ip (V4 m) (V6 n) = false
+same_ip (V6 m) (V4 n) = false
+
 -- the number as an IPv6 number: an IPv4 address stands in ::ffff:0:0/96 (RFC 4291 section 2.5.5.2)
 abbrev pub mapped_of : Ip → ℕ
 mapped_of (V4 n) = 65535 * 2 ^ 32 + n

@@ -1,6 +1,6 @@
 -- Destinations sorted by their keys are in the order of preference.
 use Rattle.std.proofs.Common.{◌≡◌, ℕ, zero, suc, ◌+◌, ◌<◌, ◌≤◌, Bool, true, List, [], ◌∷◌, map, length, refl, sym, ◌∙◌, ap, subst, arith, get_or, slice_get}
-use Rattle.std.specs.Prelude.{Some, option_map, count_by, All, IsPermutation, IsSortedByKey}
+use Rattle.std.specs.Prelude.{Some, option_map, count_by, All, IsPermutation}
 use Rattle.std.specs.Ordering.{is_lt, is_eq}
 use Rattle.std.proofs.lemmas.Cmp.{tied_itself}
 use Rattle.std.proofs.lemmas.List.Sorted.{All-permutation, IsPermutation-map}
@@ -14,39 +14,34 @@ use Rattle.he_select.specs.declared.ranking.Ranked.{Ranked}
 use Rattle.he_select.specs.DestinationKeys.{key_cmp, key_of, ranked_of}
 use Rattle.he_select.specs.Preference.{IsOrder, Member, members_from, prefers}
 use Rattle.he_select.specs.Selection.{World}
-use Rattle.he_select.proofs.Counting.{Each, count-permutation, count_cons, each-get, found, one_if, rising}
+use Rattle.he_select.proofs.Counting.{Each, each_at, count-permutation, count_cons, each-get, found, one_if, Rising}
 use Rattle.he_select.proofs.Keyed.{PartsFamilies, by_keys, keys_total, same_place}
-
-each_at : {X : Type 0} (P : X → Type 0) (xs : List X) → Each P xs → (i : ℕ) (x : X) → slice_get xs i ≡ Some x → P x
-each_at P [] each i x e = cc
-each_at P (y ∷ ys) each zero x e = let same : y ≡ x = cc in subst P same each.0
-each_at P (y ∷ ys) each (suc i) x e = each_at P ys each.1 i x e
 
 all_from_each : {X : Type 0} (P : X → Type 0) (xs : List X) → Each P xs → (i : ℕ) (d : X) → i < length xs → P (get_or xs i d)
 all_from_each P [] each i d lt = absurd (omega arith)
 all_from_each P (x ∷ xs) each zero d lt = each.0
 all_from_each P (x ∷ xs) each (suc i) d lt = all_from_each P xs each.1 i d (omega arith)
 
-each-permutation : {X : Type 0} (P : X → Type 0) (xs ys : List X) → IsPermutation xs ys → Each P xs → Each P ys
+pub each-permutation : {X : Type 0} (P : X → Type 0) (xs ys : List X) → IsPermutation xs ys → Each P xs → Each P ys
 each-permutation P xs ys moved each =
     let all : All P xs = λ i d lt. all_from_each P xs each i d lt in
     let moved_all : All P ys = All-permutation P xs ys moved all in
     each-get P ys (λ i d lt. moved_all i d lt)
 
-count-map : {X Y : Type 0} (p : Y → Bool) (f : X → Y) (xs : List X) → count_by p (map f xs) ≡ count_by (λ x. p (f x)) xs
+pub count-map : {X Y : Type 0} (p : Y → Bool) (f : X → Y) (xs : List X) → count_by p (map f xs) ≡ count_by (λ x. p (f x)) xs
 count-map p f [] = refl
 count-map p f (x ∷ xs) = count_cons p (f x) (map f xs) ∙ ap (λ n. one_if (p (f x)) + n) (count-map p f xs) ∙ sym (count_cons (λ x. p (f x)) x xs)
 
-count-same : {X : Type 0} (p q : X → Bool) (xs : List X) → Each (λ x. p x ≡ q x) xs → count_by p xs ≡ count_by q xs
+pub count-same : {X : Type 0} (p q : X → Bool) (xs : List X) → Each (λ x. p x ≡ q x) xs → count_by p xs ≡ count_by q xs
 count-same p q [] each = refl
 count-same p q (x ∷ xs) each =
     count_cons p x xs ∙ ap (λ b. one_if b + count_by p xs) each.0 ∙ ap (λ n. one_if (q x) + n) (count-same p q xs each.1) ∙ sym (count_cons q x xs)
 
 module _ (world : World) where
-  abbrev keyed : ℕ → List Ip → List Ranked
+  abbrev pub keyed : ℕ → List Ip → List Ranked
   keyed place ips = map (ranked_of world) (members_from place ips)
 
-  ips_back : (place : ℕ) (ips : List Ip) → map (λ (r : Ranked). r.ip) (keyed place ips) ≡ ips
+  pub ips_back : (place : ℕ) (ips : List Ip) → map (λ (r : Ranked). r.ip) (keyed place ips) ≡ ips
   ips_back place [] = refl
   ips_back place (ip ∷ ips) = ap (λ more. ip ∷ more) (ips_back (place + 1) ips)
 
@@ -71,21 +66,21 @@ module _ (world : World) where
       omega (arith, counted, rest)
 
   -- each stands in the list at the place of its key
-  own_places : (all rest : List Ip) (place : ℕ) → ((i : ℕ) → slice_get all (place + i) ≡ slice_get rest i)
+  pub own_places : (all rest : List Ip) (place : ℕ) → ((i : ℕ) → slice_get all (place + i) ≡ slice_get rest i)
       → Each (λ (r : Ranked). slice_get all r.key.place ≡ Some r.ip) (keyed place rest)
   unfolding key_of
   own_places all [] place h = tt
   own_places all (x ∷ xs) place h =
       (ap (slice_get all) (omega arith) ∙ h 0, own_places all xs (place + 1) (λ i. ap (slice_get all) (omega arith) ∙ h (suc i)))
 
-  preferred_by_keys : PartsFamilies world.rows → (ips : List Ip) (place : ℕ) → Each IsUsable ips → (m : Member) → IsUsable m.ip
+  pub preferred_by_keys : PartsFamilies world.rows → (ips : List Ip) (place : ℕ) → Each IsUsable ips → (m : Member) → IsUsable m.ip
       → Each (λ (other : Member). is_lt (key_cmp (key_of world other) (key_of world m)) ≡ prefers world other m) (members_from place ips)
   preferred_by_keys parts [] place usable m um = tt
   preferred_by_keys parts (x ∷ xs) place usable m um =
       (sym (ap is_lt (by_keys world parts (record { ip = x; place = place }) m usable.0 um)), preferred_by_keys parts xs (place + 1) usable.1 m um)
 
   pub is_order : PartsFamilies world.rows → (ips : List Ip) → Each IsUsable ips → (ys : List Ranked)
-      → IsPermutation (keyed 0 ips) ys → IsSortedByKey (λ (r : Ranked). r.key) key_cmp ys → IsOrder world ips (map (λ (r : Ranked). r.ip) ys)
+      → IsPermutation (keyed 0 ips) ys → Rising key_cmp keys_total (λ (r : Ranked). r.key) ys → IsOrder world ips (map (λ (r : Ranked). r.ip) ys)
   unfolding key_of
   is_order parts ips usable ys moved sorted = record {
     members = subst (λ l. IsPermutation l (map (λ (r : Ranked). r.ip) ys)) (ips_back 0 ips) (IsPermutation-map (λ (r : Ranked). r.ip) (keyed 0 ips) ys moved);
@@ -95,7 +90,7 @@ module _ (world : World) where
         let less : Ranked → Bool = λ r. is_lt (key_cmp r.key (key_of world m)) in
         let stands : 1 ≤ count_by ties (keyed 0 ips) = ties_itself ips 0 n n ip (omega arith) at in
         let some : 1 ≤ count_by ties ys = omega (arith, count-permutation ties (keyed 0 ips) ys moved) in
-        let z = found key_cmp keys_total (λ (r : Ranked). r.key) (key_of world m) ys (rising key_cmp keys_total (λ (r : Ranked). r.key) ys sorted) some in
+        let z = found key_cmp keys_total (λ (r : Ranked). r.key) (key_of world m) ys sorted some in
         let place : z.0.key.place ≡ n = same_place z.0.key (key_of world m) z.2 in
         let own : slice_get ips z.0.key.place ≡ Some z.0.ip = each_at (λ (r : Ranked). slice_get ips r.key.place ≡ Some r.ip) ys (each-permutation _ (keyed 0 ips) ys moved (own_places ips ips 0 (λ i. ap (slice_get ips) (omega arith)))) _ z.0 z.1 in
         let same : Some z.0.ip ≡ Some ip = sym own ∙ ap (slice_get ips) place ∙ at in

@@ -1,11 +1,11 @@
 -- In a sorted list the element that has a key stands at the place that equals the number of smaller keys.
-use Rattle.std.proofs.Common.{◌≡◌, ℕ, suc, ◌+◌, ◌<◌, ◌≤◌, Bool, false, cond, List, [], ◌∷◌, length, refl, sym, ◌∙◌, ap, arith, get_or, slice_get}
+use Rattle.std.proofs.Common.{◌≡◌, ℕ, zero, suc, ◌+◌, ◌<◌, ◌≤◌, ◌⊎◌, Bool, true, false, cond, List, [], ◌∷◌, length, refl, sym, ◌∙◌, ap, subst, inl, inr, arith, get_or, slice_get}
 use Rattle.std.specs.Prelude.{Some, count_by, IsPermutation, IsSortedByKey}
 use Rattle.std.specs.declared.cmp.Ordering.{Ordering}
 use Rattle.std.specs.declared.cmp.Ordering.TheVariants.{Less, Equal, Greater}
 use Rattle.std.specs.Ordering.{is_lt, is_eq, ordering_reverse}
 use Rattle.std.specs.Cmp.{IsTotalOrder}
-use Rattle.std.proofs.lemmas.Cmp.{alike_right}
+use Rattle.std.proofs.lemmas.Cmp.{alike_right, tied_itself}
 use Rattle.std.proofs.lemmas.Bool.{both_ways}
 use Rattle.std.proofs.lemmas.List.Sums.{sum_by-cons}
 use Rattle.std.proofs.lemmas.List.Sorted.{sorted_far, ranks_by, sum_by-IsPermutation}
@@ -28,7 +28,12 @@ pub each-get : {X : Type 0} (P : X → Type 0) (xs : List X) → ((i : ℕ) (d :
 each-get P [] h = tt
 each-get P (x ∷ xs) h = (h 0 x (omega arith), each-get P xs (λ i d lt. h (suc i) d (omega arith)))
 
-not_equal : (o : Ordering) → (o ≡ Equal → ⊥) → is_eq o ≡ false
+pub each_at : {X : Type 0} (P : X → Type 0) (xs : List X) → Each P xs → (i : ℕ) (x : X) → slice_get xs i ≡ Some x → P x
+each_at P [] each i x e = cc
+each_at P (y ∷ ys) each zero x e = let same : y ≡ x = cc in subst P same each.0
+each_at P (y ∷ ys) each (suc i) x e = each_at P ys each.1 i x e
+
+pub not_equal : (o : Ordering) → (o ≡ Equal → ⊥) → is_eq o ≡ false
 not_equal Less h = refl
 not_equal Equal h = absurd (h refl)
 not_equal Greater h = refl
@@ -107,3 +112,44 @@ module _ {K : Type 0} (R : K → K → Ordering) (o : IsTotalOrder R) {X : Type 
   pub found : (k : K) (ys : List X) → Rising ys → 1 ≤ count_by (λ y. is_eq (R (key y) k)) ys → Found k ys
   found k [] up some = absurd (omega arith)
   found k (y ∷ ys) up some = found_by k y ys up some (found k ys up.1) (R (key y) k) refl
+
+  less_or_tied : (y z : K) → is_lt (R y z) ≡ false → (is_eq (R z y) ≡ true) ⊎ (R z y ≡ Less)
+  less_or_tied y z not_less = by_answer (R z y) refl
+    where
+      by_answer : (answer : Ordering) → R z y ≡ answer → (is_eq (R z y) ≡ true) ⊎ (R z y ≡ Less)
+      by_answer Less e = inr e
+      by_answer Equal e = inl (ap is_eq e)
+      by_answer Greater e = absurd (both_ways (is_lt (R y z)) not_less (ap is_lt (o.antisymm y z ∙ ap ordering_reverse e)))
+
+  ties_at : (ys : List X) (i : ℕ) (y : X) → slice_get ys i ≡ Some y → 1 ≤ count_by (λ z. is_eq (R (key z) (key y))) ys
+  ties_at [] i y at = cc
+  ties_at (x ∷ xs) zero y at =
+      let same : x ≡ y = cc in
+      let tied : is_eq (R (key x) (key y)) ≡ true = ap (λ w. is_eq (R (key w) (key y))) same ∙ ap is_eq (tied_itself o (key y)) in
+      let counted = count_cons (λ z. is_eq (R (key z) (key y))) x xs ∙ ap (λ b. one_if b + count_by (λ z. is_eq (R (key z) (key y))) xs) tied in
+      omega (arith, counted)
+  ties_at (x ∷ xs) (suc i) y at =
+      let rest = ties_at xs i y at in
+      let counted = count_cons (λ z. is_eq (R (key z) (key y))) x xs in
+      omega (arith, counted, rest)
+
+  -- in a sorted list with no two equal keys each stands at the place that equals the number of smaller ones
+  pub counted_at : (ys : List X) → Rising ys → (i : ℕ) (y : X) → slice_get ys i ≡ Some y
+      → count_by (λ z. is_eq (R (key z) (key y))) ys ≤ 1 → count_by (λ z. is_lt (R (key z) (key y))) ys ≡ i
+  counted_at [] up i y at once = cc
+  counted_at (x ∷ xs) up zero y at once =
+      let same : x ≡ y = cc in
+      let tied : R (key x) (key y) ≡ Equal = ap (λ w. R (key w) (key y)) same ∙ tied_itself o (key y) in
+      let none : count_by (λ z. is_lt (R (key z) (key y))) xs ≡ 0 = none_less (key y) x xs tied up.0 in
+      count_cons (λ z. is_lt (R (key z) (key y))) x xs ∙ ap (λ b. one_if b + count_by (λ z. is_lt (R (key z) (key y))) xs) (ap is_lt tied) ∙ omega arith
+  counted_at (x ∷ xs) up (suc i) y at once =
+      let counted = count_cons (λ z. is_eq (R (key z) (key y))) x xs in
+      let rest : count_by (λ z. is_lt (R (key z) (key y))) xs ≡ i = counted_at xs up.1 i y at (omega (arith, counted, once)) in
+      elim (less_or_tied (key y) (key x) (each_at (λ z. is_lt (R (key z) (key x)) ≡ false) xs up.0 i y at)) [
+        | inl tied ↦
+            let twice = ap (λ b. one_if b + count_by (λ z. is_eq (R (key z) (key y))) xs) tied in
+            let other = ties_at xs i y at in
+            absurd (omega (arith, counted, twice, other, once))
+        | inr less ↦
+            count_cons (λ z. is_lt (R (key z) (key y))) x xs ∙ ap (λ b. one_if b + count_by (λ z. is_lt (R (key z) (key y))) xs) (ap is_lt less) ∙ omega arith
+      ]

@@ -26,15 +26,11 @@ use Rattle.he_select.proofs.Causes.{none_stands, not_caused}
 use Rattle.std.proofs.lemmas.Bool.{not-false}
 use Rattle.he_select.proofs.Families.{best_is, parts_families, row_at, v6_starts}
 use Rattle.he_select.proofs.Keyed.{by_keys, keys_total, same_place}
+use Rattle.he_select.proofs.Orders.{was_less}
 use Rattle.he_select.proofs.Sources.{by_source_keys, key_for, source_keys_total}
 
 pub preference_by_keys : PreferenceIsByKeys
 preference_by_keys world admitted a b ua ub = ap is_lt (by_keys world (parts_families world.rows admitted) a b ua ub)
-
-was_less : (o : Ordering) → is_lt o ≡ true → o ≡ Less
-was_less Less e = refl
-was_less Equal e = cc
-was_less Greater e = cc
 
 one_first : (o p : Ordering) → p ≡ ordering_reverse o → (o ≡ Equal → ⊥) → (is_lt o ≡ true) ⊎ (is_lt p ≡ true)
 one_first Less p e h = inl refl

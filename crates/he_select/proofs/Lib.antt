@@ -3,10 +3,12 @@ pub mod Causes
 pub mod Chosen
 pub mod Counting
 pub mod Families
+pub mod Inserted
 pub mod Keyed
 pub mod Listing
 pub mod LawsOfOrder
 pub mod LookUps
+pub mod Ordered
 pub mod Orders
 pub mod Repeats
 pub mod Sources

@@ -4,7 +4,7 @@ use Rattle.std.specs.Prelude.{nat_lt, ◌&&◌}
 use Rattle.std.specs.Int.{abs_diff}
 use Rattle.std.specs.declared.cmp.Ordering.{Ordering}
 use Rattle.std.specs.declared.cmp.Ordering.TheVariants.{Less, Equal, Greater}
-use Rattle.std.specs.Ordering.{nat_cmp, bool_cmp, ordering_then}
+use Rattle.std.specs.Ordering.{nat_cmp, bool_cmp, ordering_then, is_lt}
 use Rattle.std.proofs.lemmas.Bool.Decides.{nat_tests}
 use Rattle.he_select.specs.Selection.{by_appropriate_scope}
 
@@ -70,3 +70,8 @@ sourced_common r s false m n e g hm hn = cc
 
 pub tied_numbers : (m n : ℕ) → nat_cmp m n ≡ Equal → m ≡ n
 tied_numbers m n e = grind (arith, nat_tests)
+
+pub was_less : (o : Ordering) → is_lt o ≡ true → o ≡ Less
+was_less Less e = refl
+was_less Equal e = cc
+was_less Greater e = cc

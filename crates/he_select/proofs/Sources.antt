@@ -7,13 +7,12 @@ use Rattle.std.specs.Ordering.{nat_cmp, bool_cmp, is_lt}
 use Rattle.std.proofs.lemmas.Cmp.{nat_cmp_total, then_total, on_total, back_total}
 use Rattle.std.proofs.lemmas.List.Sorted.{ranks_by}
 use Rattle.he_addr.specs.declared.ip.Ip.{Ip}
-use Rattle.he_addr.specs.Ip.{scope_of}
+use Rattle.he_addr.specs.Ip.{scope_of, same_ip}
 use Rattle.he_addr.specs.Prefix.{common_of}
 use Rattle.he_select.specs.declared.host.Source.{Source}
 use Rattle.he_select.specs.declared.host.Route.{Route}
 use Rattle.he_select.specs.declared.selection.Candidate.{Candidate}
 use Rattle.he_select.specs.declared.selection.SourceKey.{SourceKey}
-use Rattle.he_select.specs.Hosts.{same_ip}
 use Rattle.he_select.specs.Keys.{admits, candidate_of, comes_before, destination_of, labelled_of, source_key, source_key_cmp}
 use Rattle.he_select.specs.Rules.{first_of, best_by}
 use Rattle.he_select.specs.Selection.{World, candidates, is_better, is_candidate, route_of, source_of, source_rules}

@@ -1,10 +1,8 @@
 -- A host's sources and routes, and which lists of them are admitted.
-use Rattle.std.specs.Prelude.{◌==◌, ◌&&◌, ◌||◌, Bool, false, not, nat_lt, nat_le, List, [], ◌∷◌, length, Option, option_map, is_none, IsTrue, Result, Ok, Err}
+use Rattle.std.specs.Prelude.{◌==◌, ◌&&◌, ◌||◌, Bool, not, nat_lt, nat_le, List, [], ◌∷◌, length, Option, option_map, is_none, IsTrue, Result, Ok, Err}
 use Rattle.std.specs.List.{position_from}
 use Rattle.std.specs.Option.{option_map_or}
-use Rattle.he_addr.specs.declared.ip.Ip.{Ip}
-use Rattle.he_addr.specs.declared.ip.Ip.TheVariants.{V4, V6}
-use Rattle.he_addr.specs.Ip.{is_usable}
+use Rattle.he_addr.specs.Ip.{is_usable, same_ip}
 use Rattle.he_addr.specs.Prefix.{width_of}
 use Rattle.he_select.specs.declared.limits.TheConstants.{SOURCES, ROUTES}
 use Rattle.he_select.specs.declared.host.Source.{Source}
@@ -18,12 +16,6 @@ use Rattle.he_select.specs.Tables.{same_prefix}
 pub record Interfaces : Type 0 where
   pub sources : List Source
   pub routes : List Route
-
-abbrev pub same_ip : Ip → Ip → Bool
-same_ip (V4 a) (V4 b) = a == b
-same_ip (V6 a) (V6 b) = a == b
-same_ip (V4 a) (V6 b) = false
-same_ip (V6 a) (V4 b) = false
 
 abbrev pub same_source : Source → Source → Bool
 same_source a b = same_ip a.ip b.ip

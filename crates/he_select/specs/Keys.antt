@@ -5,7 +5,7 @@ use Rattle.std.specs.Int.{abs_diff}
 use Rattle.std.specs.declared.cmp.Ordering.{Ordering}
 use Rattle.std.specs.Ordering.{nat_cmp, bool_cmp, ordering_then, is_lt}
 use Rattle.he_addr.specs.declared.ip.Ip.{Ip}
-use Rattle.he_addr.specs.Ip.{scope_of, is_v6}
+use Rattle.he_addr.specs.Ip.{scope_of, is_v6, same_ip}
 use Rattle.he_addr.specs.Prefix.{common_of}
 use Rattle.he_select.specs.declared.selection.SourceKey.{SourceKey}
 use Rattle.he_select.specs.declared.selection.Destination.{Destination}
@@ -14,7 +14,6 @@ use Rattle.he_select.specs.declared.selection.Candidate.{Candidate}
 use Rattle.he_select.specs.declared.host.Route.{Route}
 use Rattle.he_select.specs.declared.host.Source.{Source}
 use Rattle.he_select.specs.declared.policy.Row.{Row}
-use Rattle.he_select.specs.Hosts.{same_ip}
 use Rattle.he_select.specs.Selection.{link_scope}
 use Rattle.he_select.specs.Tables.{label_of}
 

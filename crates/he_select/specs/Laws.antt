@@ -1,10 +1,10 @@
 -- What follows from the definitions, in words of its own.
-use Rattle.std.specs.Prelude.{◌≡◌, ◌≢◌, ◌<◌, ◌⊎◌, ◌↔◌, Bool, List, length, IsTrue, IsFalse, IsSome}
+use Rattle.std.specs.Prelude.{All, ◌≡◌, ◌≢◌, ◌<◌, ◌⊎◌, ◌↔◌, Bool, List, length, IsTrue, IsFalse, IsSome}
 use Rattle.std.specs.Ordering.{is_lt}
 use Rattle.he_addr.specs.declared.ip.Ip.{Ip}
 use Rattle.he_addr.specs.Ip.{InRange, IsUsable}
 use Rattle.he_select.specs.DestinationKeys.{key_cmp, key_of}
-use Rattle.he_select.specs.Preference.{Member, prefers}
+use Rattle.he_select.specs.Preference.{IsOrder, Member, order_of, prefers}
 use Rattle.he_select.specs.Rules.{cause_if, first_repeat}
 use Rattle.std.specs.List.{list_any}
 use Rattle.std.specs.Option.{option_or}
@@ -30,6 +30,15 @@ PreferenceIsByKeys =
 -- hence it is a strict total order on the members of a list
 abbrev pub PreferenceIsStrictTotalOrder : Type 0
 PreferenceIsStrictTotalOrder = (world : World) → IsAdmitted world.rows → IsStrictTotalOrderOn (λ m. IsUsable m.ip) (prefers world)
+
+-- a list has one order of preference, and that is the one that `order_of` names
+pub record IsOneOrder (world : World) (ips : List Ip) : Type 0 where
+  pub is : IsOrder world ips (order_of world ips)
+  pub only : (other : List Ip) → IsOrder world ips other → other ≡ order_of world ips
+
+-- so it is for usable addresses under an admitted table
+abbrev pub EachListHasOneOrder : Type 0
+EachListHasOneOrder = (world : World) → IsAdmitted world.rows → (ips : List Ip) → All IsUsable ips → IsOneOrder world ips
 
 -- an address is reachable where it has a route and a candidate: there is a best candidate where there is any
 abbrev pub ReachableWhereCandidates : Type 0

@@ -1,6 +1,7 @@
 -- Which of two destinations is preferred (RFC 6724 section 6), and a list in this order.
-use Rattle.std.specs.Prelude.{ℕ, ◌+◌, ◌≡◌, ◌==◌, Bool, true, false, not, cond, List, [], ◌∷◌, slice_get, count_by, Some, IsPermutation}
+use Rattle.std.specs.Prelude.{ℕ, ◌+◌, ◌≡◌, ◌==◌, Bool, true, false, not, cond, List, [], ◌∷◌, length, map, slice_get, count_by, find, filter_map, Option, Some, IsPermutation}
 use Rattle.std.specs.Bool.{beq}
+use Rattle.std.specs.List.{range_with_len}
 use Rattle.std.specs.Option.{option_map_or}
 use Rattle.std.specs.declared.cmp.Ordering.TheVariants.{Equal}
 use Rattle.std.specs.Ordering.{is_lt}
@@ -108,3 +109,12 @@ prefers world a b = is_lt (first_of (destination_rules world) a b)
 pub record IsOrder (world : World) (list result : List Ip) : Type 0 where
   pub members : IsPermutation list result
   pub places : (n : ℕ) (ip : Ip) → slice_get list n ≡ Some ip → slice_get result (count_by (λ other. prefers world other (record { ip = ip; place = n })) (members_from 0 list)) ≡ Some ip
+
+-- the member to which this many members are preferred
+abbrev pub member_at : World → List Member → ℕ → Option Member
+member_at world members n = find (λ member. count_by (λ other. prefers world other member) members == n) members
+
+-- the addresses in the order in which they are to be tried: at each place the one to which as many are preferred as there
+-- are places before it
+unfoldable pub order_of : World → List Ip → List Ip
+order_of world ips = map (λ member. member.ip) (filter_map (member_at world (members_from 0 ips)) (range_with_len 0 (length ips)))

@@ -5,14 +5,14 @@ use Rattle.std.specs.Option.{option_map_or}
 use Rattle.std.specs.declared.cmp.Ordering.TheVariants.{Less, Equal, Greater}
 use Rattle.std.specs.Ordering.{is_lt}
 use Rattle.he_addr.specs.declared.ip.Ip.{Ip}
-use Rattle.he_addr.specs.Ip.{is_v6, scope_of}
+use Rattle.he_addr.specs.Ip.{is_v6, scope_of, same_ip}
 use Rattle.he_addr.specs.Prefix.{contains, is_inside_mapped, common_of}
 use Rattle.he_select.specs.declared.policy.Row.{Row}
 use Rattle.he_select.specs.declared.host.Source.{Source}
 use Rattle.he_select.specs.declared.host.Route.{Route}
 use Rattle.he_select.specs.Rules.{Rule, yes_first, higher_first, first_of, best_by}
 use Rattle.he_select.specs.Tables.{label_of}
-use Rattle.he_select.specs.Hosts.{Interfaces, same_ip}
+use Rattle.he_select.specs.Hosts.{Interfaces}
 
 -- what the rules look at
 pub record World : Type 0 where

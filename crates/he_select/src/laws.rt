@@ -1,6 +1,6 @@
 // Laws of the definitions. Each is the contract of a function that does nothing.
 
-ghost use Rattle.he_select.specs.Laws.{EveryAddressHasRow, PreferenceIsByKeys, PreferenceIsStrictTotalOrder, ReachableWhereCandidates, RepeatsByOneMore};
+ghost use Rattle.he_select.specs.Laws.{EachListHasOneOrder, EveryAddressHasRow, PreferenceIsByKeys, PreferenceIsStrictTotalOrder, ReachableWhereCandidates, RepeatsByOneMore};
 ghost use Rattle.he_select.specs.Hosts.{same_route, same_source};
 ghost use Rattle.he_select.specs.Tables.{same_row};
 
@@ -9,6 +9,11 @@ ghost use Rattle.he_select.specs.Tables.{same_row};
 pub fn preference_is_by_keys()
     ensures keys { PreferenceIsByKeys }
     ensures order { PreferenceIsStrictTotalOrder }
+{}
+
+/// Usable addresses have exactly one order of preference under an admitted table: the list that [`crate::order`] answers.
+pub fn each_list_has_one_order()
+    ensures { EachListHasOneOrder }
 {}
 
 /// An address is reachable exactly where it has a route and a candidate: of candidates there is always a best one.

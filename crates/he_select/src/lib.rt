@@ -9,7 +9,8 @@
 //! of an address are those of the longest row that contains it; its source is the candidate than which none is better by the
 //! rules of section 5; each address that `order` answers stands at the place that equals the number of addresses preferred
 //! to it by the rules of section 6. Under an admitted table this preference is a comparison of keys, one number for each
-//! rule, and so a strict total order ([`laws`]). Each rule stands in `specs/` as a definition under its name in the RFC.
+//! rule, and so a strict total order, and usable addresses have exactly one such list ([`laws`]). Each rule stands in
+//! `specs/` as a definition under its name in the RFC.
 //!
 //! Only tested: that memory suffices where it is there, and the texts of the faults are in no clause.
 #![tactic(auto)]

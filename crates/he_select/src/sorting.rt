@@ -6,7 +6,7 @@ ghost use Rattle.he_addr.specs.Ip.{InRange, is_usable};
 ghost use Rattle.he_select.specs.DestinationKeys.{key_cmp, ranked_by};
 ghost use Rattle.he_select.specs.Hosts.{is_sound_source};
 ghost use Rattle.he_select.specs.Keys.{labelled_of};
-ghost use Rattle.he_select.specs.Preference.{IsOrder, members_from};
+ghost use Rattle.he_select.specs.Preference.{IsOrder, members_from, order_of};
 ghost use Rattle.he_select.specs.Selection.{world_of};
 ghost use Rattle.he_select.specs.Tables.{IsAdmitted};
 
@@ -27,7 +27,8 @@ pub fn order<A: Allocator + Copy, P: Allocator, H: Allocator>(
     addresses: &[Ip],
 ) -> Result<Vec<Ip, A>, Memory>
     requires { IsTrue (list_all is_usable addresses.now) }
-    ensures { IfOk result (λ sorted. IsOrder (world_of policy.now host.now) addresses.now sorted.items) }
+    ensures order { IfOk result (λ sorted. IsOrder (world_of policy.now host.now) addresses.now sorted.items) }
+    ensures value { IfOk result (λ sorted. sorted.items ≡ order_of (world_of policy.now host.now) addresses.now) }
 {
     sort_addresses(
         alloc,
@@ -51,7 +52,8 @@ fn sort_addresses<A: Allocator + Copy>(
     requires admitted { IsAdmitted rows.now }
     requires sound { IsTrue (list_all is_sound_source sources.now) }
     requires usable { IsTrue (list_all is_usable addresses.now) }
-    ensures { IfOk result (λ sorted. IsOrder (record { rows = rows.now; sources = sources.now; routes = routes.now }) addresses.now sorted.items) }
+    ensures order { IfOk result (λ sorted. IsOrder (record { rows = rows.now; sources = sources.now; routes = routes.now }) addresses.now sorted.items) }
+    ensures value { IfOk result (λ sorted. sorted.items ≡ order_of (record { rows = rows.now; sources = sources.now; routes = routes.now }) addresses.now) }
 {
     let labelled = label_sources(alloc, rows, sources)?;
     let mut ranked = rank_all(alloc, rows, routes, &labelled, addresses)?;

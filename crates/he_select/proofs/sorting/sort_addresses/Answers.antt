@@ -4,17 +4,21 @@ use Rattle.std.specs.Prelude.{IsPermutation}
 use Rattle.std.proofs.lemmas.List.Sorted.{length_permutation}
 use Rattle.std.proofs.lemmas.Result.{IfOk-weaker}
 use Rattle.he_addr.specs.declared.ip.Ip.{Ip}
+use Rattle.he_addr.specs.Ip.{IsUsable}
 use Rattle.he_select.specs.declared.ranking.Ranked.{Ranked}
 use Rattle.he_select.specs.declared.selection.Labelled.{Labelled}
-use Rattle.he_select.specs.DestinationKeys.{ranked_by, ranked_of}
+use Rattle.he_select.specs.DestinationKeys.{key_cmp, ranked_by, ranked_of}
 use Rattle.he_select.specs.Hosts.{is_sound_source}
 use Rattle.he_select.specs.Keys.{labelled_of}
-use Rattle.he_select.specs.Preference.{IsOrder, members_from}
+use Rattle.he_select.specs.Preference.{IsOrder, members_from, order_of}
 use Rattle.he_select.specs.Selection.{World}
 use Rattle.he_select.proofs.Arranged.{each_usable, is_order}
 use Rattle.he_select.proofs.Chosen.{labelled_sound, map-same, ranked_is}
+use Rattle.he_select.proofs.Counting.{Each, Rising, rising}
 use Rattle.he_select.proofs.Families.{parts_families}
+use Rattle.he_select.proofs.Keyed.{PartsFamilies, keys_total}
 use Rattle.he_select.proofs.Listing.{written_back}
+use Rattle.he_select.proofs.Ordered.{is_order_of}
 use Rattle.he_select.proofs.sorting.sort_addresses.Goals as goal
 
 pub rank_all-requires : goal.rank_all-requires
@@ -34,7 +38,14 @@ returns g c =
     let kept = length_permutation c.deref_mut.result.now c.sort.new.ranked c.sort.ensures.permutation ∙ ap (λ (l : List Ranked). length l) c.deref_mut.ensures.value in
     let now : c.deref-2.result.now ≡ c.sort.new.ranked =
     c.deref-2.ensures.value ∙ written_back c.in_ok-ranked.ranked.items c.sort.new.ranked c.in_ok-ranked.ranked.len kept (sym (ap (λ (l : List Ranked). length l) c.deref_mut.ensures.value) ∙ c.deref_mut.ensures.len) in
-    let order : IsOrder world ips (map (λ (r : Ranked). r.ip) c.sort.new.ranked) =
-    is_order world (parts_families c.args.rows.now c.requires.admitted) ips (each_usable ips c.requires.usable c.in_ok-ranked.ensures.range) c.sort.new.ranked
-    (subst (λ (l : List Ranked). IsPermutation l c.sort.new.ranked) keyed c.sort.ensures.permutation) c.sort.ensures.sorted in
-    IfOk-weaker c.addresses_of.result _ _ (λ v e. subst (IsOrder world ips) (sym (e ∙ ap (map (λ (r : Ranked). r.ip)) now)) order) c.addresses_of.ensures
+    let moved : IsPermutation (map (ranked_of world) (members_from 0 ips)) c.sort.new.ranked = subst (λ (l : List Ranked). IsPermutation l c.sort.new.ranked) keyed c.sort.ensures.permutation in
+    let parts : PartsFamilies c.args.rows.now = parts_families c.args.rows.now c.requires.admitted in
+    let usable : Each IsUsable ips = each_usable ips c.requires.usable c.in_ok-ranked.ensures.range in
+    let sorted : Rising key_cmp keys_total (λ (r : Ranked). r.key) c.sort.new.ranked = rising key_cmp keys_total (λ (r : Ranked). r.key) c.sort.new.ranked c.sort.ensures.sorted in
+    let order : IsOrder world ips (map (λ (r : Ranked). r.ip) c.sort.new.ranked) = is_order world parts ips usable c.sort.new.ranked moved sorted in
+    let value : map (λ (r : Ranked). r.ip) c.sort.new.ranked ≡ order_of world ips = is_order_of world parts ips usable c.sort.new.ranked moved sorted (map (λ (r : Ranked). r.ip) c.sort.new.ranked) order in
+    let held : map (λ (r : Ranked). r.ip) c.deref-2.result.now ≡ map (λ (r : Ranked). r.ip) c.sort.new.ranked = ap (map (λ (r : Ranked). r.ip)) now in
+    record {
+      order = IfOk-weaker c.addresses_of.result _ _ (λ v e. subst (IsOrder world ips) (sym (e ∙ held)) order) c.addresses_of.ensures;
+      value = IfOk-weaker c.addresses_of.result _ _ (λ v e. e ∙ held ∙ value) c.addresses_of.ensures;
+    }
