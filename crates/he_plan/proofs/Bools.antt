@@ -1,5 +1,6 @@
 -- Tests and what they mean.
-use Rattle.std.proofs.Common.{◌≡◌, ℕ, ◌≤◌, ◌<◌, ◌&&◌, ◌||◌, Bool, true, false, nat_le, nat_lt, arith}
+use Rattle.std.proofs.Common.{◌≡◌, ℕ, ◌≤◌, ◌<◌, ◌⊎◌, ◌&&◌, ◌||◌, Bool, true, false, nat_le, nat_lt, refl, arith, inl, inr}
+use Rattle.std.specs.Bool.{beq}
 use Rattle.std.proofs.lemmas.Grind.{common_steps}
 
 pub and_left : (a b : Bool) → (a && b) ≡ true → a ≡ true
@@ -19,6 +20,19 @@ or_left_none a b h = grind (arith, common_steps)
 
 pub or_right_none : (a b : Bool) → (a || b) ≡ false → b ≡ false
 or_right_none a b h = grind (arith, common_steps)
+
+pub or_left : (a b : Bool) → a ≡ true → (a || b) ≡ true
+or_left a b h = grind (arith, common_steps)
+
+pub or_right : (a b : Bool) → b ≡ true → (a || b) ≡ true
+or_right a b h = grind (arith, common_steps)
+
+pub or_one : (a b : Bool) → (a || b) ≡ true → (a ≡ true) ⊎ (b ≡ true)
+or_one true b h = inl refl
+or_one false b h = inr h
+
+pub clash : (b : Bool) → b ≡ true → b ≡ false → ⊥
+clash b h k = cc
 
 pub le_test : (m n : ℕ) → m ≤ n → nat_le m n ≡ true
 le_test m n h = grind (arith, common_steps)
@@ -53,3 +67,9 @@ not_lt m n h = grind (arith, common_steps)
 
 pub lt_test : (m n : ℕ) → m < n → nat_lt m n ≡ true
 lt_test m n h = grind (arith, common_steps)
+
+pub same_flags : (a b : Bool) → beq a b ≡ true → a ≡ b
+same_flags true true h = refl
+same_flags false false h = refl
+same_flags true false h = cc
+same_flags false true h = cc

@@ -4,6 +4,7 @@ use Rattle.std.specs.List.{list_all, slice_get, find}
 use Rattle.std.specs.Option.{option_map}
 use Rattle.std.proofs.lemmas.Bool.{cases_lt}
 use Rattle.std.proofs.lemmas.List.{take_more, length-take}
+use Rattle.he_addr.specs.Ip.{same_ip}
 use Rattle.he_addr.specs.declared.ip.Ip.{Ip}
 use Rattle.he_plan.specs.declared.attempts.Attempt.{Attempt}
 use Rattle.he_plan.specs.declared.finish.Fate.{Fate}
@@ -12,7 +13,7 @@ use Rattle.he_plan.specs.declared.limits.TheConstants.{MIN_DURATION, MAX_DURATIO
 use Rattle.he_plan.specs.declared.outcome.Outcome.{Outcome}
 use Rattle.he_plan.specs.declared.outcome.Outcome.TheVariants as outcomes
 use Rattle.he_plan.specs.Attempts.{IsSeen}
-use Rattle.he_plan.specs.Race.{Race, same_ip}
+use Rattle.he_plan.specs.Race.{Race}
 use Rattle.he_plan.specs.Timeline.{IsRace, is_outcome, duration_of}
 use Rattle.he_plan.specs.Finish.{outcome_in, outcome_of, finish_of, fate_by, fate_of, ComesFirst, IsWinner}
 use Rattle.he_plan.specs.Planning.{next_winner}

@@ -2,18 +2,16 @@
 use Rattle.std.proofs.Common.{◌≡◌, ℕ, ◌+◌, ◌-◌, ◌≤◌, ◌<◌, ◌||◌, ◌++◌, Bool, true, false, List, [], ◌∷◌, if◌then◌else◌, length, filter, Option, Some, None, MatchOption, IfSome, refl, ◌∙◌, arith, inl, inr, length-append, append_assoc}
 use Rattle.std.specs.List.{list_any, slice_get}
 use Rattle.std.specs.Option.{option_map_or}
-use Rattle.std.proofs.lemmas.Grind.{common_steps}
 use Rattle.std.proofs.lemmas.List.Folds.{list_any-append}
 use Rattle.he_addr.specs.declared.ip.Ip.{Ip}
 use Rattle.he_addr.specs.Ip.{is_usable}
 use Rattle.he_plan.specs.declared.attempts.Attempt.{Attempt}
 use Rattle.he_plan.specs.declared.limits.TheConstants.{MAX_LIMIT}
-use Rattle.he_plan.specs.Attempts.{IsNext, IsPositive, MayBegin, MayFollow, MayStart, Continues, received_of, received, order_at, is_untried, last_of, seen}
+use Rattle.he_plan.specs.Attempts.{IsNext, IsPositive, MayBegin, MayFollow, MayStart, Continues, received_of, received, is_untried, last_of, seen}
 use Rattle.he_plan.specs.Planning.{IsLater}
 use Rattle.he_plan.specs.Race.{Race, Reply}
 use Rattle.he_plan.specs.Timeline.{IsRace}
-use Rattle.he_plan.proofs.Alternation.{list_any-interlace}
-use Rattle.he_plan.proofs.Bools.{le_test}
+use Rattle.he_plan.proofs.Bools.{le_test, or_left, or_right}
 
 get_end : (xs : List Attempt) (x : Attempt) → slice_get (xs ++ x ∷ []) (length xs) ≡ Some x
 get_end [] x = refl
@@ -45,12 +43,6 @@ positive_untried : (race : Race) (t : ℕ) (reply : Option Reply) → IsPositive
 positive_untried race t None p = absurd p
 positive_untried race t (Some r) p = rw (le_test (seen race r.tick) t p.1) (untried_usable r.addresses p.0)
 
-or_left : (a b : Bool) → a ≡ true → (a || b) ≡ true
-or_left a b h = grind (arith, common_steps)
-
-or_right : (a b : Bool) → b ≡ true → (a || b) ≡ true
-or_right a b h = grind (arith, common_steps)
-
 begins_untried : (race : Race) (t : ℕ) → MayBegin race t → list_any (is_untried []) (received race t) ≡ true
 begins_untried race t m =
     list_any-append (is_untried []) (received_of race t race.aaaa) (received_of race t race.a)
@@ -61,10 +53,9 @@ may_untried race t [] None e m = begins_untried race t m
 may_untried race t (x ∷ xs) None e m = absurd (last_of-some xs x e)
 may_untried race t done (Some last) e m = m.some
 
--- where an attempt may start, an address is untried
-pub starts_any : (race : Race) (done : List Attempt) (t : ℕ) → MayStart race done t → list_any (is_untried done) (order_at race t) ≡ true
-starts_any race done t m =
-    list_any-interlace (is_untried done) (received race t) race.settings.count ∙ may_untried race t done (last_of done) refl m.1
+-- where an attempt may start, a received address is untried
+pub starts_any : (race : Race) (done : List Attempt) (t : ℕ) → MayStart race done t → list_any (is_untried done) (received race t) ≡ true
+starts_any race done t m = may_untried race t done (last_of done) refl m.1
 
 later_by : (race : Race) (done : List Attempt) (t : ℕ) (last : Option Attempt) → IsRace race → MatchOption last (MayBegin race t) (MayFollow race done t) → IfSome last (λ x. x.tick < t)
 later_by race done t None r m = tt

@@ -4,13 +4,14 @@ use Rattle.std.specs.List.{list_all, slice_get}
 use Rattle.std.specs.Option.{option_map_or}
 use Rattle.std.proofs.lemmas.Grind.{common_steps}
 use Rattle.std.proofs.lemmas.List.Folds.{list_any-append, list_all-append}
+use Rattle.he_addr.specs.Ip.{same_ip}
 use Rattle.he_addr.specs.declared.ip.Family.{Family}
 use Rattle.he_addr.specs.declared.ip.Family.TheVariants as families
 use Rattle.he_addr.specs.declared.ip.Ip.{Ip}
 use Rattle.he_addr.specs.declared.ip.Ip.TheVariants.{V4, V6}
 use Rattle.he_plan.specs.declared.outcome.Outcome.{Outcome}
 use Rattle.he_plan.specs.declared.limits.TheConstants.{MAX_TICK, MAX_ADDRESSES, MAX_PAUSES, MAX_PAUSE_END}
-use Rattle.he_plan.specs.Race.{Race, Reply, reply_of, addresses_of, same_ip, has_ip, has_outcome, stands}
+use Rattle.he_plan.specs.Race.{Race, Reply, reply_of, addresses_of, has_ip, has_outcome, stands}
 use Rattle.he_plan.specs.Timeline.{IsRace, is_outcome, is_duration, duration_of, are_told_once, are_of, are_distinct, are_pauses}
 use Rattle.he_plan.proofs.Bools.{and_left, and_right, and_both}
 use Rattle.he_plan.specs.Building.{with_answer, with_outcome, with_pause, last_end}
@@ -41,6 +42,8 @@ once_more (q ∷ told) p once new =
 pub IsRace-with_outcome : (race : Race) (ip : Ip) (outcome : Outcome) → IsRace race → is_duration (duration_of outcome) ≡ true → stands race ip ≡ true → has_outcome ip race.outcomes ≡ false → IsRace (with_outcome race ip outcome)
 IsRace-with_outcome race ip outcome r lasts known new = record {
   settings = r.settings;
+  policy = r.policy;
+  host = r.host;
   aaaa = r.aaaa;
   a = r.a;
   outcomes = rw (list_all-append (is_outcome race) race.outcomes ((ip, outcome) ∷ [])) (let old : list_all (is_outcome race) race.outcomes ≡ true = r.outcomes in grind (arith, common_steps));
@@ -60,6 +63,8 @@ stands_still_right (Some reply) ip ips b none h = cc
 pub IsRace-with_answer : (race : Race) (family : Family) (tick : ℕ) (addresses : List Ip) → IsRace race → is_some (reply_of race family) ≡ false → nat_lt MAX_TICK tick ≡ false → nat_lt MAX_ADDRESSES (length addresses) ≡ false → are_of family addresses ≡ true → are_distinct addresses ≡ true → IsRace (with_answer race family (record { tick = tick; addresses = addresses }))
 IsRace-with_answer race families.V6 tick addresses r none early few of distinct = record {
   settings = r.settings;
+  policy = r.policy;
+  host = r.host;
   aaaa = grind (arith, common_steps);
   a = r.a;
   outcomes = list_all-weaker _ _ race.outcomes (λ p h. and_both _ _ (and_left _ _ h) (stands_still race.aaaa p.0 addresses _ none (and_right _ _ h))) r.outcomes;
@@ -69,6 +74,8 @@ IsRace-with_answer race families.V6 tick addresses r none early few of distinct 
 }
 IsRace-with_answer race families.V4 tick addresses r none early few of distinct = record {
   settings = r.settings;
+  policy = r.policy;
+  host = r.host;
   aaaa = r.aaaa;
   a = grind (arith, common_steps);
   outcomes = list_all-weaker _ _ race.outcomes (λ p h. and_both _ _ (and_left _ _ h) (stands_still_right race.a p.0 addresses _ none (and_right _ _ h))) r.outcomes;
@@ -98,6 +105,8 @@ pauses_more low (p ∷ pauses) from to are after before most =
 pub IsRace-with_pause : (race : Race) (from to : ℕ) → IsRace race → last_end race.pauses ≤ from → from < to → to ≤ MAX_PAUSE_END → length race.pauses < MAX_PAUSES → IsRace (with_pause race from to)
 IsRace-with_pause race from to r after before most few = record {
   settings = r.settings;
+  policy = r.policy;
+  host = r.host;
   aaaa = r.aaaa;
   a = r.a;
   outcomes = r.outcomes;

@@ -1,9 +1,10 @@
 -- What `seen` answers: the least free tick at or after a tick.
-use Rattle.std.proofs.Common.{◌≡◌, ℕ, ◌≤◌, ◌<◌, ◌&&◌, Bool, true, false, List, [], ◌∷◌, if◌then◌else◌, nat_le, nat_lt, max, refl, arith}
+use Rattle.std.proofs.Common.{◌≡◌, ℕ, zero, suc, ◌≤◌, ◌<◌, ◌&&◌, Bool, true, false, List, [], ◌∷◌, if◌then◌else◌, drop, length, get_or, nat_le, nat_lt, max, refl, sym, ◌∙◌, arith, drop-cons}
 use Rattle.he_plan.specs.declared.limits.TheConstants.{MAX_PAUSE_END}
 use Rattle.he_plan.specs.Attempts.{IsLeast, is_paused, seen_past}
+use Rattle.he_plan.specs.Planning.{are_ahead}
 use Rattle.he_plan.specs.Timeline.{are_pauses}
-use Rattle.he_plan.proofs.Bools.{and_left, and_right, or_none, or_left_none, or_right_none, le_from, lt_from, outside, before, inside, past_end, above}
+use Rattle.he_plan.proofs.Bools.{and_left, and_right, and_both, le_test, lt_test, or_none, or_left_none, or_right_none, le_from, lt_from, outside, before, inside, past_end, above}
 
 abbrev covers : ℕ × ℕ → ℕ → Bool
 covers p x = nat_le p.0 x && nat_lt x p.1
@@ -78,3 +79,62 @@ seen_past-most (p ∷ pauses) low x are =
     most_by : (p : ℕ × ℕ) (pauses : List (ℕ × ℕ)) (x : ℕ) (b : Bool) → p.1 ≤ MAX_PAUSE_END → ((y : ℕ) → seen_past pauses y ≤ max y MAX_PAUSE_END) → seen_past pauses (if b then p.1 else x) ≤ max x MAX_PAUSE_END
     most_by p pauses x true most rest = omega (arith, rest p.1)
     most_by p pauses x false most rest = rest x
+
+-- a pause that ends at or before the tick changes nothing
+seen_over : (p : ℕ × ℕ) (pauses : List (ℕ × ℕ)) (x : ℕ) → p.1 ≤ x → seen_past pauses x ≡ seen_past (p ∷ pauses) x
+seen_over p pauses x over = let out : covers p x ≡ false = outside p.0 p.1 x over in rw out
+
+pub seen_drop : (pauses : List (ℕ × ℕ)) (n x : ℕ) → ((k : ℕ) (d : ℕ × ℕ) → k < n → (get_or pauses k d).1 ≤ x) → seen_past (drop n pauses) x ≡ seen_past pauses x
+seen_drop pauses zero x over = refl
+seen_drop [] (suc n) x over = refl
+seen_drop (p ∷ pauses) (suc n) x over =
+    seen_drop pauses n x (λ k d h. over (suc k) d (omega arith)) ∙ seen_over p pauses x (over 0 p (omega arith))
+
+-- where the first pause ends after the tick, from its begin on it covers it
+ahead : (low x : ℕ) (p : ℕ × ℕ) (pauses : List (ℕ × ℕ)) → are_pauses low (p ∷ pauses) ≡ true → x < p.1 → are_ahead x (p ∷ pauses) ≡ true
+ahead low x p pauses are after =
+    let f : IsFirst low p pauses = first low p pauses are in
+    and_both _ _ (lt_test x p.1 after) (and_both _ _ (and_both _ _ (and_both _ _ (le_test p.0 p.0 (omega arith)) (lt_test p.0 p.1 f.some)) (le_test p.1 MAX_PAUSE_END f.most)) f.rest)
+
+pub ahead_drop : (pauses : List (ℕ × ℕ)) (low n x : ℕ) → are_pauses low pauses ≡ true → ((d : ℕ × ℕ) → n < length pauses → x < (get_or pauses n d).1) → are_ahead x (drop n pauses) ≡ true
+ahead_drop [] low zero x are after = refl
+ahead_drop [] low (suc n) x are after = refl
+ahead_drop (p ∷ pauses) low zero x are after = ahead low x p pauses are (after p (omega arith))
+ahead_drop (p ∷ pauses) low (suc n) x are after =
+    let f : IsFirst low p pauses = first low p pauses are in
+    ahead_drop pauses p.1 n x f.rest (λ d h. after d (omega arith))
+
+ends_after : (pauses : List (ℕ × ℕ)) (low j : ℕ) (d : ℕ × ℕ) → are_pauses low pauses ≡ true → j < length pauses → low ≤ (get_or pauses j d).1
+ends_after [] low j d are below = absurd (omega arith)
+ends_after (p ∷ pauses) low zero d are below = let f : IsFirst low p pauses = first low p pauses are in omega (arith, f.after, f.some)
+ends_after (p ∷ pauses) low (suc j) d are below =
+    let f : IsFirst low p pauses = first low p pauses are in
+    omega (arith, f.after, f.some, ends_after pauses p.1 j d f.rest (omega arith))
+
+-- pauses end in their order
+pub ends_rise : (pauses : List (ℕ × ℕ)) (low i j : ℕ) (d : ℕ × ℕ) → are_pauses low pauses ≡ true → i ≤ j → j < length pauses → (get_or pauses i d).1 ≤ (get_or pauses j d).1
+ends_rise [] low i j d are up below = absurd (omega arith)
+ends_rise (p ∷ pauses) low zero zero d are up below = omega arith
+ends_rise (p ∷ pauses) low zero (suc j) d are up below = let f : IsFirst low p pauses = first low p pauses are in ends_after pauses p.1 j d f.rest (omega arith)
+ends_rise (p ∷ pauses) low (suc i) zero d are up below = absurd (omega arith)
+ends_rise (p ∷ pauses) low (suc i) (suc j) d are up below = let f : IsFirst low p pauses = first low p pauses are in ends_rise pauses p.1 i j d f.rest (omega arith) (omega arith)
+
+-- pauses ahead of the tick: either the first one begins after it, or it covers it
+pub ahead_free : (p : ℕ × ℕ) (pauses : List (ℕ × ℕ)) (x : ℕ) → are_ahead x (p ∷ pauses) ≡ true → x < p.0 → seen_past (p ∷ pauses) x ≡ x
+ahead_free p pauses x are early = seen_before (p ∷ pauses) p.0 x (and_right _ _ are) early
+
+pub ahead_covered : (p : ℕ × ℕ) (pauses : List (ℕ × ℕ)) (x : ℕ) → are_ahead x (p ∷ pauses) ≡ true → p.0 ≤ x → (seen_past (p ∷ pauses) x ≡ seen_past pauses p.1) × (are_ahead p.1 pauses ≡ true)
+ahead_covered p pauses x are begun =
+    let in' : covers p x ≡ true = and_both _ _ (le_test p.0 x begun) (and_left _ _ are) in
+    let f : IsFirst p.0 p pauses = first p.0 p pauses (and_right _ _ are) in
+    (rw in', still p.1 pauses f.rest)
+  where
+    still : (low : ℕ) (pauses : List (ℕ × ℕ)) → are_pauses low pauses ≡ true → are_ahead low pauses ≡ true
+    still low [] are = refl
+    still low (q ∷ pauses) are = let f : IsFirst low q pauses = first low q pauses are in ahead low low q pauses are (omega (arith, f.after, f.some))
+
+-- where the next pause begins after the tick, the tick is seen
+pub ahead_stops : (pauses : List (ℕ × ℕ)) (i x whole : ℕ) (d : ℕ × ℕ) → i < length pauses → are_ahead x (drop i pauses) ≡ true → x < (get_or pauses i d).0 → seen_past (drop i pauses) x ≡ whole → x ≡ whole
+ahead_stops pauses i x whole d below are early same =
+    let split : drop i pauses ≡ get_or pauses i d ∷ drop (suc i) pauses = drop-cons pauses i d below in
+    sym (ahead_free (get_or pauses i d) (drop (suc i) pauses) x (rw split at are) early) ∙ (rw split at same)

@@ -2,7 +2,6 @@
 use Rattle.std.proofs.Common.{◌≡◌, ℕ, ◌+◌, ◌≤◌, ◌<◌, ◌⊎◌, ◌&&◌, ◌||◌, Bool, true, false, List, [], ◌∷◌, if◌then◌else◌, filter, Option, Some, None, MatchOption, IsSomeAnd, nat_le, min, max, refl, sym, ◌∙◌, arith, inl, inr}
 use Rattle.std.specs.List.{list_any}
 use Rattle.std.specs.Option.{option_map}
-use Rattle.std.proofs.lemmas.Grind.{common_steps}
 use Rattle.std.proofs.lemmas.List.Folds.{list_any-append}
 use Rattle.std.proofs.lemmas.Bool.{cases_lt}
 use Rattle.he_addr.specs.declared.ip.Ip.{Ip}
@@ -12,7 +11,7 @@ use Rattle.he_plan.specs.Attempts.{IsLeast, IsFree, IsSeen, seen, received_of, I
 use Rattle.he_plan.specs.Planning.{earlier, positive_tick, v4_tick, waiting_tick, follow_tick, start_after, start_tick}
 use Rattle.he_plan.specs.Race.{Race, Reply}
 use Rattle.he_plan.specs.Timeline.{IsRace}
-use Rattle.he_plan.proofs.Bools.{le_test, le_from}
+use Rattle.he_plan.proofs.Bools.{le_test, le_from, or_one, or_left, or_right}
 use Rattle.he_plan.proofs.Seen.{seen_past-is}
 
 -- at a free tick t a tick is seen by t exactly where it is at most t
@@ -123,7 +122,7 @@ begins_from race t s aaaa a h = elim (earlier_one (positive_tick aaaa) (a_tick r
   | inr k ↦ a_begins race t s aaaa a k
 ]
 
-any_filter : (p q : Ip → Bool) (ips : List Ip) → list_any p (filter q ips) ≡ list_any (λ ip. q ip && p ip) ips
+pub any_filter : (p q : Ip → Bool) (ips : List Ip) → list_any p (filter q ips) ≡ list_any (λ ip. q ip && p ip) ips
 any_filter p q [] = refl
 any_filter p q (ip ∷ ips) = any_by (q ip) (any_filter p q ips)
   where
@@ -150,16 +149,6 @@ waits_from race t s done from (Some r) h =
     let k : (waits done r ≡ true) × (max from r.tick ≤ t) = reaches_if (waits done r) (max from r.tick) t h in
     let by : nat_le (seen race r.tick) t ≡ true = le_test _ _ (s.back r.tick (omega arith)) in
     (omega arith, rw by (any_filter (is_untried done) is_usable r.addresses ∙ k.0))
-
-or_one : (a b : Bool) → (a || b) ≡ true → (a ≡ true) ⊎ (b ≡ true)
-or_one true b h = inl refl
-or_one false b h = inr h
-
-or_left : (a b : Bool) → a ≡ true → (a || b) ≡ true
-or_left a b h = grind (arith, common_steps)
-
-or_right : (a b : Bool) → b ≡ true → (a || b) ≡ true
-or_right a b h = grind (arith, common_steps)
 
 follows_to : (race : Race) (t : ℕ) → SeesOwn race t → (done : List Attempt) (last : Attempt) → MayFollow race done t last → Reaches (follow_tick race done last) t
 follows_to race t s done last m =

@@ -2,10 +2,12 @@
 use Rattle.std.specs.Prelude.{ℕ, ◌≡◌, ◌+◌, ◌-◌, ◌<◌, ◌≤◌, ◌⊎◌, ◌&&◌, ◌++◌, Bool, false, not, if◌then◌else◌, List, [], ◌∷◌, length, filter, find, Option, Some, None, MatchOption, IsSomeAnd, slice_get, IsTrue, nat_le, nat_lt}
 use Rattle.std.specs.List.{list_any}
 use Rattle.he_addr.specs.declared.ip.Ip.{Ip}
-use Rattle.he_addr.specs.Ip.{is_usable}
+use Rattle.he_addr.specs.Ip.{is_usable, same_ip}
 use Rattle.he_plan.specs.declared.attempts.Attempt.{Attempt}
 use Rattle.he_plan.specs.Interlacing.{interlace}
-use Rattle.he_plan.specs.Race.{Race, Reply, same_ip}
+use Rattle.he_plan.specs.Race.{Race, Reply}
+use Rattle.he_select.specs.Preference.{order_of}
+use Rattle.he_select.specs.Selection.{world_of}
 
 -- n is the least number of which P holds
 pub record IsLeast (P : ℕ → Type 0) (n : ℕ) : Type 0 where
@@ -59,9 +61,9 @@ MayBegin race t =
     IsFree race t
     × (IsPositive race t race.aaaa ⊎ (IsPositive race t race.a × (IsAnswered race t race.aaaa ⊎ IsDelayOver race t)))
 
--- the received addresses by preference (RFC 8305 section 4, RFC 6724): for now as received
+-- the received addresses by preference (RFC 8305 section 4, RFC 6724 section 6)
 abbrev pub order : Race → List Ip → List Ip
-order race ips = ips
+order race ips = order_of (world_of race.policy race.host) ips
 
 -- the list from which an attempt at t takes its address: of all received addresses, tried ones included
 abbrev pub order_at : Race → ℕ → List Ip

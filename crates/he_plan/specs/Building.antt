@@ -9,12 +9,15 @@ use Rattle.he_plan.specs.declared.builder.BuildFault.TheVariants as faults
 use Rattle.he_plan.specs.declared.outcome.Outcome.{Outcome}
 use Rattle.he_plan.specs.declared.limits.TheConstants.{MAX_TICK, MAX_ADDRESSES, MAX_PAUSES, MAX_PAUSE_END}
 use Rattle.he_plan.specs.Settings.{SettingValues}
+use Rattle.he_select.specs.declared.policy.Row.{Row}
+use Rattle.he_select.specs.Hosts.{Interfaces}
 use Rattle.he_plan.specs.Race.{Race, Reply, reply_of, has_outcome, stands}
 use Rattle.he_plan.specs.Timeline.{are_of, are_distinct, is_duration, duration_of}
 
--- a race with these settings, in which nothing happens
-abbrev pub empty_race : SettingValues → Race
-empty_race settings = record { settings = settings; aaaa = None; a = None; outcomes = []; pauses = [] }
+-- a race with these settings, this policy and this host, in which nothing happens
+abbrev pub empty_race : SettingValues → List Row → Interfaces → Race
+empty_race settings policy host =
+    record { settings = settings; policy = policy; host = host; aaaa = None; a = None; outcomes = []; pauses = [] }
 
 abbrev pub with_answer : Race → Family → Reply → Race
 with_answer race families.V6 reply = record race { aaaa = Some reply }

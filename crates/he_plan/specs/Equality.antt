@@ -1,16 +1,23 @@
 -- Two races are the same where their lists are equal: the proofs of the laws of `==` on timelines.
 use Rattle.std.proofs.Common.{◌≡◌, ℕ, ◌==◌, ◌&&◌, Bool, true, false, List, Option, Some, None, refl, sym, ◌∙◌, ap, subst}
-use Rattle.std.specs.Bool.{Decides}
+use Rattle.std.specs.Bool.{Decides, beq}
 use Rattle.std.specs.Cmp.{IsPartialEquivalence, IsEquivalence, equiv}
 use Rattle.std.specs.Cmp.Lexicographic.{pointwise}
 use Rattle.std.proofs.lemmas.Bool.Decides.{Decides-eqb}
 use Rattle.std.proofs.lemmas.Slice.Eq.{slice_eq-Decides}
+use Rattle.he_addr.specs.Ip.{same_ip}
 use Rattle.he_addr.specs.declared.ip.Ip.{Ip}
 use Rattle.he_addr.specs.declared.ip.Ip.TheVariants.{V4, V6}
 use Rattle.he_plan.specs.declared.outcome.Outcome.{Outcome}
 use Rattle.he_plan.specs.declared.outcome.Outcome.TheVariants as outcomes
-use Rattle.he_plan.specs.Race.{Race, Reply, same_ip, same_outcome, same_told, same_pause, same_reply, same_settings, same_race}
+use Rattle.he_plan.specs.Race.{Race, Reply, equal_row, equal_source, equal_route, same_policy, same_host, same_outcome, same_told, same_pause, same_reply, same_settings, same_race}
 use Rattle.he_plan.specs.Settings.{SettingValues}
+use Rattle.he_addr.specs.Prefix.{PrefixBits}
+use Rattle.he_select.specs.declared.host.Route.{Route}
+use Rattle.he_select.specs.declared.host.Source.{Source}
+use Rattle.he_select.specs.declared.policy.Row.{Row}
+use Rattle.he_select.specs.Hosts.{Interfaces}
+use Rattle.he_select.specs.Tables.{same_prefix}
 
 is_true : Bool → Type 0
 is_true true = Unit {0}
@@ -104,21 +111,107 @@ settings_from x y h =
 settings_self : (x : SettingValues) → same_settings x x ≡ true
 settings_self x = and_both _ _ (and_both _ _ (and_both _ _ (eq_self x.resolution) (eq_self x.attempt)) (eq_self x.count)) (eq_self x.limit)
 
+flag_from : (x y : Bool) → beq x y ≡ true → x ≡ y
+flag_from true true h = refl
+flag_from false false h = refl
+flag_from true false h = absurd (no (sym h))
+flag_from false true h = absurd (no (sym h))
+
+flag_self : (x : Bool) → beq x x ≡ true
+flag_self true = refl
+flag_self false = refl
+
+prefix_from : (x y : PrefixBits) → same_prefix x y ≡ true → x ≡ y
+prefix_from x y h =
+    let f : ℕ → PrefixBits = λ v. record { bits = v; len = x.len } in
+    let g : ℕ → PrefixBits = λ v. record { bits = y.bits; len = v } in
+    ap f (eq_from x.bits y.bits (and_left _ _ h)) ∙ ap g (eq_from x.len y.len (and_right _ _ h))
+
+prefix_self : (x : PrefixBits) → same_prefix x x ≡ true
+prefix_self x = and_both _ _ (eq_self x.bits) (eq_self x.len)
+
+row_from : (x y : Row) → equal_row x y ≡ true → x ≡ y
+row_from x y h =
+    let f : PrefixBits → Row = λ v. record x { prefix = v } in
+    let g : ℕ → Row = λ v. record y { precedence = v; label = x.label } in
+    let k : ℕ → Row = λ v. record y { label = v } in
+    ap f (prefix_from x.prefix y.prefix (and_left _ _ (and_left _ _ h)))
+    ∙ ap g (eq_from x.precedence y.precedence (and_right _ _ (and_left _ _ h)))
+    ∙ ap k (eq_from x.label y.label (and_right _ _ h))
+
+row_self : (x : Row) → equal_row x x ≡ true
+row_self x = and_both _ _ (and_both _ _ (prefix_self x.prefix) (eq_self x.precedence)) (eq_self x.label)
+
+source_from : (x y : Source) → equal_source x y ≡ true → x ≡ y
+source_from x y h =
+    let f : Ip → Source = λ v. record x { ip = v } in
+    let g : ℕ → Source = λ v. record x { ip = y.ip; plen = v } in
+    let k : ℕ → Source = λ v. record x { ip = y.ip; plen = y.plen; interface = v } in
+    let l : Bool → Source = λ v. record y { deprecated = v; temporary = x.temporary } in
+    let m : Bool → Source = λ v. record y { temporary = v } in
+    ap f (ip_from x.ip y.ip (and_left _ _ (and_left _ _ (and_left _ _ (and_left _ _ h)))))
+    ∙ ap g (eq_from x.plen y.plen (and_right _ _ (and_left _ _ (and_left _ _ (and_left _ _ h)))))
+    ∙ ap k (eq_from x.interface y.interface (and_right _ _ (and_left _ _ (and_left _ _ h))))
+    ∙ ap l (flag_from x.deprecated y.deprecated (and_right _ _ (and_left _ _ h)))
+    ∙ ap m (flag_from x.temporary y.temporary (and_right _ _ h))
+
+source_self : (x : Source) → equal_source x x ≡ true
+source_self x = and_both _ _ (and_both _ _ (and_both _ _ (and_both _ _ (ip_self x.ip) (eq_self x.plen)) (eq_self x.interface)) (flag_self x.deprecated)) (flag_self x.temporary)
+
+route_from : (x y : Route) → equal_route x y ≡ true → x ≡ y
+route_from x y h =
+    let f : PrefixBits → Route = λ v. record x { prefix = v } in
+    let g : ℕ → Route = λ v. record y { interface = v; tunnel = x.tunnel } in
+    let k : Bool → Route = λ v. record y { tunnel = v } in
+    ap f (prefix_from x.prefix y.prefix (and_left _ _ (and_left _ _ h)))
+    ∙ ap g (eq_from x.interface y.interface (and_right _ _ (and_left _ _ h)))
+    ∙ ap k (flag_from x.tunnel y.tunnel (and_right _ _ h))
+
+route_self : (x : Route) → equal_route x x ≡ true
+route_self x = and_both _ _ (and_both _ _ (prefix_self x.prefix) (eq_self x.interface)) (flag_self x.tunnel)
+
+policies_decide : (xs ys : List Row) → Decides (same_policy xs ys) (xs ≡ ys)
+policies_decide xs ys = slice_eq-Decides (λ x y. decides_by equal_row x y (row_from x y) (row_self x)) xs ys (same_policy xs ys) refl
+
+sources_decide : (xs ys : List Source) → Decides (pointwise equal_source xs ys) (xs ≡ ys)
+sources_decide xs ys = slice_eq-Decides (λ x y. decides_by equal_source x y (source_from x y) (source_self x)) xs ys (pointwise equal_source xs ys) refl
+
+routes_decide : (xs ys : List Route) → Decides (pointwise equal_route xs ys) (xs ≡ ys)
+routes_decide xs ys = slice_eq-Decides (λ x y. decides_by equal_route x y (route_from x y) (route_self x)) xs ys (pointwise equal_route xs ys) refl
+
+host_from : (x y : Interfaces) → same_host x y ≡ true → x ≡ y
+host_from x y h =
+    let f : List Source → Interfaces = λ v. record { sources = v; routes = x.routes } in
+    let g : List Route → Interfaces = λ v. record { sources = y.sources; routes = v } in
+    ap f ((sources_decide x.sources y.sources).0 (and_left _ _ h)) ∙ ap g ((routes_decide x.routes y.routes).0 (and_right _ _ h))
+
+host_self : (x : Interfaces) → same_host x x ≡ true
+host_self x = and_both _ _ ((sources_decide x.sources x.sources).1 refl) ((routes_decide x.routes x.routes).1 refl)
+
 pub race_from : (x y : Race) → same_race x y ≡ true → x ≡ y
 race_from x y h =
-    let f : SettingValues → Race = λ v. record x { settings = v } in
-    let g : Option Reply → Race = λ v. record x { settings = y.settings; aaaa = v } in
-    let k : Option Reply → Race = λ v. record x { settings = y.settings; aaaa = y.aaaa; a = v } in
-    let l : List (Ip × Outcome) → Race = λ v. record y { outcomes = v; pauses = x.pauses } in
-    let m : List (ℕ × ℕ) → Race = λ v. record y { pauses = v } in
-    ap f (settings_from x.settings y.settings (and_left _ _ (and_left _ _ (and_left _ _ (and_left _ _ h)))))
-    ∙ ap g (reply_from x.aaaa y.aaaa (and_right _ _ (and_left _ _ (and_left _ _ (and_left _ _ h)))))
-    ∙ ap k (reply_from x.a y.a (and_right _ _ (and_left _ _ (and_left _ _ h))))
-    ∙ ap l ((told_decide x.outcomes y.outcomes).0 (and_right _ _ (and_left _ _ h)))
-    ∙ ap m ((pauses_decide x.pauses y.pauses).0 (and_right _ _ h))
+    let but_pauses = and_left _ _ h in
+    let but_outcomes = and_left _ _ but_pauses in
+    let but_a = and_left _ _ but_outcomes in
+    let but_aaaa = and_left _ _ but_a in
+    let but_host = and_left _ _ but_aaaa in
+    let e : SettingValues → Race = λ v. record x { settings = v } in
+    let f : List Row → Race = λ v. record x { settings = y.settings; policy = v } in
+    let g : Interfaces → Race = λ v. record x { settings = y.settings; policy = y.policy; host = v } in
+    let k : Option Reply → Race = λ v. record y { aaaa = v; a = x.a; outcomes = x.outcomes; pauses = x.pauses } in
+    let l : Option Reply → Race = λ v. record y { a = v; outcomes = x.outcomes; pauses = x.pauses } in
+    let m : List (Ip × Outcome) → Race = λ v. record y { outcomes = v; pauses = x.pauses } in
+    let n : List (ℕ × ℕ) → Race = λ v. record y { pauses = v } in
+    ap e (settings_from x.settings y.settings (and_left _ _ but_host))
+    ∙ ap f ((policies_decide x.policy y.policy).0 (and_right _ _ but_host))
+    ∙ ap g (host_from x.host y.host (and_right _ _ but_aaaa))
+    ∙ ap k (reply_from x.aaaa y.aaaa (and_right _ _ but_a))
+    ∙ ap l (reply_from x.a y.a (and_right _ _ but_outcomes))
+    ∙ ap m ((told_decide x.outcomes y.outcomes).0 (and_right _ _ but_pauses))
+    ∙ ap n ((pauses_decide x.pauses y.pauses).0 (and_right _ _ h))
 
 pub race_self : (x : Race) → same_race x x ≡ true
-race_self x = and_both _ _ (and_both _ _ (and_both _ _ (and_both _ _ (settings_self x.settings) (reply_self x.aaaa)) (reply_self x.a)) ((told_decide x.outcomes x.outcomes).1 refl)) ((pauses_decide x.pauses x.pauses).1 refl)
+race_self x = and_both _ _ (and_both _ _ (and_both _ _ (and_both _ _ (and_both _ _ (and_both _ _ (settings_self x.settings) ((policies_decide x.policy x.policy).1 refl)) (host_self x.host)) (reply_self x.aaaa)) (reply_self x.a)) ((told_decide x.outcomes x.outcomes).1 refl)) ((pauses_decide x.pauses x.pauses).1 refl)
 
 pub race_is : (x y : Race) → x ≡ y → same_race x y ≡ true
 race_is x y e = subst (λ (z : Race). same_race x z ≡ true) e (race_self x)

@@ -1,12 +1,13 @@
 -- When an attempt finishes, and which one wins.
 use Rattle.std.specs.Prelude.{ℕ, ◌≡◌, ◌+◌, ◌<◌, ◌≤◌, ◌⊎◌, if◌then◌else◌, List, find, Option, Some, None, option_map, slice_get, nat_le}
+use Rattle.he_addr.specs.Ip.{same_ip}
 use Rattle.he_addr.specs.declared.ip.Ip.{Ip}
 use Rattle.he_plan.specs.declared.attempts.Attempt.{Attempt}
 use Rattle.he_plan.specs.declared.finish.Fate.{Fate}
 use Rattle.he_plan.specs.declared.finish.Fate.TheVariants.{Succeeded, Failed, Running}
 use Rattle.he_plan.specs.declared.outcome.Outcome.{Outcome}
 use Rattle.he_plan.specs.declared.outcome.Outcome.TheVariants as outcomes
-use Rattle.he_plan.specs.Race.{Race, same_ip}
+use Rattle.he_plan.specs.Race.{Race}
 use Rattle.he_plan.specs.Attempts.{seen}
 
 -- what the address does when it is tried; none: it is silent

@@ -1,12 +1,13 @@
 -- Interlacing two families (RFC 8305 section 4).
-use Rattle.std.specs.Prelude.{ℕ, ◌++◌, not, List, [], ◌∷◌, filter, take, drop}
+use Rattle.std.specs.Prelude.{ℕ, ◌+◌, ◌-◌, ◌*◌, ◌≡◌, ◌==◌, ◌&&◌, ◌||◌, ◌++◌, Bool, false, not, cond, nat_lt, List, [], ◌∷◌, map, filter, take, drop, count_by, slice_get, AllPairs, IsPermutation, IsTrue}
+use Rattle.std.specs.Option.{option_map_or}
 use Rattle.he_addr.specs.declared.ip.Family.{Family}
 use Rattle.he_addr.specs.declared.ip.Ip.{Ip}
 use Rattle.he_addr.specs.Ip.{family_of}
 use Rattle.he_plan.specs.Timeline.{is_of}
 
 -- one of each in turn; when one has run out, the rest of the other follows
-abbrev pub alternate : List Ip → List Ip → List Ip
+abbrev pub alternate : {X : Type 0} → List X → List X → List X
 alternate [] ys = ys
 alternate (x ∷ xs) [] = x ∷ xs
 alternate (x ∷ xs) (y ∷ ys) = x ∷ y ∷ alternate xs ys
@@ -22,3 +23,32 @@ interlace_by family ips count =
 abbrev pub interlace : List Ip → ℕ → List Ip
 interlace [] count = []
 interlace (first ∷ ips) count = interlace_by (family_of first) (first ∷ ips) count
+
+-- an address of a list, and how many addresses of its family stand before it
+pub record Numbered : Type 0 where
+  pub ip : Ip
+  pub number : ℕ
+
+-- the addresses of a list that follow those of `before`, each with its number
+abbrev pub numbered_after : List Ip → List Ip → List Numbered
+numbered_after before [] = []
+numbered_after before (ip ∷ ips) = record { ip = ip; number = count_by (is_of (family_of ip)) before } ∷ numbered_after (before ++ ip ∷ []) ips
+
+-- of the family of the first address
+abbrev pub is_leading : List Ip → Ip → Bool
+is_leading ips ip = option_map_or (λ first. is_of (family_of first) ip) (slice_get ips 0) false
+
+-- the turn: the leading family's first `count` members have 0 and its others 2, 4, 6 .., the other family's members 1, 3, 5 ..
+abbrev pub key_of : List Ip → ℕ → Numbered → ℕ
+key_of ips count item = cond (is_leading ips item.ip) (2 * (item.number + 1 - count)) (2 * item.number + 1)
+
+-- by key, then by number
+abbrev pub comes_before : List Ip → ℕ → Numbered → Numbered → Bool
+comes_before ips count a b = nat_lt (key_of ips count a) (key_of ips count b) || (key_of ips count a == key_of ips count b && nat_lt a.number b.number)
+
+-- the result has the addresses of the list, by key, then by number
+pub record IsInterlaced (ips : List Ip) (count : ℕ) (result : List Ip) : Type 0 where
+  pub items : List Numbered
+  pub members : IsPermutation (numbered_after [] ips) items
+  pub by_key : AllPairs (λ a b. IsTrue (comes_before ips count a b)) items
+  pub addresses : result ≡ map (λ item. item.ip) items

@@ -1,6 +1,9 @@
 -- What private functions answer: ticks that look at no pause, and the winner so far.
-use Rattle.std.specs.Prelude.{ℕ, ◌+◌, ◌≤◌, ◌<◌, ◌&&◌, if◌then◌else◌, ◌++◌, List, [], ◌∷◌, min, max, Option, Some, None, option_map, IfSome, nat_le, nat_lt, ◌≡◌, Bool, false, length, take, filter, find, slice_index_or}
+use Rattle.std.specs.Prelude.{ℕ, ◌+◌, ◌≤◌, ◌<◌, ◌&&◌, if◌then◌else◌, ◌++◌, List, [], ◌∷◌, min, max, Option, Some, None, option_map, IfSome, nat_le, nat_lt, ◌≡◌, Bool, true, false, length, drop, filter, find, slice_index_or}
 use Rattle.std.specs.List.{list_any}
+use Rattle.std.specs.List.Sorted.{IsPermutation}
+use Rattle.he_addr.specs.declared.ip.Family.{Family}
+use Rattle.he_addr.specs.declared.ip.Family.TheVariants as families
 use Rattle.he_addr.specs.declared.ip.Ip.{Ip}
 use Rattle.he_addr.specs.Ip.{is_usable}
 use Rattle.he_plan.specs.declared.attempts.Attempt.{Attempt}
@@ -9,9 +12,15 @@ use Rattle.he_plan.specs.declared.finish.Fate.TheVariants.{Succeeded}
 use Rattle.he_plan.specs.declared.limits.TheConstants.{MAX_LIMIT}
 use Rattle.he_plan.specs.Race.{Race, Reply}
 use Rattle.he_plan.specs.declared.transcript.Line.{Line}
+use Rattle.he_plan.specs.Timeline.{is_of, are_pauses}
 use Rattle.he_plan.specs.Transcript.{mark_at}
 use Rattle.he_plan.specs.Attempts.{is_untried, last_of, order, order_at, seen}
 use Rattle.he_plan.specs.Interlacing.{interlace}
+
+-- pauses in order, of which the first ends after the tick
+abbrev pub are_ahead : ℕ → List (ℕ × ℕ) → Bool
+are_ahead tick [] = true
+are_ahead tick (p ∷ pauses) = nat_lt tick p.1 && are_pauses p.0 (p ∷ pauses)
 
 abbrev pub earlier : Option ℕ → Option ℕ → Option ℕ
 earlier None y = y
@@ -47,6 +56,10 @@ abbrev pub start_after : Race → List Attempt → Option Attempt → Option ℕ
 start_after race done None = begin_tick race
 start_after race done (Some last) = follow_tick race done last
 
+-- the tick of a positive answer that does not count yet, at or after `from`
+abbrev pub late_tick : Bool → ℕ → Option Reply → Option ℕ
+late_tick counts from reply = if counts then None else option_map (λ tick. max from tick) (positive_tick reply)
+
 -- the tick from which the next attempt may start
 abbrev pub start_tick : Race → List Attempt → Option ℕ
 start_tick race done = start_after race done (last_of done)
@@ -65,21 +78,48 @@ abbrev pub part_of : Bool → Option Reply → List Ip
 part_of counts None = []
 part_of counts (Some reply) = if counts then filter is_usable reply.addresses else []
 
+-- the addresses of the answers that count, as received
+abbrev pub parts_of : Race → Bool → Bool → List Ip
+parts_of race v6 v4 = part_of v6 race.aaaa ++ part_of v4 race.a
+
 -- the interlaced list of the answers that count
 abbrev pub order_of : Race → Bool → Bool → List Ip
-order_of race v6 v4 = interlace (order race (part_of v6 race.aaaa ++ part_of v4 race.a)) race.settings.count
+order_of race v6 v4 = interlace (order race (parts_of race v6 v4)) race.settings.count
 
--- the interlaced list of the answers that count, of which the addresses before `next` were tried
+-- none of the attempts is of the family, unless its answer counts
+abbrev pub IsOwn : Family → Bool → List Attempt → Type 0
+IsOwn family counts done = counts ≡ false → list_any (λ x. is_of family x.ip) done ≡ false
+
+-- from `next` on these are the untried addresses of the interlaced list of the answers that count
+pub record IsRest (race : Race) (done : List Attempt) (v6 v4 : Bool) (ips : List Ip) (next : ℕ) : Type 0 where
+  pub members : IsPermutation (parts_of race v6 v4) (order race (parts_of race v6 v4))
+  pub own_six : IsOwn families.V6 v6 done
+  pub own_four : IsOwn families.V4 v4 done
+  pub rest : drop next ips ≡ filter (is_untried done) (order_of race v6 v4)
+
+-- the answer was seen by the last start
+abbrev pub was_received : Race → Option Attempt → Option Reply → Bool
+was_received race None reply = false
+was_received race (Some last) reply = is_received race last.tick reply
+
+-- the queue after these attempts: of the answers that were seen by the last start
 pub record IsQueue (race : Race) (done : List Attempt) (v6 v4 : Bool) (ips : List Ip) (next : ℕ) : Type 0 where
-  pub order : ips ≡ order_of race v6 v4
-  pub bound : next ≤ length ips
-  pub tried : list_any (is_untried done) (take next ips) ≡ false
+  pub rest : IsRest race done v6 v4 ips next
+  pub six : v6 ≡ was_received race (last_of done) race.aaaa
+  pub four : v4 ≡ was_received race (last_of done) race.a
 
--- and `next` is the place of the address that is tried at t
+-- the queue for a start at t: of the answers that are seen at t, at the address that is tried then
 pub record IsAtNext (race : Race) (done : List Attempt) (t : ℕ) (v6 v4 : Bool) (ips : List Ip) (next : ℕ) : Type 0 where
-  pub queue : IsQueue race done v6 v4 ips next
+  pub rest : IsRest race done v6 v4 ips next
+  pub six : v6 ≡ is_received race t race.aaaa
+  pub four : v4 ≡ is_received race t race.a
   pub below : next < length ips
   pub first : (d : Ip) → find (is_untried done) (order_at race t) ≡ Some (slice_index_or ips next d)
+
+-- the delay after the last attempt ends below the limit, at or after `from`
+abbrev pub has_room : Race → ℕ → Option Attempt → Bool
+has_room race from None = false
+has_room race from (Some last) = nat_lt (seen race (max (last.tick + race.settings.attempt) from)) race.settings.limit
 
 -- the winner so far, after one more fate, which stands at this place
 abbrev pub better : Option (ℕ × ℕ) → ℕ → ℕ → Option (ℕ × ℕ)

@@ -10,6 +10,8 @@ use Rattle.he_plan.specs.declared.outcome.Outcome.TheVariants as outcomes
 use Rattle.he_plan.specs.declared.limits.TheConstants.{MAX_TICK, MAX_ADDRESSES, MIN_DURATION, MAX_DURATION, MAX_PAUSES, MAX_PAUSE_END}
 use Rattle.he_plan.specs.Settings.{IsSettings}
 use Rattle.he_plan.specs.Race.{Race, Reply, has_ip, has_outcome, stands}
+use Rattle.he_select.specs.Hosts.{IsHost}
+use Rattle.he_select.specs.Tables.{IsAdmitted}
 
 abbrev pub is_of : Family → Ip → Bool
 is_of families.V6 ip = is_v6 ip
@@ -52,6 +54,8 @@ are_pauses low (p ∷ pauses) = nat_le low p.0 && nat_lt p.0 p.1 && nat_le p.1 M
 
 pub record IsRace (race : Race) : Type 0 where
   pub settings : IsSettings race.settings
+  pub policy : IsAdmitted race.policy
+  pub host : IsHost race.host
   pub aaaa : IsTrue (is_answer families.V6 race.aaaa)
   pub a : IsTrue (is_answer families.V4 race.a)
   pub outcomes : IsTrue (list_all (is_outcome race) race.outcomes)

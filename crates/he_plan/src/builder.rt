@@ -12,6 +12,7 @@ use crate::outcome::Outcome;
 use crate::settings::Settings;
 use crate::timeline::Timeline;
 use he_addr::{Family, Ip};
+use he_select::{Host, Policy};
 use std::alloc::{Allocator, Global};
 use std::marker::Model;
 use thiserror::Error;
@@ -56,13 +57,13 @@ impl<A: Allocator> Model for TimelineBuilder<A> {
 }
 
 impl<A: Allocator + Copy> TimelineBuilder<A> {
-    /// The race with these settings in which nothing happens.
-    pub fn new(alloc: A, settings: Settings) -> TimelineBuilder<A>
-        ensures { result ≡ empty_race settings }
+    /// The race with these settings, this policy and this host in which nothing happens. It takes no memory.
+    pub fn new(alloc: A, settings: Settings, policy: Policy<A>, host: Host<A>) -> TimelineBuilder<A>
+        ensures { result ≡ empty_race settings policy host }
     {
         TimelineBuilder {
             alloc,
-            timeline: Timeline::empty(alloc, settings),
+            timeline: Timeline::empty(alloc, settings, policy, host),
         }
     }
 

@@ -1,12 +1,14 @@
 //! The rules of a race (RFC 8305 sections 3 to 5 and 8), and the crate that computes them.
 //!
-//! A `TimelineBuilder` collects a race's input: settings, the answers of both families, what each address does when it is
-//! tried, and the pauses of the client. `plan` answers the attempts that the race makes while each still runs,
-//! `Timeline::fate` what becomes of each, `winner` which one wins, and `transcript_of_fates` the transcript;
-//! `transcript_of` is all of these in one call. A tick is a millisecond.
+//! A `TimelineBuilder` collects a race's input: settings, the policy table and the host by which addresses are ordered, the
+//! answers of both families, what each address does when it is tried, and the pauses of the client. `plan` answers the
+//! attempts that the race makes while each still runs, `Timeline::fate` what becomes of each, `winner` which one wins, and
+//! `transcript_of_fates` the transcript; `transcript_of` is all of these in one call. A tick is a millisecond.
 //!
 //! ```text
-//! let mut builder = TimelineBuilder::new(alloc, Settings::new(50, 250, 1, 30_000)?);
+//! let settings = Settings::new(50, 250, 1, 30_000)?;
+//! let host = Host::new(alloc, &sources, &routes)?;
+//! let mut builder = TimelineBuilder::new(alloc, settings, Policy::standard(alloc)?, host);
 //! builder.answer(Family::V6, 20, &[v6])?;
 //! builder.answer(Family::V4, 25, &[v4])?;
 //! builder.outcome(v6, Outcome::Ok(35))?;
@@ -17,7 +19,8 @@
 //! refused one leaves it as it was; `plan` answers the one list of attempts (`Attempts`), whatever the pauses;
 //! `Timeline::seen` the least tick that no pause covers; `interlace` the interlaced list (`Interlacing`); and the
 //! transcript is the race's (`Transcript`), also where attempts that start after a success are told as skipped. `laws` has
-//! what follows from the definitions alone. The order of addresses is the one in which they were received.
+//! what follows from the definitions alone, as that a race has no more attempts than usable addresses. Addresses are tried
+//! in the order of RFC 6724 section 6, which `he_select` defines and computes, interlaced.
 //!
 //! Tested only: that a call succeeds where memory is granted.
 #![tactic(auto)]
@@ -30,6 +33,7 @@ pub mod laws;
 pub mod limits;
 pub mod outcome;
 pub mod planning;
+mod queue;
 pub mod settings;
 mod starts;
 pub mod timeline;

@@ -1,46 +1,62 @@
 // When the next attempt may start (RFC 8305 sections 3 and 5).
 
-ghost use Rattle.std.specs.Prelude.{◌≡◌, ℕ, ◌≤◌, ◌&&◌, IfSome, IfNone};
+ghost use Rattle.std.specs.Prelude.{◌≡◌, ℕ, ◌≤◌, IfSome, IfNone};
 ghost use Rattle.std.specs.List.{list_any};
 ghost use Rattle.he_addr.specs.Ip.{is_usable};
-ghost use Rattle.he_plan.specs.Attempts.{IsLeast, MayStart, is_tried, is_untried, last_of};
-ghost use Rattle.he_plan.specs.Planning.{earlier, positive_tick, v4_tick, begin_tick, waiting_tick, follow_tick, start_tick, IsLater};
+ghost use Rattle.he_plan.specs.Attempts.{IsLeast, MayStart, is_tried, last_of};
+ghost use Rattle.he_plan.specs.Planning.{earlier, positive_tick, v4_tick, begin_tick, late_tick, start_tick, IsLater, IsQueue};
 ghost use Rattle.he_plan.specs.Race.{reply_of};
+ghost use Rattle.he_plan.specs.Timeline.{IsRace};
 
 use crate::attempts::Attempt;
 use crate::limits::{MAX_LIMIT, MAX_TICK};
+use crate::queue::Queue;
 use crate::timeline::Timeline;
 use he_addr::{Family, Ip};
 use std::alloc::Allocator;
 
-pub(crate) fn next_tick<A: Allocator>(timeline: &Timeline<A>, done: &[Attempt]) -> Option<u64>
-    requires { IfSome (last_of done.now) (λ last. last.tick ≤ MAX_LIMIT) }
+pub(crate) fn next_tick<A: Allocator, B: Allocator>(
+    timeline: &Timeline<A>,
+    done: &[Attempt],
+    queue: &Queue<B>,
+) -> Option<u64>
+    requires range { IfSome (last_of done.now) (λ last. last.tick ≤ MAX_LIMIT) }
+    requires queue { IsQueue timeline.now done.now queue.now.v6 queue.now.v4 queue.now.ips.items queue.now.next }
     ensures some { IfSome result (IsLeast (MayStart timeline.now done.now)) }
     ensures none { IfNone result ((t : ℕ) → ¬ MayStart timeline.now done.now t) }
     ensures later { IfSome result (IsLater done.now) }
+    ensures race { IsRace timeline.now }
 {
     let limit = timeline.settings().limit();
-    let Some(from) = start_tick(timeline, done) else {
+    let Some(from) = start_tick(timeline, done, queue) else {
         return None;
     };
     let tick = timeline.seen(from);
     if tick < limit { Some(tick) } else { None }
 }
 
-fn start_tick<A: Allocator>(timeline: &Timeline<A>, done: &[Attempt]) -> Option<u64>
-    requires { IfSome (last_of done.now) (λ last. last.tick ≤ MAX_LIMIT) }
+// Where the queue has an address, it was received by the last start, so only the delay is waited for; where it has none,
+// only an answer that was not received then is.
+fn start_tick<A: Allocator, B: Allocator>(
+    timeline: &Timeline<A>,
+    done: &[Attempt],
+    queue: &Queue<B>,
+) -> Option<u64>
+    requires range { IfSome (last_of done.now) (λ last. last.tick ≤ MAX_LIMIT) }
+    requires queue { IsQueue timeline.now done.now queue.now.v6 queue.now.v4 queue.now.ips.items queue.now.next }
     ensures { result ≡ start_tick timeline.now done.now }
 {
-    match done.last() {
-        None => begin_tick(timeline),
-        Some(last) => {
-            let from = last.tick + timeline.settings().attempt();
-            earlier(
-                waiting_tick(timeline, Family::V6, done, from),
-                waiting_tick(timeline, Family::V4, done, from),
-            )
-        }
+    let Some(last) = done.last() else {
+        return begin_tick(timeline);
+    };
+    let from = last.tick + timeline.settings().attempt();
+    if queue.next < queue.ips.len() {
+        return Some(from);
     }
+    earlier(
+        late_tick(timeline, Family::V6, queue.v6, from),
+        late_tick(timeline, Family::V4, queue.v4, from),
+    )
 }
 
 fn begin_tick<A: Allocator>(timeline: &Timeline<A>) -> Option<u64>
@@ -74,17 +90,20 @@ fn positive_tick<A: Allocator>(timeline: &Timeline<A>, family: Family) -> Option
     }
 }
 
-fn waiting_tick<A: Allocator>(
+fn late_tick<A: Allocator>(
     timeline: &Timeline<A>,
     family: Family,
-    done: &[Attempt],
+    counts: bool,
     from: u64,
 ) -> Option<u64>
-    ensures { result ≡ waiting_tick done.now from (reply_of timeline.now family) }
+    ensures { result ≡ late_tick counts from (reply_of timeline.now family) }
 {
-    match timeline.answer(family) {
-        Some((tick, ips)) if has_untried(done, ips) => Some(from.max(tick)),
-        _ => None,
+    if counts {
+        return None;
+    }
+    match positive_tick(timeline, family) {
+        Some(tick) => Some(from.max(tick)),
+        None => None,
     }
 }
 
@@ -102,18 +121,6 @@ fn has_usable(ips: &[Ip]) -> bool
     ensures { result ≡ list_any is_usable ips.now }
 {
     ips.iter().any(|ip| ip.is_usable())
-}
-
-fn has_untried(done: &[Attempt], ips: &[Ip]) -> bool
-    ensures { result ≡ list_any (λ ip. is_usable ip && is_untried done.now ip) ips.now }
-{
-    ips.iter().any(|ip| is_waiting(done, *ip))
-}
-
-fn is_waiting(done: &[Attempt], ip: Ip) -> bool
-    ensures { result ≡ (is_usable ip && is_untried done.now ip) }
-{
-    ip.is_usable() && !is_tried(done, ip)
 }
 
 pub(crate) fn is_tried(done: &[Attempt], ip: Ip) -> bool

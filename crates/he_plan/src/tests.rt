@@ -1,5 +1,10 @@
-// Races with their transcripts, the builder's faults, and want of memory.
+// Races with their transcripts, interlaced lists, copies, plans and a second opinion on them, the builder's faults, and want of memory.
 
+mod copies;
 mod examples;
 mod faults;
+mod homes;
+mod interlacing;
 mod memory;
+mod plain;
+mod plans;

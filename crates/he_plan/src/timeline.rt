@@ -1,17 +1,20 @@
-// A race's whole input: settings, answers, outcomes and pauses.
+// A race's whole input: settings, policy, host, answers, outcomes and pauses.
 
-ghost use Rattle.std.specs.Prelude.{◌≡◌, ◌≤◌, option_map, max, IfOk, IfSome, OnOk, OnErr};
+ghost use Rattle.std.specs.Prelude.{◌≡◌, ◌≤◌, drop, length, option_map, max, IfOk, IfSome, IsTrue, OnOk, OnErr};
 ghost use Rattle.std.specs.Cmp.Lexicographic.{pointwise};
-ghost use Rattle.he_plan.specs.Race.{Race, Reply, reply_of, addresses_of, same_ip, has_ip, has_outcome, stands, same_told, same_pause, same_reply, same_race};
-ghost use Rattle.he_plan.specs.Timeline.{IsRace, duration_of};
+ghost use Rattle.he_addr.specs.Ip.{same_ip};
+ghost use Rattle.he_plan.specs.Race.{Race, Reply, reply_of, addresses_of, has_ip, has_outcome, stands, same_policy, same_host, same_told, same_pause, same_reply, same_race};
+ghost use Rattle.he_plan.specs.Timeline.{IsRace, are_pauses, duration_of};
 ghost use Rattle.he_plan.specs.Attempts.{IsSeen, seen, seen_past};
 ghost use Rattle.he_plan.specs.Finish.{outcome_of, outcome_in};
+ghost use Rattle.he_plan.specs.Planning.{are_ahead};
 ghost use Rattle.he_plan.specs.Building.{empty_race, with_answer, with_outcome, with_pause};
 
 use crate::limits::{MAX_DURATION, MAX_PAUSE_END, MIN_DURATION};
 use crate::outcome::Outcome;
 use crate::settings::Settings;
 use he_addr::{Family, Ip, Memory};
+use he_select::{Host, Policy};
 use std::alloc::{AllocError, Allocator, Global};
 use std::marker::Model;
 
@@ -39,11 +42,13 @@ impl<A: Allocator> Answer<A> {
     }
 }
 
-/// A race's whole input: its settings, the answers of both families, what each address does when it is tried, and the
-/// pauses of the client. A `TimelineBuilder` makes it.
+/// A race's whole input: its settings, the policy table and the host by which addresses are ordered, the answers of both
+/// families, what each address does when it is tried, and the pauses of the client. A `TimelineBuilder` makes it.
 #[derive(Drop)]
 pub struct Timeline<A: Allocator = Global> {
     settings: Settings,
+    policy: Policy<A>,
+    host: Host<A>,
     aaaa: Option<Answer<A>>,
     a: Option<Answer<A>>,
     outcomes: Vec<(Ip, Outcome), A>,
@@ -56,17 +61,24 @@ impl<A: Allocator> Model for Timeline<A> {
 
     ghost Value = { Race };
 
-    ghost view = { λ t. record { settings = t.settings; aaaa = t.aaaa; a = t.a; outcomes = t.outcomes.items; pauses = t.pauses.items } };
+    ghost view = { λ t. record { settings = t.settings; policy = t.policy; host = t.host; aaaa = t.aaaa; a = t.a; outcomes = t.outcomes.items; pauses = t.pauses.items } };
 
-    ghost invariant = { λ t. IsRace (record { settings = t.settings; aaaa = t.aaaa; a = t.a; outcomes = t.outcomes.items; pauses = t.pauses.items }) };
+    ghost invariant = { λ t. IsRace (record { settings = t.settings; policy = t.policy; host = t.host; aaaa = t.aaaa; a = t.a; outcomes = t.outcomes.items; pauses = t.pauses.items }) };
 }
 
 impl<A: Allocator + Copy> Timeline<A> {
-    pub(crate) fn empty(alloc: A, settings: Settings) -> Timeline<A>
-        ensures { result ≡ empty_race settings }
+    pub(crate) fn empty(
+        alloc: A,
+        settings: Settings,
+        policy: Policy<A>,
+        host: Host<A>,
+    ) -> Timeline<A>
+        ensures { result ≡ empty_race settings policy host }
     {
         Timeline {
             settings,
+            policy,
+            host,
             aaaa: None,
             a: None,
             outcomes: Vec::new(alloc),
@@ -131,10 +143,20 @@ impl<A: Allocator> Timeline<A> {
     pub fn copy<B: Allocator + Copy>(&self, alloc: B) -> Result<Timeline<B>, Memory>
         ensures { IfOk result (λ copy. copy ≡ self.now) }
     {
-        self.copy_in(alloc).map_err(|_| Memory)
+        let policy = self.policy.copy(alloc)?;
+        let host = self.host.copy(alloc)?;
+        self.copy_with(alloc, policy, host).map_err(|_| Memory)
     }
 
-    fn copy_in<B: Allocator + Copy>(&self, alloc: B) -> Result<Timeline<B>, AllocError>
+    // The same timeline in another allocator, around these copies of its policy and host.
+    fn copy_with<B: Allocator + Copy>(
+        &self,
+        alloc: B,
+        policy: Policy<B>,
+        host: Host<B>,
+    ) -> Result<Timeline<B>, AllocError>
+        requires policy { policy ≡ self.now.policy }
+        requires host { host ≡ self.now.host }
         ensures { IfOk result (λ copy. copy ≡ self.now) }
     {
         let aaaa = copy_answer(alloc, &self.aaaa)?;
@@ -143,6 +165,8 @@ impl<A: Allocator> Timeline<A> {
         let pauses = Vec::from_slice(alloc, &self.pauses)?;
         Ok(Timeline {
             settings: self.settings,
+            policy,
+            host,
             aaaa,
             a,
             outcomes,
@@ -154,6 +178,8 @@ impl<A: Allocator> Timeline<A> {
         ensures { result ≡ same_race self.now other.now }
     {
         self.settings == other.settings
+            && same_policy(&self.policy, &other.policy)
+            && same_host(&self.host, &other.host)
             && same_answer(&self.aaaa, &other.aaaa)
             && same_answer(&self.a, &other.a)
             && same_outcomes(&self.outcomes, &other.outcomes)
@@ -166,6 +192,20 @@ impl<A: Allocator> Timeline<A> {
         ensures race { IsRace self.now }
     {
         self.settings
+    }
+
+    /// The policy table by which addresses are ordered.
+    pub fn policy(&self) -> &Policy<A>
+        ensures { result.now ≡ self.now.policy }
+    {
+        &self.policy
+    }
+
+    /// The host from which connections are made: its sources and routes.
+    pub fn host(&self) -> &Host<A>
+        ensures { result.now ≡ self.now.host }
+    {
+        &self.host
     }
 
     /// The family's answer: its tick, 0 to 3,600,000, and its addresses as written, or none if it is never answered.
@@ -238,13 +278,33 @@ fn outcome_in(outcomes: &[(Ip, Outcome)], ip: Ip) -> Option<Outcome>
 }
 
 fn seen_past(pauses: &[(u64, u64)], tick: u64) -> u64
+    requires { IsTrue (are_pauses 0 pauses.now) }
+    ensures { result ≡ seen_past pauses.now tick }
+{
+    seen_ahead(&pauses[ended_by(pauses, tick)..], tick)
+}
+
+// How many pauses end at or before the tick: these don't cover it.
+fn ended_by(pauses: &[(u64, u64)], tick: u64) -> usize
+    requires { IsTrue (are_pauses 0 pauses.now) }
+    ensures few { result ≤ length pauses.now }
+    ensures same { seen_past (drop result pauses.now) tick ≡ seen_past pauses.now tick }
+    ensures ahead { IsTrue (are_ahead tick (drop result pauses.now)) }
+{
+    pauses.partition_point(|pause| pause.1 <= tick)
+}
+
+// The pauses that follow one another from the tick on.
+fn seen_ahead(pauses: &[(u64, u64)], tick: u64) -> u64
+    requires { IsTrue (are_ahead tick pauses.now) }
     ensures { result ≡ seen_past pauses.now tick }
 {
     let mut seen = tick;
     for pause in pauses {
-        if pause.0 <= seen && seen < pause.1 {
-            seen = pause.1;
+        if seen < pause.0 {
+            return seen;
         }
+        seen = pause.1;
     }
     seen
 }
@@ -258,7 +318,7 @@ impl<A: Allocator> PartialEq for Timeline<A> {
 
     ghost laws = { same_race-per };
 
-    /// Whether settings, answers, outcomes and pauses are equal, each list in its order.
+    /// Whether settings, policy, host, answers, outcomes and pauses are equal, each list in its order.
     fn eq(&self, other: &Timeline<A>) -> bool
         ensures value { result ≡ same_race self.now other.now }
         ensures lists { IsTrue result ↔ (self.now ≡ other.now) }
@@ -271,6 +331,18 @@ impl<A: Allocator> Eq for Timeline<A> {
     ghost use Rattle.he_plan.specs.Equality.{same_race-equivalence};
 
     ghost laws = { same_race-equivalence };
+}
+
+fn same_policy<A: Allocator>(x: &Policy<A>, y: &Policy<A>) -> bool
+    ensures { result ≡ same_policy x.now y.now }
+{
+    x == y
+}
+
+fn same_host<A: Allocator>(x: &Host<A>, y: &Host<A>) -> bool
+    ensures { result ≡ same_host x.now y.now }
+{
+    x == y
 }
 
 fn same_answer<A: Allocator>(x: &Option<Answer<A>>, y: &Option<Answer<A>>) -> bool

@@ -1,13 +1,13 @@
 // The transcript of a race.
 
-ghost use Rattle.std.specs.Prelude.{◌≡◌, ◌||◌, ◌++◌, not, length, map, IfOk, OnOk};
+ghost use Rattle.std.specs.Prelude.{◌≡◌, ◌&&◌, ◌||◌, ◌++◌, not, length, map, Some, IfOk, IsTrue, OnOk};
 ghost use Rattle.std.specs.List.{list_all};
 ghost use Rattle.he_addr.specs.Ip.{is_usable};
-ghost use Rattle.he_plan.specs.Attempts.{is_tried};
+ghost use Rattle.he_plan.specs.Attempts.{AreAttempts, is_tried, last_of};
 ghost use Rattle.he_plan.specs.Finish.{fate_of};
-ghost use Rattle.he_plan.specs.Planning.{told_lines, told_one};
+ghost use Rattle.he_plan.specs.Planning.{told_lines, told_one, has_room};
 ghost use Rattle.he_plan.specs.Timeline.{IsRace};
-ghost use Rattle.he_plan.specs.Transcript.{IsTranscript, AreTold, stop_of, is_place, failed_mark, mark_at, result_of, without_winner, is_failed, last_failure};
+ghost use Rattle.he_plan.specs.Transcript.{IsTranscript, AreTold, stop_of, is_place, failed_mark, mark_at, result_of, without_winner, is_failed, is_tried_out, last_failure};
 
 use crate::attempts::{Attempt, Plan};
 use crate::finish::{Fate, winner};
@@ -224,6 +224,7 @@ fn ending<A: Allocator>(
     fates: &[Fate],
     winner: Option<(u64, usize)>,
 ) -> Outcome3
+    requires { AreAttempts timeline.now attempts.now }
     ensures { result ≡ result_of timeline.now attempts.now fates.now winner }
 {
     match winner {
@@ -237,6 +238,7 @@ fn without_winner<A: Allocator>(
     attempts: &[Attempt],
     fates: &[Fate],
 ) -> Outcome3
+    requires { AreAttempts timeline.now attempts.now }
     ensures { result ≡ without_winner timeline.now attempts.now fates.now timeline.now.aaaa timeline.now.a }
 {
     let limit = timeline.settings().limit();
@@ -251,8 +253,7 @@ fn without_winner<A: Allocator>(
     if aaaa_seen <= limit
         && a_seen <= limit
         && are_failed(fates)
-        && is_tried_out(attempts, aaaa)
-        && is_tried_out(attempts, a)
+        && are_tried_out(timeline, attempts, aaaa_tick, aaaa, a_tick, a)
     {
         Outcome3::Exhausted(last_failure(aaaa_seen.max(a_seen), fates))
     } else {
@@ -270,6 +271,43 @@ fn is_failed(fate: Fate) -> bool
     ensures { result ≡ is_failed fate }
 {
     matches!(fate, Fate::Failed(_))
+}
+
+// Whether each usable address of both answers was tried. Where there is room for one more attempt, an address that is left
+// would have been tried in it, so they need not be looked at.
+fn are_tried_out<A: Allocator>(
+    timeline: &Timeline<A>,
+    attempts: &[Attempt],
+    aaaa_tick: u64,
+    aaaa: &[Ip],
+    a_tick: u64,
+    a: &[Ip],
+) -> bool
+    requires are { AreAttempts timeline.now attempts.now }
+    requires six { timeline.now.aaaa ≡ Some (record { tick = aaaa_tick; addresses = aaaa.now }) }
+    requires four { timeline.now.a ≡ Some (record { tick = a_tick; addresses = a.now }) }
+    ensures { result ≡ (is_tried_out attempts.now (record { tick = aaaa_tick; addresses = aaaa.now }) && is_tried_out attempts.now (record { tick = a_tick; addresses = a.now })) }
+{
+    let answered = aaaa_tick.max(a_tick);
+    if has_room(timeline, attempts, answered) {
+        return true;
+    }
+    is_tried_out(attempts, aaaa) && is_tried_out(attempts, a)
+}
+
+// Whether the delay after the last attempt ends below the limit, at or after the tick.
+fn has_room<A: Allocator>(timeline: &Timeline<A>, attempts: &[Attempt], from: u64) -> bool
+    ensures room { IsTrue result → IsTrue (has_room timeline.now from (last_of attempts.now)) }
+    ensures race { IsRace timeline.now }
+{
+    let settings = timeline.settings();
+    let Some(last) = attempts.last() else {
+        return false;
+    };
+    let Some(next) = last.tick.checked_add(settings.attempt()) else {
+        return false;
+    };
+    timeline.seen(next.max(from)) < settings.limit()
 }
 
 fn is_tried_out(attempts: &[Attempt], ips: &[Ip]) -> bool

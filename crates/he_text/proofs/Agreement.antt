@@ -1,94 +1,67 @@
 -- The readers answer what the checks say: the race of the lines up to `end` where every one is right, else the first fault of the
 -- least faulty line.
-use Rattle.std.proofs.Common.{◌≡◌, ℕ, ◌+◌, ◌≤◌, Bool, true, false, cond, ltb, not, List, [], ◌∷◌, ◌++◌, length, Option, Some, None, Result, Ok, Err, refl, sym, ◌∙◌, ap, subst, inl, inr, arith}
+use Rattle.std.proofs.Common.{◌≡◌, ℕ, ◌+◌, ◌≤◌, ◌&&◌, Bool, true, false, cond, ltb, not, List, [], ◌∷◌, ◌++◌, length, Option, Some, None, Result, Ok, Err, refl, sym, ◌∙◌, ap, subst, inl, inr, arith}
 use Rattle.std.specs.Prelude.{◌⊎◌, codes}
 use Rattle.std.specs.Option.{ok_or}
 use Rattle.std.specs.Str.{bytes_eq}
 use Rattle.std.proofs.lemmas.Bool.{ltb-false, leb-false, lt-leb}
+use Rattle.he_plan.specs.Building.{empty_race}
 use Rattle.he_plan.specs.Race.{Race}
-use Rattle.he_text.specs.declared.draft.Given.{Given}
 use Rattle.he_text.specs.declared.draft.Order.{Order}
 use Rattle.he_text.specs.declared.fault.TextKind.{TextKind}
 use Rattle.he_text.specs.declared.fault.TextKind.TheVariants as kinds
 use Rattle.he_text.specs.declared.limits.TheConstants.{MAX_LINE}
 use Rattle.he_text.specs.declared.words.Word.{Word}
 use Rattle.he_text.specs.declared.words.Word.TheVariants as words
-use Rattle.he_text.specs.Faults.{first_fault, test, group_on, last_group, known_to, said_before, too_long, unfinished, wrong_header, wrong_word, too_often, wrong_form, wrong_bounds, repeated, of_said, line_fault, at_line_number, ends_by, ends, fault_from, fault_in}
+use Rattle.he_text.specs.Faults.{first_fault, test, group_on, last_group, known_to, said_before, too_long, unfinished, wrong_header, wrong_word, too_often, wrong_bounds, repeated, is_policy_next, wrong_table, line_fault, at_line_number, ends_by, ends, fault_from, fault_in}
 use Rattle.he_text.specs.Forms.{◌>>=◌, word_of, said_by}
 use Rattle.he_text.specs.Parts.{tokens_of}
-use Rattle.he_text.specs.Reading.{at_line, ended_by, wholeness, admit, take_told, take_line, read_body, head_part, head_of, take_setting, take_head, read_head, read_lines, order_at_start, none_given}
-use Rattle.he_text.specs.Said.{Said, settings_given, race_of}
-use Rattle.he_text.specs.Words.{word_in, group_of, is_head_word, is_end}
-use Rattle.he_text.proofs.GivenLaws.{given_of, setting_agrees, AllFit, none_fits, settings_agree, is_head}
+use Rattle.he_text.specs.Reading.{at_line, ended_by, wholeness, admit, take_told, take_line, read_body, HeadGiven, head_part, head_of, take_given, take_head, policy_from, read_head, read_lines, order_at_start, no_head}
+use Rattle.he_text.specs.Said.{Said, rows_given, settings_given, table_of_rows, host_given, race_of}
+use Rattle.he_text.specs.Words.{word_in, group_of, is_head_word, is_policy, is_end}
+use Rattle.he_text.proofs.Checks.{taken_in_order, line_checks, line_fault_is, in_order, checks_passed}
+use Rattle.he_text.proofs.GivenLaws.{AllFit, none_fits, is_head}
+use Rattle.he_text.proofs.HeadLaws.{head_given, given_agrees}
+use Rattle.he_text.proofs.HostLaws.{AreHostsOf, no_hosts, hosts_more, IsTableOrMore, table_whole, table_more, starts}
 use Rattle.he_text.proofs.OrderLaws.{Under, order_of, last_more, under_more, group_is, admit_agrees}
 use Rattle.he_text.proofs.PlaceLaws.{has_place, said_more}
 use Rattle.he_text.proofs.ReadingLaws.{settle_reads, body_unwhole, head_after}
 use Rattle.he_text.proofs.SaidLaws.{IsQuiet, quiet_race}
 use Rattle.he_text.proofs.ToldLaws.{outcome, told_agrees}
 
--- checks 4 to 9
-abbrev pub later_checks : Option TextKind → Option TextKind → Result Said TextKind → (Said → Option TextKind) → (Said → Option TextKind) → Option TextKind
-later_checks word often said bounds again = first_fault (word ∷ often ∷ wrong_form said ∷ of_said bounds said ∷ of_said again said ∷ [])
-
--- an order and what is told, taken one after the other, fail as the checks do
-taken_in_order : {S T : Type 0} (word often : Option TextKind) (said : Result Said TextKind) (bounds again : Said → Option TextKind) (order : Order) (admitted : Result Order TextKind) (told : Result S TextKind) (after : Said → S) (final : S) (give : Order → S → T)
-    → admitted ≡ outcome (first_fault (word ∷ often ∷ [])) order
-    → (word ≡ None → often ≡ None → told ≡ (said >>= λ s. outcome (first_fault (bounds s ∷ again s ∷ [])) (after s)))
-    → ((s : Said) → said ≡ Ok s → after s ≡ final)
-    → (admitted >>= λ next. told >>= λ t. Ok (give next t)) ≡ outcome (later_checks word often said bounds again) (give order final)
-taken_in_order (Some kind) often said bounds again order admitted told after final give ha ht hf = ap (λ a. a >>= λ next. told >>= λ t. Ok (give next t)) ha
-taken_in_order None (Some kind) said bounds again order admitted told after final give ha ht hf = ap (λ a. a >>= λ next. told >>= λ t. Ok (give next t)) ha
-taken_in_order None None (Err kind) bounds again order admitted told after final give ha ht hf =
-    ap (λ a. a >>= λ next. told >>= λ t. Ok (give next t)) ha ∙ ap (λ r. r >>= λ t. Ok (give order t)) (ht refl refl)
-taken_in_order None None (Ok s) bounds again order admitted told after final give ha ht hf =
-    ap (λ a. a >>= λ next. told >>= λ t. Ok (give next t)) ha ∙ ap (λ r. r >>= λ t. Ok (give order t)) (ht refl refl)
-    ∙ by_checks (bounds s) (again s) (after s) final give order (hf s refl)
-  where
-    by_checks : {S T : Type 0} (b a : Option TextKind) (here final : S) (give : Order → S → T) (order : Order) → here ≡ final
-        → (outcome (first_fault (b ∷ a ∷ [])) here >>= λ t. Ok (give order t)) ≡ outcome (first_fault (b ∷ a ∷ [])) (give order final)
-    by_checks (Some kind) a here final give order same = refl
-    by_checks None (Some kind) here final give order same = refl
-    by_checks None None here final give order same = ap (λ t. Ok (give order t)) same
-
-abbrev pub line_checks : List (List ℕ) → List ℕ → Result (Word × List (List ℕ)) TextKind → Option TextKind
-line_checks before line word =
-    later_checks (wrong_word (last_group 0 before) word) (too_often before word)
-    (word >>= λ parts. said_by (known_to (said_before before)) parts.0 parts.1)
-    (wrong_bounds (said_before before)) (repeated (said_before before))
-
 not_earlier : (b : Bool) → test b kinds.Word ≡ None → b ≡ false
 not_earlier true h = cc
 not_earlier false h = refl
 
 -- a line of the last groups
-told_line : (before : List (List ℕ)) (line : List ℕ) (word : Word) (tokens : List (List ℕ)) → word_of (tokens_of line) ≡ Ok (word, tokens) → Under (last_group 0 before) before
+told_line : (before : List (List ℕ)) (line : List ℕ) (after : List (List ℕ)) (word : Word) (tokens : List (List ℕ)) → word_of (tokens_of line) ≡ Ok (word, tokens) → Under (last_group 0 before) before
     → (ltb (group_of word) (last_group 0 before) ≡ false → is_head_word word ≡ false)
     → take_line (tokens_of line) (order_of before) (race_of (said_before before))
-    ≡ outcome (line_checks before line (Ok (word, tokens))) (word, order_of (before ++ line ∷ []), race_of (said_before (before ++ line ∷ [])))
+    ≡ outcome (line_checks before line after (Ok (word, tokens))) (word, order_of (before ++ line ∷ []), race_of (said_before (before ++ line ∷ [])))
 unfolding take_line
-told_line before line word tokens is under late =
+told_line before line after word tokens is under late =
     let told : List Said = said_before before in
     ap (λ w. w >>= λ parts. admit parts.0 (order_of before) >>= λ next. take_told parts.0 parts.1 (race_of told) >>= λ t. Ok (parts.0, next, t)) is
-    ∙ taken_in_order (wrong_word (last_group 0 before) (Ok (word, tokens))) (too_often before (Ok (word, tokens))) (said_by (known_to told) word tokens) (wrong_bounds told) (repeated told)
+    ∙ taken_in_order (wrong_word (last_group 0 before) (Ok (word, tokens))) (too_often before (Ok (word, tokens))) (said_by (known_to told) word tokens) (wrong_bounds told) (repeated told) (wrong_table told after)
     (order_of (before ++ line ∷ [])) (admit word (order_of before)) (take_told word tokens (race_of told)) (λ s. race_of (told ++ s ∷ [])) (race_of (said_before (before ++ line ∷ [])))
     (λ next t. (word, next, t))
     (admit_agrees word tokens before line is under)
-    (λ hw ho. told_agrees word tokens told (late (not_earlier _ hw)) (has_place word tokens before ho))
+    (λ hw ho. told_agrees after word tokens told (late (not_earlier _ hw)) (has_place word tokens before ho))
     (λ s h. ap race_of (sym (said_more (known_to told) before line word tokens s is h)))
 
 -- a line of the first groups
-head_line : (before : List (List ℕ)) (line : List ℕ) (word : Word) (tokens : List (List ℕ)) → word_of (tokens_of line) ≡ Ok (word, tokens) → Under (last_group 0 before) before → is_head_word word ≡ true
-    → take_head (word, tokens) (order_of before) (given_of (said_before before))
-    ≡ outcome (line_checks before line (Ok (word, tokens))) (order_of (before ++ line ∷ []), given_of (said_before (before ++ line ∷ [])))
+head_line : (before : List (List ℕ)) (line : List ℕ) (after : List (List ℕ)) (word : Word) (tokens : List (List ℕ)) → word_of (tokens_of line) ≡ Ok (word, tokens) → Under (last_group 0 before) before → is_head_word word ≡ true
+    → take_head after (word, tokens) (order_of before) (head_given (said_before before))
+    ≡ outcome (line_checks before line after (Ok (word, tokens))) (order_of (before ++ line ∷ []), head_given (said_before (before ++ line ∷ [])))
 unfolding take_head
-head_line before line word tokens is under head =
+head_line before line after word tokens is under head =
     let told : List Said = said_before before in
-    taken_in_order (wrong_word (last_group 0 before) (Ok (word, tokens))) (too_often before (Ok (word, tokens))) (said_by (known_to told) word tokens) (wrong_bounds told) (repeated told)
-    (order_of (before ++ line ∷ [])) (admit word (order_of before)) (take_setting word tokens (given_of told)) (λ s. given_of (told ++ s ∷ [])) (given_of (said_before (before ++ line ∷ [])))
+    taken_in_order (wrong_word (last_group 0 before) (Ok (word, tokens))) (too_often before (Ok (word, tokens))) (said_by (known_to told) word tokens) (wrong_bounds told) (repeated told) (wrong_table told after)
+    (order_of (before ++ line ∷ [])) (admit word (order_of before)) (take_given (is_policy word && is_policy_next after) word tokens (head_given told)) (λ s. head_given (told ++ s ∷ [])) (head_given (said_before (before ++ line ∷ [])))
     (λ next t. (next, t))
     (admit_agrees word tokens before line is under)
-    (λ hw ho. setting_agrees (known_to told) word tokens told head)
-    (λ s h. ap given_of (sym (said_more (known_to told) before line word tokens s is h)))
+    (λ hw ho. given_agrees (known_to told) word tokens told after head)
+    (λ s h. ap head_given (sym (said_more (known_to told) before line word tokens s is h)))
 
 -- the lines up to `end` and what stands behind them, or the first fault
 abbrev pub stop : {B : Type 0} → ℕ → Option TextKind → Result B (ℕ × TextKind) → Result B (ℕ × TextKind)
@@ -115,29 +88,6 @@ whole_first n false [] checks later final same = refl
 whole_first n false (next ∷ after) None later final same = same
 whole_first n false (next ∷ after) (Some kind) later final same = same
 
-first_again : (long fin word often form bounds again : Option TextKind)
-    → first_fault (long ∷ fin ∷ word ∷ often ∷ form ∷ bounds ∷ again ∷ []) ≡ first_fault (long ∷ fin ∷ first_fault (word ∷ often ∷ form ∷ bounds ∷ again ∷ []) ∷ [])
-first_again (Some k) fin word often form bounds again = refl
-first_again None (Some k) word often form bounds again = refl
-first_again None None (Some k) often form bounds again = refl
-first_again None None None (Some k) form bounds again = refl
-first_again None None None None (Some k) bounds again = refl
-first_again None None None None None (Some k) again = refl
-first_again None None None None None None (Some k) = refl
-first_again None None None None None None None = refl
-
--- the checks of a line whose word is known
-pub line_fault_is : (before : List (List ℕ)) (line : List ℕ) (after : List (List ℕ)) (word : Result (Word × List (List ℕ)) TextKind) → word_of (tokens_of line) ≡ word
-    → line_fault before line after ≡ first_fault (too_long line ∷ unfinished after ∷ line_checks before line word ∷ [])
-unfolding line_fault
-line_fault_is before line after word is =
-    let at : Result (Word × List (List ℕ)) TextKind → Option TextKind = λ w. first_fault (too_long line ∷ unfinished after ∷ wrong_word (last_group 0 before) w ∷ too_often before w
-    ∷ wrong_form (w >>= λ parts. said_by (known_to (said_before before)) parts.0 parts.1)
-    ∷ of_said (wrong_bounds (said_before before)) (w >>= λ parts. said_by (known_to (said_before before)) parts.0 parts.1)
-    ∷ of_said (repeated (said_before before)) (w >>= λ parts. said_by (known_to (said_before before)) parts.0 parts.1) ∷ []) in
-    let bound : Result Said TextKind = word >>= λ parts. said_by (known_to (said_before before)) parts.0 parts.1 in
-    ap at is ∙ first_again (too_long line) (unfinished after) (wrong_word (last_group 0 before) word) (too_often before word) (wrong_form bound) (of_said (wrong_bounds (said_before before)) bound) (of_said (repeated (said_before before)) bound)
-
 raced_stop : (n : ℕ) (fault : Option TextKind) (later : Result (List (List ℕ) × List (List ℕ)) (ℕ × TextKind)) → raced (stop n fault later) ≡ stop n fault (raced later)
 raced_stop n None later = refl
 raced_stop n (Some kind) later = refl
@@ -160,23 +110,12 @@ all_late : (before lines : List (List ℕ)) → 5 ≤ last_group 0 before → Fi
 all_late before [] h = tt
 all_late before (line ∷ after) h = λ word tokens is in_order. late_word word (let ge = ltb-false (group_of word) (last_group 0 before) in_order in omega arith)
 
-is_fault : Some kinds.Word ≡ None → ⊥
-is_fault e = cc
-
 late_last : (before : List (List ℕ)) (line : List ℕ) (word : Word) (tokens : List (List ℕ)) → word_of (tokens_of line) ≡ Ok (word, tokens) → is_head_word word ≡ false → 5 ≤ last_group 0 (before ++ line ∷ [])
 late_last before line word tokens is late =
     let here : group_on line ≡ group_of word = group_is line word tokens is in
     let last : last_group 0 (before ++ line ∷ []) ≡ group_on line = last_more 0 before line in
     let above = late_group word late in
     omega arith
-
--- the word is in order where the checks pass
-pub in_order : (before : List (List ℕ)) (line : List ℕ) (word : Word) (tokens : List (List ℕ)) → line_checks before line (Ok (word, tokens)) ≡ None → ltb (group_of word) (last_group 0 before) ≡ false
-in_order before line word tokens h = by_test (ltb (group_of word) (last_group 0 before)) refl
-  where
-    by_test : (b : Bool) → ltb (group_of word) (last_group 0 before) ≡ b → b ≡ false
-    by_test false e = refl
-    by_test true e = absurd (is_fault (ap (λ t. later_checks (test t kinds.Word) (too_often before (Ok (word, tokens))) (said_by (known_to (said_before before)) word tokens) (wrong_bounds (said_before before)) (repeated (said_before before))) (sym e) ∙ h))
 
 under_next : (before : List (List ℕ)) (line : List ℕ) (word : Word) (tokens : List (List ℕ)) → word_of (tokens_of line) ≡ Ok (word, tokens) → Under (last_group 0 before) before → ltb (group_of word) (last_group 0 before) ≡ false
     → Under (last_group 0 (before ++ line ∷ [])) (before ++ line ∷ [])
@@ -223,25 +162,25 @@ body_later : (n : ℕ) (before : List (List ℕ)) (line : List ℕ) (after : Lis
     → (Under (last_group 0 (before ++ line ∷ [])) (before ++ line ∷ []) → FirstIsLate (before ++ line ∷ []) after
     → read_body (n + 1) (order_of (before ++ line ∷ [])) (race_of (said_before (before ++ line ∷ []))) after ≡ raced (walk (n + 1) (before ++ line ∷ []) after))
     → body_next n after (take_line (tokens_of line) (order_of before) (race_of (said_before before)))
-    ≡ stop n (line_checks before line word) (raced (cond (ends line) (Ok (before ++ line ∷ [], after)) (walk (n + 1) (before ++ line ∷ []) after)))
+    ≡ stop n (line_checks before line after word) (raced (cond (ends line) (Ok (before ++ line ∷ [], after)) (walk (n + 1) (before ++ line ∷ []) after)))
 unfolding take_line
 body_later n before line after (Err kind) is under late later =
     ap (λ w. body_next n after (w >>= λ parts. admit parts.0 (order_of before) >>= λ next. take_told parts.0 parts.1 (race_of (said_before before)) >>= λ t. Ok (parts.0, next, t))) is
     ∙ ap (λ k. Err (n, k)) (word_fault (tokens_of line) kind is)
 body_later n before line after (Ok parts) is under late later =
-    ap (body_next n after) (told_line before line parts.0 parts.1 is under (late parts.0 parts.1 is))
-    ∙ body_known n after (line_checks before line (Ok parts)) parts.0 (order_of (before ++ line ∷ [])) (race_of (said_before (before ++ line ∷ []))) (walk (n + 1) (before ++ line ∷ []) after) (before ++ line ∷ []) refl
-    (λ right goes. let order = in_order before line parts.0 parts.1 right in
+    ap (body_next n after) (told_line before line after parts.0 parts.1 is under (late parts.0 parts.1 is))
+    ∙ body_known n after (line_checks before line after (Ok parts)) parts.0 (order_of (before ++ line ∷ [])) (race_of (said_before (before ++ line ∷ []))) (walk (n + 1) (before ++ line ∷ []) after) (before ++ line ∷ []) refl
+    (λ right goes. let order = in_order before line after parts.0 parts.1 right in
     later (under_next before line parts.0 parts.1 is under order)
     (all_late (before ++ line ∷ []) after (late_last before line parts.0 parts.1 is (late parts.0 parts.1 is order))))
-    ∙ ap (λ b. stop n (line_checks before line (Ok parts)) (raced (cond b (Ok (before ++ line ∷ [], after)) (walk (n + 1) (before ++ line ∷ []) after)))) (sym (ends_known line parts.0 parts.1 is))
+    ∙ ap (λ b. stop n (line_checks before line after (Ok parts)) (raced (cond b (Ok (before ++ line ∷ [], after)) (walk (n + 1) (before ++ line ∷ []) after)))) (sym (ends_known line parts.0 parts.1 is))
 
 body_step : (n : ℕ) (before : List (List ℕ)) (line : List ℕ) (after : List (List ℕ)) (later : Result (Race × List (List ℕ)) (ℕ × TextKind)) (walked : Result (List (List ℕ) × List (List ℕ)) (ℕ × TextKind)) (word : Result (Word × List (List ℕ)) TextKind)
-    → word_of (tokens_of line) ≡ word → later ≡ stop n (line_checks before line word) (raced walked)
+    → word_of (tokens_of line) ≡ word → later ≡ stop n (line_checks before line after word) (raced walked)
     → (at_line n (wholeness (line ∷ after)) >>= λ _. later) ≡ raced (stop n (line_fault before line after) walked)
 unfolding wholeness
 body_step n before line after later walked word is same =
-    whole_first n (ltb MAX_LINE (length line)) after (line_checks before line word) later (raced walked) same
+    whole_first n (ltb MAX_LINE (length line)) after (line_checks before line after word) later (raced walked) same
     ∙ ap (λ f. stop n f (raced walked)) (sym (line_fault_is before line after word is))
     ∙ sym (raced_stop n (line_fault before line after) walked)
 
@@ -255,10 +194,10 @@ body_agrees n before (line ∷ after) under late =
     (body_later n before line after (word_of (tokens_of line)) refl under late (body_agrees (n + 1) (before ++ line ∷ []) after))
 
 -- the first groups
-abbrev pub head_next : ℕ → List (List ℕ) → Result (Order × Given) TextKind → Result (Race × List (List ℕ)) (ℕ × TextKind)
+abbrev pub head_next : ℕ → List (List ℕ) → Result (Order × HeadGiven) TextKind → Result (Race × List (List ℕ)) (ℕ × TextKind)
 head_next n after taken = at_line n taken >>= λ next. read_head (n + 1) next.0 next.1 after
 
-head_known : (n : ℕ) (after : List (List ℕ)) (checks : Option TextKind) (order : Order) (given : Given) (final : Result (Race × List (List ℕ)) (ℕ × TextKind))
+head_known : (n : ℕ) (after : List (List ℕ)) (checks : Option TextKind) (order : Order) (given : HeadGiven) (final : Result (Race × List (List ℕ)) (ℕ × TextKind))
     → (checks ≡ None → read_head (n + 1) order given after ≡ final)
     → head_next n after (outcome checks (order, given)) ≡ stop n checks final
 head_known n after (Some kind) order given final later = refl
@@ -282,12 +221,6 @@ head_cases line = by_word (word_of (tokens_of line)) refl
     by_word (Err kind) e = inl (ap head_part e, λ word tokens e'. let wrong : Err kind ≡ Ok (word, tokens) = sym e ∙ e' in cc)
     by_word (Ok parts) e = by_head parts (is_head_word parts.0) e refl
 
-pub checks_said : (word often : Option TextKind) (said : Result Said TextKind) (bounds again : Said → Option TextKind) → later_checks word often said bounds again ≡ None → (s : Said) × (said ≡ Ok s)
-checks_said (Some kind) often said bounds again h = cc
-checks_said None (Some kind) said bounds again h = cc
-checks_said None None (Err kind) bounds again h = cc
-checks_said None None (Ok s) bounds again h = (s, refl)
-
 head_no_end : (word : Word) → is_head_word word ≡ true → is_end word ≡ false
 head_no_end words.Set h = refl
 head_no_end words.Policy h = refl
@@ -299,60 +232,69 @@ head_no_end words.Connect h = refl
 head_no_end words.Pause h = refl
 head_no_end words.End h = cc
 
--- what stands at the head of a race: no event yet, and settings in their ranges
-pub record IsHeadOnly (before : List (List ℕ)) : Type 0 where
+-- what stands at the head of a race: nothing that happens, settings in their ranges, a host, and a table or the rows of one
+pub record IsHeadOnly (before lines : List (List ℕ)) : Type 0 where
   pub under : Under (last_group 0 before) before
   pub quiet : IsQuiet (said_before before)
   pub fit : AllFit (said_before before)
+  pub hosts : AreHostsOf (said_before before)
+  pub table : IsTableOrMore lines (rows_given (said_before before))
 
-head_only_more : (before : List (List ℕ)) (line : List ℕ) (parts : Word × List (List ℕ)) → word_of (tokens_of line) ≡ Ok parts → is_head_word parts.0 ≡ true → IsHeadOnly before → line_checks before line (Ok parts) ≡ None → IsHeadOnly (before ++ line ∷ [])
-head_only_more before line parts is head only right =
+head_only_more : (before : List (List ℕ)) (line : List ℕ) (after : List (List ℕ)) (parts : Word × List (List ℕ)) → word_of (tokens_of line) ≡ Ok parts → is_head_word parts.0 ≡ true
+    → IsHeadOnly before (line ∷ after) → line_checks before line after (Ok parts) ≡ None → IsHeadOnly (before ++ line ∷ []) after
+head_only_more before line after parts is head only right =
     let told : List Said = said_before before in
-    let said = checks_said (wrong_word (last_group 0 before) (Ok parts)) (too_often before (Ok parts)) (said_by (known_to told) parts.0 parts.1) (wrong_bounds told) (repeated told) right in
-    let more : said_before (before ++ line ∷ []) ≡ told ++ said.0 ∷ [] = said_more (known_to told) before line parts.0 parts.1 said.0 is said.1 in
-    let one = is_head (known_to told) parts.0 parts.1 told said.0 head said.1 in
+    let passed = checks_passed (wrong_word (last_group 0 before) (Ok parts)) (too_often before (Ok parts)) (said_by (known_to told) parts.0 parts.1) (wrong_bounds told) (repeated told) (wrong_table told after) right in
+    let s : Said = passed.s in
+    let more : said_before (before ++ line ∷ []) ≡ told ++ s ∷ [] = said_more (known_to told) before line parts.0 parts.1 s is passed.said_is in
+    let one = is_head (known_to told) parts.0 parts.1 told s head passed.said_is in
     let Q : List Said → Type 0 = IsQuiet in
     let F : List Said → Type 0 = AllFit in
+    let H : List Said → Type 0 = AreHostsOf in
+    let T : List Said → Type 0 = λ said. IsTableOrMore after (rows_given said) in
     record {
-      under = under_next before line parts.0 parts.1 is only.under (in_order before line parts.0 parts.1 right);
+      under = under_next before line parts.0 parts.1 is only.under (in_order before line after parts.0 parts.1 right);
       quiet = subst Q (sym more) (one.quiet only.quiet);
       fit = subst F (sym more) (one.fit only.fit);
+      hosts = subst H (sym more) (hosts_more (known_to told) parts.0 parts.1 told s head passed.said_is passed.again_is (has_place parts.0 parts.1 before passed.often_is) only.hosts);
+      table = subst T (sym more) (table_more (known_to told) line after parts.0 parts.1 told s is head passed.said_is passed.table_is only.table);
     }
 
-head_by_word : (n : ℕ) (before : List (List ℕ)) (line : List ℕ) (after : List (List ℕ)) → IsHeadOnly before
-    → (IsHeadOnly (before ++ line ∷ []) → read_head (n + 1) (order_of (before ++ line ∷ [])) (given_of (said_before (before ++ line ∷ []))) after ≡ raced (walk (n + 1) (before ++ line ∷ []) after))
-    → (at_line n (wholeness (line ∷ after)) >>= λ _. head_after n (order_of before) (given_of (said_before before)) (line ∷ after) after (head_of (tokens_of line)))
+head_by_word : (n : ℕ) (before : List (List ℕ)) (line : List ℕ) (after : List (List ℕ)) → IsHeadOnly before (line ∷ after)
+    → (IsHeadOnly (before ++ line ∷ []) after → read_head (n + 1) (order_of (before ++ line ∷ [])) (head_given (said_before (before ++ line ∷ []))) after ≡ raced (walk (n + 1) (before ++ line ∷ []) after))
+    → (at_line n (wholeness (line ∷ after)) >>= λ _. head_after n (order_of before) (head_given (said_before before)) (line ∷ after) after (head_of (tokens_of line)))
     ≡ raced (walk n before (line ∷ after))
 unfolding walk
 head_by_word n before line after only later = elim (head_cases line) [
   | inl late ↦ by_whole late.0 late.1 (wholeness (line ∷ after)) refl
   | inr head ↦
-      body_step n before line after (head_after n (order_of before) (given_of (said_before before)) (line ∷ after) after (head_of (tokens_of line)))
+      body_step n before line after (head_after n (order_of before) (head_given (said_before before)) (line ∷ after) after (head_of (tokens_of line)))
       (cond (ends line) (Ok (before ++ line ∷ [], after)) (walk (n + 1) (before ++ line ∷ []) after)) (Ok head.0) head.2
-      (ap (head_after n (order_of before) (given_of (said_before before)) (line ∷ after) after) head.1
-      ∙ ap (head_next n after) (head_line before line head.0.0 head.0.1 head.2 only.under head.3)
-      ∙ head_known n after (line_checks before line (Ok head.0)) (order_of (before ++ line ∷ [])) (given_of (said_before (before ++ line ∷ [])))
+      (ap (head_after n (order_of before) (head_given (said_before before)) (line ∷ after) after) head.1
+      ∙ ap (head_next n after) (head_line before line after head.0.0 head.0.1 head.2 only.under head.3)
+      ∙ head_known n after (line_checks before line after (Ok head.0)) (order_of (before ++ line ∷ [])) (head_given (said_before (before ++ line ∷ [])))
       (raced (cond (ends line) (Ok (before ++ line ∷ [], after)) (walk (n + 1) (before ++ line ∷ []) after)))
-      (λ right. later (head_only_more before line head.0 head.2 head.3 only right)
+      (λ right. later (head_only_more before line after head.0 head.2 head.3 only right)
       ∙ ap (λ b. raced (cond b (Ok (before ++ line ∷ [], after)) (walk (n + 1) (before ++ line ∷ []) after))) (sym (ends_known line head.0.0 head.0.1 head.2 ∙ head_no_end head.0.0 head.3))))
 ]
   where
     by_whole : head_of (tokens_of line) ≡ None → ((word : Word) (tokens : List (List ℕ)) → word_of (tokens_of line) ≡ Ok (word, tokens) → is_head_word word ≡ false)
         → (w : Result (Unit {0}) TextKind) → wholeness (line ∷ after) ≡ w
-        → (at_line n (wholeness (line ∷ after)) >>= λ _. head_after n (order_of before) (given_of (said_before before)) (line ∷ after) after (head_of (tokens_of line)))
+        → (at_line n (wholeness (line ∷ after)) >>= λ _. head_after n (order_of before) (head_given (said_before before)) (line ∷ after) after (head_of (tokens_of line)))
         ≡ raced (walk n before (line ∷ after))
     by_whole none late (Err kind) e =
-        ap (λ w. at_line n w >>= λ _. head_after n (order_of before) (given_of (said_before before)) (line ∷ after) after (head_of (tokens_of line))) e
+        ap (λ w. at_line n w >>= λ _. head_after n (order_of before) (head_given (said_before before)) (line ∷ after) after (head_of (tokens_of line))) e
         ∙ sym (body_unwhole n (order_of before) (race_of (said_before before)) (line ∷ after) kind e)
         ∙ body_agrees n before (line ∷ after) only.under (λ word tokens is order. late word tokens is)
     by_whole none late (Ok done) e =
-        ap (λ w. at_line n w >>= λ _. head_after n (order_of before) (given_of (said_before before)) (line ∷ after) after (head_of (tokens_of line))) e
-        ∙ ap (head_after n (order_of before) (given_of (said_before before)) (line ∷ after) after) none
-        ∙ settle_reads n (order_of before) (given_of (said_before before)) (line ∷ after) (settings_given (said_before before)) (settings_agree (said_before before) only.fit)
+        ap (λ w. at_line n w >>= λ _. head_after n (order_of before) (head_given (said_before before)) (line ∷ after) after (head_of (tokens_of line))) e
+        ∙ ap (head_after n (order_of before) (head_given (said_before before)) (line ∷ after) after) none
+        ∙ settle_reads n (order_of before) (head_given (said_before before)) (line ∷ after) (empty_race (settings_given (said_before before)) (table_of_rows (rows_given (said_before before))) (host_given (said_before before)))
+        (starts (said_before before) only.fit only.hosts (table_whole line after (rows_given (said_before before)) late only.table))
         ∙ ap (λ race. read_body n (order_of before) race (line ∷ after)) (sym (quiet_race (said_before before) only.quiet))
         ∙ body_agrees n before (line ∷ after) only.under (λ word tokens is order. late word tokens is)
 
-pub head_agrees : (n : ℕ) (before lines : List (List ℕ)) → IsHeadOnly before → read_head n (order_of before) (given_of (said_before before)) lines ≡ raced (walk n before lines)
+pub head_agrees : (n : ℕ) (before lines : List (List ℕ)) → IsHeadOnly before lines → read_head n (order_of before) (head_given (said_before before)) lines ≡ raced (walk n before lines)
 unfolding read_head walk
 head_agrees n before [] only = refl
 head_agrees n before (line ∷ after) only = head_by_word n before line after only (head_agrees (n + 1) (before ++ line ∷ []) after)
@@ -367,20 +309,20 @@ begins : (line : List ℕ) (after : List (List ℕ)) (same : Bool) → (later fi
 begins line after true later final h = h
 begins line after false later final h = refl
 
-nothing_yet : IsHeadOnly []
-unfolding said_before
-nothing_yet = record { under = tt; quiet = record { aaaa = refl; a = refl; outcomes = refl; pauses = refl }; fit = none_fits }
+nothing_yet : (lines : List (List ℕ)) → IsHeadOnly [] lines
+unfolding said_before policy_from
+nothing_yet lines = record { under = tt; quiet = record { aaaa = refl; a = refl; outcomes = refl; pauses = refl }; fit = none_fits; hosts = no_hosts; table = inr refl }
 
-start_agrees : (lines : List (List ℕ)) → read_head 2 order_at_start none_given lines ≡ raced (walk 2 [] lines)
+start_agrees : (lines : List (List ℕ)) → read_head 2 order_at_start no_head lines ≡ raced (walk 2 [] lines)
 unfolding said_before
-start_agrees lines = head_agrees 2 [] lines nothing_yet
+start_agrees lines = head_agrees 2 [] lines (nothing_yet lines)
 
 pub lines_agree : (lines : List (List ℕ)) → read_lines lines ≡ raced (walk_all lines)
 unfolding read_lines walk_all wholeness
 lines_agree [] = refl
 lines_agree (line ∷ after) =
-    whole_first 1 (ltb MAX_LINE (length line)) after (wrong_header line) (cond (bytes_eq line (codes "race 1")) (read_head 2 order_at_start none_given after) (Err (1, kinds.Header))) (raced (walk 2 [] after))
-    (begins line after (bytes_eq line (codes "race 1")) (read_head 2 order_at_start none_given after) (raced (walk 2 [] after)) (start_agrees after))
+    whole_first 1 (ltb MAX_LINE (length line)) after (wrong_header line) (cond (bytes_eq line (codes "race 1")) (read_head 2 order_at_start no_head after) (Err (1, kinds.Header))) (raced (walk 2 [] after))
+    (begins line after (bytes_eq line (codes "race 1")) (read_head 2 order_at_start no_head after) (raced (walk 2 [] after)) (start_agrees after))
     ∙ sym (raced_stop 1 (first_fault (too_long line ∷ unfinished after ∷ wrong_header line ∷ [])) (walk 2 [] after))
 
 -- the fault is where the walk stops

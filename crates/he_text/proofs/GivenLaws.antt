@@ -1,4 +1,4 @@
--- A line of the first groups is taken as its checks say, and the settings that the lines give are settings.
+-- A setting is taken as its checks say, and the settings that the lines give are settings.
 use Rattle.std.proofs.Common.{◌≡◌, ℕ, ◌≤◌, ◌||◌, Bool, true, false, cond, List, [], ◌∷◌, ◌++◌, Option, Some, None, Result, Ok, Err, refl, sym, ◌∙◌, ap, subst, arith}
 use Rattle.std.specs.Prelude.{is_some, unwrap_or}
 use Rattle.std.specs.List.{filter_map}
@@ -7,6 +7,9 @@ use Rattle.he_addr.specs.declared.ip.Ip.{Ip}
 use Rattle.he_plan.specs.declared.limits.TheConstants.{MAX_RESOLUTION, MIN_ATTEMPT, MAX_ATTEMPT, MIN_COUNT, MAX_COUNT, MIN_LIMIT, MAX_LIMIT, DEFAULT_RESOLUTION, DEFAULT_ATTEMPT, DEFAULT_COUNT, DEFAULT_LIMIT}
 use Rattle.he_plan.specs.declared.settings.Range.TheVariants as ranges
 use Rattle.he_plan.specs.Settings.{SettingValues}
+use Rattle.he_select.specs.declared.policy.Row.{Row}
+use Rattle.he_select.specs.declared.host.Source.{Source}
+use Rattle.he_select.specs.declared.host.Route.{Route}
 use Rattle.he_text.specs.declared.draft.Given.{Given}
 use Rattle.he_text.specs.declared.fault.TextKind.{TextKind}
 use Rattle.he_text.specs.declared.fault.TextKind.TheVariants as kinds
@@ -15,9 +18,9 @@ use Rattle.he_text.specs.declared.words.Name.TheVariants.{Resolution, Attempt, C
 use Rattle.he_text.specs.declared.words.Word.{Word}
 use Rattle.he_text.specs.declared.words.Word.TheVariants as words
 use Rattle.he_text.specs.Faults.{first_fault, test, wrong_bounds, repeated}
-use Rattle.he_text.specs.Forms.{◌>>=◌, setting_in, said_by, least_of, most_of}
-use Rattle.he_text.specs.Reading.{once, put, ranged, settings_from, take_setting}
-use Rattle.he_text.specs.Said.{Said, Setting, Passed, same_name, setting_said, first_of, setting_given, settings_given}
+use Rattle.he_text.specs.Forms.{◌>>=◌, setting_in, row_in, host_source_in, host_route_in, said_by, least_of, most_of}
+use Rattle.he_text.specs.Reading.{once, put, ranged, settings_from}
+use Rattle.he_text.specs.Said.{Said, Setting, PolicyRow, HostSource, HostRoute, same_name, setting_said, first_of, setting_given, settings_given}
 use Rattle.he_text.specs.Words.{is_head_word}
 use Rattle.he_text.proofs.FormFacts.{setting_ok}
 use Rattle.he_text.proofs.Results.{bind_ok}
@@ -25,7 +28,7 @@ use Rattle.he_text.proofs.SaidLaws.{one_more, first_more, setting_kept, IsQuiet,
 use Rattle.he_text.proofs.ToldLaws.{outcome}
 
 -- the settings that were given
-abbrev made : Option ℕ → Option ℕ → Option ℕ → Option ℕ → Given
+abbrev pub made : Option ℕ → Option ℕ → Option ℕ → Option ℕ → Given
 made r a c l = record { resolution = r; attempt = a; count = c; limit = l }
 
 abbrev pub given_of : List Said → Given
@@ -34,7 +37,7 @@ given_of said = made (setting_given Resolution said) (setting_given Attempt said
 abbrev pub judged_setting : List Said → Said → Result Given TextKind
 judged_setting said s = outcome (first_fault (wrong_bounds said s ∷ repeated said s ∷ [])) (given_of (said ++ s ∷ []))
 
-given_same : (r r' a a' c c' l l' : Option ℕ) → r ≡ r' → a ≡ a' → c ≡ c' → l ≡ l' → made r a c l ≡ made r' a' c' l'
+pub given_same : (r r' a a' c c' l l' : Option ℕ) → r ≡ r' → a ≡ a' → c ≡ c' → l ≡ l' → made r a c l ≡ made r' a' c' l'
 given_same r r' a a' c c' l l' er ea ec el =
     ap (λ x. made x a c l) er ∙ ap (λ x. made r' x c l) ea ∙ ap (λ x. made r' a' x l) ec ∙ ap (made r' a' c') el
 
@@ -48,7 +51,7 @@ put_one : (before : Option ℕ) (value : ℕ) (with_value : Option ℕ → Given
 put_one None value with_value after same = ap Ok (same refl)
 put_one (Some x) value with_value after same = refl
 
-put_agrees : (name : Name) (value : ℕ) (said : List Said) → put name value (given_of said) ≡ judged_setting said (Setting name value)
+pub put_agrees : (name : Name) (value : ℕ) (said : List Said) → put name value (given_of said) ≡ judged_setting said (Setting name value)
 unfolding put
 put_agrees Resolution value said = put_one (setting_given Resolution said) value (λ more. record (given_of said) { resolution = more }) (given_of (said ++ Setting Resolution value ∷ []))
     (λ none. sym (given_same _ _ _ _ _ _ _ _ (setting_new Resolution said value refl none) (setting_kept Attempt said (Setting Resolution value) refl) (setting_kept Count said (Setting Resolution value) refl) (setting_kept Limit said (Setting Resolution value) refl)))
@@ -59,27 +62,10 @@ put_agrees Count value said = put_one (setting_given Count said) value (λ more.
 put_agrees Limit value said = put_one (setting_given Limit said) value (λ more. record (given_of said) { limit = more }) (given_of (said ++ Setting Limit value ∷ []))
     (λ none. sym (given_same _ _ _ _ _ _ _ _ (setting_kept Resolution said (Setting Limit value) refl) (setting_kept Attempt said (Setting Limit value) refl) (setting_kept Count said (Setting Limit value) refl) (setting_new Limit said value refl none)))
 
-by_setting : (said : List Said) (read : Result (Name × ℕ) TextKind)
-    → (read >>= λ setting. put setting.0 setting.1 (given_of said)) ≡ ((read >>= λ setting. Ok (Setting setting.0 setting.1)) >>= judged_setting said)
-by_setting said (Err kind) = refl
-by_setting said (Ok setting) = put_agrees setting.0 setting.1 said
-
-passed_agrees : (word : Word) (said : List Said) → Ok (given_of said) ≡ judged_setting said (Passed word)
-passed_agrees word said = ap Ok (sym (given_same _ _ _ _ _ _ _ _
-    (setting_kept Resolution said (Passed word) refl) (setting_kept Attempt said (Passed word) refl) (setting_kept Count said (Passed word) refl) (setting_kept Limit said (Passed word) refl)))
-
-pub setting_agrees : (known : Ip → Bool) (word : Word) (tokens : List (List ℕ)) (said : List Said) → is_head_word word ≡ true
-    → take_setting word tokens (given_of said) ≡ (said_by known word tokens >>= judged_setting said)
-unfolding take_setting said_by
-setting_agrees known words.Set tokens said h = by_setting said (setting_in tokens)
-setting_agrees known words.Policy tokens said h = passed_agrees words.Policy said
-setting_agrees known words.Source tokens said h = passed_agrees words.Source said
-setting_agrees known words.Route tokens said h = passed_agrees words.Route said
-setting_agrees known words.Aaaa tokens said h = cc
-setting_agrees known words.A tokens said h = cc
-setting_agrees known words.Connect tokens said h = cc
-setting_agrees known words.Pause tokens said h = cc
-setting_agrees known words.End tokens said h = cc
+-- what gives no setting leaves them as they are
+pub given_kept : (said : List Said) (s : Said) → ((name : Name) → setting_said name s ≡ None) → given_of (said ++ s ∷ []) ≡ given_of said
+given_kept said s none = given_same _ _ _ _ _ _ _ _
+    (setting_kept Resolution said s (none Resolution)) (setting_kept Attempt said s (none Attempt)) (setting_kept Count said s (none Count)) (setting_kept Limit said s (none Limit))
 
 -- each setting that is given is in its range
 abbrev pub default_of : Name → ℕ
@@ -117,7 +103,7 @@ first_or : (xs : List ℕ) (value : ℕ) (name : Name) → Fits name (first_of x
 first_or [] value name before new = new
 first_or (x ∷ xs) value name before new = before
 
--- a line of the first groups says a setting in its range, or is passed over
+-- a line of the first groups tells nothing that happens, and says no setting out of its range
 pub record IsHead (said : List Said) (s : Said) : Type 0 where
   pub quiet : IsQuiet said → IsQuiet (said ++ s ∷ [])
   pub fit : AllFit said → AllFit (said ++ s ∷ [])
@@ -149,10 +135,22 @@ setting_head Limit value said least most fit Attempt = fits_kept Attempt said (S
 setting_head Limit value said least most fit Count = fits_kept Count said (Setting Limit value) refl (fit Count)
 setting_head Limit value said least most fit Limit = fits_here Limit value said refl (fit Limit) (record { least = least; most = most })
 
-passed_head : (word : Word) (said : List Said) → IsHead said (Passed word)
-passed_head word said = record {
-  quiet = λ quiet. quiet_more said (Passed word) quiet refl refl refl refl;
-  fit = λ fit name. fits_kept name said (Passed word) refl (fit name);
+row_head : (row : Row) (said : List Said) → IsHead said (PolicyRow row)
+row_head row said = record {
+  quiet = λ quiet. quiet_more said (PolicyRow row) quiet refl refl refl refl;
+  fit = λ fit name. fits_kept name said (PolicyRow row) refl (fit name);
+}
+
+source_head : (source : Source) (said : List Said) → IsHead said (HostSource source)
+source_head source said = record {
+  quiet = λ quiet. quiet_more said (HostSource source) quiet refl refl refl refl;
+  fit = λ fit name. fits_kept name said (HostSource source) refl (fit name);
+}
+
+route_head : (route : Route) (said : List Said) → IsHead said (HostRoute route)
+route_head route said = record {
+  quiet = λ quiet. quiet_more said (HostRoute route) quiet refl refl refl refl;
+  fit = λ fit name. fits_kept name said (HostRoute route) refl (fit name);
 }
 
 pub is_head : (known : Ip → Bool) (word : Word) (tokens : List (List ℕ)) (said : List Said) (s : Said) → is_head_word word ≡ true → said_by known word tokens ≡ Ok s → IsHead said s
@@ -166,9 +164,18 @@ is_head known words.Set tokens said s h e =
       quiet = λ quiet. quiet_more said (Setting read.0.0 read.0.1) quiet refl refl refl refl;
       fit = setting_head read.0.0 read.0.1 said is.value_is.least is.value_is.most;
     })
-is_head known words.Policy tokens said s h e = let P : Said → Type 0 = IsHead said in subst P (cc (e)) (passed_head words.Policy said)
-is_head known words.Source tokens said s h e = let P : Said → Type 0 = IsHead said in subst P (cc (e)) (passed_head words.Source said)
-is_head known words.Route tokens said s h e = let P : Said → Type 0 = IsHead said in subst P (cc (e)) (passed_head words.Route said)
+is_head known words.Policy tokens said s h e =
+    let read = bind_ok (row_in tokens) (λ row. Ok (PolicyRow row)) s e in
+    let same : PolicyRow read.0 ≡ s = cc (read.2) in
+    let P : Said → Type 0 = IsHead said in subst P same (row_head read.0 said)
+is_head known words.Source tokens said s h e =
+    let read = bind_ok (host_source_in tokens) (λ source. Ok (HostSource source)) s e in
+    let same : HostSource read.0 ≡ s = cc (read.2) in
+    let P : Said → Type 0 = IsHead said in subst P same (source_head read.0 said)
+is_head known words.Route tokens said s h e =
+    let read = bind_ok (host_route_in tokens) (λ route. Ok (HostRoute route)) s e in
+    let same : HostRoute read.0 ≡ s = cc (read.2) in
+    let P : Said → Type 0 = IsHead said in subst P same (route_head read.0 said)
 is_head known words.Aaaa tokens said s h e = cc
 is_head known words.A tokens said s h e = cc
 is_head known words.Connect tokens said s h e = cc

@@ -1,5 +1,5 @@
 -- The order of the lines: what is kept of it while they are read is what the lines before give.
-use Rattle.std.proofs.Common.{◌≡◌, ℕ, ◌+◌, ◌<◌, ◌≤◌, ◌==◌, ◌||◌, Bool, true, false, cond, leb, ltb, List, [], ◌∷◌, ◌++◌, Some, None, Ok, Err, refl, sym, ◌∙◌, ap, subst, inl, inr, ⊎_elim, arith}
+use Rattle.std.proofs.Common.{◌≡◌, ℕ, ◌+◌, ◌<◌, ◌≤◌, ◌==◌, ◌&&◌, ◌||◌, Bool, true, false, cond, leb, ltb, List, [], ◌∷◌, ◌++◌, Some, None, Ok, Err, refl, sym, ◌∙◌, ap, subst, inl, inr, ⊎_elim, arith}
 use Rattle.std.specs.Prelude.{◌⊎◌}
 use Rattle.std.specs.List.{AllByRecursion}
 use Rattle.std.proofs.lemmas.Bool.{cases_lt, ltb-false, eqb-true, eqb-false, eq-eqb, ne_eqb}
@@ -18,7 +18,7 @@ use Rattle.he_text.proofs.ToldLaws.{outcome}
 
 -- the groups of which the lines are counted
 abbrev pub is_counted : ℕ → Bool
-is_counted group = (group == 5) || (group == 6) || (group == 8)
+is_counted group = (ltb 1 group && ltb group 7) || (group == 8)
 
 abbrev pub counted_lines : ℕ → List (List ℕ) → ℕ
 counted_lines group lines = cond (is_counted group) (lines_with group lines) 0
@@ -57,9 +57,9 @@ lines_more group lines line e =
 
 pub counted_word : (word : Word) → ((most_lines word ≡ None) × (is_counted (group_of word) ≡ false)) ⊎ ((most : ℕ × TextKind) × (most_lines word ≡ Some most) × (is_counted (group_of word) ≡ true))
 counted_word words.Set = inl (refl, refl)
-counted_word words.Policy = inl (refl, refl)
-counted_word words.Source = inl (refl, refl)
-counted_word words.Route = inl (refl, refl)
+counted_word words.Policy = inr (_, refl, refl)
+counted_word words.Source = inr (_, refl, refl)
+counted_word words.Route = inr (_, refl, refl)
 counted_word words.Aaaa = inr (_, refl, refl)
 counted_word words.A = inr (_, refl, refl)
 counted_word words.Connect = inl (refl, refl)

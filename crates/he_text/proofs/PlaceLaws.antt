@@ -10,14 +10,17 @@ use Rattle.he_addr.specs.Reading.{ip_in}
 use Rattle.he_plan.specs.declared.limits.TheConstants.{MIN_DURATION, MAX_DURATION, MAX_PAUSES}
 use Rattle.he_plan.specs.declared.outcome.Outcome.{Outcome}
 use Rattle.he_plan.specs.Race.{Reply}
+use Rattle.he_select.specs.declared.limits.TheConstants.{SOURCES, ROUTES}
+use Rattle.he_select.specs.declared.host.Source.{Source}
+use Rattle.he_select.specs.declared.host.Route.{Route}
 use Rattle.he_text.specs.declared.fault.TextKind.{TextKind}
 use Rattle.he_text.specs.declared.fault.TextKind.TheVariants as kinds
 use Rattle.he_text.specs.declared.words.Word.{Word}
 use Rattle.he_text.specs.declared.words.Word.TheVariants as words
 use Rattle.he_text.specs.Faults.{test, group_on, lines_with, too_often, anyone, said_before}
-use Rattle.he_text.specs.Forms.{◌>>=◌, number_from, setting_in, answer_in, known_in, mark_in, connect_in, pause_in, end_in, word_of, said_by, said_in}
+use Rattle.he_text.specs.Forms.{◌>>=◌, number_from, setting_in, row_in, host_source_in, host_route_in, answer_in, known_in, mark_in, connect_in, pause_in, end_in, word_of, said_by, said_in}
 use Rattle.he_text.specs.Parts.{tokens_of}
-use Rattle.he_text.specs.Said.{Said, Setting, Passed, Answer, Told, Paused, Ended, answer_said, pause_said, first_of, race_of}
+use Rattle.he_text.specs.Said.{Said, Setting, PolicyRow, HostSource, HostRoute, Answer, Told, Paused, Ended, source_said, route_said, answer_said, pause_said, first_of, race_of}
 use Rattle.he_text.specs.Text.{group_said}
 use Rattle.he_text.specs.Words.{group_of}
 use Rattle.he_text.proofs.FormFacts.{outcome_of}
@@ -31,9 +34,15 @@ unfolding said_by
 said_group known words.Set tokens s h =
     let read = bind_ok (setting_in tokens) (λ setting. Ok (Setting setting.0 setting.1)) s h in
     let same : Setting read.0.0 read.0.1 ≡ s = cc (read.2) in ap group_said (sym same)
-said_group known words.Policy tokens s h = let same : Passed words.Policy ≡ s = cc (h) in ap group_said (sym same)
-said_group known words.Source tokens s h = let same : Passed words.Source ≡ s = cc (h) in ap group_said (sym same)
-said_group known words.Route tokens s h = let same : Passed words.Route ≡ s = cc (h) in ap group_said (sym same)
+said_group known words.Policy tokens s h =
+    let read = bind_ok (row_in tokens) (λ row. Ok (PolicyRow row)) s h in
+    let same : PolicyRow read.0 ≡ s = cc (read.2) in ap group_said (sym same)
+said_group known words.Source tokens s h =
+    let read = bind_ok (host_source_in tokens) (λ source. Ok (HostSource source)) s h in
+    let same : HostSource read.0 ≡ s = cc (read.2) in ap group_said (sym same)
+said_group known words.Route tokens s h =
+    let read = bind_ok (host_route_in tokens) (λ route. Ok (HostRoute route)) s h in
+    let same : HostRoute read.0 ≡ s = cc (read.2) in ap group_said (sym same)
 said_group known words.Aaaa tokens s h =
     let read = bind_ok (answer_in families.V6 tokens) (λ reply. Ok (Answer families.V6 reply)) s h in
     let same : Answer families.V6 read.0 ≡ s = cc (read.2) in ap group_said (sym same)
@@ -131,7 +140,9 @@ none_given (x ∷ xs) h = absurd (omega arith)
 
 aaaa_tell : (s : Said) (reply : Reply) → answer_said families.V6 s ≡ Some reply → group_said s ≡ 5
 aaaa_tell (Setting name value) reply h = cc
-aaaa_tell (Passed word) reply h = cc
+aaaa_tell (PolicyRow row) reply h = cc
+aaaa_tell (HostSource source) reply h = cc
+aaaa_tell (HostRoute route) reply h = cc
 aaaa_tell (Answer families.V6 r) reply h = refl
 aaaa_tell (Answer families.V4 r) reply h = cc
 aaaa_tell (Told ip outcome) reply h = cc
@@ -140,16 +151,42 @@ aaaa_tell Ended reply h = cc
 
 a_tell : (s : Said) (reply : Reply) → answer_said families.V4 s ≡ Some reply → group_said s ≡ 6
 a_tell (Setting name value) reply h = cc
-a_tell (Passed word) reply h = cc
+a_tell (PolicyRow row) reply h = cc
+a_tell (HostSource source) reply h = cc
+a_tell (HostRoute route) reply h = cc
 a_tell (Answer families.V6 r) reply h = cc
 a_tell (Answer families.V4 r) reply h = refl
 a_tell (Told ip outcome) reply h = cc
 a_tell (Paused from to) reply h = cc
 a_tell Ended reply h = cc
 
+sources_tell : (s : Said) (source : Source) → source_said s ≡ Some source → group_said s ≡ 3
+sources_tell (Setting name value) source h = cc
+sources_tell (PolicyRow row) source h = cc
+sources_tell (HostSource x) source h = refl
+sources_tell (HostRoute x) source h = cc
+sources_tell (Answer families.V6 r) source h = cc
+sources_tell (Answer families.V4 r) source h = cc
+sources_tell (Told ip outcome) source h = cc
+sources_tell (Paused from to) source h = cc
+sources_tell Ended source h = cc
+
+routes_tell : (s : Said) (route : Route) → route_said s ≡ Some route → group_said s ≡ 4
+routes_tell (Setting name value) route h = cc
+routes_tell (PolicyRow row) route h = cc
+routes_tell (HostSource x) route h = cc
+routes_tell (HostRoute x) route h = refl
+routes_tell (Answer families.V6 r) route h = cc
+routes_tell (Answer families.V4 r) route h = cc
+routes_tell (Told ip outcome) route h = cc
+routes_tell (Paused from to) route h = cc
+routes_tell Ended route h = cc
+
 pauses_tell : (s : Said) (pause : ℕ × ℕ) → pause_said s ≡ Some pause → group_said s ≡ 8
 pauses_tell (Setting name value) pause h = cc
-pauses_tell (Passed word) pause h = cc
+pauses_tell (PolicyRow row) pause h = cc
+pauses_tell (HostSource source) pause h = cc
+pauses_tell (HostRoute route) pause h = cc
 pauses_tell (Answer families.V6 r) pause h = cc
 pauses_tell (Answer families.V4 r) pause h = cc
 pauses_tell (Told ip outcome) pause h = cc
@@ -161,8 +198,14 @@ pub has_place : (word : Word) (tokens : List (List ℕ)) (before : List (List �
 unfolding race_of
 has_place words.Set tokens before h = tt
 has_place words.Policy tokens before h = tt
-has_place words.Source tokens before h = tt
-has_place words.Route tokens before h = tt
+has_place words.Source tokens before h =
+    let few = leb-false SOURCES (lines_with 3 before) (not_failed (leb SOURCES (lines_with 3 before)) kinds.TooMany h) in
+    let count = given_count source_said 3 sources_tell before in
+    omega arith
+has_place words.Route tokens before h =
+    let few = leb-false ROUTES (lines_with 4 before) (not_failed (leb ROUTES (lines_with 4 before)) kinds.TooMany h) in
+    let count = given_count route_said 4 routes_tell before in
+    omega arith
 has_place words.Aaaa tokens before h =
     let few = leb-false 1 (lines_with 5 before) (not_failed (leb 1 (lines_with 5 before)) kinds.Repeated h) in
     let count = given_count (answer_said families.V6) 5 aaaa_tell before in

@@ -2,7 +2,6 @@
 use Rattle.std.proofs.Common.{◌≡◌, ℕ, ◌+◌, ◌-◌, ◌<◌, ◌≤◌, Bool, true, false, cond, leb, ltb, not, List, [], ◌∷◌, ◌++◌, length, take, Option, Some, None, Result, Ok, Err, refl, sym, ◌∙◌, ap, subst, arith, append_assoc, length-append}
 use Rattle.std.specs.Prelude.{codes, is_some}
 use Rattle.std.specs.List.{AllByRecursion, AllZip, filter_map, join_with_byte}
-use Rattle.std.specs.Option.{ok_or}
 use Rattle.std.specs.Str.{bytes_eq}
 use Rattle.std.proofs.lemmas.Slice.Eq.{bytes_eq-Decides}
 use Rattle.std.proofs.lemmas.Bool.{ltb-false, le-leb, and_from, and_parts}
@@ -14,6 +13,9 @@ use Rattle.he_addr.specs.declared.ip.Ip.{Ip}
 use Rattle.he_plan.specs.declared.outcome.Outcome.{Outcome}
 use Rattle.he_plan.specs.Race.{Race, Reply}
 use Rattle.he_plan.specs.Timeline.{IsRace}
+use Rattle.he_select.specs.declared.policy.Row.{Row}
+use Rattle.he_select.specs.declared.host.Source.{Source}
+use Rattle.he_select.specs.declared.host.Route.{Route}
 use Rattle.he_text.specs.declared.fault.TextKind.{TextKind}
 use Rattle.he_text.specs.declared.fault.TextKind.TheVariants as kinds
 use Rattle.he_text.specs.declared.limits.TheConstants.{MAX_LINE}
@@ -22,115 +24,22 @@ use Rattle.he_text.specs.declared.words.Name.TheVariants.{Resolution, Attempt, C
 use Rattle.he_text.specs.declared.words.Word.{Word}
 use Rattle.he_text.specs.declared.words.Word.TheVariants as words
 use Rattle.std.specs.Result.{result_ok}
-use Rattle.he_text.specs.Faults.{anyone, first_fault, test, group_on, last_group, known_to, said_before, too_long, unfinished, wrong_header, wrong_word, too_often, wrong_bounds, repeated, line_fault, ends}
-use Rattle.he_text.specs.Forms.{◌>>=◌, setting_in, answer_in, connect_in, pause_in, end_in, word_of, said_by, said_in}
+use Rattle.he_text.specs.Faults.{anyone, first_fault, test, group_on, last_group, known_to, said_before, too_long, unfinished, wrong_header, wrong_word, too_often, wrong_bounds, repeated, wrong_table, line_fault, ends}
+use Rattle.he_text.specs.Forms.{◌>>=◌, setting_in, row_in, host_source_in, host_route_in, answer_in, connect_in, pause_in, end_in, word_of, said_by, said_in}
 use Rattle.he_text.specs.Parts.{lines_of, tokens_of}
 use Rattle.he_text.specs.Reading.{read_lines}
-use Rattle.he_text.specs.Said.{Said, Setting, Passed, Answer, Told, Paused, Ended, same_name, setting_said, answer_said, first_of, setting_given, race_of}
+use Rattle.he_text.specs.Said.{Said, Setting, PolicyRow, HostSource, HostRoute, Answer, Told, Paused, Ended, same_name, setting_said, answer_said, first_of, setting_given, race_of}
 use Rattle.he_text.specs.Text.{Says, group_said, are_in_order, AreLines, IsRaceText}
-use Rattle.he_text.specs.Words.{group_of, spelling_of, name_spelling, word_in, name_in, is_end}
-use Rattle.he_text.proofs.Agreement.{line_checks, stop, walk, walk_all, raced, lines_agree, line_fault_is, checks_said, in_order, ends_known, later_checks}
-use Rattle.he_text.proofs.FormFacts.{setting_ok, answer_ok, connect_ok, pause_ok}
+use Rattle.he_text.specs.Words.{group_of, spelling_of, word_in, is_end}
+use Rattle.he_text.proofs.Agreement.{stop, walk, walk_all, raced, lines_agree, ends_known}
+use Rattle.he_text.proofs.Checks.{line_checks, line_fault_is, checks_said, checks_passed, in_order}
+use Rattle.he_text.proofs.SaysLaws.{word_tokens, says}
 use Rattle.he_text.proofs.OrderLaws.{last_more, group_is}
 use Rattle.he_text.proofs.PartLaws.{Lacks, parts_lack, joined_parts, front_lacks, lacks_more, join_behind}
 use Rattle.he_text.proofs.PlaceLaws.{has_place, said_more, said_group}
-use Rattle.he_text.proofs.Results.{bind_ok, ok_or_ok}
+use Rattle.he_text.proofs.Results.{bind_ok}
 use Rattle.he_text.proofs.SaidLaws.{none_more, one_more, race_ended}
 use Rattle.he_text.proofs.ToldLaws.{HasPlace}
-
--- words and names are spelled
-
-spelled_or : (token : List ℕ) (v w : Word) (b : Bool) (rest : Option Word) → bytes_eq token (spelling_of v) ≡ b → (rest ≡ Some w → token ≡ spelling_of w) → cond b (Some v) rest ≡ Some w → token ≡ spelling_of w
-spelled_or token v w true rest e later h =
-    let same : v ≡ w = cc (h) in
-    (bytes_eq-Decides token (spelling_of v)).0 e ∙ ap spelling_of same
-spelled_or token v w false rest e later h = later h
-
-word_spelled : (token : List ℕ) (w : Word) → word_in token ≡ Some w → token ≡ spelling_of w
-unfolding word_in
-word_spelled token w h =
-    spelled_or token words.Set w _ _ refl
-    (spelled_or token words.Policy w _ _ refl
-    (spelled_or token words.Source w _ _ refl
-    (spelled_or token words.Route w _ _ refl
-    (spelled_or token words.Aaaa w _ _ refl
-    (spelled_or token words.A w _ _ refl
-    (spelled_or token words.Connect w _ _ refl
-    (spelled_or token words.Pause w _ _ refl
-    (spelled_or token words.End w _ _ refl (λ e. absurd (no_word w e))))))))))
-    h
-  where
-    no_word : (w : Word) → None ≡ Some w → ⊥
-    no_word w e = cc
-
-named_or : (token : List ℕ) (v w : Name) (b : Bool) (rest : Option Name) → bytes_eq token (name_spelling v) ≡ b → (rest ≡ Some w → token ≡ name_spelling w) → cond b (Some v) rest ≡ Some w → token ≡ name_spelling w
-named_or token v w true rest e later h =
-    let same : v ≡ w = cc (h) in
-    (bytes_eq-Decides token (name_spelling v)).0 e ∙ ap name_spelling same
-named_or token v w false rest e later h = later h
-
-name_spelled : (token : List ℕ) (w : Name) → name_in token ≡ Some w → token ≡ name_spelling w
-unfolding name_in
-name_spelled token w h =
-    named_or token Resolution w _ _ refl
-    (named_or token Attempt w _ _ refl
-    (named_or token Count w _ _ refl
-    (named_or token Limit w _ _ refl (λ e. absurd (no_name w e)))))
-    h
-  where
-    no_name : (w : Name) → None ≡ Some w → ⊥
-    no_name w e = cc
-
-abbrev with_tokens : List (List ℕ) → Word → Result (Word × List (List ℕ)) TextKind
-with_tokens tokens word = Ok (word, tokens)
-
-word_tokens : (tokens : List (List ℕ)) (parts : Word × List (List ℕ)) → word_of tokens ≡ Ok parts → tokens ≡ spelling_of parts.0 ∷ parts.1
-unfolding word_of
-word_tokens [] parts h = cc
-word_tokens (token ∷ tokens) parts h =
-    let read = bind_ok (ok_or (word_in token) kinds.Word) (with_tokens tokens) parts h in
-    let same : (read.0, tokens) ≡ parts = cc (read.2) in
-    let spelled : token ≡ spelling_of read.0 = word_spelled token read.0 (ok_or_ok (word_in token) kinds.Word read.0 read.1) in
-    let P : Word × List (List ℕ) → Type 0 = λ p. token ∷ tokens ≡ spelling_of p.0 ∷ p.1 in
-    subst P same (ap (λ t. t ∷ tokens) spelled)
-
--- a line that is right says what was read of it
-says : (known : Ip → Bool) (line : List ℕ) (word : Word) (tokens : List (List ℕ)) (s : Said) → tokens_of line ≡ spelling_of word ∷ tokens → is_end word ≡ false → said_by known word tokens ≡ Ok s → Says line s
-unfolding said_by
-says known line words.Set tokens s is h e =
-    let read = bind_ok (setting_in tokens) (λ setting. Ok (Setting setting.0 setting.1)) s e in
-    let fact = setting_ok tokens read.0 read.1 in
-    let same : Setting read.0.0 read.0.1 ≡ s = cc (read.2) in
-    let P : Said → Type 0 = Says line in
-    subst P same (fact.second, is ∙ ap (λ ts. spelling_of words.Set ∷ ts) (fact.tokens_are ∙ ap (λ t. t ∷ fact.second ∷ []) (name_spelled fact.first read.0.0 fact.name_is)), fact.value_is)
-says known line words.Policy tokens s is h e = let same : Passed words.Policy ≡ s = cc (e) in let P : Said → Type 0 = Says line in subst P same (tokens, is, refl)
-says known line words.Source tokens s is h e = let same : Passed words.Source ≡ s = cc (e) in let P : Said → Type 0 = Says line in subst P same (tokens, is, refl)
-says known line words.Route tokens s is h e = let same : Passed words.Route ≡ s = cc (e) in let P : Said → Type 0 = Says line in subst P same (tokens, is, refl)
-says known line words.Aaaa tokens s is h e =
-    let read = bind_ok (answer_in families.V6 tokens) (λ reply. Ok (Answer families.V6 reply)) s e in
-    let fact = answer_ok families.V6 tokens read.0 read.1 in
-    let same : Answer families.V6 read.0 ≡ s = cc (read.2) in
-    let P : Said → Type 0 = Says line in
-    subst P same (fact.first, fact.others, is ∙ ap (λ ts. spelling_of words.Aaaa ∷ ts) fact.tokens_are, fact.tick, fact.addresses.listed, fact.few)
-says known line words.A tokens s is h e =
-    let read = bind_ok (answer_in families.V4 tokens) (λ reply. Ok (Answer families.V4 reply)) s e in
-    let fact = answer_ok families.V4 tokens read.0 read.1 in
-    let same : Answer families.V4 read.0 ≡ s = cc (read.2) in
-    let P : Said → Type 0 = Says line in
-    subst P same (fact.first, fact.others, is ∙ ap (λ ts. spelling_of words.A ∷ ts) fact.tokens_are, fact.tick, fact.addresses.listed, fact.few)
-says known line words.Connect tokens s is h e =
-    let read = bind_ok (connect_in known tokens) (λ told. Ok (Told told.0 told.1)) s e in
-    let fact = connect_ok known tokens read.0 read.1 in
-    let same : Told read.0.0 read.0.1 ≡ s = cc (read.2) in
-    let P : Said → Type 0 = Says line in
-    subst P same (fact.first, fact.last, is ∙ ap (λ ts. spelling_of words.Connect ∷ ts) fact.tokens_are, fact.ip_is, fact.ticks)
-says known line words.Pause tokens s is h e =
-    let read = bind_ok (pause_in tokens) (λ pause. Ok (Paused pause.0 pause.1)) s e in
-    let fact = pause_ok tokens read.0 read.1 in
-    let same : Paused read.0.0 read.0.1 ≡ s = cc (read.2) in
-    let P : Said → Type 0 = Says line in
-    subst P same (fact.first, fact.second, is ∙ ap (λ ts. spelling_of words.Pause ∷ ts) fact.tokens_are, fact.from_is, fact.to_is)
-says known line words.End tokens s is h e = cc
 
 -- one more of lists that go together
 zip_more : {A B : Type 0} (R : A → B → Type 0) (xs : List A) (ys : List B) (x : A) (y : B) → AllZip R xs ys → R x y → AllZip R (xs ++ x ∷ []) (ys ++ y ∷ [])
@@ -201,7 +110,9 @@ setting_new name said (Setting other value) h some = by_name (same_name name oth
     by_name : (b : Bool) → same_name name other ≡ b → is_some (cond b (Some value) None) ≡ true → first_of (filter_map (setting_said name) said) ≡ None
     by_name true e found = ap (λ n. setting_given n said) (same_name_is name other e) ∙ given_none (setting_given other said) kinds.Repeated h
     by_name false e found = cc
-setting_new name said (Passed word) h some = cc
+setting_new name said (PolicyRow row) h some = cc
+setting_new name said (HostSource source) h some = cc
+setting_new name said (HostRoute route) h some = cc
 setting_new name said (Answer family reply) h some = cc
 setting_new name said (Told ip outcome) h some = cc
 setting_new name said (Paused from to) h some = cc
@@ -211,9 +122,17 @@ silent_setting : (family : Family) (name : Name) (value : ℕ) → is_some (answ
 silent_setting families.V6 name value h = cc
 silent_setting families.V4 name value h = cc
 
-silent_passed : (family : Family) (word : Word) → is_some (answer_said family (Passed word)) ≡ true → ⊥
-silent_passed families.V6 word h = cc
-silent_passed families.V4 word h = cc
+silent_row : (family : Family) (row : Row) → is_some (answer_said family (PolicyRow row)) ≡ true → ⊥
+silent_row families.V6 row h = cc
+silent_row families.V4 row h = cc
+
+silent_source : (family : Family) (source : Source) → is_some (answer_said family (HostSource source)) ≡ true → ⊥
+silent_source families.V6 source h = cc
+silent_source families.V4 source h = cc
+
+silent_route : (family : Family) (route : Route) → is_some (answer_said family (HostRoute route)) ≡ true → ⊥
+silent_route families.V6 route h = cc
+silent_route families.V4 route h = cc
 
 silent_other : (reply : Reply) → is_some (answer_said families.V4 (Answer families.V6 reply)) ≡ true → ⊥
 silent_other reply h = cc
@@ -242,9 +161,15 @@ unfolding said_by race_of
 answer_new known words.Set tokens said s family e place some =
     let read = bind_ok (setting_in tokens) (λ setting. Ok (Setting setting.0 setting.1)) s e in
     let same : Setting read.0.0 read.0.1 ≡ s = cc (read.2) in absurd (silent_setting family read.0.0 read.0.1 (ap (λ x. is_some (answer_said family x)) same ∙ some))
-answer_new known words.Policy tokens said s family e place some = let same : Passed words.Policy ≡ s = cc (e) in absurd (silent_passed family words.Policy (ap (λ x. is_some (answer_said family x)) same ∙ some))
-answer_new known words.Source tokens said s family e place some = let same : Passed words.Source ≡ s = cc (e) in absurd (silent_passed family words.Source (ap (λ x. is_some (answer_said family x)) same ∙ some))
-answer_new known words.Route tokens said s family e place some = let same : Passed words.Route ≡ s = cc (e) in absurd (silent_passed family words.Route (ap (λ x. is_some (answer_said family x)) same ∙ some))
+answer_new known words.Policy tokens said s family e place some =
+    let read = bind_ok (row_in tokens) (λ row. Ok (PolicyRow row)) s e in
+    let same : PolicyRow read.0 ≡ s = cc (read.2) in absurd (silent_row family read.0 (ap (λ x. is_some (answer_said family x)) same ∙ some))
+answer_new known words.Source tokens said s family e place some =
+    let read = bind_ok (host_source_in tokens) (λ source. Ok (HostSource source)) s e in
+    let same : HostSource read.0 ≡ s = cc (read.2) in absurd (silent_source family read.0 (ap (λ x. is_some (answer_said family x)) same ∙ some))
+answer_new known words.Route tokens said s family e place some =
+    let read = bind_ok (host_route_in tokens) (λ route. Ok (HostRoute route)) s e in
+    let same : HostRoute read.0 ≡ s = cc (read.2) in absurd (silent_route family read.0 (ap (λ x. is_some (answer_said family x)) same ∙ some))
 answer_new known words.Aaaa tokens said s families.V6 e place some = place
 answer_new known words.Aaaa tokens said s families.V4 e place some =
     let read = bind_ok (answer_in families.V6 tokens) (λ reply. Ok (Answer families.V6 reply)) s e in
@@ -274,7 +199,7 @@ pub record IsRight (before : List (List ℕ)) (line : List ℕ) (after : List (L
   pub ended : 0 < length after
   pub parts : Word × List (List ℕ)
   pub word : word_of (tokens_of line) ≡ Ok parts
-  pub checks : line_checks before line (Ok parts) ≡ None
+  pub checks : line_checks before line after (Ok parts) ≡ None
 
 first_two : (long : Bool) (after : List (List ℕ)) (checks : Option TextKind) → first_fault (test long kinds.TooMany ∷ unfinished after ∷ checks ∷ []) ≡ None → (long ≡ false) × (0 < length after) × (checks ≡ None)
 first_two true after checks h = cc
@@ -287,41 +212,23 @@ is_right before line after h = by_word (word_of (tokens_of line)) refl
   where
     by_word : (word : Result (Word × List (List ℕ)) TextKind) → word_of (tokens_of line) ≡ word → IsRight before line after
     by_word (Err kind) e =
-        let three = first_two (ltb MAX_LINE (length line)) after (line_checks before line (Err kind)) (sym (line_fault_is before line after (Err kind) e) ∙ h) in
+        let three = first_two (ltb MAX_LINE (length line)) after (line_checks before line after (Err kind)) (sym (line_fault_is before line after (Err kind) e) ∙ h) in
         absurd (no_fault three.2)
     by_word (Ok parts) e =
-        let three = first_two (ltb MAX_LINE (length line)) after (line_checks before line (Ok parts)) (sym (line_fault_is before line after (Ok parts) e) ∙ h) in
+        let three = first_two (ltb MAX_LINE (length line)) after (line_checks before line after (Ok parts)) (sym (line_fault_is before line after (Ok parts) e) ∙ h) in
         record { short = ltb-false MAX_LINE (length line) three.0; ended = three.1; parts = parts; word = e; checks = three.2 }
-
-often_none : (word often : Option TextKind) (said : Result Said TextKind) (bounds again : Said → Option TextKind) → later_checks word often said bounds again ≡ None → often ≡ None
-often_none (Some kind) often said bounds again h = cc
-often_none None (Some kind) said bounds again h = cc
-often_none None None said bounds again h = refl
-
-last_none : (b a : Option TextKind) → first_fault (b ∷ a ∷ []) ≡ None → a ≡ None
-last_none (Some kind) a h = cc
-last_none None (Some kind) h = cc
-last_none None None h = refl
-
-again_none : (word often : Option TextKind) (said : Result Said TextKind) (s : Said) (bounds again : Said → Option TextKind) → later_checks word often said bounds again ≡ None → said ≡ Ok s → again s ≡ None
-again_none (Some kind) often said s bounds again h e = cc
-again_none None (Some kind) said s bounds again h e = cc
-again_none None None (Err kind) s bounds again h e = cc
-again_none None None (Ok x) s bounds again h e = let same : s ≡ x = cc (e) in ap again same ∙ last_none (bounds x) (again x) h
 
 -- one more line that is right and doesn't end the race
 right_more : (before : List (List ℕ)) (line : List ℕ) (after : List (List ℕ)) → AreRight before → (r : IsRight before line after) → is_end r.parts.0 ≡ false → AreRight (before ++ line ∷ [])
 right_more before line after right r goes =
     let told : List Said = said_before before in
     let known : Ip → Bool = known_to told in
-    let said = checks_said (wrong_word (last_group 0 before) (Ok r.parts)) (too_often before (Ok r.parts)) (said_by known r.parts.0 r.parts.1) (wrong_bounds told) (repeated told) r.checks in
-    let s : Said = said.0 in
-    let often = often_none (wrong_word (last_group 0 before) (Ok r.parts)) (too_often before (Ok r.parts)) (said_by known r.parts.0 r.parts.1) (wrong_bounds told) (repeated told) r.checks in
-    let new = again_none (wrong_word (last_group 0 before) (Ok r.parts)) (too_often before (Ok r.parts)) (said_by known r.parts.0 r.parts.1) s (wrong_bounds told) (repeated told) r.checks said.1 in
-    let more : said_before (before ++ line ∷ []) ≡ told ++ s ∷ [] = said_more known before line r.parts.0 r.parts.1 s r.word said.1 in
-    let group : group_said s ≡ group_of r.parts.0 = said_group known r.parts.0 r.parts.1 s said.1 in
+    let passed = checks_passed (wrong_word (last_group 0 before) (Ok r.parts)) (too_often before (Ok r.parts)) (said_by known r.parts.0 r.parts.1) (wrong_bounds told) (repeated told) (wrong_table told after) r.checks in
+    let s : Said = passed.s in
+    let more : said_before (before ++ line ∷ []) ≡ told ++ s ∷ [] = said_more known before line r.parts.0 r.parts.1 s r.word passed.said_is in
+    let group : group_said s ≡ group_of r.parts.0 = said_group known r.parts.0 r.parts.1 s passed.said_is in
     let here : group_on line ≡ group_of r.parts.0 = group_is line r.parts.0 r.parts.1 r.word in
-    let order : last_group 0 before ≤ group_of r.parts.0 = ltb-false (group_of r.parts.0) (last_group 0 before) (in_order before line r.parts.0 r.parts.1 r.checks) in
+    let order : last_group 0 before ≤ group_of r.parts.0 = ltb-false (group_of r.parts.0) (last_group 0 before) (in_order before line after r.parts.0 r.parts.1 r.checks) in
     let last : last_said 0 told ≡ last_group 0 before = right.last in
     let le : last_said 0 told ≤ group_said s = omega arith in
     let A : List Said → Type 0 = AreLines (before ++ line ∷ []) in
@@ -329,10 +236,10 @@ right_more before line after right r goes =
     record {
       are = subst A (sym more) (record {
         short = all_more (λ l. length l ≤ MAX_LINE) before line right.are.short r.short;
-        say = zip_more Says before told line s right.are.say (says known line r.parts.0 r.parts.1 s (word_tokens (tokens_of line) r.parts r.word) goes said.1);
+        say = zip_more Says before told line s right.are.say (says known line r.parts.0 r.parts.1 s (word_tokens (tokens_of line) r.parts r.word) goes passed.said_is);
         order = order_said_more 0 told s right.are.order le;
-        settings_once = λ name. once_more (setting_said name) told s (right.are.settings_once name) (setting_new name told s new);
-        answers_once = λ family. once_more (answer_said family) told s (right.are.answers_once family) (answer_new known r.parts.0 r.parts.1 told s family said.1 (has_place r.parts.0 r.parts.1 before often));
+        settings_once = λ name. once_more (setting_said name) told s (right.are.settings_once name) (setting_new name told s passed.again_is);
+        answers_once = λ family. once_more (answer_said family) told s (right.are.answers_once family) (answer_new known r.parts.0 r.parts.1 told s family passed.said_is (has_place r.parts.0 r.parts.1 before passed.often_is));
       });
       last = subst L (sym more) (last_said_more 0 told s ∙ group ∙ sym here ∙ sym (last_more 0 before line));
     }
@@ -386,7 +293,7 @@ walked n before (line ∷ after) x right h =
     by_end r true e got later =
         let same : (before ++ line ∷ [], after) ≡ x = cc (got) in
         let known : Ip → Bool = known_to (said_before before) in
-        let said = checks_said (wrong_word (last_group 0 before) (Ok r.parts)) (too_often before (Ok r.parts)) (said_by known r.parts.0 r.parts.1) (wrong_bounds (said_before before)) (repeated (said_before before)) r.checks in
+        let said = checks_said (wrong_word (last_group 0 before) (Ok r.parts)) (too_often before (Ok r.parts)) (said_by known r.parts.0 r.parts.1) (wrong_bounds (said_before before)) (repeated (said_before before)) (wrong_table (said_before before) after) r.checks in
         let is : line ≡ codes "end" = end_line known line r.parts said.0 r.word (sym e) said.1 in
         let P : List (List ℕ) × List (List ℕ) → Type 0 = λ p. IsWalked (before ++ line ∷ after) p.0 p.1 in
         subst P same (record {

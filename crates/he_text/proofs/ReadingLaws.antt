@@ -4,10 +4,7 @@ use Rattle.std.specs.Prelude.{IfErr, codes}
 use Rattle.std.specs.Str.{bytes_eq}
 use Rattle.std.proofs.lemmas.Bool.{le-ltb}
 use Rattle.std.proofs.lemmas.List.Splits.{length-slice_split}
-use Rattle.he_plan.specs.Building.{empty_race}
 use Rattle.he_plan.specs.Race.{Race}
-use Rattle.he_plan.specs.Settings.{SettingValues}
-use Rattle.he_text.specs.declared.draft.Given.{Given}
 use Rattle.he_text.specs.declared.draft.Order.{Order}
 use Rattle.he_text.specs.declared.fault.TextKind.{TextKind}
 use Rattle.he_text.specs.declared.fault.TextKind.TheVariants as kinds
@@ -15,7 +12,7 @@ use Rattle.he_text.specs.declared.limits.TheConstants.{MAX_LINE}
 use Rattle.he_text.specs.declared.words.Word.{Word}
 use Rattle.he_text.specs.Forms.{◌>>=◌}
 use Rattle.he_text.specs.Parts.{parts_of, tokens_of}
-use Rattle.he_text.specs.Reading.{Fails, FailsAt, at_line, ended_by, wholeness, take_line, read_body, head_of, take_head, settings_from, settle, read_head, read_lines, order_at_start, none_given}
+use Rattle.he_text.specs.Reading.{Fails, FailsAt, at_line, ended_by, wholeness, take_line, read_body, HeadGiven, head_of, take_head, race_from, settle, read_head, read_lines, order_at_start, no_head}
 use Rattle.he_text.specs.Words.{is_end}
 
 ended_by_some : (parts : List (List ℕ)) → 0 < length parts → ended_by parts ≡ Ok tt
@@ -64,19 +61,19 @@ body_more n order next race told word lines after line is whole taken ends =
     body_whole n order race lines after line is whole ∙ ap (body_after n after) taken
     ∙ ap (λ b. cond b (Ok (told, after)) (read_body (n + 1) next told after)) ends
 
+above_next : (n : ℕ) (read : Result (Race × List (List ℕ)) (ℕ × TextKind)) → IfErr read (λ fault. n + 1 ≤ fault.0) → IfErr read (λ fault. n ≤ fault.0)
+above_next n (Ok x) h = tt
+above_next n (Err fault) h = omega arith
+
 not_before_after : (n : ℕ) (after : List (List ℕ)) (taken : Result (Word × Order × Race) TextKind)
     → ((order : Order) (race : Race) → IfErr (read_body (n + 1) order race after) (λ fault. n + 1 ≤ fault.0))
     → IfErr (body_after n after taken) (λ fault. n ≤ fault.0)
 not_before_after n after (Err kind) later = omega arith
 not_before_after n after (Ok next) later = by_end (is_end next.0)
   where
-    weaker : (read : Result (Race × List (List ℕ)) (ℕ × TextKind)) → IfErr read (λ fault. n + 1 ≤ fault.0) → IfErr read (λ fault. n ≤ fault.0)
-    weaker (Ok x) h = tt
-    weaker (Err fault) h = omega arith
-
     by_end : (b : Bool) → IfErr (cond b (Ok (next.2, after)) (read_body (n + 1) next.1 next.2 after)) (λ fault. n ≤ fault.0)
     by_end true = tt
-    by_end false = weaker (read_body (n + 1) next.1 next.2 after) (later next.1 next.2)
+    by_end false = above_next n (read_body (n + 1) next.1 next.2 after) (later next.1 next.2)
 
 not_before_whole : (n : ℕ) (w : Result (Unit {0}) TextKind) (read : Result (Race × List (List ℕ)) (ℕ × TextKind))
     → IfErr read (λ fault. n ≤ fault.0) → IfErr (at_line n w >>= λ _. read) (λ fault. n ≤ fault.0)
@@ -92,18 +89,18 @@ body_not_before n order race (line ∷ after) =
     (not_before_after n after (take_line (tokens_of line) order race) (λ next told. body_not_before (n + 1) next told after))
 
 -- the first four groups: what follows a whole line
-abbrev pub head_after : ℕ → Order → Given → List (List ℕ) → List (List ℕ) → Option (Word × List (List ℕ)) → Result (Race × List (List ℕ)) (ℕ × TextKind)
+abbrev pub head_after : ℕ → Order → HeadGiven → List (List ℕ) → List (List ℕ) → Option (Word × List (List ℕ)) → Result (Race × List (List ℕ)) (ℕ × TextKind)
 head_after n order given lines after head = elim head [
   | None ↦ settle n order given lines
-  | Some parts ↦ at_line n (take_head parts order given) >>= λ next. read_head (n + 1) next.0 next.1 after
+  | Some parts ↦ at_line n (take_head after parts order given) >>= λ next. read_head (n + 1) next.0 next.1 after
 ]
 
-pub head_unwhole : (n : ℕ) (order : Order) (given : Given) (lines : List (List ℕ)) (kind : TextKind) → wholeness lines ≡ Err kind → read_head n order given lines ≡ Err (n, kind)
+pub head_unwhole : (n : ℕ) (order : Order) (given : HeadGiven) (lines : List (List ℕ)) (kind : TextKind) → wholeness lines ≡ Err kind → read_head n order given lines ≡ Err (n, kind)
 unfolding read_head wholeness
 head_unwhole n order given [] kind h = ap (λ w. at_line n w >>= λ _. Err (n, kinds.Unfinished)) h
 head_unwhole n order given (line ∷ after) kind h = ap (λ w. at_line n w >>= λ _. head_after n order given (line ∷ after) after (head_of (tokens_of line))) h
 
-pub head_whole : (n : ℕ) (order : Order) (given : Given) (lines after : List (List ℕ)) (line : List ℕ) → lines ≡ line ∷ after → wholeness lines ≡ Ok tt
+pub head_whole : (n : ℕ) (order : Order) (given : HeadGiven) (lines after : List (List ℕ)) (line : List ℕ) → lines ≡ line ∷ after → wholeness lines ≡ Ok tt
     → read_head n order given lines ≡ head_after n order given lines after (head_of (tokens_of line))
 unfolding read_head
 head_whole n order given lines after line is whole =
@@ -111,22 +108,54 @@ head_whole n order given lines after line is whole =
     ∙ ap (λ w. at_line n w >>= λ _. head_after n order given (line ∷ after) after (head_of (tokens_of line))) (ap wholeness (sym is) ∙ whole)
     ∙ ap (λ ls. head_after n order given ls after (head_of (tokens_of line))) (sym is)
 
-pub head_settles : (n : ℕ) (order : Order) (given : Given) (lines after : List (List ℕ)) (line : List ℕ) → lines ≡ line ∷ after → wholeness lines ≡ Ok tt
+pub head_settles : (n : ℕ) (order : Order) (given : HeadGiven) (lines after : List (List ℕ)) (line : List ℕ) → lines ≡ line ∷ after → wholeness lines ≡ Ok tt
     → head_of (tokens_of line) ≡ None → read_head n order given lines ≡ settle n order given lines
 head_settles n order given lines after line is whole none =
     head_whole n order given lines after line is whole ∙ ap (head_after n order given lines after) none
 
-pub head_wrong : (n : ℕ) (order : Order) (given : Given) (parts : Word × List (List ℕ)) (lines after : List (List ℕ)) (line : List ℕ) (kind : TextKind) → lines ≡ line ∷ after → wholeness lines ≡ Ok tt
-    → head_of (tokens_of line) ≡ Some parts → take_head parts order given ≡ Err kind → read_head n order given lines ≡ Err (n, kind)
+pub head_wrong : (n : ℕ) (order : Order) (given : HeadGiven) (parts : Word × List (List ℕ)) (lines after : List (List ℕ)) (line : List ℕ) (kind : TextKind) → lines ≡ line ∷ after → wholeness lines ≡ Ok tt
+    → head_of (tokens_of line) ≡ Some parts → take_head after parts order given ≡ Err kind → read_head n order given lines ≡ Err (n, kind)
 head_wrong n order given parts lines after line kind is whole some taken =
     head_whole n order given lines after line is whole ∙ ap (head_after n order given lines after) some
     ∙ ap (λ t. at_line n t >>= λ next. read_head (n + 1) next.0 next.1 after) taken
 
-pub head_more : (n : ℕ) (order next : Order) (given more : Given) (parts : Word × List (List ℕ)) (lines after : List (List ℕ)) (line : List ℕ) → lines ≡ line ∷ after → wholeness lines ≡ Ok tt
-    → head_of (tokens_of line) ≡ Some parts → take_head parts order given ≡ Ok (next, more) → read_head n order given lines ≡ read_head (n + 1) next more after
+pub head_more : (n : ℕ) (order next : Order) (given more : HeadGiven) (parts : Word × List (List ℕ)) (lines after : List (List ℕ)) (line : List ℕ) → lines ≡ line ∷ after → wholeness lines ≡ Ok tt
+    → head_of (tokens_of line) ≡ Some parts → take_head after parts order given ≡ Ok (next, more) → read_head n order given lines ≡ read_head (n + 1) next more after
 head_more n order next given more parts lines after line is whole some taken =
     head_whole n order given lines after line is whole ∙ ap (head_after n order given lines after) some
     ∙ ap (λ t. at_line n t >>= λ next. read_head (n + 1) next.0 next.1 after) taken
+
+settle_not_before : (n : ℕ) (order : Order) (lines : List (List ℕ)) (start : Result Race TextKind) → IfErr (at_line n start >>= λ race. read_body n order race lines) (λ fault. n ≤ fault.0)
+settle_not_before n order lines (Ok race) = body_not_before n order race lines
+settle_not_before n order lines (Err kind) = omega arith
+
+taken_not_before : (n : ℕ) (after : List (List ℕ)) (taken : Result (Order × HeadGiven) TextKind) → ((order : Order) (given : HeadGiven) → IfErr (read_head (n + 1) order given after) (λ fault. n + 1 ≤ fault.0))
+    → IfErr (at_line n taken >>= λ next. read_head (n + 1) next.0 next.1 after) (λ fault. n ≤ fault.0)
+taken_not_before n after (Err kind) later = omega arith
+taken_not_before n after (Ok next) later = above_next n (read_head (n + 1) next.0 next.1 after) (later next.0 next.1)
+
+-- a fault of what the lines of the first groups begin isn't above the line from which is read
+pub head_not_before : (n : ℕ) (order : Order) (given : HeadGiven) (lines : List (List ℕ)) → IfErr (read_head n order given lines) (λ fault. n ≤ fault.0)
+unfolding read_head settle
+head_not_before n order given [] = omega arith
+head_not_before n order given (line ∷ after) =
+    not_before_whole n (wholeness (line ∷ after)) (head_after n order given (line ∷ after) after (head_of (tokens_of line)))
+    (by_head (head_of (tokens_of line)) (λ next more. head_not_before (n + 1) next more after))
+  where
+    by_head : (head : Option (Word × List (List ℕ))) → ((next : Order) (more : HeadGiven) → IfErr (read_head (n + 1) next more after) (λ fault. n + 1 ≤ fault.0))
+        → IfErr (head_after n order given (line ∷ after) after head) (λ fault. n ≤ fault.0)
+    by_head None later = settle_not_before n order (line ∷ after) (race_from given)
+    by_head (Some parts) later = taken_not_before n after (take_head after parts order given) later
+
+-- a line of the first groups that is refused, for its fault or for memory
+pub fails_head : (n : ℕ) (order : Order) (given : HeadGiven) (parts : Word × List (List ℕ)) (lines after : List (List ℕ)) (line : List ℕ) (kind : TextKind) (read : Result (Race × List (List ℕ)) (ℕ × TextKind))
+    → read ≡ read_head n order given lines → lines ≡ line ∷ after → wholeness lines ≡ Ok tt → head_of (tokens_of line) ≡ Some parts
+    → Fails kind (take_head after parts order given) → FailsAt n kind read
+fails_head n order given parts lines after line kind read reads is whole some fails = elim fails [
+  | inl memory ↦ let P : Result (Race × List (List ℕ)) (ℕ × TextKind) → Type 0 = λ r. IfErr r (λ fault. n ≤ fault.0) in
+      inl (memory, subst P (sym reads) (head_not_before n order given lines))
+  | inr wrong ↦ inr (reads ∙ head_wrong n order given parts lines after line kind is whole some wrong)
+]
 
 -- a line of the other groups that is refused, for its fault or for memory
 pub fails_body : (n : ℕ) (order : Order) (race : Race) (lines after : List (List ℕ)) (line : List ℕ) (kind : TextKind) (read : Result (Race × List (List ℕ)) (ℕ × TextKind))
@@ -138,18 +167,30 @@ fails_body n order race lines after line kind read reads is whole fails = elim f
   | inr wrong ↦ inr (reads ∙ body_wrong n order race lines after line kind is whole wrong)
 ]
 
--- the settings are known
-pub settle_wrong : (n : ℕ) (order : Order) (given : Given) (lines : List (List ℕ)) (kind : TextKind) → settings_from given ≡ Err kind → settle n order given lines ≡ Err (n, kind)
+-- what the lines of the first groups make
+pub settle_reads : (n : ℕ) (order : Order) (given : HeadGiven) (lines : List (List ℕ)) (race : Race) → race_from given ≡ Ok race → settle n order given lines ≡ read_body n order race lines
 unfolding settle
-settle_wrong n order given lines kind h = ap (λ s. at_line n s >>= λ settings. read_body n order (empty_race settings) lines) h
+settle_reads n order given lines race h = ap (λ s. at_line n s >>= λ race. read_body n order race lines) h
 
-pub settle_reads : (n : ℕ) (order : Order) (given : Given) (lines : List (List ℕ)) (settings : SettingValues) → settings_from given ≡ Ok settings → settle n order given lines ≡ read_body n order (empty_race settings) lines
+settle_wrong : (n : ℕ) (order : Order) (given : HeadGiven) (lines : List (List ℕ)) (kind : TextKind) → race_from given ≡ Err kind → settle n order given lines ≡ Err (n, kind)
 unfolding settle
-settle_reads n order given lines settings h = ap (λ s. at_line n s >>= λ settings. read_body n order (empty_race settings) lines) h
+settle_wrong n order given lines kind h = ap (λ s. at_line n s >>= λ race. read_body n order race lines) h
+
+settled_not_before : (n : ℕ) (order : Order) (given : HeadGiven) (lines : List (List ℕ)) → IfErr (settle n order given lines) (λ fault. n ≤ fault.0)
+unfolding settle
+settled_not_before n order given lines = settle_not_before n order lines (race_from given)
+
+pub fails_settled : (n : ℕ) (order : Order) (given : HeadGiven) (lines : List (List ℕ)) (kind : TextKind) (read : Result (Race × List (List ℕ)) (ℕ × TextKind))
+    → read ≡ settle n order given lines → Fails kind (race_from given) → FailsAt n kind read
+fails_settled n order given lines kind read reads fails = elim fails [
+  | inl memory ↦ let P : Result (Race × List (List ℕ)) (ℕ × TextKind) → Type 0 = λ r. IfErr r (λ fault. n ≤ fault.0) in
+      inl (memory, subst P (sym reads) (settled_not_before n order given lines))
+  | inr wrong ↦ inr (reads ∙ settle_wrong n order given lines kind wrong)
+]
 
 -- the first line
 abbrev pub begin : List ℕ → List (List ℕ) → Bool → Result (Race × List (List ℕ)) (ℕ × TextKind)
-begin line after same = cond same (read_head 2 order_at_start none_given after) (Err (1, kinds.Header))
+begin line after same = cond same (read_head 2 order_at_start no_head after) (Err (1, kinds.Header))
 
 pub lines_unwhole : (lines : List (List ℕ)) (kind : TextKind) → wholeness lines ≡ Err kind → read_lines lines ≡ Err (1, kind)
 unfolding read_lines wholeness

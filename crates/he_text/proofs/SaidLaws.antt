@@ -12,9 +12,13 @@ use Rattle.he_plan.specs.Building.{empty_race, with_answer, with_outcome, with_p
 use Rattle.he_plan.specs.declared.outcome.Outcome.{Outcome}
 use Rattle.he_plan.specs.Race.{Race, Reply, reply_of}
 use Rattle.he_plan.specs.Settings.{SettingValues}
+use Rattle.he_select.specs.declared.policy.Row.{Row}
+use Rattle.he_select.specs.declared.host.Source.{Source}
+use Rattle.he_select.specs.declared.host.Route.{Route}
+use Rattle.he_select.specs.Hosts.{Interfaces}
 use Rattle.he_text.specs.declared.words.Name.{Name}
 use Rattle.he_text.specs.declared.words.Name.TheVariants.{Resolution, Attempt, Count, Limit}
-use Rattle.he_text.specs.Said.{Said, Answer, Told, Paused, Ended, setting_said, answer_said, outcome_said, pause_said, first_of, setting_given, answer_given, outcomes_given, pauses_given, settings_given, race_of}
+use Rattle.he_text.specs.Said.{Said, Answer, Told, Paused, Ended, setting_said, row_said, source_said, route_said, answer_said, outcome_said, pause_said, first_of, setting_given, rows_given, sources_given, routes_given, answer_given, outcomes_given, pauses_given, settings_given, table_of_rows, host_given, race_of}
 
 pub none_more : {X Y : Type 0} (h : X → Option Y) (xs : List X) (x : X) → h x ≡ None → filter_map h (xs ++ x ∷ []) ≡ filter_map h xs
 none_more h xs x none = filter_map-append h xs (x ∷ []) ∙ ap (λ o. filter_map h xs ++ cons_option o []) none ∙ append-nil (filter_map h xs)
@@ -33,13 +37,17 @@ settings_same : (r r' a a' c c' l l' : ℕ) → r ≡ r' → a ≡ a' → c ≡ 
 settings_same r r' a a' c c' l l' er ea ec el =
     ap (λ x. made_settings x a c l) er ∙ ap (λ x. made_settings r' x c l) ea ∙ ap (λ x. made_settings r' a' x l) ec ∙ ap (made_settings r' a' c') el
 
-abbrev made : SettingValues → Option Reply → Option Reply → List (Ip × Outcome) → List (ℕ × ℕ) → Race
-made s aaaa a o p = record { settings = s; aaaa = aaaa; a = a; outcomes = o; pauses = p }
+abbrev made_host : List Source → List Route → Interfaces
+made_host sources routes = record { sources = sources; routes = routes }
 
-race_same : (s s' : SettingValues) (aaaa aaaa' a a' : Option Reply) (o o' : List (Ip × Outcome)) (p p' : List (ℕ × ℕ))
-    → s ≡ s' → aaaa ≡ aaaa' → a ≡ a' → o ≡ o' → p ≡ p' → made s aaaa a o p ≡ made s' aaaa' a' o' p'
-race_same s s' aaaa aaaa' a a' o o' p p' es eaaaa ea eo ep =
-    ap (λ x. made x aaaa a o p) es ∙ ap (λ x. made s' x a o p) eaaaa ∙ ap (λ x. made s' aaaa' x o p) ea ∙ ap (λ x. made s' aaaa' a' x p) eo ∙ ap (made s' aaaa' a' o') ep
+abbrev made : SettingValues → List Row → Interfaces → Option Reply → Option Reply → List (Ip × Outcome) → List (ℕ × ℕ) → Race
+made s t h aaaa a o p = record { settings = s; policy = t; host = h; aaaa = aaaa; a = a; outcomes = o; pauses = p }
+
+race_same : (s s' : SettingValues) (t t' : List Row) (h h' : Interfaces) (aaaa aaaa' a a' : Option Reply) (o o' : List (Ip × Outcome)) (p p' : List (ℕ × ℕ))
+    → s ≡ s' → t ≡ t' → h ≡ h' → aaaa ≡ aaaa' → a ≡ a' → o ≡ o' → p ≡ p' → made s t h aaaa a o p ≡ made s' t' h' aaaa' a' o' p'
+race_same s s' t t' h h' aaaa aaaa' a a' o o' p p' es et eh eaaaa ea eo ep =
+    ap (λ x. made x t h aaaa a o p) es ∙ ap (λ x. made s' x h aaaa a o p) et ∙ ap (λ x. made s' t' x aaaa a o p) eh
+    ∙ ap (λ x. made s' t' h' x a o p) eaaaa ∙ ap (λ x. made s' t' h' aaaa' x o p) ea ∙ ap (λ x. made s' t' h' aaaa' a' x p) eo ∙ ap (made s' t' h' aaaa' a' o') ep
 
 pub setting_kept : (name : Name) (said : List Said) (s : Said) → setting_said name s ≡ None → setting_given name (said ++ s ∷ []) ≡ setting_given name said
 setting_kept name said s none = ap first_of (none_more (setting_said name) said s none)
@@ -51,6 +59,13 @@ settings_kept said s none = settings_same _ _ _ _ _ _ _ _
     (ap (λ o. unwrap_or o DEFAULT_COUNT) (setting_kept Count said s (none Count)))
     (ap (λ o. unwrap_or o DEFAULT_LIMIT) (setting_kept Limit said s (none Limit)))
 
+table_kept : (said : List Said) (s : Said) → row_said s ≡ None → table_of_rows (rows_given (said ++ s ∷ [])) ≡ table_of_rows (rows_given said)
+table_kept said s none = ap table_of_rows (none_more row_said said s none)
+
+host_kept : (said : List Said) (s : Said) → source_said s ≡ None → route_said s ≡ None → host_given (said ++ s ∷ []) ≡ host_given said
+host_kept said s no_source no_route =
+    ap (λ x. made_host x (routes_given (said ++ s ∷ []))) (none_more source_said said s no_source) ∙ ap (made_host (sources_given said)) (none_more route_said said s no_route)
+
 answer_kept : (family : Family) (said : List Said) (s : Said) → answer_said family s ≡ None → answer_given family (said ++ s ∷ []) ≡ answer_given family said
 answer_kept family said s none = ap first_of (none_more (answer_said family) said s none)
 
@@ -59,14 +74,18 @@ answer_new family said s reply some none = ap first_of (one_more (answer_said fa
 
 pub race_answered : (family : Family) (said : List Said) (reply : Reply) → reply_of (race_of said) family ≡ None → race_of (said ++ Answer family reply ∷ []) ≡ with_answer (race_of said) family reply
 unfolding race_of
-race_answered families.V6 said reply none = race_same _ _ _ _ _ _ _ _ _ _
+race_answered families.V6 said reply none = race_same _ _ _ _ _ _ _ _ _ _ _ _ _ _
     (settings_kept said (Answer families.V6 reply) (λ name. refl))
+    (table_kept said (Answer families.V6 reply) refl)
+    (host_kept said (Answer families.V6 reply) refl refl)
     (answer_new families.V6 said (Answer families.V6 reply) reply refl none)
     (answer_kept families.V4 said (Answer families.V6 reply) refl)
     (none_more outcome_said said (Answer families.V6 reply) refl)
     (none_more pause_said said (Answer families.V6 reply) refl)
-race_answered families.V4 said reply none = race_same _ _ _ _ _ _ _ _ _ _
+race_answered families.V4 said reply none = race_same _ _ _ _ _ _ _ _ _ _ _ _ _ _
     (settings_kept said (Answer families.V4 reply) (λ name. refl))
+    (table_kept said (Answer families.V4 reply) refl)
+    (host_kept said (Answer families.V4 reply) refl refl)
     (answer_kept families.V6 said (Answer families.V4 reply) refl)
     (answer_new families.V4 said (Answer families.V4 reply) reply refl none)
     (none_more outcome_said said (Answer families.V4 reply) refl)
@@ -74,8 +93,10 @@ race_answered families.V4 said reply none = race_same _ _ _ _ _ _ _ _ _ _
 
 pub race_told : (said : List Said) (ip : Ip) (outcome : Outcome) → race_of (said ++ Told ip outcome ∷ []) ≡ with_outcome (race_of said) ip outcome
 unfolding race_of
-race_told said ip outcome = race_same _ _ _ _ _ _ _ _ _ _
+race_told said ip outcome = race_same _ _ _ _ _ _ _ _ _ _ _ _ _ _
     (settings_kept said (Told ip outcome) (λ name. refl))
+    (table_kept said (Told ip outcome) refl)
+    (host_kept said (Told ip outcome) refl refl)
     (answer_kept families.V6 said (Told ip outcome) refl)
     (answer_kept families.V4 said (Told ip outcome) refl)
     (one_more outcome_said said (Told ip outcome) (ip, outcome) refl)
@@ -83,8 +104,10 @@ race_told said ip outcome = race_same _ _ _ _ _ _ _ _ _ _
 
 pub race_paused : (said : List Said) (from to : ℕ) → race_of (said ++ Paused from to ∷ []) ≡ with_pause (race_of said) from to
 unfolding race_of
-race_paused said from to = race_same _ _ _ _ _ _ _ _ _ _
+race_paused said from to = race_same _ _ _ _ _ _ _ _ _ _ _ _ _ _
     (settings_kept said (Paused from to) (λ name. refl))
+    (table_kept said (Paused from to) refl)
+    (host_kept said (Paused from to) refl refl)
     (answer_kept families.V6 said (Paused from to) refl)
     (answer_kept families.V4 said (Paused from to) refl)
     (none_more outcome_said said (Paused from to) refl)
@@ -92,8 +115,10 @@ race_paused said from to = race_same _ _ _ _ _ _ _ _ _ _
 
 pub race_ended : (said : List Said) → race_of (said ++ Ended ∷ []) ≡ race_of said
 unfolding race_of
-race_ended said = race_same _ _ _ _ _ _ _ _ _ _
+race_ended said = race_same _ _ _ _ _ _ _ _ _ _ _ _ _ _
     (settings_kept said Ended (λ name. refl))
+    (table_kept said Ended refl)
+    (host_kept said Ended refl refl)
     (answer_kept families.V6 said Ended refl)
     (answer_kept families.V4 said Ended refl)
     (none_more outcome_said said Ended refl)
@@ -106,9 +131,9 @@ pub record IsQuiet (said : List Said) : Type 0 where
   pub outcomes : outcomes_given said ≡ []
   pub pauses : pauses_given said ≡ []
 
-pub quiet_race : (said : List Said) → IsQuiet said → race_of said ≡ empty_race (settings_given said)
+pub quiet_race : (said : List Said) → IsQuiet said → race_of said ≡ empty_race (settings_given said) (table_of_rows (rows_given said)) (host_given said)
 unfolding race_of
-quiet_race said quiet = race_same _ _ _ _ _ _ _ _ _ _ refl quiet.aaaa quiet.a quiet.outcomes quiet.pauses
+quiet_race said quiet = race_same _ _ _ _ _ _ _ _ _ _ _ _ _ _ refl refl refl quiet.aaaa quiet.a quiet.outcomes quiet.pauses
 
 pub quiet_more : (said : List Said) (s : Said) → IsQuiet said → answer_said families.V6 s ≡ None → answer_said families.V4 s ≡ None → outcome_said s ≡ None → pause_said s ≡ None → IsQuiet (said ++ s ∷ [])
 quiet_more said s quiet h6 h4 ho hp = record {

@@ -10,16 +10,17 @@ use Rattle.he_plan.specs.declared.builder.BuildFault.{BuildFault}
 use Rattle.he_plan.specs.declared.builder.BuildFault.TheVariants as faults
 use Rattle.he_plan.specs.declared.limits.TheConstants.{MAX_TICK, MIN_DURATION, MAX_DURATION, MAX_PAUSE_END, MAX_PAUSES, MAX_ADDRESSES}
 use Rattle.he_plan.specs.declared.outcome.Outcome.{Outcome}
+use Rattle.he_select.specs.declared.limits.TheConstants.{SOURCES, ROUTES}
 use Rattle.he_plan.specs.Race.{Race, Reply, reply_of, stands, has_outcome}
 use Rattle.he_plan.specs.Timeline.{are_of, are_distinct, is_duration, duration_of}
 use Rattle.he_text.specs.declared.fault.TextKind.{TextKind}
 use Rattle.he_text.specs.declared.fault.TextKind.TheVariants as kinds
 use Rattle.he_text.specs.declared.words.Word.{Word}
 use Rattle.he_text.specs.declared.words.Word.TheVariants as words
-use Rattle.he_text.specs.Faults.{first_fault, test, wrong_bounds, repeated, known_to}
+use Rattle.he_text.specs.Faults.{first_fault, test, wrong_bounds, repeated, wrong_table, known_to}
 use Rattle.he_text.specs.Forms.{◌>>=◌, answer_in, connect_in, pause_in, end_in, said_by}
 use Rattle.he_text.specs.Reading.{built, take_answer, take_told}
-use Rattle.he_text.specs.Said.{Said, Answer, Told, Paused, Ended, outcomes_given, pauses_given, race_of}
+use Rattle.he_text.specs.Said.{Said, Answer, Told, Paused, Ended, sources_given, routes_given, outcomes_given, pauses_given, race_of}
 use Rattle.he_text.specs.Words.{is_head_word}
 use Rattle.he_text.proofs.FormFacts.{IsAnswer, IsTold, IsPause, answer_ok, connect_ok, pause_ok}
 use Rattle.he_text.proofs.SaidLaws.{race_answered, race_told, race_paused, race_ended}
@@ -29,9 +30,9 @@ abbrev pub outcome : {B : Type 0} → Option TextKind → B → Result B TextKin
 outcome None x = Ok x
 outcome (Some kind) x = Err kind
 
--- the last two checks, and the race with what was said
-abbrev pub judged : List Said → Said → Result Race TextKind
-judged said s = outcome (first_fault (wrong_bounds said s ∷ repeated said s ∷ [])) (race_of (said ++ s ∷ []))
+-- the last three checks, and the race with what was said
+abbrev pub judged : List (List ℕ) → List Said → Said → Result Race TextKind
+judged after said s = outcome (first_fault (wrong_bounds said s ∷ repeated said s ∷ wrong_table said after s ∷ [])) (race_of (said ++ s ∷ []))
 
 -- the builder's checks that can't fail behind the form
 admitted : (b1 b2 b3 b4 : Bool) (rest : Result Race BuildFault) → b1 ≡ false → b2 ≡ false → b3 ≡ false → b4 ≡ true
@@ -42,16 +43,16 @@ admitted false false true b4 rest h1 h2 h3 h4 = cc
 admitted false false false false rest h1 h2 h3 h4 = cc
 admitted false false false true rest h1 h2 h3 h4 = refl
 
-distinct_judged : (d : Bool) (race other : Race) → race ≡ other → built (cond (not d) (Err faults.Repeated) (Ok race)) ≡ outcome (first_fault (None ∷ test (not d) kinds.Repeated ∷ [])) other
+distinct_judged : (d : Bool) (race other : Race) → race ≡ other → built (cond (not d) (Err faults.Repeated) (Ok race)) ≡ outcome (first_fault (None ∷ test (not d) kinds.Repeated ∷ None ∷ [])) other
 distinct_judged true race other same = ap Ok same
 distinct_judged false race other same = refl
 
 is_none : {A : Type 0} (o : Option A) → o ≡ None → is_some o ≡ false
 is_none o h = ap is_some h
 
-answer_judged : (family : Family) (tokens : List (List ℕ)) (said : List Said) (reply : Reply) → reply_of (race_of said) family ≡ None → IsAnswer family tokens reply
-    → built (add_answer family reply.tick reply.addresses (race_of said)) ≡ judged said (Answer family reply)
-answer_judged family tokens said reply none is =
+answer_judged : (after : List (List ℕ)) (family : Family) (tokens : List (List ℕ)) (said : List Said) (reply : Reply) → reply_of (race_of said) family ≡ None → IsAnswer family tokens reply
+    → built (add_answer family reply.tick reply.addresses (race_of said)) ≡ judged after said (Answer family reply)
+answer_judged after family tokens said reply none is =
     let tick : reply.tick ≤ MAX_TICK = is.tick.most in
     let count : length reply.addresses ≤ length is.others = is.addresses.count in
     let few : length is.others ≤ MAX_ADDRESSES = is.few in
@@ -60,19 +61,19 @@ answer_judged family tokens said reply none is =
     (is_none _ none) (le-ltb MAX_TICK reply.tick tick) (le-ltb MAX_ADDRESSES (length reply.addresses) (omega arith)) is.addresses.of_family
     ∙ distinct_judged (are_distinct reply.addresses) (with_answer (race_of said) family reply) (race_of (said ++ Answer family reply ∷ [])) (sym (race_answered family said reply none))
 
-by_answer : (family : Family) (tokens : List (List ℕ)) (said : List Said) (read : Result Reply TextKind) → reply_of (race_of said) family ≡ None → ((reply : Reply) → read ≡ Ok reply → IsAnswer family tokens reply)
-    → (read >>= λ reply. built (add_answer family reply.tick reply.addresses (race_of said))) ≡ ((read >>= λ reply. Ok (Answer family reply)) >>= judged said)
-by_answer family tokens said (Err kind) none facts = refl
-by_answer family tokens said (Ok reply) none facts = answer_judged family tokens said reply none (facts reply refl)
+by_answer : (after : List (List ℕ)) (family : Family) (tokens : List (List ℕ)) (said : List Said) (read : Result Reply TextKind) → reply_of (race_of said) family ≡ None → ((reply : Reply) → read ≡ Ok reply → IsAnswer family tokens reply)
+    → (read >>= λ reply. built (add_answer family reply.tick reply.addresses (race_of said))) ≡ ((read >>= λ reply. Ok (Answer family reply)) >>= judged after said)
+by_answer after family tokens said (Err kind) none facts = refl
+by_answer after family tokens said (Ok reply) none facts = answer_judged after family tokens said reply none (facts reply refl)
 
-pub answer_agrees : (family : Family) (tokens : List (List ℕ)) (said : List Said) → reply_of (race_of said) family ≡ None
-    → take_answer family tokens (race_of said) ≡ ((answer_in family tokens >>= λ reply. Ok (Answer family reply)) >>= judged said)
+pub answer_agrees : (after : List (List ℕ)) (family : Family) (tokens : List (List ℕ)) (said : List Said) → reply_of (race_of said) family ≡ None
+    → take_answer family tokens (race_of said) ≡ ((answer_in family tokens >>= λ reply. Ok (Answer family reply)) >>= judged after said)
 unfolding take_answer
-answer_agrees family tokens said none = by_answer family tokens said (answer_in family tokens) none (answer_ok family tokens)
+answer_agrees after family tokens said none = by_answer after family tokens said (answer_in family tokens) none (answer_ok family tokens)
 
 -- outcomes
 told_checked : (b1 b2 b3 : Bool) (race other : Race) → b1 ≡ true → b2 ≡ true → race ≡ other
-    → built (cond (not b1) (Err faults.Range) (cond (not b2) (Err faults.Stranger) (cond b3 (Err faults.Repeated) (Ok race)))) ≡ outcome (first_fault (None ∷ test b3 kinds.Repeated ∷ [])) other
+    → built (cond (not b1) (Err faults.Range) (cond (not b2) (Err faults.Stranger) (cond b3 (Err faults.Repeated) (Ok race)))) ≡ outcome (first_fault (None ∷ test b3 kinds.Repeated ∷ None ∷ [])) other
 told_checked false b2 b3 race other h1 h2 same = cc
 told_checked true false b3 race other h1 h2 same = cc
 told_checked true true true race other h1 h2 same = refl
@@ -86,23 +87,23 @@ pauses_of : (said : List Said) → (race_of said).pauses ≡ pauses_given said
 unfolding race_of
 pauses_of said = refl
 
-told_judged : (said : List Said) (tokens : List (List ℕ)) (ip : Ip) (o : Outcome) → IsTold (known_to said) tokens ip o
-    → built (add_outcome ip o (race_of said)) ≡ judged said (Told ip o)
-told_judged said tokens ip o is =
+told_judged : (after : List (List ℕ)) (said : List Said) (tokens : List (List ℕ)) (ip : Ip) (o : Outcome) → IsTold (known_to said) tokens ip o
+    → built (add_outcome ip o (race_of said)) ≡ judged after said (Told ip o)
+told_judged after said tokens ip o is =
     let least : MIN_DURATION ≤ duration_of o = is.ticks.least in
     let most : duration_of o ≤ MAX_DURATION = is.ticks.most in
     let lasts : is_duration (duration_of o) ≡ true = and_from _ _ (le-leb MIN_DURATION (duration_of o) least) (le-leb (duration_of o) MAX_DURATION most) in
     told_checked (is_duration (duration_of o)) (stands (race_of said) ip) (has_outcome ip (race_of said).outcomes) _ (race_of (said ++ Told ip o ∷ [])) lasts is.known_is (sym (race_told said ip o))
-    ∙ ap (λ os. outcome (first_fault (None ∷ test (has_outcome ip os) kinds.Repeated ∷ [])) (race_of (said ++ Told ip o ∷ []))) (outcomes_of said)
+    ∙ ap (λ os. outcome (first_fault (None ∷ test (has_outcome ip os) kinds.Repeated ∷ None ∷ [])) (race_of (said ++ Told ip o ∷ []))) (outcomes_of said)
 
-by_told : (said : List Said) (tokens : List (List ℕ)) (read : Result (Ip × Outcome) TextKind) → ((told : Ip × Outcome) → read ≡ Ok told → IsTold (known_to said) tokens told.0 told.1)
-    → (read >>= λ told. built (add_outcome told.0 told.1 (race_of said))) ≡ ((read >>= λ told. Ok (Told told.0 told.1)) >>= judged said)
-by_told said tokens (Err kind) facts = refl
-by_told said tokens (Ok told) facts = told_judged said tokens told.0 told.1 (facts told refl)
+by_told : (after : List (List ℕ)) (said : List Said) (tokens : List (List ℕ)) (read : Result (Ip × Outcome) TextKind) → ((told : Ip × Outcome) → read ≡ Ok told → IsTold (known_to said) tokens told.0 told.1)
+    → (read >>= λ told. built (add_outcome told.0 told.1 (race_of said))) ≡ ((read >>= λ told. Ok (Told told.0 told.1)) >>= judged after said)
+by_told after said tokens (Err kind) facts = refl
+by_told after said tokens (Ok told) facts = told_judged after said tokens told.0 told.1 (facts told refl)
 
 -- pauses
 pause_checked : (b1 b2 b3 few : Bool) (race other : Race) → b3 ≡ true → few ≡ false → race ≡ other
-    → built (cond (not ((b1 && b2) && b3)) (Err faults.Range) (cond few (Err faults.TooMany) (Ok race))) ≡ outcome (first_fault (test (not (b1 && b2)) kinds.Range ∷ None ∷ [])) other
+    → built (cond (not ((b1 && b2) && b3)) (Err faults.Range) (cond few (Err faults.TooMany) (Ok race))) ≡ outcome (first_fault (test (not (b1 && b2)) kinds.Range ∷ None ∷ None ∷ [])) other
 pause_checked b1 b2 false few race other h3 hf same = cc
 pause_checked b1 b2 true true race other h3 hf same = cc
 pause_checked true true true false race other h3 hf same = ap Ok same
@@ -110,40 +111,42 @@ pause_checked true false true false race other h3 hf same = refl
 pause_checked false true true false race other h3 hf same = refl
 pause_checked false false true false race other h3 hf same = refl
 
-pause_judged : (said : List Said) (tokens : List (List ℕ)) (from to : ℕ) → length (pauses_given said) < MAX_PAUSES → IsPause tokens from to
-    → built (add_pause from to (race_of said)) ≡ judged said (Paused from to)
-pause_judged said tokens from to few is =
+pause_judged : (after : List (List ℕ)) (said : List Said) (tokens : List (List ℕ)) (from to : ℕ) → length (pauses_given said) < MAX_PAUSES → IsPause tokens from to
+    → built (add_pause from to (race_of said)) ≡ judged after said (Paused from to)
+pause_judged after said tokens from to few is =
     let ends : to ≤ MAX_PAUSE_END = is.to_is.most in
     let count : length (race_of said).pauses < MAX_PAUSES = (let P : List (ℕ × ℕ) → Type 0 = λ ps. length ps < MAX_PAUSES in subst P (sym (pauses_of said)) few) in
     pause_checked (leb (last_end (race_of said).pauses) from) (ltb from to) (leb to MAX_PAUSE_END) (leb MAX_PAUSES (length (race_of said).pauses)) _ (race_of (said ++ Paused from to ∷ []))
     (le-leb to MAX_PAUSE_END ends) (lt-leb MAX_PAUSES (length (race_of said).pauses) count) (sym (race_paused said from to))
-    ∙ ap (λ ps. outcome (first_fault (test (not (leb (last_end ps) from && ltb from to)) kinds.Range ∷ None ∷ [])) (race_of (said ++ Paused from to ∷ []))) (pauses_of said)
+    ∙ ap (λ ps. outcome (first_fault (test (not (leb (last_end ps) from && ltb from to)) kinds.Range ∷ None ∷ None ∷ [])) (race_of (said ++ Paused from to ∷ []))) (pauses_of said)
 
-by_pause : (said : List Said) (tokens : List (List ℕ)) (read : Result (ℕ × ℕ) TextKind) → length (pauses_given said) < MAX_PAUSES → ((p : ℕ × ℕ) → read ≡ Ok p → IsPause tokens p.0 p.1)
-    → (read >>= λ p. built (add_pause p.0 p.1 (race_of said))) ≡ ((read >>= λ p. Ok (Paused p.0 p.1)) >>= judged said)
-by_pause said tokens (Err kind) few facts = refl
-by_pause said tokens (Ok p) few facts = pause_judged said tokens p.0 p.1 few (facts p refl)
+by_pause : (after : List (List ℕ)) (said : List Said) (tokens : List (List ℕ)) (read : Result (ℕ × ℕ) TextKind) → length (pauses_given said) < MAX_PAUSES → ((p : ℕ × ℕ) → read ≡ Ok p → IsPause tokens p.0 p.1)
+    → (read >>= λ p. built (add_pause p.0 p.1 (race_of said))) ≡ ((read >>= λ p. Ok (Paused p.0 p.1)) >>= judged after said)
+by_pause after said tokens (Err kind) few facts = refl
+by_pause after said tokens (Ok p) few facts = pause_judged after said tokens p.0 p.1 few (facts p refl)
 
-by_end : (said : List Said) (read : Result (Unit {0}) TextKind) → (read >>= λ _. Ok (race_of said)) ≡ ((read >>= λ _. Ok Ended) >>= judged said)
-by_end said (Err kind) = refl
-by_end said (Ok done) = ap Ok (sym (race_ended said))
+by_end : (after : List (List ℕ)) (said : List Said) (read : Result (Unit {0}) TextKind) → (read >>= λ _. Ok (race_of said)) ≡ ((read >>= λ _. Ok Ended) >>= judged after said)
+by_end after said (Err kind) = refl
+by_end after said (Ok done) = ap Ok (sym (race_ended said))
 
 -- what must hold before a line of the word is taken: its bound on lines
 abbrev pub HasPlace : Word → List Said → Type 0
+HasPlace words.Source said = length (sources_given said) < SOURCES
+HasPlace words.Route said = length (routes_given said) < ROUTES
 HasPlace words.Aaaa said = reply_of (race_of said) families.V6 ≡ None
 HasPlace words.A said = reply_of (race_of said) families.V4 ≡ None
 HasPlace words.Pause said = length (pauses_given said) < MAX_PAUSES
 HasPlace word said = Unit {0}
 
-pub told_agrees : (word : Word) (tokens : List (List ℕ)) (said : List Said) → is_head_word word ≡ false → HasPlace word said
-    → take_told word tokens (race_of said) ≡ (said_by (known_to said) word tokens >>= judged said)
+pub told_agrees : (after : List (List ℕ)) (word : Word) (tokens : List (List ℕ)) (said : List Said) → is_head_word word ≡ false → HasPlace word said
+    → take_told word tokens (race_of said) ≡ (said_by (known_to said) word tokens >>= judged after said)
 unfolding take_told said_by
-told_agrees words.Set tokens said h place = cc
-told_agrees words.Policy tokens said h place = cc
-told_agrees words.Source tokens said h place = cc
-told_agrees words.Route tokens said h place = cc
-told_agrees words.Aaaa tokens said h place = answer_agrees families.V6 tokens said place
-told_agrees words.A tokens said h place = answer_agrees families.V4 tokens said place
-told_agrees words.Connect tokens said h place = by_told said tokens (connect_in (known_to said) tokens) (connect_ok (known_to said) tokens)
-told_agrees words.Pause tokens said h place = by_pause said tokens (pause_in tokens) place (pause_ok tokens)
-told_agrees words.End tokens said h place = by_end said (end_in tokens)
+told_agrees after words.Set tokens said h place = cc
+told_agrees after words.Policy tokens said h place = cc
+told_agrees after words.Source tokens said h place = cc
+told_agrees after words.Route tokens said h place = cc
+told_agrees after words.Aaaa tokens said h place = answer_agrees after families.V6 tokens said place
+told_agrees after words.A tokens said h place = answer_agrees after families.V4 tokens said place
+told_agrees after words.Connect tokens said h place = by_told after said tokens (connect_in (known_to said) tokens) (connect_ok (known_to said) tokens)
+told_agrees after words.Pause tokens said h place = by_pause after said tokens (pause_in tokens) place (pause_ok tokens)
+told_agrees after words.End tokens said h place = by_end after said (end_in tokens)

@@ -1,7 +1,8 @@
 -- What is wrong with a text. A line undergoes the checks in the order in which they stand here; each is a condition on the line,
--- on the lines before it (which are right, since the least faulty line decides), and for the second check on what follows it.
-use Rattle.std.specs.Prelude.{ℕ, ◌+◌, ◌==◌, ◌&&◌, Bool, true, false, not, List, [], ◌∷◌, ◌++◌, length, Option, Some, None, is_some, Result, Ok, Err, if◌then◌else◌, nat_le, nat_lt, count_by, codes}
-use Rattle.std.specs.List.{filter_map}
+-- on the lines before it (which are right, since the least faulty line decides), and for the second and the last check on what
+-- follows it.
+use Rattle.std.specs.Prelude.{ℕ, ◌+◌, ◌==◌, ◌&&◌, Bool, true, false, not, List, [], ◌∷◌, ◌++◌, length, Option, Some, None, option_map, is_some, Result, Ok, Err, if◌then◌else◌, nat_le, nat_lt, count_by, codes}
+use Rattle.std.specs.List.{filter_map, list_any}
 use Rattle.std.specs.Result.{result_ok}
 use Rattle.std.specs.Str.{bytes_eq}
 use Rattle.he_addr.specs.declared.ip.Ip.{Ip}
@@ -11,11 +12,13 @@ use Rattle.he_plan.specs.Timeline.{are_distinct}
 use Rattle.he_text.specs.declared.fault.TextKind.{TextKind}
 use Rattle.he_text.specs.declared.fault.TextKind.TheVariants as kinds
 use Rattle.he_text.specs.declared.limits.TheConstants.{MAX_LINE}
+use Rattle.he_select.specs.Hosts.{same_source, same_route}
+use Rattle.he_select.specs.Tables.{same_row, table_fault}
 use Rattle.he_text.specs.declared.words.Word.{Word}
 use Rattle.he_text.specs.Forms.{word_of, said_in}
 use Rattle.he_text.specs.Parts.{lines_of, tokens_of}
-use Rattle.he_text.specs.Said.{Said, Setting, Answer, Told, Paused, setting_given, outcomes_given, pauses_given, race_of}
-use Rattle.he_text.specs.Words.{group_of, most_lines, is_end}
+use Rattle.he_text.specs.Said.{Said, Setting, PolicyRow, HostSource, HostRoute, Answer, Told, Paused, setting_given, rows_given, sources_given, routes_given, outcomes_given, pauses_given, race_of}
+use Rattle.he_text.specs.Words.{group_of, most_lines, is_policy, is_end}
 
 -- the fault of a check
 abbrev pub test : Bool → TextKind → Option TextKind
@@ -92,12 +95,31 @@ abbrev pub wrong_bounds : List Said → Said → Option TextKind
 wrong_bounds before (Paused from to) = test (not (nat_le (last_end (pauses_given before)) from && nat_lt from to)) kinds.Range
 wrong_bounds before said = None
 
--- 9: a setting given twice, an address twice in an answer, a second outcome of an address
+-- 9: a setting, the prefix of a row, the address of a source or the prefix of a route given twice, an address twice in an
+-- answer, a second outcome of an address
 abbrev pub repeated : List Said → Said → Option TextKind
 repeated before (Setting name value) = test (is_some (setting_given name before)) kinds.Repeated
+repeated before (PolicyRow row) = test (list_any (same_row row) (rows_given before)) kinds.Repeated
+repeated before (HostSource source) = test (list_any (same_source source) (sources_given before)) kinds.Repeated
+repeated before (HostRoute route) = test (list_any (same_route route) (routes_given before)) kinds.Repeated
 repeated before (Answer family reply) = test (not (are_distinct reply.addresses)) kinds.Repeated
 repeated before (Told ip outcome) = test (has_outcome ip (outcomes_given before)) kinds.Repeated
 repeated before said = None
+
+-- whether the next line begins with `policy`, be it right or not; a line that is too long or has no line end is none
+abbrev pub begins_policy : Result (Word × List (List ℕ)) TextKind → Bool
+begins_policy (Ok parts) = is_policy parts.0
+begins_policy (Err kind) = false
+
+abbrev pub is_policy_next : List (List ℕ) → Bool
+is_policy_next (line ∷ next ∷ after) = nat_le (length line) MAX_LINE && begins_policy (word_of (tokens_of line))
+is_policy_next _ = false
+
+-- 10: on the last line of a policy table, a table that isn't admitted
+abbrev pub wrong_table : List Said → List (List ℕ) → Said → Option TextKind
+wrong_table before after (PolicyRow row) =
+    if is_policy_next after then None else option_map kinds.Policy (table_fault (rows_given before ++ row ∷ []))
+wrong_table before after said = None
 
 -- a check of what the line says, where it says something
 abbrev pub of_said : (Said → Option TextKind) → Result Said TextKind → Option TextKind
@@ -118,6 +140,7 @@ line_fault before line after =
     ∷ wrong_form said
     ∷ of_said (wrong_bounds told) said
     ∷ of_said (repeated told) said
+    ∷ of_said (wrong_table told after) said
     ∷ [])
 
 abbrev pub at_line_number : ℕ → Option TextKind → Option (ℕ × TextKind) → Option (ℕ × TextKind)

@@ -17,8 +17,13 @@ use Rattle.he_text.specs.declared.words.Name.{Name}
 use Rattle.he_text.specs.declared.words.Name.TheVariants.{Resolution, Attempt, Count, Limit}
 use Rattle.he_text.specs.declared.words.Word.{Word}
 use Rattle.he_text.specs.declared.words.Word.TheVariants as words
-use Rattle.he_addr.specs.Reading.{number_in, ip_in}
-use Rattle.he_text.specs.Said.{Said, Setting, Passed, Answer, Told, Paused, Ended}
+use Rattle.he_addr.specs.Ip.{is_usable}
+use Rattle.he_addr.specs.Reading.{number_in, ip_in, prefix_in, source_in}
+use Rattle.he_select.specs.declared.policy.Row.{Row}
+use Rattle.he_select.specs.declared.host.Source.{Source}
+use Rattle.he_select.specs.declared.host.Route.{Route}
+use Rattle.he_text.specs.declared.limits.TheConstants.{MAX_PRECEDENCE, MAX_LABEL, MIN_INTERFACE, MAX_INTERFACE, SOURCE_MARKS, ROUTE_MARKS}
+use Rattle.he_text.specs.Said.{Said, Setting, PolicyRow, HostSource, HostRoute, Answer, Told, Paused, Ended}
 use Rattle.he_text.specs.Parts.{tokens_of}
 use Rattle.he_text.specs.Words.{name_in, word_in}
 
@@ -54,6 +59,62 @@ setting_in (token ∷ number ∷ []) = do
   value ← number_from (least_of name) (most_of name) number
   Ok (name, value)
 setting_in _ = Err kinds.Word
+
+-- policy PREFIX PRECEDENCE LABEL
+unfoldable pub row_in : List (List ℕ) → Result Row TextKind
+row_in (first ∷ second ∷ third ∷ []) = do
+  prefix ← ok_or (prefix_in first) kinds.Prefix
+  precedence ← number_from 0 MAX_PRECEDENCE second
+  label ← number_from 0 MAX_LABEL third
+  Ok (record { prefix = prefix; precedence = precedence; label = label })
+row_in _ = Err kinds.Word
+
+-- a source's address and prefix length; the address is usable
+unfoldable pub source_address_in : List ℕ → Result (Ip × ℕ) TextKind
+source_address_in token = do
+  source ← ok_or (source_in token) kinds.Prefix
+  if is_usable source.0 then Ok source else Err kinds.Address
+
+-- the number of an interface
+abbrev pub interface_in : List ℕ → Result ℕ TextKind
+interface_in token = number_from MIN_INTERFACE MAX_INTERFACE token
+
+-- whether a source is deprecated, and whether it is temporary: the marks stand in this order
+unfoldable pub source_marks_in : List (List ℕ) → Result (Bool × Bool) TextKind
+source_marks_in [] = Ok (false, false)
+source_marks_in (only ∷ []) =
+    if bytes_eq only (codes "deprecated") then Ok (true, false)
+    else if bytes_eq only (codes "temporary") then Ok (false, true)
+    else Err kinds.Word
+source_marks_in (first ∷ second ∷ more) =
+    if bytes_eq first (codes "deprecated") && bytes_eq second (codes "temporary") then Ok (true, true) else Err kinds.Word
+
+-- source SOURCE INTERFACE [deprecated] [temporary]
+unfoldable pub host_source_in : List (List ℕ) → Result Source TextKind
+host_source_in (first ∷ second ∷ marks) =
+    if nat_lt SOURCE_MARKS (length marks) then Err kinds.Word
+    else do
+      source ← source_address_in first
+      interface ← interface_in second
+      is ← source_marks_in marks
+      Ok (record { ip = source.0; plen = source.1; interface = interface; deprecated = is.0; temporary = is.1 })
+host_source_in _ = Err kinds.Word
+
+-- whether a route is a tunnel
+unfoldable pub route_marks_in : List (List ℕ) → Result Bool TextKind
+route_marks_in [] = Ok false
+route_marks_in (mark ∷ more) = if bytes_eq mark (codes "tunnel") then Ok true else Err kinds.Word
+
+-- route PREFIX INTERFACE [tunnel]
+unfoldable pub host_route_in : List (List ℕ) → Result Route TextKind
+host_route_in (first ∷ second ∷ marks) =
+    if nat_lt ROUTE_MARKS (length marks) then Err kinds.Word
+    else do
+      prefix ← ok_or (prefix_in first) kinds.Prefix
+      interface ← interface_in second
+      tunnel ← route_marks_in marks
+      Ok (record { prefix = prefix; interface = interface; tunnel = tunnel })
+host_route_in _ = Err kinds.Word
 
 -- an address of the family
 unfoldable pub address_in : Family → List ℕ → Result Ip TextKind
@@ -120,16 +181,17 @@ unfoldable pub word_of : List (List ℕ) → Result (Word × List (List ℕ)) Te
 word_of [] = Err kinds.Word
 word_of (token ∷ tokens) = ok_or (word_in token) kinds.Word >>= λ word. Ok (word, tokens)
 
--- what a line says, by its word and the tokens behind it, where these addresses are known; the lines that are passed over may
--- have any tokens
+-- what a line says, by its word and the tokens behind it, where these addresses are known
 unfoldable pub said_by : (Ip → Bool) → Word → List (List ℕ) → Result Said TextKind
 said_by known words.Set tokens = setting_in tokens >>= λ setting. Ok (Setting setting.0 setting.1)
+said_by known words.Policy tokens = row_in tokens >>= λ row. Ok (PolicyRow row)
+said_by known words.Source tokens = host_source_in tokens >>= λ source. Ok (HostSource source)
+said_by known words.Route tokens = host_route_in tokens >>= λ route. Ok (HostRoute route)
 said_by known words.Aaaa tokens = answer_in families.V6 tokens >>= λ reply. Ok (Answer families.V6 reply)
 said_by known words.A tokens = answer_in families.V4 tokens >>= λ reply. Ok (Answer families.V4 reply)
 said_by known words.Connect tokens = connect_in known tokens >>= λ told. Ok (Told told.0 told.1)
 said_by known words.Pause tokens = pause_in tokens >>= λ pause. Ok (Paused pause.0 pause.1)
 said_by known words.End tokens = end_in tokens >>= λ _. Ok Ended
-said_by known word tokens = Ok (Passed word)
 
 abbrev pub said_in : (Ip → Bool) → List ℕ → Result Said TextKind
 said_in known line = word_of (tokens_of line) >>= λ parts. said_by known parts.0 parts.1

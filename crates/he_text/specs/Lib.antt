@@ -1,6 +1,8 @@
 pub mod Faults
 pub mod Forms
+pub mod Orders
 pub mod Parts
+pub mod Ranges
 pub mod Reading
 pub mod Said
 pub mod Text

@@ -1,6 +1,8 @@
 -- What the private readers answer, as functions on lists. They help the proofs; what the lines of a race are stands in
 -- `Text`, what is wrong with them in `Faults`.
-use Rattle.std.specs.Prelude.{ℕ, ◌≡◌, ◌⊎◌, ◌≤◌, ◌+◌, ◌++◌, ◌==◌, List, [], ◌∷◌, length, Option, Some, None, Result, Ok, Err, if◌then◌else◌, nat_le, nat_lt, unwrap_or, IfErr, codes}
+use Rattle.std.specs.Prelude.{ℕ, ◌≡◌, ◌⊎◌, ◌≤◌, ◌+◌, ◌++◌, ◌==◌, ◌&&◌, Bool, List, [], ◌∷◌, length, Option, Some, None, option_map, Result, Ok, Err, if◌then◌else◌, nat_le, nat_lt, unwrap_or, IfErr, codes}
+use Rattle.std.specs.List.{list_any}
+use Rattle.std.specs.Option.{option_map_or}
 use Rattle.std.specs.Str.{bytes_eq}
 use Rattle.he_addr.specs.declared.ip.Ip.{Ip}
 use Rattle.he_addr.specs.declared.ip.Family.{Family}
@@ -11,6 +13,16 @@ use Rattle.he_plan.specs.declared.limits.TheConstants.{DEFAULT_RESOLUTION, DEFAU
 use Rattle.he_plan.specs.Building.{add_answer, add_outcome, add_pause, empty_race}
 use Rattle.he_plan.specs.Race.{Race, stands}
 use Rattle.he_plan.specs.Settings.{SettingValues, settings_of}
+use Rattle.he_select.specs.declared.policy.Row.{Row}
+use Rattle.he_select.specs.declared.policy.PolicyFault.{PolicyFault}
+use Rattle.he_select.specs.declared.policy.PolicyFault.TheVariants as tables
+use Rattle.he_select.specs.declared.host.Source.{Source}
+use Rattle.he_select.specs.declared.host.Route.{Route}
+use Rattle.he_select.specs.declared.host.HostFault.{HostFault}
+use Rattle.he_select.specs.declared.host.HostFault.TheVariants as hosts
+use Rattle.he_select.specs.Hosts.{Interfaces, same_source, same_route, host_of}
+use Rattle.he_select.specs.Standard.{standard_rows}
+use Rattle.he_select.specs.Tables.{same_row, table_fault, table_of}
 use Rattle.he_text.specs.declared.draft.Order.{Order}
 use Rattle.he_text.specs.declared.draft.Given.{Given}
 use Rattle.he_text.specs.declared.fault.TextKind.{TextKind}
@@ -19,10 +31,11 @@ use Rattle.he_text.specs.declared.limits.TheConstants.{MAX_LINE}
 use Rattle.he_text.specs.declared.words.Name.{Name}
 use Rattle.he_text.specs.declared.words.Name.TheVariants.{Resolution, Attempt, Count, Limit}
 use Rattle.he_text.specs.declared.words.Word.{Word}
-use Rattle.he_text.specs.declared.words.Word.TheVariants.{Set, Aaaa, A, Connect, Pause, End}
-use Rattle.he_text.specs.Forms.{◌>>=◌, word_of, setting_in, answer_in, connect_in, pause_in, end_in}
+use Rattle.he_text.specs.declared.words.Word.TheVariants as words
+use Rattle.he_text.specs.Faults.{is_policy_next}
+use Rattle.he_text.specs.Forms.{◌>>=◌, word_of, setting_in, row_in, host_source_in, host_route_in, answer_in, connect_in, pause_in, end_in}
 use Rattle.he_text.specs.Parts.{tokens_of}
-use Rattle.he_text.specs.Words.{group_of, most_lines, is_head_word, is_end}
+use Rattle.he_text.specs.Words.{group_of, most_lines, is_head_word, is_policy, is_end}
 
 -- a call that failed did so as `read` does, unless it was for memory
 abbrev pub Fails : {B : Type 0} → TextKind → Result B TextKind → Type 0
@@ -85,21 +98,90 @@ settings_from given = ranged (settings_of
     (unwrap_or given.count DEFAULT_COUNT)
     (unwrap_or given.limit DEFAULT_LIMIT))
 
--- a line of the first four groups
-unfoldable pub take_setting : Word → List (List ℕ) → Given → Result Given TextKind
-take_setting Set tokens given = setting_in tokens >>= λ setting. put setting.0 setting.1 given
-take_setting _ tokens given = Ok given
+-- what the lines of the first four groups give
+pub record HeadGiven : Type 0 where
+  pub settings : Given
+  pub rows : List Row
+  pub sources : List Source
+  pub routes : List Route
+
+abbrev pub no_head : HeadGiven
+no_head = record { settings = none_given; rows = []; sources = []; routes = [] }
+
+unfoldable pub add_setting : Name → ℕ → HeadGiven → Result HeadGiven TextKind
+add_setting name value head = put name value head.settings >>= λ (more : Given). Ok (record head { settings = more })
+
+abbrev pub with_row : Row → HeadGiven → HeadGiven
+with_row row head = record head { rows = head.rows ++ row ∷ [] }
+
+-- one more row; if no more come, the rows are to be a table
+unfoldable pub add_row : Bool → Row → HeadGiven → Result HeadGiven TextKind
+add_row more row head =
+    if list_any (same_row row) head.rows then Err kinds.Repeated
+    else if more then Ok (with_row row head)
+    else option_map_or Err (option_map kinds.Policy (table_fault (head.rows ++ row ∷ []))) (Ok (with_row row head))
+
+unfoldable pub add_source : Source → HeadGiven → Result HeadGiven TextKind
+add_source source head =
+    if list_any (same_source source) head.sources then Err kinds.Repeated else Ok (record head { sources = head.sources ++ source ∷ [] })
+
+unfoldable pub add_route : Route → HeadGiven → Result HeadGiven TextKind
+add_route route head =
+    if list_any (same_route route) head.routes then Err kinds.Repeated else Ok (record head { routes = head.routes ++ route ∷ [] })
+
+-- a line of the first four groups; whether a row follows it
+unfoldable pub take_given : Bool → Word → List (List ℕ) → HeadGiven → Result HeadGiven TextKind
+take_given more words.Set tokens head = setting_in tokens >>= λ setting. add_setting setting.0 setting.1 head
+take_given more words.Policy tokens head = row_in tokens >>= λ row. add_row more row head
+take_given more words.Source tokens head = host_source_in tokens >>= λ source. add_source source head
+take_given more words.Route tokens head = host_route_in tokens >>= λ route. add_route route head
+take_given more _ tokens head = Err kinds.Word
+
+-- how the faults of a policy table and of a host are told
+abbrev pub table_kind : PolicyFault → TextKind
+table_kind tables.Size = kinds.TooMany
+table_kind (tables.Repeated place) = kinds.Repeated
+table_kind tables.Memory = kinds.Memory
+table_kind fault = kinds.Policy fault
+
+abbrev pub host_kind : HostFault → TextKind
+host_kind hosts.TooMany = kinds.TooMany
+host_kind (hosts.RepeatedSource place) = kinds.Repeated
+host_kind (hosts.RepeatedRoute place) = kinds.Repeated
+host_kind (hosts.BadSource place) = kinds.Range
+host_kind (hosts.BadRoute place) = kinds.Range
+host_kind hosts.Memory = kinds.Memory
+
+abbrev pub told_by : {B F : Type 0} → (F → TextKind) → Result B F → Result B TextKind
+told_by kind (Ok x) = Ok x
+told_by kind (Err fault) = Err (kind fault)
+
+-- the rows' table; where there is no row, the standard one
+unfoldable pub policy_from : List Row → Result (List Row) TextKind
+policy_from [] = Ok standard_rows
+policy_from (row ∷ rows) = told_by table_kind (table_of (row ∷ rows))
+
+unfoldable pub host_from : List Source → List Route → Result Interfaces TextKind
+host_from sources routes = told_by host_kind (host_of sources routes)
+
+-- the race in which nothing happens yet
+unfoldable pub race_from : HeadGiven → Result Race TextKind
+race_from head = do
+  settings ← settings_from head.settings
+  policy ← policy_from head.rows
+  host ← host_from head.sources head.routes
+  Ok (empty_race settings policy host)
 
 unfoldable pub take_answer : Family → List (List ℕ) → Race → Result Race TextKind
 take_answer family tokens race = answer_in family tokens >>= λ reply. built (add_answer family reply.tick reply.addresses race)
 
 -- a line of the other groups
 unfoldable pub take_told : Word → List (List ℕ) → Race → Result Race TextKind
-take_told Aaaa tokens race = take_answer families.V6 tokens race
-take_told A tokens race = take_answer families.V4 tokens race
-take_told Connect tokens race = connect_in (stands race) tokens >>= λ told. built (add_outcome told.0 told.1 race)
-take_told Pause tokens race = pause_in tokens >>= λ pause. built (add_pause pause.0 pause.1 race)
-take_told End tokens race = end_in tokens >>= λ _. Ok race
+take_told words.Aaaa tokens race = take_answer families.V6 tokens race
+take_told words.A tokens race = take_answer families.V4 tokens race
+take_told words.Connect tokens race = connect_in (stands race) tokens >>= λ told. built (add_outcome told.0 told.1 race)
+take_told words.Pause tokens race = pause_in tokens >>= λ pause. built (add_pause pause.0 pause.1 race)
+take_told words.End tokens race = end_in tokens >>= λ _. Ok race
 take_told _ tokens race = Err kinds.Word
 
 unfoldable pub take_line : List (List ℕ) → Order → Race → Result (Word × Order × Race) TextKind
@@ -139,31 +221,32 @@ head_part (Err kind) = None
 unfoldable pub head_of : List (List ℕ) → Option (Word × List (List ℕ))
 head_of line = head_part (word_of line)
 
-unfoldable pub take_head : Word × List (List ℕ) → Order → Given → Result (Order × Given) TextKind
-take_head parts order given = do
+-- such a line, and whether it has a place, by what stands behind it
+unfoldable pub take_head : List (List ℕ) → Word × List (List ℕ) → Order → HeadGiven → Result (Order × HeadGiven) TextKind
+take_head after parts order head = do
   next ← admit parts.0 order
-  more ← take_setting parts.0 parts.1 given
+  more ← take_given (is_policy parts.0 && is_policy_next after) parts.0 parts.1 head
   Ok (next, more)
 
 -- what follows the lines of the first four groups
-unfoldable pub settle : ℕ → Order → Given → List (List ℕ) → Result (Race × List (List ℕ)) (ℕ × TextKind)
-settle n order given lines = at_line n (settings_from given) >>= λ settings. read_body n order (empty_race settings) lines
+unfoldable pub settle : ℕ → Order → HeadGiven → List (List ℕ) → Result (Race × List (List ℕ)) (ℕ × TextKind)
+settle n order head lines = at_line n (race_from head) >>= λ race. read_body n order race lines
 
 -- the lines of the first four groups, and then the others
-unfoldable pub read_head : ℕ → Order → Given → List (List ℕ) → Result (Race × List (List ℕ)) (ℕ × TextKind)
-read_head n order given [] = Err (n, kinds.Unfinished)
-read_head n order given (line ∷ after) =
+unfoldable pub read_head : ℕ → Order → HeadGiven → List (List ℕ) → Result (Race × List (List ℕ)) (ℕ × TextKind)
+read_head n order head [] = Err (n, kinds.Unfinished)
+read_head n order head (line ∷ after) =
     at_line n (wholeness (line ∷ after)) >>= λ _.
     elim (head_of (tokens_of line)) [
-      | None ↦ settle n order given (line ∷ after)
-      | Some parts ↦ at_line n (take_head parts order given) >>= λ next. read_head (n + 1) next.0 next.1 after
+      | None ↦ settle n order head (line ∷ after)
+      | Some parts ↦ at_line n (take_head after parts order head) >>= λ next. read_head (n + 1) next.0 next.1 after
     ]
 
 unfoldable pub read_lines : List (List ℕ) → Result (Race × List (List ℕ)) (ℕ × TextKind)
 read_lines [] = Err (1, kinds.Unfinished)
 read_lines (line ∷ after) =
     at_line 1 (wholeness (line ∷ after)) >>= λ _.
-    if bytes_eq line (codes "race 1") then read_head 2 order_at_start none_given after else Err (1, kinds.Header)
+    if bytes_eq line (codes "race 1") then read_head 2 order_at_start no_head after else Err (1, kinds.Header)
 
 -- a failed reading did so at line n as `read` does, or was refused memory there, where nothing above it is wrong
 abbrev pub FailsAt : {B : Type 0} → ℕ → TextKind → Result B (ℕ × TextKind) → Type 0

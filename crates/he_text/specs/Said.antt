@@ -10,12 +10,19 @@ use Rattle.he_plan.specs.Settings.{SettingValues}
 use Rattle.he_plan.specs.Race.{Race, Reply}
 use Rattle.he_text.specs.declared.words.Name.{Name}
 use Rattle.he_text.specs.declared.words.Name.TheVariants.{Resolution, Attempt, Count, Limit}
-use Rattle.he_text.specs.declared.words.Word.{Word}
+use Rattle.he_select.specs.declared.policy.Row.{Row}
+use Rattle.he_select.specs.declared.host.Source.{Source}
+use Rattle.he_select.specs.declared.host.Route.{Route}
+use Rattle.he_select.specs.Hosts.{Interfaces}
+use Rattle.he_select.specs.Standard.{standard_rows}
 
--- what a line says: a setting, something that is passed over, an answer, an outcome, a pause, or that the race ends
+-- what a line says: a setting, a row of the policy table, a source or a route of the host, an answer, an outcome, a pause, or
+-- that the race ends
 pub data Said : Type 0 where
   Setting : Name → ℕ → Said
-  Passed : Word → Said
+  PolicyRow : Row → Said
+  HostSource : Source → Said
+  HostRoute : Route → Said
   Answer : Family → Reply → Said
   Told : Ip → Outcome → Said
   Paused : ℕ → ℕ → Said
@@ -31,6 +38,18 @@ same_name _ _ = false
 abbrev pub setting_said : Name → Said → Option ℕ
 setting_said name (Setting other value) = if same_name name other then Some value else None
 setting_said name _ = None
+
+abbrev pub row_said : Said → Option Row
+row_said (PolicyRow row) = Some row
+row_said _ = None
+
+abbrev pub source_said : Said → Option Source
+source_said (HostSource source) = Some source
+source_said _ = None
+
+abbrev pub route_said : Said → Option Route
+route_said (HostRoute route) = Some route
+route_said _ = None
 
 abbrev pub answer_said : Family → Said → Option Reply
 answer_said families.V6 (Answer families.V6 reply) = Some reply
@@ -49,9 +68,18 @@ abbrev pub first_of : {A : Type 0} → List A → Option A
 first_of [] = None
 first_of (x ∷ xs) = Some x
 
--- what the lines give: the value of a setting, a family's answer, the outcomes and the pauses in their order
+-- what the lines give: the value of a setting, a family's answer, and rows, sources, routes, outcomes and pauses in their order
 abbrev pub setting_given : Name → List Said → Option ℕ
 setting_given name said = first_of (filter_map (setting_said name) said)
+
+abbrev pub rows_given : List Said → List Row
+rows_given said = filter_map row_said said
+
+abbrev pub sources_given : List Said → List Source
+sources_given said = filter_map source_said said
+
+abbrev pub routes_given : List Said → List Route
+routes_given said = filter_map route_said said
 
 abbrev pub answer_given : Family → List Said → Option Reply
 answer_given family said = first_of (filter_map (answer_said family) said)
@@ -71,9 +99,19 @@ settings_given said = record {
   limit = unwrap_or (setting_given Limit said) DEFAULT_LIMIT;
 }
 
+-- the given rows are the whole table; where none is given, the standard table holds
+abbrev pub table_of_rows : List Row → List Row
+table_of_rows [] = standard_rows
+table_of_rows (row ∷ rows) = row ∷ rows
+
+abbrev pub host_given : List Said → Interfaces
+host_given said = record { sources = sources_given said; routes = routes_given said }
+
 unfoldable pub race_of : List Said → Race
 race_of said = record {
   settings = settings_given said;
+  policy = table_of_rows (rows_given said);
+  host = host_given said;
   aaaa = answer_given families.V6 said;
   a = answer_given families.V4 said;
   outcomes = outcomes_given said;

@@ -1,10 +1,12 @@
 -- The texts of races: which lines stand in them, what they say, and the race that they make.
-use Rattle.std.specs.Prelude.{ℕ, ◌≡◌, ◌⊎◌, ◌<◌, ◌≤◌, ◌&&◌, Bool, true, false, IsTrue, List, [], ◌∷◌, ◌++◌, length, Option, Some, nat_le, codes, MatchOption}
+use Rattle.std.specs.Prelude.{ℕ, ◌≡◌, ◌⊎◌, ◌<◌, ◌≤◌, ◌&&◌, Bool, true, IsTrue, List, [], ◌∷◌, ◌++◌, length, Option, Some, nat_le, if◌then◌else◌, codes, MatchOption}
 use Rattle.std.specs.List.{AllByRecursion, AllZip, filter_map}
 use Rattle.he_addr.specs.declared.ip.Family.{Family}
 use Rattle.he_addr.specs.declared.ip.Family.TheVariants as families
 use Rattle.he_addr.specs.declared.ip.Ip.{Ip}
-use Rattle.he_addr.specs.Reading.{number_in, ip_in}
+use Rattle.he_addr.specs.Reading.{number_in, ip_in, prefix_in, source_in}
+use Rattle.he_select.specs.declared.host.Source.{Source}
+use Rattle.he_select.specs.declared.host.Route.{Route}
 use Rattle.he_plan.specs.declared.limits.TheConstants.{MAX_TICK, MIN_DURATION, MAX_DURATION, MAX_PAUSE_END, MAX_ADDRESSES}
 use Rattle.he_plan.specs.declared.outcome.Outcome.{Outcome}
 use Rattle.he_plan.specs.declared.outcome.Outcome.TheVariants as outcomes
@@ -12,14 +14,14 @@ use Rattle.he_plan.specs.Race.{Race}
 use Rattle.he_plan.specs.Timeline.{IsRace, duration_of}
 use Rattle.he_text.specs.declared.fault.TextKind.{TextKind}
 use Rattle.he_text.specs.declared.fault.TextKind.TheVariants as kinds
-use Rattle.he_text.specs.declared.limits.TheConstants.{MAX_LINE}
+use Rattle.he_text.specs.declared.limits.TheConstants.{MAX_LINE, MAX_PRECEDENCE, MAX_LABEL, MIN_INTERFACE, MAX_INTERFACE}
 use Rattle.he_text.specs.declared.words.Name.{Name}
 use Rattle.he_text.specs.declared.words.Word.{Word}
 use Rattle.he_text.specs.declared.words.Word.TheVariants as words
 use Rattle.he_text.specs.Forms.{least_of, most_of}
 use Rattle.he_text.specs.Parts.{lines_of, tokens_of}
-use Rattle.he_text.specs.Said.{Said, Setting, Passed, Answer, Told, Paused, Ended, setting_said, answer_said, race_of}
-use Rattle.he_text.specs.Words.{group_of, spelling_of, name_spelling}
+use Rattle.he_text.specs.Said.{Said, Setting, PolicyRow, HostSource, HostRoute, Answer, Told, Paused, Ended, setting_said, answer_said, race_of}
+use Rattle.he_text.specs.Words.{spelling_of, name_spelling}
 
 -- a token that spells a number from `low` to `high`
 pub record IsNumber (low high : ℕ) (token : List ℕ) (n : ℕ) : Type 0 where
@@ -39,19 +41,29 @@ abbrev pub answer_word : Family → Word
 answer_word families.V6 = words.Aaaa
 answer_word families.V4 = words.A
 
--- the words of the lines that are passed over
-abbrev pub is_passed : Word → Bool
-is_passed words.Policy = true
-is_passed words.Source = true
-is_passed words.Route = true
-is_passed _ = false
+-- a token that stands where a mark is set
+abbrev pub marked : Bool → List ℕ → List (List ℕ)
+marked is token = if is then token ∷ [] else []
+
+abbrev pub source_marks : Source → List (List ℕ)
+source_marks source = marked source.deprecated (codes "deprecated") ++ marked source.temporary (codes "temporary")
+
+abbrev pub route_marks : Route → List (List ℕ)
+route_marks route = marked route.tunnel (codes "tunnel")
 
 -- a line, by its tokens, and what it says
 abbrev pub Says : List ℕ → Said → Type 0
 Says line (Setting name value) =
     (number : List ℕ) × (tokens_of line ≡ spelling_of words.Set ∷ name_spelling name ∷ number ∷ []) × IsNumber (least_of name) (most_of name) number value
-Says line (Passed word) =
-    (tokens : List (List ℕ)) × (tokens_of line ≡ spelling_of word ∷ tokens) × IsTrue (is_passed word)
+Says line (PolicyRow row) =
+    (first : List ℕ) × (second : List ℕ) × (third : List ℕ) × (tokens_of line ≡ spelling_of words.Policy ∷ first ∷ second ∷ third ∷ [])
+    × (prefix_in first ≡ Some row.prefix) × IsNumber 0 MAX_PRECEDENCE second row.precedence × IsNumber 0 MAX_LABEL third row.label
+Says line (HostSource source) =
+    (first : List ℕ) × (second : List ℕ) × (tokens_of line ≡ spelling_of words.Source ∷ first ∷ second ∷ source_marks source)
+    × (source_in first ≡ Some (source.ip, source.plen)) × IsNumber MIN_INTERFACE MAX_INTERFACE second source.interface
+Says line (HostRoute route) =
+    (first : List ℕ) × (second : List ℕ) × (tokens_of line ≡ spelling_of words.Route ∷ first ∷ second ∷ route_marks route)
+    × (prefix_in first ≡ Some route.prefix) × IsNumber MIN_INTERFACE MAX_INTERFACE second route.interface
 Says line (Answer family reply) =
     (number : List ℕ) × (tokens : List (List ℕ)) × (tokens_of line ≡ spelling_of (answer_word family) ∷ number ∷ tokens)
     × IsNumber 0 MAX_TICK number reply.tick × Lists tokens reply.addresses × (length tokens ≤ MAX_ADDRESSES)
@@ -66,7 +78,9 @@ Says line Ended = ⊥
 -- the group of the lines that say it
 abbrev pub group_said : Said → ℕ
 group_said (Setting name value) = 1
-group_said (Passed word) = group_of word
+group_said (PolicyRow row) = 2
+group_said (HostSource source) = 3
+group_said (HostRoute route) = 4
 group_said (Answer families.V6 reply) = 5
 group_said (Answer families.V4 reply) = 6
 group_said (Told ip outcome) = 7
@@ -87,8 +101,8 @@ pub record AreLines (lines : List (List ℕ)) (said : List Said) : Type 0 where
   pub answers_once : (family : Family) → length (filter_map (answer_said family) said) ≤ 1
 
 -- the whole text is a race with that value. Each line has a line end, so the last part of the text is empty. That a race keeps its
--- ranges, that addresses of an answer are of its family and differ, that outcomes are of addresses in an answer and one of each,
--- and that pauses follow each other, is `IsRace`.
+-- ranges, that its policy table is admitted, that sources and routes are a host's, that addresses of an answer are of its family
+-- and differ, that outcomes are of addresses in an answer and one of each, and that pauses follow each other, is `IsRace`.
 pub record IsRaceText (text : List ℕ) (race : Race) : Type 0 where
   pub lines : List (List ℕ)
   pub said : List Said
@@ -96,6 +110,10 @@ pub record IsRaceText (text : List ℕ) (race : Race) : Type 0 where
   pub are : AreLines lines said
   pub value : race ≡ race_of said
   pub fits : IsRace race
+
+-- a race's text stands first
+abbrev pub BeginsWithRace : List ℕ → Type 0
+BeginsWithRace text = (front : List ℕ) × (rest : List ℕ) × (race : Race) × (text ≡ front ++ rest) × IsRaceText front race
 
 -- the fault of a reading is the text's, or memory was refused on a line above which nothing is wrong
 abbrev pub TellsFault : ℕ → TextKind → Option (ℕ × TextKind) → Type 0

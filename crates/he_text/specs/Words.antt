@@ -2,6 +2,7 @@
 use Rattle.std.specs.Prelude.{ℕ, List, Bool, true, false, Option, Some, None, if◌then◌else◌, nat_le, codes}
 use Rattle.std.specs.Str.{bytes_eq}
 use Rattle.he_plan.specs.declared.limits.TheConstants.{MAX_PAUSES}
+use Rattle.he_select.specs.declared.limits.TheConstants.{ROWS, SOURCES, ROUTES}
 use Rattle.he_text.specs.declared.fault.TextKind.{TextKind}
 use Rattle.he_text.specs.declared.fault.TextKind.TheVariants as kinds
 use Rattle.he_text.specs.declared.limits.TheConstants.{MAX_ANSWERS}
@@ -43,6 +44,11 @@ name_spelling Limit = codes "limit"
 abbrev pub is_head_word : Word → Bool
 is_head_word word = nat_le (group_of word) 4
 
+-- the word of a row of the policy table
+abbrev pub is_policy : Word → Bool
+is_policy Policy = true
+is_policy _ = false
+
 -- the word of the last line
 abbrev pub is_end : Word → Bool
 is_end End = true
@@ -50,6 +56,9 @@ is_end _ = false
 
 -- the most lines of a word, and the fault of one more
 abbrev pub most_lines : Word → Option (ℕ × TextKind)
+most_lines Policy = Some (ROWS, kinds.TooMany)
+most_lines Source = Some (SOURCES, kinds.TooMany)
+most_lines Route = Some (ROUTES, kinds.TooMany)
 most_lines Aaaa = Some (MAX_ANSWERS, kinds.Repeated)
 most_lines A = Some (MAX_ANSWERS, kinds.Repeated)
 most_lines Pause = Some (MAX_PAUSES, kinds.TooMany)

@@ -1,5 +1,5 @@
 -- The texts that are written.
-use Rattle.std.specs.Prelude.{ℕ, ◌≡◌, List, [], ◌∷◌, ◌++◌, map, take, length, decimal, Option, Some, None, Result, codes, MatchResult}
+use Rattle.std.specs.Prelude.{ℕ, ◌≡◌, true, false, List, [], ◌∷◌, ◌++◌, map, take, length, decimal, Option, Some, None, Result, codes, MatchResult}
 use Rattle.std.specs.List.{flat_map, join_with_byte}
 use Rattle.he_addr.specs.declared.ip.Ip.{Ip}
 use Rattle.he_plan.specs.declared.transcript.Line.{Line}
@@ -12,16 +12,23 @@ use Rattle.he_plan.specs.declared.outcome.Outcome.{Outcome}
 use Rattle.he_plan.specs.Race.{Race, Reply}
 use Rattle.he_plan.specs.Settings.{SettingValues}
 use Rattle.he_plan.specs.Timeline.{duration_of}
-use Rattle.he_text.specs.Text.{mark_text}
+use Rattle.he_select.specs.declared.policy.Row.{Row}
+use Rattle.he_select.specs.declared.host.Source.{Source}
+use Rattle.he_select.specs.declared.host.Route.{Route}
+use Rattle.he_select.specs.Hosts.{Interfaces}
+use Rattle.he_text.specs.Text.{mark_text, source_marks, route_marks}
 use Rattle.he_text.specs.declared.writing.Token.{Token}
-use Rattle.he_text.specs.declared.writing.Token.TheVariants.{Word, Number, Address}
-use Rattle.he_addr.specs.Printing.{printed}
+use Rattle.he_text.specs.declared.writing.Token.TheVariants as tokens
+use Rattle.he_addr.specs.Printing.{printed, source_text, prefix_text}
 
 -- a token of a line that is written
 abbrev pub token_text : Token → List ℕ
-token_text (Word text) = text.now
-token_text (Number n) = decimal n
-token_text (Address ip) = printed ip
+token_text (tokens.Word text) = text.now
+token_text (tokens.Number n) = decimal n
+token_text (tokens.Address ip) = printed ip
+token_text (tokens.Source ip len) = source_text ip len
+token_text (tokens.Prefix prefix) = prefix_text false prefix.now
+token_text (tokens.Dotted prefix) = prefix_text true prefix.now
 
 -- a line: its tokens parted by single spaces, and a line end
 abbrev pub written_line : List (List ℕ) → List ℕ
@@ -76,6 +83,25 @@ bounds_text settings = setting_text (codes "count") settings.count ++ setting_te
 abbrev pub top_text : SettingValues → List ℕ
 top_text settings = written_line (codes "race 1" ∷ []) ++ (delays_text settings ++ bounds_text settings)
 
+-- policy PREFIX PRECEDENCE LABEL, every prefix in IPv6 form
+abbrev pub row_text : Row → List ℕ
+row_text row = written_line (codes "policy" ∷ prefix_text false row.prefix ∷ decimal row.precedence ∷ decimal row.label ∷ [])
+
+-- source SOURCE INTERFACE [deprecated] [temporary]
+abbrev pub host_source_text : Source → List ℕ
+host_source_text source = written_line (codes "source" ∷ source_text source.ip source.plen ∷ decimal source.interface ∷ source_marks source)
+
+-- route PREFIX INTERFACE [tunnel], IPv4 prefixes in IPv4 form
+abbrev pub host_route_text : Route → List ℕ
+host_route_text route = written_line (codes "route" ∷ prefix_text true route.prefix ∷ decimal route.interface ∷ route_marks route)
+
+abbrev pub host_text : Interfaces → List ℕ
+host_text host = flat_map host_source_text host.sources ++ flat_map host_route_text host.routes
+
+-- what address selection looks at: the policy table, all its rows, and the host
+abbrev pub selection_text : Race → List ℕ
+selection_text race = flat_map row_text race.policy ++ host_text race.host
+
 -- WORD TICK none, or WORD TICK ADDRESS ..
 abbrev pub reply_text : List ℕ → ℕ → List Ip → List ℕ
 reply_text word tick [] = written_line (word ∷ decimal tick ∷ codes "none" ∷ [])
@@ -101,4 +127,4 @@ told_text race = flat_map outcome_text race.outcomes ++ flat_map pause_text race
 
 -- the text of a timeline
 abbrev pub timeline_text : Race → List ℕ
-timeline_text race = (top_text race.settings ++ (answers_text race ++ told_text race)) ++ written_line (codes "end" ∷ [])
+timeline_text race = (top_text race.settings ++ (selection_text race ++ (answers_text race ++ told_text race))) ++ written_line (codes "end" ∷ [])

@@ -2,7 +2,7 @@
 
 ghost use Rattle.std.specs.Prelude.{◌≡◌, ◌⊎◌, Ok, Err, MatchResult};
 ghost use Rattle.he_text.specs.Parts.{tokens_left};
-ghost use Rattle.he_text.specs.Reading.{Fails, admit, once, put, settings_from, take_setting, take_answer, take_told, order_at_start, none_given};
+ghost use Rattle.he_text.specs.Reading.{Fails, admit, once, put, settings_from, take_answer, take_told, order_at_start, none_given};
 
 use crate::fault::TextKind;
 use crate::forms;
@@ -73,7 +73,7 @@ impl Given {
 
     // The settings with one more.
     #[tactic(auto, unfolding(crate::specs::Reading::put))]
-    fn put(self, name: Name, value: u64) -> Result<Given, TextKind>
+    pub(crate) fn put(self, name: Name, value: u64) -> Result<Given, TextKind>
         ensures { result ≡ put name value self }
     {
         match name {
@@ -93,20 +93,6 @@ impl Given {
                 limit: once(self.limit, value)?,
                 ..self
             }),
-        }
-    }
-
-    // The settings with what a line of the first four groups gives, behind its word.
-    #[tactic(auto, unfolding(crate::specs::Reading::take_setting))]
-    pub(crate) fn take(self, word: Word, tokens: Tokens) -> Result<Given, TextKind>
-        ensures { result ≡ take_setting word (tokens_left tokens.entry) self }
-    {
-        match word {
-            Word::Set => {
-                let (name, value) = forms::setting(tokens)?;
-                self.put(name, value)
-            }
-            _ => Ok(self),
         }
     }
 

@@ -2,9 +2,10 @@
 
 ghost use Rattle.std.specs.Prelude.{◌≡◌};
 ghost use Rattle.he_text.specs.declared.fault.TextKind.TheVariants as kinds;
-ghost use Rattle.he_text.specs.Reading.{kind_of};
+ghost use Rattle.he_text.specs.Reading.{kind_of, table_kind, host_kind};
 
 use he_plan::{BuildFault, Range};
+use he_select::{HostFault, PolicyFault};
 use std::alloc::{AllocError, AllocFailed};
 use thiserror::Error;
 
@@ -22,7 +23,7 @@ pub enum TextKind {
     /// A number isn't one to ten decimal digits without leading zeros.
     #[error("number")]
     Number,
-    /// An address isn't one, is of the wrong family for its answer, or stands in no answer.
+    /// An address isn't one, is of the wrong family for its answer, stands in no answer, or is a source's and not usable.
     #[error("address")]
     Address,
     /// A prefix or a source isn't one.
@@ -40,6 +41,10 @@ pub enum TextKind {
     /// The text ends inside a race.
     #[error("unfinished")]
     Unfinished,
+    /// The rows of the policy table, of which this line is the last, are no table: `NoDefault`, `NoMapped` or
+    /// `SharedPrecedence`. The rows are counted from 0.
+    #[error("{0}")]
+    Policy(PolicyFault),
     /// Memory was refused while the line was read. It says nothing of the line.
     #[error("out of memory")]
     Memory,
@@ -66,6 +71,32 @@ impl From<BuildFault> for TextKind {
             BuildFault::Stranger => TextKind::Address,
             BuildFault::Repeated => TextKind::Repeated,
             BuildFault::Memory => TextKind::Memory,
+        }
+    }
+}
+
+impl From<PolicyFault> for TextKind {
+    ghost from_gives = { λ fault kind. kind ≡ table_kind fault };
+
+    fn from(fault: PolicyFault) -> TextKind {
+        match fault {
+            PolicyFault::Size => TextKind::TooMany,
+            PolicyFault::Repeated(_) => TextKind::Repeated,
+            PolicyFault::Memory => TextKind::Memory,
+            _ => TextKind::Policy(fault),
+        }
+    }
+}
+
+impl From<HostFault> for TextKind {
+    ghost from_gives = { λ fault kind. kind ≡ host_kind fault };
+
+    fn from(fault: HostFault) -> TextKind {
+        match fault {
+            HostFault::TooMany => TextKind::TooMany,
+            HostFault::RepeatedSource(_) | HostFault::RepeatedRoute(_) => TextKind::Repeated,
+            HostFault::BadSource(_) | HostFault::BadRoute(_) => TextKind::Range,
+            HostFault::Memory => TextKind::Memory,
         }
     }
 }

@@ -1,22 +1,27 @@
-//! Texts of timelines and transcripts.
+//! Texts of timelines, transcripts and orders.
 //!
 //! [`read_race`] reads the race that begins at a place of a text. A race is `race 1`, then lines in the order of their groups
-//! (`set`, then `policy`, `source` and `route`, which are passed over, `aaaa`, `a`, `connect`, `pause`), then `end`; each line
-//! ends with one LF, and its tokens are parted by single spaces. [`write_timeline`] and [`write_transcript`] write texts.
+//! (`set`, `policy`, `source`, `route`, `aaaa`, `a`, `connect`, `pause`), then `end`; each line ends with one LF, and its
+//! tokens are parted by single spaces. [`write_timeline`], [`write_transcript`] and [`write_order`] write texts.
 //!
-//! Proved: what `read_race` finds is the text of a race with the value that it answers (`specs/Text`), and nothing is wrong in
-//! it; where it answers a fault, that is the first check that fails on the least faulty line (`specs/Faults`), counted from 1
-//! at the place, or memory was refused at a line above which nothing is wrong; it answers None exactly where the text ends.
-//! The writers append exactly the texts of `specs/Written`, and leave the vector as it was when they are refused memory.
-//! Not proved: that each text which `specs/Text` calls a race's is found, and that a written timeline is read back.
+//! Proved: `read_race` finds exactly the race's text that stands at the place, with its value (`specs/Text`), memory aside;
+//! where it answers a fault, that is the first check that fails on the least faulty line (`specs/Faults`), counted from 1 at
+//! the place, or memory was refused at a line above which nothing is wrong; it answers None exactly where the text ends. The
+//! writers append exactly the texts of `specs/Written` and `specs/Orders`, and leave the vector as it was when they are refused
+//! memory. And by [`laws`]: a text is at most one race's, no race's text is the beginning of another's, a text begins with a
+//! race exactly where nothing is wrong with it, and a timeline that is written is read back, whatever follows it.
 #![tactic(auto)]
 
 mod draft;
 pub mod fault;
 mod forms;
+mod head;
+pub mod laws;
 pub mod limits;
 mod lines;
+pub mod orders;
 mod parts;
+mod ranges;
 pub mod reading;
 pub mod timelines;
 pub mod transcripts;
@@ -24,6 +29,7 @@ mod words;
 mod writing;
 
 pub use fault::{TextFault, TextKind};
+pub use orders::write_order;
 pub use reading::read_race;
 pub use timelines::write_timeline;
 pub use transcripts::write_transcript;

@@ -1,17 +1,21 @@
 // Reading a race.
 
-ghost use Rattle.std.specs.Prelude.{◌≡◌, ◌≤◌, ◌<◌, ◌↔◌, ℕ, List, length, drop, slice_range, IfOk, IfSome, IsNone, None, Ok, Err, IfErr, MatchOption, MatchResult};
+ghost use Rattle.std.specs.Prelude.{◌≡◌, ◌≤◌, ◌<◌, ◌↔◌, ℕ, List, length, drop, slice_range, IfOk, IfSome, IsNone, Some, None, Ok, Err, IfErr, MatchOption, MatchResult};
+ghost use Rattle.he_plan.specs.Race.{Race};
 ghost use Rattle.he_plan.specs.Timeline.{IsRace};
-ghost use Rattle.he_text.specs.Faults.{fault_of};
+ghost use Rattle.he_text.specs.declared.fault.TextKind.TheVariants as kinds;
+ghost use Rattle.he_text.specs.Faults.{fault_of, is_policy_next};
 ghost use Rattle.he_text.specs.Forms.{word_of};
 ghost use Rattle.he_text.specs.Parts.{lines_of, lines_left, tokens_left, tokens_of, HasRoom};
-ghost use Rattle.he_text.specs.Reading.{Fails, FailsAt, take_line, read_body, head_of, take_head, settle, read_head, read_lines, order_at_start, none_given};
+ghost use Rattle.he_text.specs.Reading.{Fails, FailsAt, take_line, read_body, head_of, take_head, settle, read_head, read_lines, order_at_start, no_head};
 ghost use Rattle.he_text.specs.Text.{IsRaceText, TellsFault};
 
-use crate::draft::{Given, Order, take};
+use crate::draft::{Order, take};
 use crate::fault::{TextFault, TextKind};
+use crate::head::Head;
+use crate::limits::MAX_LINE;
 use crate::lines::Lines;
-use crate::parts::Tokens;
+use crate::parts::{LINE_END, Tokens, cut};
 use crate::words::{HEADER, Word};
 use he_plan::{Timeline, TimelineBuilder};
 use std::alloc::Allocator;
@@ -38,6 +42,24 @@ fn head_word(line: &[u8]) -> Option<(Word, Tokens<'_>)>
     }
 }
 
+// Whether the next line is a whole one that begins with `policy`, right or not. Its first bytes are looked at first, so that
+// the line behind the table isn't searched for its end once more.
+fn is_policy_next(rest: &[u8]) -> bool
+    ensures { result ≡ is_policy_next (lines_of rest.now) }
+{
+    if !rest.starts_with(b"policy".as_slice()) {
+        return false;
+    }
+    let (line, behind) = cut(rest, LINE_END);
+    if behind.is_none() || line.len() > MAX_LINE {
+        return false;
+    }
+    match first_word(line) {
+        Ok((word, _)) => word.is_policy(),
+        Err(_) => false,
+    }
+}
+
 // Takes a line of the other groups.
 #[tactic(auto, unfolding(crate::specs::Reading::take_line))]
 fn take_told<A: Allocator + Copy>(
@@ -54,36 +76,38 @@ fn take_told<A: Allocator + Copy>(
     Ok((word, next))
 }
 
-// Takes a line of the first four groups, by its word and the tokens behind it.
+// Takes a line of the first four groups, by its word, the tokens behind it, and what stands behind the line.
 #[tactic(auto, unfolding(crate::specs::Reading::take_head))]
-fn take_setting(
+fn take_given<A: Allocator + Copy>(
     word: Word,
     tokens: Tokens,
+    rest: &[u8],
     order: Order,
-    given: Given,
-) -> Result<(Order, Given), TextKind>
-    ensures { MatchResult result (λ x. take_head (word, tokens_left tokens.entry) order given ≡ Ok (x.0, x.1)) (λ kind. take_head (word, tokens_left tokens.entry) order given ≡ Err kind) }
+    head: &mut Head<A>,
+) -> Result<Order, TextKind>
+    ensures { MatchResult result (λ next. take_head (lines_of rest.now) (word, tokens_left tokens.entry) order head.old ≡ Ok (next, head.new)) (λ kind. Fails kind (take_head (lines_of rest.now) (word, tokens_left tokens.entry) order head.old)) }
 {
     let next = order.admit(word)?;
-    let given = given.take(word, tokens)?;
-    Ok((next, given))
+    let more = word.is_policy() && is_policy_next(rest);
+    head.take(word, tokens, more)?;
+    Ok(next)
 }
 
 // The lines of the first four groups, up to the first other line.
-fn read_settings(lines: &mut Lines) -> Result<(Order, Given), TextKind>
+fn read_head<A: Allocator + Copy>(alloc: A, lines: &mut Lines) -> Result<(Order, Head<A>), TextKind>
     requires { HasRoom lines.old }
-    ensures read { MatchResult result (λ x. read_head lines.old.number order_at_start none_given (lines_left lines.old) ≡ settle lines.new.number x.0 x.1 (lines_left lines.new)) (λ kind. read_head lines.old.number order_at_start none_given (lines_left lines.old) ≡ Err (lines.new.number, kind)) }
+    ensures read { MatchResult result (λ x. read_head lines.old.number order_at_start no_head (lines_left lines.old) ≡ settle lines.new.number x.0 x.1 (lines_left lines.new)) (λ kind. FailsAt lines.new.number kind (read_head lines.old.number order_at_start no_head (lines_left lines.old))) }
     ensures room { HasRoom lines.new }
     ensures shorter { length lines.new.rest.now ≤ length lines.old.rest.now }
 {
     let mut order = Order::start();
-    let mut given = Given::none();
+    let mut head = Head::none(alloc);
     loop {
         let (line, rest) = lines.next_line()?;
         let Some((word, tokens)) = head_word(line) else {
-            return Ok((order, given));
+            return Ok((order, head));
         };
-        (order, given) = take_setting(word, tokens, order, given)?;
+        order = take_given(word, tokens, rest, order, &mut head)?;
         lines.pass(rest);
     }
 }
@@ -117,7 +141,7 @@ fn read_rest<A: Allocator + Copy>(
 fn read_header(lines: &mut Lines) -> Result<(), TextKind>
     requires room { HasRoom lines.old }
     requires first { lines.old.number ≡ 1 }
-    ensures read { MatchResult result (λ _. read_lines (lines_left lines.old) ≡ read_head lines.new.number order_at_start none_given (lines_left lines.new)) (λ kind. read_lines (lines_left lines.old) ≡ Err (lines.new.number, kind)) }
+    ensures read { MatchResult result (λ _. read_lines (lines_left lines.old) ≡ read_head lines.new.number order_at_start no_head (lines_left lines.new)) (λ kind. read_lines (lines_left lines.old) ≡ Err (lines.new.number, kind)) }
     ensures room { HasRoom lines.new }
     ensures shorter { length lines.new.rest.now ≤ length lines.old.rest.now }
 {
@@ -138,9 +162,9 @@ fn read_timeline<A: Allocator + Copy>(alloc: A, lines: &mut Lines) -> Result<Tim
     ensures shorter { length lines.new.rest.now ≤ length lines.old.rest.now }
 {
     read_header(lines)?;
-    let (order, given) = read_settings(lines)?;
-    let settings = given.settings()?;
-    read_rest(alloc, order, TimelineBuilder::new(alloc, settings), lines)
+    let (order, head) = read_head(alloc, lines)?;
+    let race = head.start(alloc)?;
+    read_rest(alloc, order, race, lines)
 }
 
 // The race with which the text begins, and how many bytes stand behind it.
@@ -175,6 +199,9 @@ pub fn read_race<A: Allocator + Copy>(
     // The bytes from `from` to the place are a race's text, with this value, and nothing is wrong in them.
     ensures found { IfOk result (λ found. IfSome found (λ x. (from < x.1) × (x.1 ≤ length text.now) × IsRaceText (slice_range text.now from x.1) x.0)) }
     ensures right { IfOk result (λ found. IfSome found (λ x. fault_of (drop from text.now) ≡ None)) }
+
+    // A race's text that stands at `from` is found, with its value and its end, unless memory is refused.
+    ensures complete { (end : ℕ) (race : Race) → end ≤ length text.now → IsRaceText (slice_range text.now from end) race → MatchResult result (λ found. found ≡ Some (race, end)) (λ fault. fault.kind ≡ kinds.Memory) }
 
     ensures fault { IfErr result (λ fault. TellsFault fault.line fault.kind (fault_of (drop from text.now))) }
 {

@@ -1,5 +1,12 @@
 // Texts from outside: accepted, refused, written.
 
+mod bounds;
+mod faults;
+mod forms;
+mod laws;
+mod selections;
+mod writing;
+
 use crate::{TextFault, TextKind, read_race, write_timeline, write_transcript};
 use he_addr::Ip;
 use he_plan::{Line, Mark, Outcome3, Transcript};
@@ -75,7 +82,7 @@ fn accepted(rt: HostRuntime) -> Result<(), Fail> {
     write_timeline(&race, &mut text)?;
     let written = lines(
         rt.alloc(),
-        "race 1;set resolution 50;set attempt 250;set count 1;set limit 9;aaaa 20 2001:db8:1::1;a 25 none;connect 2001:db8:1::1 ok 35;pause 30 40;pause 40 50;end;",
+        "race 1;set resolution 50;set attempt 250;set count 1;set limit 9;policy ::1/128 50 0;policy ::/0 40 1;policy ::ffff:0:0/96 35 4;policy 2002::/16 30 2;policy 2001::/32 5 5;policy fc00::/7 3 13;policy ::/96 1 3;policy fec0::/10 1 11;policy 3ffe::/16 1 12;aaaa 20 2001:db8:1::1;a 25 none;connect 2001:db8:1::1 ok 35;pause 30 40;pause 40 50;end;",
     )?;
     assert_eq!(rt; text.as_slice(), written.as_slice());
     assert!(rt; read_race(rt.alloc(), &bytes, bytes.len())?.is_none());

@@ -3,12 +3,13 @@
 ghost use Rattle.std.specs.Prelude.{◌≡◌, ◌++◌, OnOk, OnErr};
 ghost use Rattle.std.specs.List.{flat_map};
 ghost use Rattle.he_plan.specs.Race.{reply_of};
-ghost use Rattle.he_text.specs.Written.{setting_text, delays_text, bounds_text, top_text, reply_text, answer_text, answers_text, outcome_text, pause_text, told_text, timeline_text, Writes};
+ghost use Rattle.he_text.specs.Written.{setting_text, delays_text, bounds_text, top_text, reply_text, answer_text, answers_text, outcome_text, pause_text, told_text, row_text, host_source_text, host_route_text, host_text, selection_text, timeline_text, Writes};
 
 use crate::words::HEADER;
 use crate::writing::{Token, write_line, write_listed};
 use he_addr::{Family, Ip, Memory};
 use he_plan::{Outcome, Settings, Timeline};
+use he_select::{Host, Route, Row, Source};
 use std::alloc::Allocator;
 
 fn write_setting<A: Allocator + Copy>(
@@ -50,6 +51,100 @@ fn write_top<A: Allocator + Copy>(settings: Settings, out: &mut Vec<u8, A>) -> R
 {
     write_line(HEADER, &[], out)?;
     write_settings(settings, out)
+}
+
+// policy PREFIX PRECEDENCE LABEL
+fn write_row<A: Allocator + Copy>(row: Row, out: &mut Vec<u8, A>) -> Result<(), Memory>
+    ensures { Writes result out.old.items out.new.items (row_text row) }
+{
+    let tokens = [
+        Token::Prefix(&row.prefix),
+        Token::Number(u64::from(row.precedence)),
+        Token::Number(u64::from(row.label)),
+    ];
+    write_line(b"policy", &tokens, out)
+}
+
+fn write_rows<A: Allocator + Copy>(rows: &[Row], out: &mut Vec<u8, A>) -> Result<(), Memory>
+    ensures { Writes result out.old.items out.new.items (flat_map row_text rows.now) }
+{
+    for row in rows {
+        write_row(*row, out)?;
+    }
+    Ok(())
+}
+
+// source SOURCE INTERFACE [deprecated] [temporary]
+fn write_source<A: Allocator + Copy>(source: Source, out: &mut Vec<u8, A>) -> Result<(), Memory>
+    ensures { Writes result out.old.items out.new.items (host_source_text source) }
+{
+    let address = Token::Source(source.ip, source.plen);
+    let interface = Token::Number(u64::from(source.interface));
+    let deprecated = Token::Word(b"deprecated");
+    let temporary = Token::Word(b"temporary");
+    match (source.deprecated, source.temporary) {
+        (false, false) => write_line(b"source", &[address, interface], out),
+        (true, false) => write_line(b"source", &[address, interface, deprecated], out),
+        (false, true) => write_line(b"source", &[address, interface, temporary], out),
+        (true, true) => {
+            let tokens = [address, interface, deprecated, temporary];
+            write_line(b"source", &tokens, out)
+        }
+    }
+}
+
+fn write_sources<A: Allocator + Copy>(
+    sources: &[Source],
+    out: &mut Vec<u8, A>,
+) -> Result<(), Memory>
+    ensures { Writes result out.old.items out.new.items (flat_map host_source_text sources.now) }
+{
+    for source in sources {
+        write_source(*source, out)?;
+    }
+    Ok(())
+}
+
+// route PREFIX INTERFACE [tunnel]
+fn write_route<A: Allocator + Copy>(route: Route, out: &mut Vec<u8, A>) -> Result<(), Memory>
+    ensures { Writes result out.old.items out.new.items (host_route_text route) }
+{
+    let prefix = Token::Dotted(&route.prefix);
+    let interface = Token::Number(u64::from(route.interface));
+    if route.tunnel {
+        return write_line(b"route", &[prefix, interface, Token::Word(b"tunnel")], out);
+    }
+    write_line(b"route", &[prefix, interface], out)
+}
+
+fn write_routes<A: Allocator + Copy>(routes: &[Route], out: &mut Vec<u8, A>) -> Result<(), Memory>
+    ensures { Writes result out.old.items out.new.items (flat_map host_route_text routes.now) }
+{
+    for route in routes {
+        write_route(*route, out)?;
+    }
+    Ok(())
+}
+
+fn write_host<A: Allocator + Copy, B: Allocator>(
+    host: &Host<B>,
+    out: &mut Vec<u8, A>,
+) -> Result<(), Memory>
+    ensures { Writes result out.old.items out.new.items (host_text host.now) }
+{
+    write_sources(host.sources(), out)?;
+    write_routes(host.routes(), out)
+}
+
+// The policy table and the host.
+fn write_selection<A: Allocator + Copy, B: Allocator>(
+    timeline: &Timeline<B>,
+    out: &mut Vec<u8, A>,
+) -> Result<(), Memory>
+    ensures { Writes result out.old.items out.new.items (selection_text timeline.now) }
+{
+    write_rows(timeline.policy().rows(), out)?;
+    write_host(timeline.host(), out)
 }
 
 // WORD TICK none, or WORD TICK ADDRESS ..
@@ -163,14 +258,25 @@ fn write_events<A: Allocator + Copy, B: Allocator>(
     write_told(timeline, out)
 }
 
+// All that stands behind the settings.
+fn write_rest<A: Allocator + Copy, B: Allocator>(
+    timeline: &Timeline<B>,
+    out: &mut Vec<u8, A>,
+) -> Result<(), Memory>
+    ensures { Writes result out.old.items out.new.items (selection_text timeline.now ++ (answers_text timeline.now ++ told_text timeline.now)) }
+{
+    write_selection(timeline, out)?;
+    write_events(timeline, out)
+}
+
 fn write_lines<A: Allocator + Copy, B: Allocator>(
     timeline: &Timeline<B>,
     out: &mut Vec<u8, A>,
 ) -> Result<(), Memory>
-    ensures { Writes result out.old.items out.new.items (top_text timeline.now.settings ++ (answers_text timeline.now ++ told_text timeline.now)) }
+    ensures { Writes result out.old.items out.new.items (top_text timeline.now.settings ++ (selection_text timeline.now ++ (answers_text timeline.now ++ told_text timeline.now))) }
 {
     write_top(timeline.settings(), out)?;
-    write_events(timeline, out)
+    write_rest(timeline, out)
 }
 
 fn write_whole<A: Allocator + Copy, B: Allocator>(
@@ -183,8 +289,9 @@ fn write_whole<A: Allocator + Copy, B: Allocator>(
     write_line(b"end", &[], out)
 }
 
-/// Appends the text of a timeline: `race 1`, its four settings, the answers that there are, the outcomes and the pauses in
-/// the order in which they were given, and `end`. After `Memory` the vector holds what it held.
+/// Appends the text of a timeline: `race 1`, its four settings, all rows of its policy table with prefixes in IPv6 form, the
+/// host's sources and its routes, those for IPv4 in IPv4 form, the answers that there are, the outcomes and the pauses in the
+/// order in which they were given, and `end`. After `Memory` the vector holds what it held.
 pub fn write_timeline<A: Allocator + Copy, B: Allocator>(
     timeline: &Timeline<B>,
     out: &mut Vec<u8, A>,

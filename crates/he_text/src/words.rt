@@ -1,23 +1,15 @@
 // The words of timeline texts.
 
 ghost use Rattle.std.specs.Prelude.{◌≡◌};
-ghost use Rattle.he_text.specs.Words.{word_in, name_in, group_of, is_head_word, is_end, most_lines};
+ghost use Rattle.he_text.specs.Words.{word_in, name_in, group_of, is_head_word, is_policy, is_end, most_lines};
 
 use crate::fault::TextKind;
 use crate::limits::MAX_ANSWERS;
 use he_plan::limits::MAX_PAUSES;
+use he_select::limits::{ROUTES, ROWS, SOURCES};
 
 /// The first line of a race.
 pub(crate) const HEADER: &[u8] = b"race 1";
-
-/// An answer without addresses.
-pub(crate) const NONE: &[u8] = b"none";
-
-/// A connect that succeeds.
-pub(crate) const SUCCEEDS: &[u8] = b"ok";
-
-/// A connect that fails.
-pub(crate) const FAILS: &[u8] = b"fail";
 
 // The words that begin a line behind the first one.
 #[derive(Clone, Copy, Debug, PartialEq, Eq)]
@@ -89,6 +81,16 @@ impl Word {
         self.group() <= LAST_HEAD_GROUP
     }
 
+    // Whether its lines are rows of the policy table.
+    pub(crate) fn is_policy(self) -> bool
+        ensures { result ≡ is_policy self }
+    {
+        match self {
+            Word::Policy => true,
+            _ => false,
+        }
+    }
+
     pub(crate) fn is_end(self) -> bool
         ensures { result ≡ is_end self }
     {
@@ -103,6 +105,9 @@ impl Word {
         ensures { result ≡ most_lines self }
     {
         match self {
+            Word::Policy => Some((ROWS, TextKind::TooMany)),
+            Word::Source => Some((SOURCES, TextKind::TooMany)),
+            Word::Route => Some((ROUTES, TextKind::TooMany)),
             Word::Aaaa | Word::A => Some((MAX_ANSWERS, TextKind::Repeated)),
             Word::Pause => Some((MAX_PAUSES, TextKind::TooMany)),
             _ => None,

@@ -5,7 +5,7 @@ ghost use Rattle.he_addr.specs.Printing.{printed};
 ghost use Rattle.he_text.specs.Written.{token_text, written_line, Writes, spaced, Grows};
 
 use crate::parts::{LINE_END, TOKEN_END};
-use he_addr::{Ip, Memory, write_ip, write_number};
+use he_addr::{Ip, Memory, Prefix, write_ip, write_number, write_prefix, write_source};
 use std::alloc::Allocator;
 
 // A token of a line.
@@ -14,6 +14,12 @@ pub(crate) enum Token<'t> {
     Word(&'t [u8]),
     Number(u64),
     Address(Ip),
+    // The address of a source, and the length of its prefix.
+    Source(Ip, u8),
+    // A prefix in IPv6 form.
+    Prefix(&'t Prefix),
+    // A prefix, in IPv4 form where it holds IPv4 addresses.
+    Dotted(&'t Prefix),
 }
 
 fn write_bytes<A: Allocator + Copy>(bytes: &[u8], out: &mut Vec<u8, A>) -> Result<(), Memory>
@@ -31,6 +37,9 @@ fn write_token<A: Allocator + Copy>(token: Token, out: &mut Vec<u8, A>) -> Resul
         Token::Word(text) => write_bytes(text, out),
         Token::Number(number) => write_number(number, out),
         Token::Address(ip) => write_ip(ip, out),
+        Token::Source(ip, len) => write_source(ip, len, out),
+        Token::Prefix(prefix) => write_prefix(*prefix, false, out),
+        Token::Dotted(prefix) => write_prefix(*prefix, true, out),
     }
 }
 
@@ -63,16 +72,38 @@ fn write_addresses<A: Allocator + Copy>(ips: &[Ip], out: &mut Vec<u8, A>) -> Res
 }
 
 // A line: its first token and the others.
-pub(crate) fn write_line<A: Allocator + Copy>(
-    first: &[u8],
+fn write_joined<A: Allocator + Copy>(
+    first: Token,
     others: &[Token],
     out: &mut Vec<u8, A>,
 ) -> Result<(), Memory>
-    ensures { Writes result out.old.items out.new.items (written_line (first.now ∷ map token_text others.now)) }
+    ensures { Writes result out.old.items out.new.items (written_line (token_text first.entry ∷ map token_text others.now)) }
 {
-    write_bytes(first, out)?;
+    write_token(first, out)?;
     write_tokens(others, out)?;
     write_bytes(&[LINE_END], out)
+}
+
+// A line that begins with a word.
+pub(crate) fn write_line<A: Allocator + Copy>(
+    word: &[u8],
+    others: &[Token],
+    out: &mut Vec<u8, A>,
+) -> Result<(), Memory>
+    ensures { Writes result out.old.items out.new.items (written_line (word.now ∷ map token_text others.now)) }
+{
+    write_joined(Token::Word(word), others, out)
+}
+
+// A line that begins with a number.
+pub(crate) fn write_numbered<A: Allocator + Copy>(
+    number: u64,
+    others: &[Token],
+    out: &mut Vec<u8, A>,
+) -> Result<(), Memory>
+    ensures { Writes result out.old.items out.new.items (written_line (decimal number ∷ map token_text others.now)) }
+{
+    write_joined(Token::Number(number), others, out)
 }
 
 // A line of a word, a number and addresses.

@@ -10,7 +10,7 @@ use Rattle.he_text.specs.Text.{IsRaceText}
 use Rattle.he_text.specs.declared.fault.TextFault.{TextFault}
 use Rattle.he_tool.specs.declared.limits.TheConstants.{MOST_RACES}
 use Rattle.he_tool.specs.declared.output.InputFault.{InputFault}
-use Rattle.he_tool.specs.Output.{AreTexts, IsTranscriptText, IsFault, IsOutput, fault_at_end, fault_behind, line_count}
+use Rattle.he_tool.specs.Output.{AreTexts, IsFault, IsOutput, fault_at_end, fault_behind, line_count}
 use Rattle.he_tool.specs.Steps.{TakesRace, IsUnderWay}
 
 pub AreTexts-snoc : (IsText : List ℕ → Race → Type 0) (races : List Race) (text : List ℕ) → AreTexts IsText races text
@@ -28,9 +28,9 @@ take_to input from end le =
     let sum : end ≡ from + (end - from) = omega arith in
     ap (λ (n : ℕ). take n input) sum ∙ take-add from (end - from) input
 
-pub one_more : (input text new : List ℕ) (from lines count end : ℕ) → IsUnderWay input text from lines count → TakesRace input from text new end
-    → IsUnderWay input new end (lines + line_count (slice_range input from end)) (count + 1)
-one_more input text new from lines count end way takes =
+pub one_more : (IsText : List ℕ → Race → Type 0) (input text new : List ℕ) (from lines count end : ℕ) → IsUnderWay IsText input text from lines count → TakesRace IsText input from text new end
+    → IsUnderWay IsText input new end (lines + line_count (slice_range input from end)) (count + 1)
+one_more IsText input text new from lines count end way takes =
     let le : from ≤ end = omega (arith, takes.past) in
     let split : take end input ≡ take from input ++ slice_range input from end = take_to input from end le in
     record {
@@ -40,14 +40,14 @@ one_more input text new from lines count end way takes =
           subst P (sym split) (AreTexts-snoc IsRaceText way.races (take from input) way.whole takes.race _ takes.read);
       counted = length-append way.races (takes.race ∷ []) ∙ ap (λ (n : ℕ). n + 1) way.counted;
       lines_are = ap (λ (n : ℕ). n + line_count (slice_range input from end)) way.lines_are ∙ sym (line_count-append (take from input) (slice_range input from end)) ∙ ap line_count (sym split);
-      told = let P : List ℕ → Type 0 = AreTexts IsTranscriptText (way.races ++ takes.race ∷ []) in
-          subst P (sym takes.written.appended) (AreTexts-snoc IsTranscriptText way.races text way.told takes.race takes.written.told takes.written.is_told);
+      told = let P : List ℕ → Type 0 = AreTexts IsText (way.races ++ takes.race ∷ []) in
+          subst P (sym takes.written.appended) (AreTexts-snoc IsText way.races text way.told takes.race takes.written.told takes.written.is_told);
     }
 
 -- what is read ends here, with this fault of the rest
-pub ended : (input text : List ℕ) (is_broken : Bool) (from lines count : ℕ) (fault : Option InputFault) → IsUnderWay input text from lines count
-    → count ≤ MOST_RACES → IsFault is_broken count lines (drop from input) fault → IsOutput input is_broken text fault
-ended input text is_broken from lines count fault way few is = record {
+pub ended : (IsText : List ℕ → Race → Type 0) (input text : List ℕ) (is_broken : Bool) (from lines count : ℕ) (fault : Option InputFault) → IsUnderWay IsText input text from lines count
+    → count ≤ MOST_RACES → IsFault is_broken count lines (drop from input) fault → IsOutput IsText input is_broken text fault
+ended IsText input text is_broken from lines count fault way few is = record {
   races = way.races;
   before = take from input;
   rest = drop from input;

@@ -1,5 +1,5 @@
 pub mod Command
 pub mod Output
-pub mod Replay
 pub mod Run
 pub mod Steps
+pub mod Stream

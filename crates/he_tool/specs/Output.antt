@@ -7,7 +7,10 @@ use Rattle.he_text.specs.declared.fault.TextKind.{TextKind}
 use Rattle.he_text.specs.declared.fault.TextKind.TheVariants as kinds
 use Rattle.he_text.specs.Faults.{fault_of}
 use Rattle.he_text.specs.Text.{IsRaceText}
+use Rattle.he_text.specs.Orders.{order_text}
 use Rattle.he_text.specs.Written.{transcript_text}
+use Rattle.he_tool.specs.declared.content.Content.{Content}
+use Rattle.he_tool.specs.declared.content.Content.TheVariants as contents
 use Rattle.he_tool.specs.declared.limits.TheConstants.{MOST_RACES}
 use Rattle.he_tool.specs.declared.output.InputFault.{InputFault}
 use Rattle.he_tool.specs.declared.output.InputFault.TheVariants.{Text, Read}
@@ -21,6 +24,15 @@ AreTexts IsText (race ∷ races) text =
 -- the text of the race's transcript
 abbrev pub IsTranscriptText : List ℕ → Race → Type 0
 IsTranscriptText text race = (report : Report) × IsTranscript race report × (text ≡ transcript_text report)
+
+-- the text of the race's order
+abbrev pub IsOrderText : List ℕ → Race → Type 0
+IsOrderText text race = text ≡ order_text race
+
+-- the text of what is asked for of the race
+abbrev pub IsTextOf : Content → List ℕ → Race → Type 0
+IsTextOf contents.Transcript = IsTranscriptText
+IsTextOf contents.Order = IsOrderText
 
 -- how many lines end in the text
 abbrev pub line_count : List ℕ → ℕ
@@ -45,13 +57,13 @@ IsFault is_broken races lines (byte ∷ rest) fault =
     ⊎ ((races + 1 ≤ MOST_RACES)
     × (found : ℕ × TextKind) × (fault_of (byte ∷ rest) ≡ Some found) × (fault ≡ Some (fault_behind is_broken lines found)))
 
--- the text that is written for an input, and what is wrong with the input: the transcripts of its races up to the first fault
-pub record IsOutput (input : List ℕ) (is_broken : Bool) (text : List ℕ) (fault : Option InputFault) : Type 0 where
+-- the text that is written for an input, and what is wrong with the input: a text of each of its races up to the first fault
+pub record IsOutput (IsText : List ℕ → Race → Type 0) (input : List ℕ) (is_broken : Bool) (text : List ℕ) (fault : Option InputFault) : Type 0 where
   pub races : List Race
   pub before : List ℕ
   pub rest : List ℕ
   pub parts : input ≡ before ++ rest
   pub whole : AreTexts IsRaceText races before
   pub few : length races ≤ MOST_RACES
-  pub told : AreTexts IsTranscriptText races text
+  pub told : AreTexts IsText races text
   pub fault_is : IsFault is_broken (length races) (line_count before) rest fault

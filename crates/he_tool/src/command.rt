@@ -11,13 +11,18 @@ use std::alloc::{AllocError, Global};
 pub enum Action {
     /// Replay the timelines of the input.
     Replay { workers: u16 },
+    /// Write the orders of the addresses of the input's races.
+    Order,
 }
 
-const ABOUT: &str = "Replays Happy Eyeballs races (RFC 8305)";
+const ABOUT: &str = "Replays Happy Eyeballs races (RFC 8305) and orders their addresses (RFC 6724)";
 
 const REPLAY_ABOUT: &str = "Reads timelines of races and writes what happens in them";
 
-const WORKERS_HELP: &str = "How many workers share the attempts, 1 to 64";
+const ORDER_ABOUT: &str = "Reads timelines of races and writes the order of their addresses";
+
+const WORKERS_HELP: &str =
+    "A number of workers, 1 to 64; the races run one after the other as yet, whatever it is";
 
 const EXIT_STATUS: &str = "\
 Exit status: 0 when all is done; 1 after a fault, with one line on standard error;
@@ -49,6 +54,30 @@ Its output:
 Exit status: 0 when all is done; 1 after a fault, with one line on standard error;
 2 for a command line that is refused.";
 
+const ORDER_EXAMPLE: &str = "\
+Standard input is a timeline text, as for `he replay`. Standard output has, for each
+race, its usable addresses in the order of preference (RFC 6724), each with the source
+address that the host uses for it, or none where it has no route or no source.
+
+Example input:
+
+  race 1
+  source 2001:db8::2/64 1
+  source 192.0.2.2/24 1
+  route 0.0.0.0/0 1
+  aaaa 20 2001:db8:1::1
+  a 20 198.51.100.1
+  end
+
+Its output:
+
+  0 198.51.100.1 from 192.0.2.2
+  1 2001:db8:1::1 from none
+  end
+
+Exit status: 0 when all is done; 1 after a fault, with one line on standard error;
+2 for a command line that is refused.";
+
 // The whole command line of the program.
 fn command<'a>(alloc: Global) -> Result<Command<'a>, AllocError> {
     let workers = Arg::new(alloc, "workers")
@@ -61,13 +90,17 @@ fn command<'a>(alloc: Global) -> Result<Command<'a>, AllocError> {
         .about(REPLAY_ABOUT)
         .after_help(REPLAY_EXAMPLE)
         .arg(workers)?;
+    let order = Command::new(alloc, "order")
+        .about(ORDER_ABOUT)
+        .after_help(ORDER_EXAMPLE);
     Command::new(alloc, "he")
         .bin_name("he")?
         .version("1.0.0")
         .about(ABOUT)
         .after_help(EXIT_STATUS)
         .subcommand_required(true)
-        .subcommand(replay)
+        .subcommand(replay)?
+        .subcommand(order)
 }
 
 /// Reads the words of a command line, of which the first is the program's name.
@@ -79,11 +112,15 @@ pub fn read_words<'a>(alloc: Global, words: &'a [&'a str]) -> Result<Action, Err
     ensures { IfOk result HasWorkers }
 {
     let matches = command(alloc)?.try_get_matches_from(words)?;
-    let workers = match matches.subcommand() {
-        Some((_, replay)) => workers_of(replay),
-        None => DEFAULT_WORKERS,
-    };
-    Ok(Action::Replay { workers })
+    Ok(match matches.subcommand() {
+        Some(("order", _)) => Action::Order,
+        Some((_, replay)) => Action::Replay {
+            workers: workers_of(replay),
+        },
+        None => Action::Replay {
+            workers: DEFAULT_WORKERS,
+        },
+    })
 }
 
 // The number of workers. clap has tested its range, but has no clause on a subcommand's arguments.

@@ -1,11 +1,11 @@
-//! What is written for an input: the transcripts of its races.
-ghost use Rattle.std.specs.Prelude.{◌≡◌, ◌+◌, ◌^◌, ◌<◌, ◌≤◌, IfOk, OnOk, length};
-ghost use Rattle.he_tool.specs.Output.{IsFault, IsOutput, fault_at_end, fault_behind, line_count};
-ghost use Rattle.he_tool.specs.Steps.{IsStep, WritesRace};
+//! What is written for an input: a text of each of its races.
+ghost use Rattle.std.specs.Prelude.{◌≡◌, ◌+◌, ◌^◌, ◌<◌, ◌≤◌, IfOk, length};
+ghost use Rattle.he_tool.specs.Output.{IsFault, IsOutput, IsTextOf, fault_at_end, fault_behind, line_count};
+ghost use Rattle.he_tool.specs.Steps.{IsStep};
 
+use crate::content::Content;
 use crate::limits::MOST_RACES;
-use he_plan::{Timeline, transcript_of};
-use he_text::{TextFault, TextKind, read_race, write_transcript};
+use he_text::{TextFault, TextKind, read_race};
 use std::alloc::{AllocError, Allocator};
 
 /// Why an input has no whole output.
@@ -24,7 +24,8 @@ pub struct Output<A: Allocator> {
     pub fault: Option<InputFault>,
 }
 
-/// The output of an input. `is_broken` tells that the input broke off after these bytes.
+/// The output of an input, of whose races this content is asked for. `is_broken` tells that the input broke off after these
+/// bytes.
 ///
 /// # Errors
 ///
@@ -33,14 +34,15 @@ pub fn output_of<A: Allocator + Copy>(
     alloc: A,
     input: &[u8],
     is_broken: bool,
+    content: Content,
 ) -> Result<Output<A>, AllocError>
-    ensures { IfOk result (λ output. IsOutput input.now is_broken output.text.items output.fault) }
+    ensures { IfOk result (λ output. IsOutput (IsTextOf content) input.now is_broken output.text.items output.fault) }
 {
     let mut text = Vec::new(alloc);
     let mut from = 0;
     let mut lines = 0;
     for _ in 0..MOST_RACES {
-        match take_race(alloc, input, from, &mut text)? {
+        match take_race(alloc, input, from, content, &mut text)? {
             Step::Race(end) => {
                 lines += line_count(&input[from..end]);
                 from = end;
@@ -66,20 +68,21 @@ pub(crate) enum Step {
     Fault(TextFault),
 }
 
-// Reads the race at the place, and appends the text of its transcript.
+// Reads the race at the place, and appends what is asked for of it.
 fn take_race<A: Allocator + Copy>(
     alloc: A,
     input: &[u8],
     from: usize,
+    content: Content,
     text: &mut Vec<u8, A>,
 ) -> Result<Step, AllocError>
     requires { from ≤ length input.now }
-    ensures { IfOk result (IsStep input.now from text.old.items text.new.items) }
+    ensures { IfOk result (IsStep (IsTextOf content) input.now from text.old.items text.new.items) }
 {
     match read_race(alloc, input, from) {
         Ok(None) => Ok(Step::End),
         Ok(Some((timeline, end))) => {
-            write_race(alloc, &timeline, text)?;
+            content.write(alloc, &timeline, text)?;
             Ok(Step::Race(end))
         }
         Err(fault) => match fault.kind {
@@ -87,18 +90,6 @@ fn take_race<A: Allocator + Copy>(
             _ => Ok(Step::Fault(fault)),
         },
     }
-}
-
-// Appends the text of the race's transcript.
-fn write_race<A: Allocator + Copy>(
-    alloc: A,
-    timeline: &Timeline<A>,
-    text: &mut Vec<u8, A>,
-) -> Result<(), AllocError>
-    ensures { OnOk result (WritesRace timeline.now text.old.items text.new.items) }
-{
-    let transcript = transcript_of(alloc, timeline).map_err(|_| AllocError)?;
-    write_transcript(&transcript, text).map_err(|_| AllocError)
 }
 
 // What is wrong with an input that ends behind whole races.

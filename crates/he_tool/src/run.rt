@@ -1,9 +1,10 @@
 //! A whole run of the program over a reader and two writers.
 ghost use Rattle.std.specs.Prelude.{◌≡◌, ◌⊎◌};
-ghost use Rattle.he_tool.specs.Run.{HasReplayed};
+ghost use Rattle.he_tool.specs.Run.{HasReplayed, HasOrdered};
 
 use crate::command::{Action, read_words};
 use crate::fault::ReplayFault;
+use crate::orders::orders;
 use crate::replay::replay;
 use clap::Error;
 use clap::error::ErrorKind;
@@ -36,13 +37,16 @@ pub fn run_words<'a, T, R: Read, W: Write, F: Write>(
     // A line that is refused leaves the input and the output alone.
     ensures refused { result ≡ USAGE → (reader.new ≡ reader.old) × (writer.new ≡ writer.old) }
 
-    // Otherwise the input was replayed, or it was left alone: for help, or for want of memory.
+    // Otherwise the input was replayed, or its orders were written, or it was left alone: for help, or for want of memory.
     ensures ran { (reader.new ≡ reader.old)
-        ⊎ HasReplayed (R.remaining reader.old) (R.remaining reader.new)
-        (W.contents writer.old) (W.contents writer.new) result }
+        ⊎ (HasReplayed (R.remaining reader.old) (R.remaining reader.new)
+        (W.contents writer.old) (W.contents writer.new) result
+        ⊎ HasOrdered (R.remaining reader.old) (R.remaining reader.new)
+        (W.contents writer.old) (W.contents writer.new) result) }
 {
     let result = match read_words(alloc, words) {
         Ok(Action::Replay { workers }) => replay(rt, alloc, reader, writer, workers),
+        Ok(Action::Order) => orders(alloc, reader, writer),
         Err(error) if error.kind() == ErrorKind::OutOfMemory => Err(ReplayFault::Memory),
         Err(error) if error.use_stderr() => return refuse(&error, faults),
         Err(error) => write_help(&error, writer),

@@ -1,3 +1,5 @@
+mod orders;
+
 use crate::fault::ReplayFault;
 use crate::replay::replay;
 use crate::run::run_words;
@@ -109,6 +111,8 @@ fn lines_that_are_refused(rt: HostRuntime) {
         &["he", "replay", "--workers", "0"],
         &["he", "replay", "--workers", "65"],
         &["he", "replay", "--workers", "two"],
+        &["he", "order", "more"],
+        &["he", "order", "--workers", "2"],
     ] {
         let mut reader = FakeReader::new(TEXT, 4);
         let mut writer = FakeWriter::new(rt.alloc());
@@ -146,7 +150,14 @@ fn help_that_was_asked_for(rt: HostRuntime) {
             ["he", "--help"].as_slice(),
             b"Replays Happy Eyeballs races".as_slice(),
         ),
-        (&["he", "replay", "--help"], b"Reads timelines of races"),
+        (
+            &["he", "replay", "--help"],
+            b"Reads timelines of races and writes what happens",
+        ),
+        (
+            &["he", "order", "--help"],
+            b"Reads timelines of races and writes the order",
+        ),
         (&["he", "--version"], b"he 1.0.0\n"),
     ] {
         let mut reader = FakeReader::new(TEXT, 4);

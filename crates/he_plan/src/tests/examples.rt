@@ -1,10 +1,9 @@
 // Worked races: what goes in, and the transcript that the rules define for it.
 
-use crate::{
-    Line, Mark, Outcome, Outcome3, Range, Settings, Timeline, TimelineBuilder, transcript_of,
-};
+use super::homes::{Home, builder};
+use crate::{Line, Mark, Outcome, Outcome3, Range, Settings, Timeline, transcript_of};
 use he_addr::{Family, Ip};
-use std::alloc::{Allocator, Global};
+use std::alloc::Global;
 use std::test::Fail;
 
 // 2001:db8:1::1 to 2001:db8:1::3
@@ -24,6 +23,9 @@ pub const V4_A: Ip = Ip::V4(0xc633_6401);
 
 pub const V4_B: Ip = Ip::V4(0xc633_6402);
 
+// 198.51.100.121
+const V4_NEIGHBOUR: Ip = Ip::V4(0xc633_6479);
+
 /// An answer's tick and addresses.
 struct Given {
     tick: u64,
@@ -33,6 +35,7 @@ struct Given {
 /// A race and its transcript. An answer is a list of none or one.
 struct Case {
     name: &'static str,
+    home: Home,
     settings: (u64, u64, u64, u64),
     aaaa: &'static [Given],
     a: &'static [Given],
@@ -66,9 +69,10 @@ macro_rules! at {
     };
 }
 
-static CASES: [Case; 20] = [
+static CASES: [Case; 23] = [
     Case {
         name: "first-race",
+        home: Home::Usual,
         settings: STANDARD,
         aaaa: at!(20, V6_A),
         a: at!(25, V4_A),
@@ -79,6 +83,7 @@ static CASES: [Case; 20] = [
     },
     Case {
         name: "second-attempt-wins",
+        home: Home::Usual,
         settings: STANDARD,
         aaaa: at!(40, V6_A),
         a: at!(10, V4_A),
@@ -92,6 +97,7 @@ static CASES: [Case; 20] = [
     },
     Case {
         name: "answer-on-the-delay-end",
+        home: Home::Usual,
         settings: STANDARD,
         aaaa: at!(60, V6_A),
         a: at!(10, V4_A),
@@ -102,6 +108,7 @@ static CASES: [Case; 20] = [
     },
     Case {
         name: "answer-after-the-delay",
+        home: Home::Usual,
         settings: STANDARD,
         aaaa: at!(61, V6_A),
         a: at!(10, V4_A),
@@ -115,6 +122,7 @@ static CASES: [Case; 20] = [
     },
     Case {
         name: "negative-aaaa",
+        home: Home::Usual,
         settings: STANDARD,
         aaaa: at!(30,),
         a: at!(10, V4_A),
@@ -125,6 +133,7 @@ static CASES: [Case; 20] = [
     },
     Case {
         name: "negative-aaaa-first",
+        home: Home::Usual,
         settings: STANDARD,
         aaaa: at!(5,),
         a: at!(10, V4_A),
@@ -135,6 +144,7 @@ static CASES: [Case; 20] = [
     },
     Case {
         name: "tie-on-the-tick",
+        home: Home::Usual,
         settings: STANDARD,
         aaaa: at!(20, V6_A),
         a: at!(20, V4_A),
@@ -148,6 +158,7 @@ static CASES: [Case; 20] = [
     },
     Case {
         name: "win-on-the-next-start",
+        home: Home::Usual,
         settings: STANDARD,
         aaaa: at!(20, V6_A),
         a: at!(20, V4_A),
@@ -158,6 +169,7 @@ static CASES: [Case; 20] = [
     },
     Case {
         name: "failure-on-the-winning-tick",
+        home: Home::Usual,
         settings: STANDARD,
         aaaa: at!(20, V6_A),
         a: at!(20, V4_A),
@@ -171,6 +183,7 @@ static CASES: [Case; 20] = [
     },
     Case {
         name: "both-fail",
+        home: Home::Usual,
         settings: STANDARD,
         aaaa: at!(20, V6_A),
         a: at!(20, V4_A),
@@ -184,6 +197,7 @@ static CASES: [Case; 20] = [
     },
     Case {
         name: "count-two",
+        home: Home::Usual,
         settings: (50, 250, 2, 2_000),
         aaaa: at!(20, V6_A, V6_B, V6_C),
         a: at!(20, V4_A, V4_B),
@@ -200,6 +214,7 @@ static CASES: [Case; 20] = [
     },
     Case {
         name: "late-a-takes-part",
+        home: Home::Usual,
         settings: STANDARD,
         aaaa: at!(20, V6_A, V6_B),
         a: at!(200, V4_A),
@@ -214,6 +229,7 @@ static CASES: [Case; 20] = [
     },
     Case {
         name: "pause-over-the-start",
+        home: Home::Usual,
         settings: STANDARD,
         aaaa: at!(90, V6_A),
         a: at!(10, V4_A),
@@ -224,6 +240,7 @@ static CASES: [Case; 20] = [
     },
     Case {
         name: "unusable-addresses",
+        home: Home::Usual,
         settings: STANDARD,
         aaaa: at!(20, MAPPED, MULTICAST),
         a: at!(25, V4_A),
@@ -234,6 +251,7 @@ static CASES: [Case; 20] = [
     },
     Case {
         name: "nothing-to-try",
+        home: Home::Usual,
         settings: STANDARD,
         aaaa: at!(3,),
         a: at!(9,),
@@ -244,6 +262,7 @@ static CASES: [Case; 20] = [
     },
     Case {
         name: "finish-on-the-limit",
+        home: Home::Usual,
         settings: WITH_LIMIT_100,
         aaaa: at!(20, V6_A),
         a: &[],
@@ -254,6 +273,7 @@ static CASES: [Case; 20] = [
     },
     Case {
         name: "finish-past-the-limit",
+        home: Home::Usual,
         settings: WITH_LIMIT_100,
         aaaa: at!(20, V6_A),
         a: &[],
@@ -264,6 +284,7 @@ static CASES: [Case; 20] = [
     },
     Case {
         name: "failure-on-the-limit",
+        home: Home::Usual,
         settings: WITH_LIMIT_100,
         aaaa: at!(20, V6_A),
         a: at!(20,),
@@ -274,6 +295,7 @@ static CASES: [Case; 20] = [
     },
     Case {
         name: "start-on-the-limit",
+        home: Home::Usual,
         settings: (50, 80, 1, 100),
         aaaa: at!(20, V6_A, V6_B),
         a: &[],
@@ -283,7 +305,19 @@ static CASES: [Case; 20] = [
         result: Outcome3::Limit(100),
     },
     Case {
+        name: "address-left-at-the-limit",
+        home: Home::Usual,
+        settings: (50, 80, 1, 100),
+        aaaa: at!(20, V6_A, V6_B),
+        a: at!(20,),
+        outcomes: &[(V6_A, Outcome::Fail(5))],
+        pauses: &[],
+        lines: &[line!(0, 20, V6_A, Mark::Failed(25))],
+        result: Outcome3::Limit(100),
+    },
+    Case {
         name: "answer-on-the-limit",
+        home: Home::Usual,
         settings: WITH_LIMIT_100,
         aaaa: at!(100, V6_A),
         a: &[],
@@ -292,12 +326,40 @@ static CASES: [Case; 20] = [
         lines: &[],
         result: Outcome3::Limit(100),
     },
+    Case {
+        name: "scope-rule",
+        home: Home::LinkLocal,
+        settings: STANDARD,
+        aaaa: at!(5, V6_A),
+        a: at!(5, V4_NEIGHBOUR),
+        outcomes: &[(V4_NEIGHBOUR, Outcome::Fail(100)), (V6_A, Outcome::Ok(30))],
+        pauses: &[],
+        lines: &[
+            line!(0, 5, V4_NEIGHBOUR, Mark::Failed(105)),
+            line!(1, 255, V6_A, Mark::Won(285)),
+        ],
+        result: Outcome3::Won(1, 285),
+    },
+    Case {
+        name: "unreachable-last",
+        home: Home::WithoutV6,
+        settings: STANDARD,
+        aaaa: at!(20, V6_A),
+        a: at!(20, V4_A),
+        outcomes: &[(V6_A, Outcome::Ok(10))],
+        pauses: &[],
+        lines: &[
+            line!(0, 20, V4_A, Mark::Cancelled(280)),
+            line!(1, 270, V6_A, Mark::Won(280)),
+        ],
+        result: Outcome3::Won(1, 280),
+    },
 ];
 
-fn timeline<A: Allocator + Copy>(alloc: A, case: &Case) -> Result<Timeline<A>, Fail> {
+fn timeline(alloc: Global, case: &Case) -> Result<Timeline, Fail> {
     let (resolution, attempt, count, limit) = case.settings;
     let settings = Settings::new(resolution, attempt, count, limit)?;
-    let mut builder = TimelineBuilder::new(alloc, settings);
+    let mut builder = builder(alloc, settings, case.home)?;
     for given in case.aaaa {
         builder.answer(Family::V6, given.tick, given.ips)?;
     }

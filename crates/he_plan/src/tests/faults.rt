@@ -1,15 +1,16 @@
 // The faults of the builder, each before the ones that stand after it.
 
 use super::examples::{V4_A, V4_B, V6_A};
+use super::homes::{Home, builder};
 use crate::limits::{MAX_ADDRESSES, MAX_PAUSES};
-use crate::{BuildFault, Outcome, Settings, TimelineBuilder};
+use crate::{BuildFault, Outcome, Settings};
 use he_addr::{Family, Ip};
 use std::test::Fail;
 
 #[test]
 fn faults_of_an_answer(rt: HostRuntime) -> Result<(), Fail> {
     let settings = Settings::new(50, 250, 1, 30_000)?;
-    let mut builder = TimelineBuilder::new(rt.alloc(), settings);
+    let mut builder = builder(rt.alloc(), settings, Home::Usual)?;
     let too_many = [V6_A; MAX_ADDRESSES + 1];
     assert_eq!(rt; builder.answer(Family::V6, 20, &[V6_A]), Ok(()));
     assert_eq!(rt;
@@ -41,7 +42,7 @@ fn faults_of_an_answer(rt: HostRuntime) -> Result<(), Fail> {
 #[test]
 fn faults_of_an_outcome(rt: HostRuntime) -> Result<(), Fail> {
     let settings = Settings::new(50, 250, 1, 30_000)?;
-    let mut builder = TimelineBuilder::new(rt.alloc(), settings);
+    let mut builder = builder(rt.alloc(), settings, Home::Usual)?;
     builder.answer(Family::V4, 25, &[V4_A])?;
     assert_eq!(rt;
         builder.outcome(V4_B, Outcome::Ok(0)),
@@ -72,7 +73,7 @@ fn faults_of_an_outcome(rt: HostRuntime) -> Result<(), Fail> {
 #[test]
 fn faults_of_a_pause(rt: HostRuntime) -> Result<(), Fail> {
     let settings = Settings::new(50, 250, 1, 30_000)?;
-    let mut builder = TimelineBuilder::new(rt.alloc(), settings);
+    let mut builder = builder(rt.alloc(), settings, Home::Usual)?;
     assert_eq!(rt; builder.pause(5, 5), Err(BuildFault::Range));
     assert_eq!(rt; builder.pause(10, 20), Ok(()));
     assert_eq!(rt; builder.pause(19, 30), Err(BuildFault::Range));

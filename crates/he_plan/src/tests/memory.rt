@@ -2,18 +2,36 @@
 // call again.
 
 use super::examples::{V4_A, V6_A, V6_B};
+use super::homes::{usual_routes, usual_sources};
 use crate::{
     BuildFault, Line, Mark, Outcome, Outcome3, Settings, Timeline, TimelineBuilder, interlace,
     transcript_of,
 };
 use he_addr::{Family, Memory};
+use he_select::{Host, Policy};
 use refusing::{Refusing, each_growth_refused};
 use std::alloc::Allocator;
 use std::test::Fail;
 
+fn policy<A: Allocator + Copy>(alloc: A) -> Result<Policy<A>, BuildFault> {
+    match Policy::standard(alloc) {
+        Ok(policy) => Ok(policy),
+        Err(Memory) => Policy::standard(alloc).map_err(|_| BuildFault::Memory),
+    }
+}
+
+fn host<A: Allocator + Copy>(alloc: A) -> Result<Host<A>, BuildFault> {
+    match Host::new(alloc, &usual_sources(), &usual_routes()) {
+        Ok(host) => Ok(host),
+        Err(_) => Host::new(alloc, &usual_sources(), &usual_routes()).map_err(
+            |_| BuildFault::Memory,
+        ),
+    }
+}
+
 // The builder's calls, each made again where memory was refused.
 fn built<A: Allocator + Copy>(alloc: A, settings: Settings) -> Result<Timeline<A>, BuildFault> {
-    let mut builder = TimelineBuilder::new(alloc, settings);
+    let mut builder = TimelineBuilder::new(alloc, settings, policy(alloc)?, host(alloc)?);
     if builder.answer(Family::V6, 20, &[V6_A, V6_B]) == Err(BuildFault::Memory) {
         builder.answer(Family::V6, 20, &[V6_A, V6_B])?;
     }

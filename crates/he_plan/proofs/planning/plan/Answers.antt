@@ -4,9 +4,24 @@ use Rattle.std.proofs.lemmas.Grind.{common_steps}
 use Rattle.he_plan.specs.declared.attempts.Attempt.{Attempt}
 use Rattle.he_plan.specs.Attempts.{AreAttempts, Continues, IsLeast, IsNext, MayStart}
 use Rattle.he_plan.specs.Planning.{IsAtNext, IsLater}
-use Rattle.he_plan.proofs.Planned.{AreFirst-more, last_in_range}
-use Rattle.he_plan.proofs.Queued.{IsQueue-more}
+use Rattle.he_plan.proofs.Planned.{AreFirst-more, last_in_range, ticks_left-more}
+use Rattle.he_plan.proofs.Queued.{IsQueue-more, IsQueue-new}
 use Rattle.he_plan.proofs.planning.plan.Goals as goal
+
+pub loop-tick-init : goal.loop-tick-init
+loop-tick-init g c =
+    rw (c.new-attempts.ensures.items, c.new-queue.ensures.no_v6, c.new-queue.ensures.no_v4, c.new-queue.ensures.ips, c.new-queue.ensures.next) (record {
+      first = λ more h. h;
+      in_range = tt;
+      queue = IsQueue-new c.args.timeline.now;
+    })
+
+pub loop-tick-smaller : goal.loop-tick-smaller
+loop-tick-smaller g c =
+    let x : Attempt = record { place = c.len.result; tick = c.in-Some.tick; ip = c.index.result.now } in
+    let items : c.push.new.self.items ≡ c.loop-tick.attempts.items ++ x ∷ [] = grind (arith, common_steps, c.push.ensures.items, c.map_err.ensures.variant) in
+    let later : IsLater c.loop-tick.attempts.items c.in-Some.tick = subst (λ (done : List Attempt). IsLater done c.in-Some.tick) c.deref.ensures.value c.in-Some.ensures.later in
+    rw items (ticks_left-more c.loop-tick.attempts.items x later)
 
 pub loop-tick-preserved : goal.loop-tick-preserved
 loop-tick-preserved g c =
@@ -19,7 +34,7 @@ loop-tick-preserved g c =
     rw items (record {
       first = AreFirst-more c.args.timeline.now c.loop-tick.attempts.items x c.loop-tick.invariant.first is;
       in_range = last_in_range c.loop-tick.attempts.items x later;
-      queue = IsQueue-more c.args.timeline.now c.loop-tick.attempts.items x c.in_ok-queue.queue.v6 c.in_ok-queue.queue.v4 c.in_ok-queue.queue.ips.items c.in_ok-queue.queue.next at.queue;
+      queue = IsQueue-more c.args.timeline.now c.in-Some.ensures.race c.loop-tick.attempts.items x c.in_ok-queue.queue.v6 c.in_ok-queue.queue.v4 c.in_ok-queue.queue.ips.items c.in_ok-queue.queue.next c.index.result.now at c.index.ensures;
     })
 
 pub returns : goal.returns

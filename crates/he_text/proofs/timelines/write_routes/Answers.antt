@@ -1,0 +1,11 @@
+use Rattle.std.proofs.Common.{rules, take}
+use Rattle.std.specs.List.{flat_map}
+use Rattle.he_text.specs.Written.{host_route_text, Grows}
+use Rattle.he_text.proofs.WritingLaws.{grows_after}
+use Rattle.he_text.proofs.timelines.write_routes.Goals as goal
+
+pub returns-in_err-write_route : goal.returns-in_err-write_route
+returns-in_err-write_route g c =
+    let kept : Grows c.args.out.now.items c.write_route.new.out.items =
+    grows_after c.args.out.now.items (flat_map host_route_text (take c.loop-route.route-index c.args.routes.now)) c.loop-route.out.items c.write_route.new.out.items c.loop-route.invariant c.in_err-write_route.ensures in
+    search rules

@@ -1,0 +1,9 @@
+use Rattle.std.proofs.Common.{map}
+use Rattle.he_text.specs.Written.{token_text}
+use Rattle.he_text.proofs.WritingLaws.{line_written}
+use Rattle.he_text.proofs.writing.write_joined.Goals as goal
+
+pub returns : goal.returns
+returns g c =
+    line_written c.args.out.now.items c.write_token.new.out.items c.write_tokens.new.out.items c.write_bytes.new.out.items (token_text c.args.first) (map token_text c.args.others.now) c.write_bytes.result
+    c.in_ok-write_token.ensures.ok c.in_ok-write_tokens.ensures c.write_bytes.ensures.ok c.write_bytes.ensures.err

@@ -1,0 +1,32 @@
+-- The text of an order: the addresses of a race as they would be tried if all were there (RFC 6724 section 6).
+use Rattle.std.specs.Prelude.{ℕ, ◌+◌, List, [], ◌∷◌, ◌++◌, filter, decimal, Option, Some, None, codes}
+use Rattle.he_addr.specs.declared.ip.Ip.{Ip}
+use Rattle.he_addr.specs.Ip.{is_usable}
+use Rattle.he_addr.specs.Printing.{printed}
+use Rattle.he_plan.specs.Attempts.{order}
+use Rattle.he_plan.specs.Race.{Race, addresses_of}
+use Rattle.he_select.specs.declared.host.Source.{Source}
+use Rattle.he_select.specs.Selection.{World, world_of, source_of}
+use Rattle.he_text.specs.Written.{written_line}
+
+-- the source that the host uses for an address, if it reaches it
+abbrev pub from_text : Option Source → List ℕ
+from_text None = codes "none"
+from_text (Some source) = printed source.ip
+
+-- N ADDRESS from SOURCE, or N ADDRESS from none
+abbrev pub order_line : World → ℕ → Ip → List ℕ
+order_line world place ip = written_line (decimal place ∷ printed ip ∷ codes "from" ∷ from_text (source_of world ip) ∷ [])
+
+-- the lines of the addresses, counted from `place`
+abbrev pub order_lines : World → ℕ → List Ip → List ℕ
+order_lines world place [] = []
+order_lines world place (ip ∷ ips) = order_line world place ip ++ order_lines world (place + 1) ips
+
+-- the usable addresses of both answers, whatever their ticks
+abbrev pub usable_addresses : Race → List Ip
+usable_addresses race = filter is_usable (addresses_of race.aaaa) ++ filter is_usable (addresses_of race.a)
+
+-- the addresses in sorted order, not interlaced, each with its source; then `end`
+abbrev pub order_text : Race → List ℕ
+order_text race = order_lines (world_of race.policy race.host) 0 (order race (usable_addresses race)) ++ written_line (codes "end" ∷ [])

@@ -1,0 +1,142 @@
+// What address selection looks at: the rows of the policy table, and the sources and routes of the host.
+
+ghost use Rattle.std.specs.Prelude.{◌≡◌, ◌≤◌};
+ghost use Rattle.he_text.specs.Forms.{number_from, row_in, source_address_in, interface_in, source_marks_in, host_source_in, route_marks_in, host_route_in};
+ghost use Rattle.he_text.specs.Parts.{tokens_left};
+
+use super::number;
+use crate::fault::TextKind;
+use crate::limits::{
+    MAX_INTERFACE, MAX_LABEL, MAX_PRECEDENCE, MIN_INTERFACE, ROUTE_MARKS, SOURCE_MARKS,
+};
+use crate::parts::Tokens;
+use he_addr::{Ip, read_prefix, read_source};
+use he_select::{Route, Row, Source};
+
+// A number of at most 16 bits.
+fn short(low: u64, high: u64, token: &[u8]) -> Result<u16, TextKind>
+    requires { high ≤ u16.MAX }
+    ensures { result ≡ number_from low high token.now }
+{
+    Ok(number(low, high, token)? as u16)
+}
+
+// policy PREFIX PRECEDENCE LABEL
+#[tactic(auto, unfolding(crate::specs::Forms::row_in))]
+pub(crate) fn row(tokens: Tokens) -> Result<Row, TextKind>
+    ensures { result ≡ row_in (tokens_left tokens.entry) }
+{
+    let mut left = tokens;
+    let (Some(prefix), Some(precedence), Some(label), None) = (
+        left.next(),
+        left.next(),
+        left.next(),
+        left.next(),
+    ) else {
+        return Err(TextKind::Word);
+    };
+    let prefix = read_prefix(prefix).ok_or(TextKind::Prefix)?;
+    let precedence = short(0, MAX_PRECEDENCE, precedence)?;
+    let label = short(0, MAX_LABEL, label)?;
+    Ok(Row {
+        prefix,
+        precedence,
+        label,
+    })
+}
+
+// A usable address and the length of its prefix.
+#[tactic(auto, unfolding(crate::specs::Forms::source_address_in))]
+fn source_address(token: &[u8]) -> Result<(Ip, u8), TextKind>
+    ensures { result ≡ source_address_in token.now }
+{
+    let (ip, plen) = read_source(token).ok_or(TextKind::Prefix)?;
+    if ip.is_usable() {
+        Ok((ip, plen))
+    } else {
+        Err(TextKind::Address)
+    }
+}
+
+fn interface(token: &[u8]) -> Result<u16, TextKind>
+    ensures { result ≡ interface_in token.now }
+{
+    short(MIN_INTERFACE, MAX_INTERFACE, token)
+}
+
+// Whether a source is deprecated, and whether it is temporary.
+#[tactic(auto, unfolding(crate::specs::Forms::source_marks_in))]
+fn source_marks(tokens: Tokens) -> Result<(bool, bool), TextKind>
+    ensures { result ≡ source_marks_in (tokens_left tokens.entry) }
+{
+    let mut left = tokens;
+    match (left.next(), left.next()) {
+        (None, _) => Ok((false, false)),
+        (Some(only), None) if only == b"deprecated".as_slice() => Ok((true, false)),
+        (Some(only), None) if only == b"temporary".as_slice() => Ok((false, true)),
+        (Some(first), Some(second))
+            if first == b"deprecated".as_slice() && second == b"temporary".as_slice() => {
+            Ok((true, true))
+        }
+        _ => Err(TextKind::Word),
+    }
+}
+
+// source SOURCE INTERFACE [deprecated] [temporary]
+#[tactic(auto, unfolding(crate::specs::Forms::host_source_in))]
+pub(crate) fn source(tokens: Tokens) -> Result<Source, TextKind>
+    ensures { result ≡ host_source_in (tokens_left tokens.entry) }
+{
+    let mut left = tokens;
+    let (Some(address), Some(number)) = (left.next(), left.next()) else {
+        return Err(TextKind::Word);
+    };
+    if left.len() > SOURCE_MARKS {
+        return Err(TextKind::Word);
+    }
+    let (ip, plen) = source_address(address)?;
+    let interface = interface(number)?;
+    let (deprecated, temporary) = source_marks(left)?;
+    Ok(Source {
+        ip,
+        plen,
+        interface,
+        deprecated,
+        temporary,
+    })
+}
+
+// Whether a route is a tunnel.
+#[tactic(auto, unfolding(crate::specs::Forms::route_marks_in))]
+fn route_marks(tokens: Tokens) -> Result<bool, TextKind>
+    ensures { result ≡ route_marks_in (tokens_left tokens.entry) }
+{
+    let mut left = tokens;
+    match left.next() {
+        None => Ok(false),
+        Some(mark) if mark == b"tunnel".as_slice() => Ok(true),
+        Some(_) => Err(TextKind::Word),
+    }
+}
+
+// route PREFIX INTERFACE [tunnel]
+#[tactic(auto, unfolding(crate::specs::Forms::host_route_in))]
+pub(crate) fn route(tokens: Tokens) -> Result<Route, TextKind>
+    ensures { result ≡ host_route_in (tokens_left tokens.entry) }
+{
+    let mut left = tokens;
+    let (Some(prefix), Some(number)) = (left.next(), left.next()) else {
+        return Err(TextKind::Word);
+    };
+    if left.len() > ROUTE_MARKS {
+        return Err(TextKind::Word);
+    }
+    let prefix = read_prefix(prefix).ok_or(TextKind::Prefix)?;
+    let interface = interface(number)?;
+    let tunnel = route_marks(left)?;
+    Ok(Route {
+        prefix,
+        interface,
+        tunnel,
+    })
+}

@@ -1,0 +1,154 @@
+// What the lines of the first four groups give: where a race runs.
+
+ghost use Rattle.std.specs.Prelude.{◌≡◌, ◌⊎◌, Ok, Err, MatchResult};
+ghost use Rattle.he_text.specs.Parts.{tokens_left};
+ghost use Rattle.he_text.specs.Reading.{Fails, no_head, add_setting, add_row, add_source, add_route, take_given, policy_from, host_from, race_from};
+
+use crate::draft::Given;
+use crate::fault::TextKind;
+use crate::forms;
+use crate::parts::Tokens;
+use crate::words::{Name, Word};
+use he_plan::TimelineBuilder;
+use he_select::{Host, Policy, PolicyFault, Route, Row, Source};
+use std::alloc::Allocator;
+use std::marker::Model;
+
+// The settings, rows, sources and routes that a race gives. The rows are a policy table once no more of them come.
+#[derive(Drop)]
+pub(crate) struct Head<A: Allocator> {
+    settings: Given,
+    rows: Vec<Row, A>,
+    sources: Vec<Source, A>,
+    routes: Vec<Route, A>,
+}
+
+impl<A: Allocator> Model for Head<A> {
+    ghost use Rattle.he_text.specs.Reading.{HeadGiven};
+
+    ghost Value = { HeadGiven };
+
+    ghost view = { λ h. record { settings = h.settings; rows = h.rows.items; sources = h.sources.items; routes = h.routes.items } };
+}
+
+impl<A: Allocator + Copy> Head<A> {
+    pub(crate) fn none(alloc: A) -> Head<A>
+        ensures { result ≡ no_head }
+    {
+        Head {
+            settings: Given::none(),
+            rows: Vec::new(alloc),
+            sources: Vec::new(alloc),
+            routes: Vec::new(alloc),
+        }
+    }
+
+    #[tactic(auto, unfolding(crate::specs::Reading::add_setting))]
+    fn add_setting(&mut self, name: Name, value: u64) -> Result<(), TextKind>
+        ensures { MatchResult result (λ _. add_setting name value self.old ≡ Ok self.new) (λ kind. Fails kind (add_setting name value self.old)) }
+    {
+        self.settings = self.settings.put(name, value)?;
+        Ok(())
+    }
+
+    // Adds a row. If no more rows follow it, they are to be a table.
+    #[tactic(auto, unfolding(crate::specs::Reading::add_row))]
+    fn add_row(&mut self, row: Row, more: bool) -> Result<(), TextKind>
+        ensures { MatchResult result (λ _. add_row more row self.old ≡ Ok self.new) (λ kind. Fails kind (add_row more row self.old)) }
+    {
+        if row.repeats(&self.rows) {
+            return Err(TextKind::Repeated);
+        }
+        self.rows.push(row)?;
+        if more {
+            return Ok(());
+        }
+        match PolicyFault::find(&self.rows) {
+            None => Ok(()),
+            Some(fault) => Err(TextKind::Policy(fault)),
+        }
+    }
+
+    #[tactic(auto, unfolding(crate::specs::Reading::add_source))]
+    fn add_source(&mut self, source: Source) -> Result<(), TextKind>
+        ensures { MatchResult result (λ _. add_source source self.old ≡ Ok self.new) (λ kind. Fails kind (add_source source self.old)) }
+    {
+        if source.repeats(&self.sources) {
+            return Err(TextKind::Repeated);
+        }
+        self.sources.push(source)?;
+        Ok(())
+    }
+
+    #[tactic(auto, unfolding(crate::specs::Reading::add_route))]
+    fn add_route(&mut self, route: Route) -> Result<(), TextKind>
+        ensures { MatchResult result (λ _. add_route route self.old ≡ Ok self.new) (λ kind. Fails kind (add_route route self.old)) }
+    {
+        if route.repeats(&self.routes) {
+            return Err(TextKind::Repeated);
+        }
+        self.routes.push(route)?;
+        Ok(())
+    }
+
+    // Adds what a line of the first four groups gives, behind its word. Whether more rows follow it is told for a row.
+    #[tactic(auto, unfolding(crate::specs::Reading::take_given))]
+    pub(crate) fn take(&mut self, word: Word, tokens: Tokens, more: bool) -> Result<(), TextKind>
+        ensures { MatchResult result (λ _. take_given more word (tokens_left tokens.entry) self.old ≡ Ok self.new) (λ kind. Fails kind (take_given more word (tokens_left tokens.entry) self.old)) }
+    {
+        match word {
+            Word::Set => {
+                let (name, value) = forms::setting(tokens)?;
+                self.add_setting(name, value)
+            }
+            Word::Policy => {
+                let row = forms::row(tokens)?;
+                self.add_row(row, more)
+            }
+            Word::Source => {
+                let source = forms::source(tokens)?;
+                self.add_source(source)
+            }
+            Word::Route => {
+                let route = forms::route(tokens)?;
+                self.add_route(route)
+            }
+            _ => Err(TextKind::Word),
+        }
+    }
+
+    // The race in which nothing happens yet.
+    #[tactic(auto, unfolding(crate::specs::Reading::race_from))]
+    pub(crate) fn start(self, alloc: A) -> Result<TimelineBuilder<A>, TextKind>
+        ensures { MatchResult result (λ race. race_from self ≡ Ok race) (λ kind. Fails kind (race_from self)) }
+    {
+        let settings = self.settings.settings()?;
+        let policy = policy(alloc, &self.rows)?;
+        let host = host(alloc, &self.sources, &self.routes)?;
+        Ok(TimelineBuilder::new(alloc, settings, policy, host))
+    }
+}
+
+// The table of the rows; where there is no row, the standard one.
+#[tactic(auto, unfolding(crate::specs::Reading::policy_from))]
+fn policy<A: Allocator + Copy>(alloc: A, rows: &[Row]) -> Result<Policy<A>, TextKind>
+    ensures { MatchResult result (λ policy. policy_from rows.now ≡ Ok policy) (λ kind. Fails kind (policy_from rows.now)) }
+{
+    if rows.is_empty() {
+        return Policy::standard(alloc).map_err(|_| TextKind::Memory);
+    }
+    let policy = Policy::from_rows(alloc, rows)?;
+    Ok(policy)
+}
+
+#[tactic(auto, unfolding(crate::specs::Reading::host_from))]
+fn host<A: Allocator + Copy>(
+    alloc: A,
+    sources: &[Source],
+    routes: &[Route],
+) -> Result<Host<A>, TextKind>
+    ensures { MatchResult result (λ host. host_from sources.now routes.now ≡ Ok host) (λ kind. Fails kind (host_from sources.now routes.now)) }
+{
+    let host = Host::new(alloc, sources, routes)?;
+    Ok(host)
+}

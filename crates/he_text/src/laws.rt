@@ -1,0 +1,43 @@
+// Laws of the texts of races, each the contract of a function that runs nothing.
+
+ghost use Rattle.std.specs.Prelude.{◌≡◌, ◌↔◌, ◌++◌, ℕ, List, [], None};
+ghost use Rattle.he_plan.specs.Race.{Race};
+ghost use Rattle.he_plan.specs.Timeline.{IsRace};
+ghost use Rattle.he_text.specs.Faults.{fault_of};
+ghost use Rattle.he_text.specs.Ranges.{RaceInRange};
+ghost use Rattle.he_text.specs.Text.{IsRaceText, BeginsWithRace};
+ghost use Rattle.he_text.specs.Written.{timeline_text};
+
+use crate::ranges::timeline_range;
+use he_addr::Family;
+use he_plan::Timeline;
+use std::alloc::Allocator;
+
+/// A text is a race's with at most one value. Runs nothing.
+pub fn one_race()
+    ensures { (text : List ℕ) (race other : Race) → IsRaceText text race → IsRaceText text other → race ≡ other }
+{}
+
+/// No race's text is the beginning of another race's text. Runs nothing.
+pub fn no_race_is_a_prefix()
+    ensures { (text more : List ℕ) (race other : Race) → IsRaceText text race → IsRaceText (text ++ more) other → more ≡ [] }
+{}
+
+/// A text begins with a race exactly where nothing is wrong with it. Runs nothing.
+pub fn begins_where_no_fault()
+    ensures { (text : List ℕ) → BeginsWithRace text ↔ (fault_of text ≡ None) }
+{}
+
+/// What is written of a race is a text of this race, so it is read as this race, whatever follows it. Runs nothing.
+pub fn written_reads_back()
+    ensures { (race : Race) → IsRace race → RaceInRange race → IsRaceText (timeline_text race) race }
+{}
+
+/// The same of a timeline: what `write_timeline` appends is read back by `read_race` as an equal timeline, whatever follows
+/// it. Looks at the timeline's parts and changes nothing.
+pub fn timeline_reads_back<A: Allocator + Copy>(timeline: &Timeline<A>)
+    ensures { IsRaceText (timeline_text timeline.now) timeline.now }
+{
+    timeline_range(timeline);
+    let _race = timeline.answer(Family::V6);
+}

@@ -1,0 +1,120 @@
+// Orders of addresses written to texts.
+
+ghost use Rattle.std.specs.Prelude.{◌≡◌, ◌++◌, filter, IsTrue, IfOk, OnOk, OnErr};
+ghost use Rattle.std.specs.List.{list_all};
+ghost use Rattle.he_addr.specs.Ip.{is_usable};
+ghost use Rattle.he_plan.specs.Race.{reply_of, addresses_of};
+ghost use Rattle.he_select.specs.Selection.{world_of};
+ghost use Rattle.he_text.specs.Orders.{order_line, order_lines, order_text, usable_addresses};
+ghost use Rattle.he_text.specs.Written.{Writes};
+
+use crate::writing::{Token, write_line, write_numbered};
+use he_addr::{Family, Ip, Memory};
+use he_plan::Timeline;
+use he_select::{Host, Policy, order};
+use std::alloc::{AllocError, Allocator};
+
+fn push_usable<A: Allocator>(ips: &mut Vec<Ip, A>, addresses: &[Ip]) -> Result<(), AllocError>
+    ensures { OnOk result (ips.new.items ≡ ips.old.items ++ filter is_usable addresses.now) }
+{
+    for ip in addresses {
+        if ip.is_usable() {
+            ips.push(*ip)?;
+        }
+    }
+    Ok(())
+}
+
+// The addresses of a family's answer that can be connected to, whatever its tick.
+fn push_answer<A: Allocator, B: Allocator>(
+    ips: &mut Vec<Ip, A>,
+    timeline: &Timeline<B>,
+    family: Family,
+) -> Result<(), AllocError>
+    ensures { OnOk result (ips.new.items ≡ ips.old.items ++ filter is_usable (addresses_of (reply_of timeline.now family))) }
+{
+    match timeline.answer(family) {
+        Some((_, addresses)) => push_usable(ips, addresses),
+        None => Ok(()),
+    }
+}
+
+fn usable_addresses<A: Allocator + Copy, B: Allocator>(
+    alloc: A,
+    timeline: &Timeline<B>,
+) -> Result<Vec<Ip, A>, AllocError>
+    ensures addresses { IfOk result (λ ips. ips.items ≡ usable_addresses timeline.now) }
+    ensures usable { IfOk result (λ ips. IsTrue (list_all is_usable ips.items)) }
+{
+    let mut ips = Vec::new(alloc);
+    push_answer(&mut ips, timeline, Family::V6)?;
+    push_answer(&mut ips, timeline, Family::V4)?;
+    Ok(ips)
+}
+
+// N ADDRESS from SOURCE, or N ADDRESS from none
+fn write_place<A: Allocator + Copy, B: Allocator>(
+    policy: &Policy<B>,
+    host: &Host<B>,
+    place: usize,
+    ip: Ip,
+    out: &mut Vec<u8, A>,
+) -> Result<(), Memory>
+    ensures { Writes result out.old.items out.new.items (order_line (world_of policy.now host.now) place ip) }
+{
+    let source = match host.source(policy, ip) {
+        Some(source) => Token::Address(source),
+        None => Token::Word(b"none"),
+    };
+    let tokens = [Token::Address(ip), Token::Word(b"from"), source];
+    write_numbered(place as u64, &tokens, out)
+}
+
+fn write_places<A: Allocator + Copy, B: Allocator>(
+    policy: &Policy<B>,
+    host: &Host<B>,
+    ips: &[Ip],
+    out: &mut Vec<u8, A>,
+) -> Result<(), Memory>
+    ensures { Writes result out.old.items out.new.items (order_lines (world_of policy.now host.now) 0 ips.now) }
+{
+    for (place, ip) in ips.iter().enumerate() {
+        write_place(policy, host, place, *ip, out)?;
+    }
+    Ok(())
+}
+
+fn write_whole<A: Allocator + Copy, B: Allocator>(
+    alloc: A,
+    timeline: &Timeline<B>,
+    out: &mut Vec<u8, A>,
+) -> Result<(), Memory>
+    ensures { Writes result out.old.items out.new.items (order_text timeline.now) }
+{
+    let policy = timeline.policy();
+    let host = timeline.host();
+    let usable = usable_addresses(alloc, timeline)?;
+    let sorted = order(alloc, policy, host, &usable)?;
+    write_places(policy, host, &sorted, out)?;
+    write_line(b"end", &[], out)
+}
+
+/// Appends the text of the order in which the race's addresses would be tried if all of them were there (RFC 6724 section 6):
+/// the usable addresses of both answers, whatever their ticks, sorted and not interlaced, each as `N ADDRESS from SOURCE`
+/// with N from 0, or `N ADDRESS from none` where the host can't reach it, and then `end`. After `Memory` the vector holds what
+/// it held.
+pub fn write_order<A: Allocator + Copy, B: Allocator>(
+    alloc: A,
+    timeline: &Timeline<B>,
+    out: &mut Vec<u8, A>,
+) -> Result<(), Memory>
+    ensures ok { OnOk result (out.new.items ≡ out.old.items ++ order_text timeline.now) }
+    ensures err { OnErr result (out.new.items ≡ out.old.items) }
+{
+    let kept = out.len();
+    let written = write_whole(alloc, timeline, out);
+    if written.is_err() {
+        out.truncate(kept);
+    }
+    written
+}
