@@ -22,7 +22,7 @@ pub enum Family {
 }
 
 /// An IPv4 or IPv6 address. `::ffff:192.0.2.1` is an IPv6 address and not equal to `192.0.2.1`.
-#[derive(Clone, Copy, Debug, PartialEq, Eq, PartialOrd, Ord)]
+#[derive(Clone, Copy, Debug, PartialEq, Eq, PartialOrd, Ord, Hash)]
 pub enum Ip {
     V4(u32),
     V6(u128),

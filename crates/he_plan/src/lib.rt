@@ -32,6 +32,7 @@ pub mod interlacing;
 pub mod laws;
 pub mod limits;
 pub mod outcome;
+mod outcomes;
 pub mod planning;
 mod queue;
 pub mod settings;

@@ -12,9 +12,11 @@ ghost use Rattle.he_plan.specs.Building.{empty_race, with_answer, with_outcome, 
 
 use crate::limits::{MAX_DURATION, MAX_PAUSE_END, MIN_DURATION};
 use crate::outcome::Outcome;
+use crate::outcomes::Outcomes;
 use crate::settings::Settings;
 use he_addr::{Family, Ip, Memory};
 use he_select::{Host, Policy};
+use indexmap::map::Slice;
 use std::alloc::{AllocError, Allocator, Global};
 use std::marker::Model;
 
@@ -51,7 +53,7 @@ pub struct Timeline<A: Allocator = Global> {
     host: Host<A>,
     aaaa: Option<Answer<A>>,
     a: Option<Answer<A>>,
-    outcomes: Vec<(Ip, Outcome), A>,
+    outcomes: Outcomes<A>,
     pauses: Vec<(u64, u64), A>,
 }
 
@@ -61,9 +63,9 @@ impl<A: Allocator> Model for Timeline<A> {
 
     ghost Value = { Race };
 
-    ghost view = { λ t. record { settings = t.settings; policy = t.policy; host = t.host; aaaa = t.aaaa; a = t.a; outcomes = t.outcomes.items; pauses = t.pauses.items } };
+    ghost view = { λ t. record { settings = t.settings; policy = t.policy; host = t.host; aaaa = t.aaaa; a = t.a; outcomes = t.outcomes; pauses = t.pauses.items } };
 
-    ghost invariant = { λ t. IsRace (record { settings = t.settings; policy = t.policy; host = t.host; aaaa = t.aaaa; a = t.a; outcomes = t.outcomes.items; pauses = t.pauses.items }) };
+    ghost invariant = { λ t. IsRace (record { settings = t.settings; policy = t.policy; host = t.host; aaaa = t.aaaa; a = t.a; outcomes = t.outcomes; pauses = t.pauses.items }) };
 }
 
 impl<A: Allocator + Copy> Timeline<A> {
@@ -81,7 +83,7 @@ impl<A: Allocator + Copy> Timeline<A> {
             host,
             aaaa: None,
             a: None,
-            outcomes: Vec::new(alloc),
+            outcomes: Outcomes::none(alloc),
             pauses: Vec::new(alloc),
         }
     }
@@ -110,8 +112,7 @@ impl<A: Allocator + Copy> Timeline<A> {
         ensures ok { OnOk result (self.new ≡ with_outcome self.old ip outcome) }
         ensures err { OnErr result (self.new ≡ self.old) }
     {
-        self.outcomes.push((ip, outcome))?;
-        Ok(())
+        self.outcomes.push(ip, outcome)
     }
 
     pub(crate) fn push_pause(&mut self, from: u64, to: u64) -> Result<(), AllocError>
@@ -136,7 +137,7 @@ impl<A: Allocator> Timeline<A> {
     pub(crate) fn has_outcome(&self, ip: Ip) -> bool
         ensures { result ≡ has_outcome ip self.now.outcomes }
     {
-        has_outcome(&self.outcomes, ip)
+        self.outcomes.has(ip)
     }
 
     /// The same timeline in another allocator.
@@ -161,7 +162,7 @@ impl<A: Allocator> Timeline<A> {
     {
         let aaaa = copy_answer(alloc, &self.aaaa)?;
         let a = copy_answer(alloc, &self.a)?;
-        let outcomes = Vec::from_slice(alloc, &self.outcomes)?;
+        let outcomes = self.outcomes.copy(alloc)?;
         let pauses = Vec::from_slice(alloc, &self.pauses)?;
         Ok(Timeline {
             settings: self.settings,
@@ -182,7 +183,7 @@ impl<A: Allocator> Timeline<A> {
             && same_host(&self.host, &other.host)
             && same_answer(&self.aaaa, &other.aaaa)
             && same_answer(&self.a, &other.a)
-            && same_outcomes(&self.outcomes, &other.outcomes)
+            && self.outcomes.is_same(&other.outcomes)
             && same_pauses(&self.pauses, &other.pauses)
     }
 
@@ -224,8 +225,8 @@ impl<A: Allocator> Timeline<A> {
     }
 
     /// The addresses that have an outcome, in the order in which they were given; every other one is silent.
-    pub fn outcomes(&self) -> &[(Ip, Outcome)]
-        ensures { result.now ≡ self.now.outcomes }
+    pub fn outcomes(&self) -> Slice<'_, Ip, Outcome>
+        ensures { result ≡ self.now.outcomes }
     {
         self.outcomes.as_slice()
     }
@@ -235,7 +236,7 @@ impl<A: Allocator> Timeline<A> {
         ensures value { result ≡ outcome_of self.now ip }
         ensures range { IfSome result (λ outcome. (MIN_DURATION ≤ duration_of outcome) × (duration_of outcome ≤ MAX_DURATION)) }
     {
-        outcome_in(&self.outcomes, ip)
+        self.outcomes.of(ip)
     }
 
     /// The least tick at or after `tick` that no pause covers.
@@ -263,18 +264,6 @@ fn stands_in<A: Allocator>(answer: &Option<Answer<A>>, ip: Ip) -> bool
         Some(answer) => answer.addresses.contains(&ip),
         None => false,
     }
-}
-
-fn has_outcome(outcomes: &[(Ip, Outcome)], ip: Ip) -> bool
-    ensures { result ≡ has_outcome ip outcomes.now }
-{
-    outcomes.iter().any(|told| told.0 == ip)
-}
-
-fn outcome_in(outcomes: &[(Ip, Outcome)], ip: Ip) -> Option<Outcome>
-    ensures { result ≡ outcome_in outcomes.now ip }
-{
-    outcomes.iter().find(|told| told.0 == ip).map(|told| told.1)
 }
 
 fn seen_past(pauses: &[(u64, u64)], tick: u64) -> u64
@@ -357,12 +346,6 @@ fn same_answer<A: Allocator>(x: &Option<Answer<A>>, y: &Option<Answer<A>>) -> bo
 
 fn same_ips(x: &[Ip], y: &[Ip]) -> bool
     ensures { result ≡ pointwise same_ip x.now y.now }
-{
-    x == y
-}
-
-fn same_outcomes(x: &[(Ip, Outcome)], y: &[(Ip, Outcome)]) -> bool
-    ensures { result ≡ pointwise same_told x.now y.now }
 {
     x == y
 }

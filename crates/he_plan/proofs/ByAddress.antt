@@ -1,0 +1,61 @@
+-- The outcomes of a race, found by address.
+use Rattle.std.proofs.Common.{◌≡◌, ◌++◌, ◌&&◌, ◌||◌, Bool, true, false, cond, not, List, [], ◌∷◌, Option, Some, None, is_some, option_map, find, refl, sym, ◌∙◌, ap}
+use Rattle.std.specs.Map.{lookup}
+use Rattle.he_addr.specs.Ip.{same_ip}
+use Rattle.he_addr.specs.declared.ip.Ip.{Ip}
+use Rattle.he_plan.specs.declared.outcome.Outcome.{Outcome}
+use Rattle.he_plan.specs.Finish.{outcome_in}
+use Rattle.he_plan.specs.Race.{has_outcome}
+use Rattle.he_plan.specs.Timeline.{are_told_once}
+use Rattle.he_plan.proofs.Bools.{and_left, and_right, or_left_none, or_right_none}
+use Rattle.he_plan.proofs.Ranges.{same_ip-sym}
+
+-- an equality of addresses
+abbrev pub IsSame : (Ip → Ip → Bool) → Type 0
+IsSame eq = (x y : Ip) → eq x y ≡ same_ip x y
+
+pub looked_up : (eq : Ip → Ip → Bool) → IsSame eq → (ip : Ip) (told : List (Ip × Outcome)) → lookup (eq ip) told ≡ outcome_in told ip
+looked_up eq same ip [] = refl
+looked_up eq same ip (p ∷ told) = by_test (looked_up eq same ip told) (eq ip p.0) (same_ip p.0 ip) (same ip p.0 ∙ same_ip-sym ip p.0)
+  where
+    by_test : lookup (eq ip) told ≡ outcome_in told ip → (b c : Bool) → b ≡ c → cond b (Some p.1) (lookup (eq ip) told) ≡ option_map (λ q. q.1) (cond c (Some p) (find (λ q. same_ip q.0 ip) told))
+    by_test rest true true e = refl
+    by_test rest false false e = rest
+    by_test rest true false e = cc
+    by_test rest false true e = cc
+
+pub is_there : (eq : Ip → Ip → Bool) → IsSame eq → (ip : Ip) (told : List (Ip × Outcome)) → is_some (lookup (eq ip) told) ≡ has_outcome ip told
+is_there eq same ip [] = refl
+is_there eq same ip (p ∷ told) = by_test (is_there eq same ip told) (eq ip p.0) (same_ip p.0 ip) (same ip p.0 ∙ same_ip-sym ip p.0)
+  where
+    by_test : is_some (lookup (eq ip) told) ≡ has_outcome ip told → (b c : Bool) → b ≡ c → is_some (cond b (Some p.1) (lookup (eq ip) told)) ≡ (c || has_outcome ip told)
+    by_test rest true true e = refl
+    by_test rest false false e = rest
+    by_test rest true false e = cc
+    by_test rest false true e = cc
+
+pub none_there : (eq : Ip → Ip → Bool) → IsSame eq → (ip : Ip) (told : List (Ip × Outcome)) → has_outcome ip told ≡ false → lookup (eq ip) told ≡ None
+none_there eq same ip told h = none (lookup (eq ip) told) (is_there eq same ip told ∙ h)
+  where
+    none : (o : Option Outcome) → is_some o ≡ false → o ≡ None
+    none None h = refl
+    none (Some x) h = cc
+
+-- an address that has an outcome has none before it
+pub none_before : (xs ys : List (Ip × Outcome)) (p : Ip × Outcome) → are_told_once (xs ++ p ∷ ys) ≡ true → has_outcome p.0 xs ≡ false
+none_before [] ys p h = refl
+none_before (x ∷ xs) ys p h =
+    let apart : has_outcome x.0 (xs ++ p ∷ ys) ≡ false = is_false (has_outcome x.0 (xs ++ p ∷ ys)) (and_left _ _ h) in
+    let other : same_ip p.0 x.0 ≡ false = without xs apart in
+    let rest : has_outcome p.0 xs ≡ false = none_before xs ys p (and_right _ _ h) in
+    both (same_ip x.0 p.0) (has_outcome p.0 xs) (same_ip-sym x.0 p.0 ∙ other) rest
+  where
+    is_false : (b : Bool) → not b ≡ true → b ≡ false
+    is_false true h = cc
+    is_false false h = refl
+    without : (zs : List (Ip × Outcome)) → has_outcome x.0 (zs ++ p ∷ ys) ≡ false → same_ip p.0 x.0 ≡ false
+    without [] k = or_left_none _ _ k
+    without (z ∷ zs) k = without zs (or_right_none _ _ k)
+    both : (b c : Bool) → b ≡ false → c ≡ false → (b || c) ≡ false
+    both true c k l = cc
+    both false c k l = l
