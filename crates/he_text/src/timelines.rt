@@ -204,14 +204,14 @@ fn write_outcome<A: Allocator + Copy>(
     write_line(b"connect", &tokens, out)
 }
 
-fn write_outcomes<A: Allocator + Copy>(
-    outcomes: &[(Ip, Outcome)],
+fn write_outcomes<A: Allocator + Copy, B: Allocator>(
+    timeline: &Timeline<B>,
     out: &mut Vec<u8, A>,
 ) -> Result<(), Memory>
-    ensures { Writes result out.old.items out.new.items (flat_map outcome_text outcomes.now) }
+    ensures { Writes result out.old.items out.new.items (flat_map outcome_text timeline.now.outcomes) }
 {
-    for told in outcomes {
-        write_outcome(*told, out)?;
+    for (ip, outcome) in timeline.outcomes().iter() {
+        write_outcome((*ip, *outcome), out)?;
     }
     Ok(())
 }
@@ -244,7 +244,7 @@ fn write_told<A: Allocator + Copy, B: Allocator>(
 ) -> Result<(), Memory>
     ensures { Writes result out.old.items out.new.items (told_text timeline.now) }
 {
-    write_outcomes(timeline.outcomes(), out)?;
+    write_outcomes(timeline, out)?;
     write_pauses(timeline.pauses(), out)
 }
 

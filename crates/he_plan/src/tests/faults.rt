@@ -66,7 +66,8 @@ fn faults_of_an_outcome(rt: HostRuntime) -> Result<(), Fail> {
         Err(BuildFault::Range)
     );
     let timeline = builder.finish();
-    assert_eq!(rt; timeline.outcomes(), [(V4_A, Outcome::Ok(1))].as_slice());
+    assert_eq!(rt; timeline.outcomes().len(), 1);
+    assert_eq!(rt; timeline.outcome(V4_A), Some(Outcome::Ok(1)));
     Ok(())
 }
 
