@@ -1,21 +1,21 @@
 // The transcript of a race.
 
-ghost use Rattle.std.specs.Prelude.{◌≡◌, ◌&&◌, ◌||◌, ◌++◌, not, length, map, Some, IfOk, IsTrue, OnOk};
+ghost use Rattle.std.specs.Prelude.{◌≡◌, ◌&&◌, ◌||◌, ◌++◌, not, length, Some, IfOk, IsTrue, OnOk};
 ghost use Rattle.std.specs.List.{list_all};
 ghost use Rattle.he_addr.specs.Ip.{is_usable};
 ghost use Rattle.he_plan.specs.Attempts.{AreAttempts, is_tried, last_of};
-ghost use Rattle.he_plan.specs.Finish.{fate_of};
 ghost use Rattle.he_plan.specs.Planning.{told_lines, told_one, has_room};
 ghost use Rattle.he_plan.specs.Timeline.{IsRace};
 ghost use Rattle.he_plan.specs.Transcript.{IsTranscript, AreTold, stop_of, is_place, failed_mark, mark_at, result_of, without_winner, is_failed, is_tried_out, last_failure};
 
 use crate::attempts::{Attempt, Plan};
-use crate::finish::{Fate, winner};
+use crate::fates::fates_of;
+use crate::finish::Fate;
 use crate::planning::plan;
 use crate::starts::is_tried;
 use crate::timeline::Timeline;
 use he_addr::{Family, Ip, Memory};
-use std::alloc::{AllocError, Allocator, Global};
+use std::alloc::{Allocator, Global};
 use std::marker::Model;
 
 /// What became of an attempt, with the tick: it won, it failed at or before the race's end, or it was cancelled at the end.
@@ -113,32 +113,8 @@ pub fn transcript_of<A: Allocator + Copy, B: Allocator>(
     ensures { IfOk result (IsTranscript timeline.now) }
 {
     let plan = plan(alloc, timeline)?;
-    let fates = fates(alloc, timeline, plan.attempts())?;
-    let winner = winner(&fates);
-    transcript_of_fates(alloc, timeline, &plan, &fates, winner)
-}
-
-fn fates<A: Allocator, B: Allocator>(
-    alloc: A,
-    timeline: &Timeline<B>,
-    attempts: &[Attempt],
-) -> Result<Vec<Fate, A>, Memory>
-    ensures { IfOk result (λ v. v.items ≡ map (fate_of timeline.now) attempts.now) }
-{
-    collect_fates(alloc, timeline, attempts).map_err(|_| Memory)
-}
-
-fn collect_fates<A: Allocator, B: Allocator>(
-    alloc: A,
-    timeline: &Timeline<B>,
-    attempts: &[Attempt],
-) -> Result<Vec<Fate, A>, AllocError>
-    ensures { IfOk result (λ v. v.items ≡ map (fate_of timeline.now) attempts.now) }
-{
-    attempts
-        .iter()
-        .map(|attempt| timeline.fate(attempt))
-        .collect(alloc)
+    let told = fates_of(alloc, timeline, plan.attempts())?;
+    transcript_of_fates(alloc, timeline, &plan, &told.fates, told.winner)
 }
 
 fn stop<A: Allocator>(timeline: &Timeline<A>, winner: Option<(u64, usize)>) -> u64
