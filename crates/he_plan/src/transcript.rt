@@ -218,18 +218,18 @@ fn without_winner<A: Allocator>(
     ensures { result ≡ without_winner timeline.now attempts.now fates.now timeline.now.aaaa timeline.now.a }
 {
     let limit = timeline.settings().limit();
-    let Some((aaaa_tick, aaaa)) = timeline.answer(Family::V6) else {
+    let Some(aaaa) = timeline.answer(Family::V6) else {
         return Outcome3::Limit(limit);
     };
-    let Some((a_tick, a)) = timeline.answer(Family::V4) else {
+    let Some(a) = timeline.answer(Family::V4) else {
         return Outcome3::Limit(limit);
     };
-    let aaaa_seen = timeline.seen(aaaa_tick);
-    let a_seen = timeline.seen(a_tick);
+    let aaaa_seen = timeline.seen(aaaa.0);
+    let a_seen = timeline.seen(a.0);
     if aaaa_seen <= limit
         && a_seen <= limit
         && are_failed(fates)
-        && are_tried_out(timeline, attempts, aaaa_tick, aaaa, a_tick, a)
+        && are_tried_out(timeline, attempts, aaaa, a)
     {
         Outcome3::Exhausted(last_failure(aaaa_seen.max(a_seen), fates))
     } else {
@@ -249,26 +249,24 @@ fn is_failed(fate: Fate) -> bool
     matches!(fate, Fate::Failed(_))
 }
 
-// Whether each usable address of both answers was tried. Where there is room for one more attempt, an address that is left
-// would have been tried in it, so they need not be looked at.
+// Whether each usable address of both answers, which are a tick and addresses, was tried. Where there is room for one more
+// attempt, an address that is left would have been tried in it, so they need not be looked at.
 fn are_tried_out<A: Allocator>(
     timeline: &Timeline<A>,
     attempts: &[Attempt],
-    aaaa_tick: u64,
-    aaaa: &[Ip],
-    a_tick: u64,
-    a: &[Ip],
+    aaaa: (u64, &[Ip]),
+    a: (u64, &[Ip]),
 ) -> bool
     requires are { AreAttempts timeline.now attempts.now }
-    requires six { timeline.now.aaaa ≡ Some (record { tick = aaaa_tick; addresses = aaaa.now }) }
-    requires four { timeline.now.a ≡ Some (record { tick = a_tick; addresses = a.now }) }
-    ensures { result ≡ (is_tried_out attempts.now (record { tick = aaaa_tick; addresses = aaaa.now }) && is_tried_out attempts.now (record { tick = a_tick; addresses = a.now })) }
+    requires six { timeline.now.aaaa ≡ Some (record { tick = aaaa.0; addresses = aaaa.1.now }) }
+    requires four { timeline.now.a ≡ Some (record { tick = a.0; addresses = a.1.now }) }
+    ensures { result ≡ (is_tried_out attempts.now (record { tick = aaaa.entry.0; addresses = aaaa.entry.1.now }) && is_tried_out attempts.now (record { tick = a.entry.0; addresses = a.entry.1.now })) }
 {
-    let answered = aaaa_tick.max(a_tick);
+    let answered = aaaa.0.max(a.0);
     if has_room(timeline, attempts, answered) {
         return true;
     }
-    is_tried_out(attempts, aaaa) && is_tried_out(attempts, a)
+    is_tried_out(attempts, aaaa.1) && is_tried_out(attempts, a.1)
 }
 
 // Whether the delay after the last attempt ends below the limit, at or after the tick.
