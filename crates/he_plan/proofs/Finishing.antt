@@ -32,7 +32,7 @@ outcome_in-lasts race (p ∷ told) ip h =
     lasts_by p told true here rest = here
     lasts_by p told false here rest = rest
 
-get_kept : (xs : List Fate) (x : Fate) (i : ℕ) (y : Fate) → slice_get xs i ≡ Some y → slice_get (xs ++ x ∷ []) i ≡ Some y
+pub get_kept : (xs : List Fate) (x : Fate) (i : ℕ) (y : Fate) → slice_get xs i ≡ Some y → slice_get (xs ++ x ∷ []) i ≡ Some y
 get_kept [] x i y h = cc
 get_kept (z ∷ xs) x zero y h = h
 get_kept (z ∷ xs) x (suc i) y h = get_kept xs x i y h

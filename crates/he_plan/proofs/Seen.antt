@@ -24,13 +24,6 @@ first low p pauses are = record {
   rest = and_right _ _ are;
 }
 
--- a tick before all pauses is free
-free_before : (pauses : List (ℕ × ℕ)) (low x : ℕ) → are_pauses low pauses ≡ true → x < low → is_paused pauses x ≡ false
-free_before [] low x are h = refl
-free_before (p ∷ pauses) low x are h =
-    let f : IsFirst low p pauses = first low p pauses are in
-    or_none _ _ (before p.0 p.1 x (omega (arith, f.after))) (free_before pauses p.1 x f.rest (omega (arith, f.after, f.some)))
-
 seen_before : (pauses : List (ℕ × ℕ)) (low x : ℕ) → are_pauses low pauses ≡ true → x < low → seen_past pauses x ≡ x
 seen_before [] low x are h = refl
 seen_before (p ∷ pauses) low x are h =
@@ -119,19 +112,9 @@ ends_rise (p ∷ pauses) low zero (suc j) d are up below = let f : IsFirst low p
 ends_rise (p ∷ pauses) low (suc i) zero d are up below = absurd (omega arith)
 ends_rise (p ∷ pauses) low (suc i) (suc j) d are up below = let f : IsFirst low p pauses = first low p pauses are in ends_rise pauses p.1 i j d f.rest (omega arith) (omega arith)
 
--- pauses ahead of the tick: either the first one begins after it, or it covers it
+-- pauses ahead of the tick, of which the first one begins after it
 pub ahead_free : (p : ℕ × ℕ) (pauses : List (ℕ × ℕ)) (x : ℕ) → are_ahead x (p ∷ pauses) ≡ true → x < p.0 → seen_past (p ∷ pauses) x ≡ x
 ahead_free p pauses x are early = seen_before (p ∷ pauses) p.0 x (and_right _ _ are) early
-
-pub ahead_covered : (p : ℕ × ℕ) (pauses : List (ℕ × ℕ)) (x : ℕ) → are_ahead x (p ∷ pauses) ≡ true → p.0 ≤ x → (seen_past (p ∷ pauses) x ≡ seen_past pauses p.1) × (are_ahead p.1 pauses ≡ true)
-ahead_covered p pauses x are begun =
-    let in' : covers p x ≡ true = and_both _ _ (le_test p.0 x begun) (and_left _ _ are) in
-    let f : IsFirst p.0 p pauses = first p.0 p pauses (and_right _ _ are) in
-    (rw in', still p.1 pauses f.rest)
-  where
-    still : (low : ℕ) (pauses : List (ℕ × ℕ)) → are_pauses low pauses ≡ true → are_ahead low pauses ≡ true
-    still low [] are = refl
-    still low (q ∷ pauses) are = let f : IsFirst low q pauses = first low q pauses are in ahead low low q pauses are (omega (arith, f.after, f.some))
 
 -- where the next pause begins after the tick, the tick is seen
 pub ahead_stops : (pauses : List (ℕ × ℕ)) (i x whole : ℕ) (d : ℕ × ℕ) → i < length pauses → are_ahead x (drop i pauses) ≡ true → x < (get_or pauses i d).0 → seen_past (drop i pauses) x ≡ whole → x ≡ whole

@@ -13,7 +13,7 @@ use Rattle.he_plan.specs.Transcript.{IsTranscript, AreTold, IsToldFate, stop_of,
 use Rattle.he_plan.proofs.Bools.{lt_from}
 use Rattle.he_plan.proofs.Finishing.{success_after}
 
-abbrev ToldAll : Race → List Fate → List Attempt → List Fate → Type 0
+abbrev pub ToldAll : Race → List Fate → List Attempt → List Fate → Type 0
 ToldAll race all attempts told = AllZip (IsToldFate race all) attempts told
 
 pub length-told : (race : Race) (all : List Fate) (attempts : List Attempt) (told : List Fate) → ToldAll race all attempts told → length attempts ≡ length told
@@ -126,8 +126,3 @@ told-is race r attempts told winner a = record {
   lines = told_lines-own race winner (IsToldFate race told) attempts told (told_own race told winner a.wins) a.fates;
   result = result_own race attempts told winner a.fates a.wins;
 }
-
--- own fates may be told
-pub own-told : (race : Race) (all : List Fate) (attempts : List Attempt) → AllZip (IsToldFate race all) attempts (map (fate_of race) attempts)
-own-told race all [] = tt
-own-told race all (x ∷ attempts) = (inl refl, own-told race all attempts)

@@ -1,4 +1,4 @@
--- What private functions answer: ticks that look at no pause, and the winner so far.
+-- What private functions answer: ticks that look at no pause, the winner so far, and what is told of an attempt.
 use Rattle.std.specs.Prelude.{ℕ, ◌+◌, ◌≤◌, ◌<◌, ◌&&◌, if◌then◌else◌, ◌++◌, List, [], ◌∷◌, min, max, Option, Some, None, option_map, IfSome, nat_le, nat_lt, ◌≡◌, Bool, true, false, length, drop, filter, find, slice_index_or}
 use Rattle.std.specs.List.{list_any}
 use Rattle.std.specs.List.Sorted.{IsPermutation}
@@ -8,7 +8,7 @@ use Rattle.he_addr.specs.declared.ip.Ip.{Ip}
 use Rattle.he_addr.specs.Ip.{is_usable}
 use Rattle.he_plan.specs.declared.attempts.Attempt.{Attempt}
 use Rattle.he_plan.specs.declared.finish.Fate.{Fate}
-use Rattle.he_plan.specs.declared.finish.Fate.TheVariants.{Succeeded}
+use Rattle.he_plan.specs.declared.finish.Fate.TheVariants.{Succeeded, Skipped}
 use Rattle.he_plan.specs.declared.limits.TheConstants.{MAX_LIMIT}
 use Rattle.he_plan.specs.Race.{Race, Reply}
 use Rattle.he_plan.specs.declared.transcript.Line.{Line}
@@ -16,6 +16,7 @@ use Rattle.he_plan.specs.Timeline.{is_of, are_pauses}
 use Rattle.he_plan.specs.Transcript.{mark_at}
 use Rattle.he_plan.specs.Attempts.{is_untried, last_of, order, order_at, seen}
 use Rattle.he_plan.specs.Interlacing.{interlace}
+use Rattle.he_plan.specs.Finish.{fate_of}
 
 -- pauses in order, of which the first ends after the tick
 abbrev pub are_ahead : ℕ → List (ℕ × ℕ) → Bool
@@ -129,6 +130,15 @@ better (Some w) finish place = if nat_le w.0 finish then Some w else Some (finis
 abbrev pub next_winner : Option (ℕ × ℕ) → ℕ → Fate → Option (ℕ × ℕ)
 next_winner best place (Succeeded finish) = better best finish place
 next_winner best place _ = best
+
+-- the winner so far finishes at or before the tick
+abbrev pub is_beaten : Option (ℕ × ℕ) → ℕ → Bool
+is_beaten None tick = false
+is_beaten (Some w) tick = nat_le w.0 tick
+
+-- the fate that is told of an attempt after the winner so far
+abbrev pub told_fate : Race → Option (ℕ × ℕ) → Attempt → Fate
+told_fate race winner x = if is_beaten winner x.tick then Skipped else fate_of race x
 
 -- the line of an attempt of which this fate is told
 abbrev pub told_line : ℕ → Option (ℕ × ℕ) → Attempt → Fate → Line

@@ -53,7 +53,11 @@ pub fn winner(fates: &[Fate]) -> Option<(u64, usize)>
     best
 }
 
-fn next_winner(best: Option<(u64, usize)>, place: usize, fate: Fate) -> Option<(u64, usize)>
+pub(crate) fn next_winner(
+    best: Option<(u64, usize)>,
+    place: usize,
+    fate: Fate,
+) -> Option<(u64, usize)>
     ensures { result ≡ next_winner best place fate }
 {
     let Fate::Succeeded(finish) = fate else {

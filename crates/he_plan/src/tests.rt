@@ -1,7 +1,9 @@
-// Races with their transcripts, interlaced lists, copies, plans and a second opinion on them, the builder's faults, and want of memory.
+// Races with their transcripts, interlaced lists, copies, plans and a second opinion on them, skipped attempts, the
+// builder's faults, and want of memory.
 
 mod copies;
 mod examples;
+mod fates;
 mod faults;
 mod homes;
 mod interlacing;

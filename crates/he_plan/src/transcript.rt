@@ -1,21 +1,21 @@
 // The transcript of a race.
 
-ghost use Rattle.std.specs.Prelude.{◌≡◌, ◌&&◌, ◌||◌, ◌++◌, not, length, map, Some, IfOk, IsTrue, OnOk};
+ghost use Rattle.std.specs.Prelude.{◌≡◌, ◌&&◌, ◌||◌, ◌++◌, not, length, Some, IfOk, IsTrue, OnOk};
 ghost use Rattle.std.specs.List.{list_all};
 ghost use Rattle.he_addr.specs.Ip.{is_usable};
 ghost use Rattle.he_plan.specs.Attempts.{AreAttempts, is_tried, last_of};
-ghost use Rattle.he_plan.specs.Finish.{fate_of};
 ghost use Rattle.he_plan.specs.Planning.{told_lines, told_one, has_room};
 ghost use Rattle.he_plan.specs.Timeline.{IsRace};
 ghost use Rattle.he_plan.specs.Transcript.{IsTranscript, AreTold, stop_of, is_place, failed_mark, mark_at, result_of, without_winner, is_failed, is_tried_out, last_failure};
 
 use crate::attempts::{Attempt, Plan};
-use crate::finish::{Fate, winner};
+use crate::fates::fates_of;
+use crate::finish::Fate;
 use crate::planning::plan;
 use crate::starts::is_tried;
 use crate::timeline::Timeline;
 use he_addr::{Family, Ip, Memory};
-use std::alloc::{AllocError, Allocator, Global};
+use std::alloc::{Allocator, Global};
 use std::marker::Model;
 
 /// What became of an attempt, with the tick: it won, it failed at or before the race's end, or it was cancelled at the end.
@@ -113,32 +113,8 @@ pub fn transcript_of<A: Allocator + Copy, B: Allocator>(
     ensures { IfOk result (IsTranscript timeline.now) }
 {
     let plan = plan(alloc, timeline)?;
-    let fates = fates(alloc, timeline, plan.attempts())?;
-    let winner = winner(&fates);
-    transcript_of_fates(alloc, timeline, &plan, &fates, winner)
-}
-
-fn fates<A: Allocator, B: Allocator>(
-    alloc: A,
-    timeline: &Timeline<B>,
-    attempts: &[Attempt],
-) -> Result<Vec<Fate, A>, Memory>
-    ensures { IfOk result (λ v. v.items ≡ map (fate_of timeline.now) attempts.now) }
-{
-    collect_fates(alloc, timeline, attempts).map_err(|_| Memory)
-}
-
-fn collect_fates<A: Allocator, B: Allocator>(
-    alloc: A,
-    timeline: &Timeline<B>,
-    attempts: &[Attempt],
-) -> Result<Vec<Fate, A>, AllocError>
-    ensures { IfOk result (λ v. v.items ≡ map (fate_of timeline.now) attempts.now) }
-{
-    attempts
-        .iter()
-        .map(|attempt| timeline.fate(attempt))
-        .collect(alloc)
+    let told = fates_of(alloc, timeline, plan.attempts())?;
+    transcript_of_fates(alloc, timeline, &plan, &told.fates, told.winner)
 }
 
 fn stop<A: Allocator>(timeline: &Timeline<A>, winner: Option<(u64, usize)>) -> u64
@@ -242,18 +218,18 @@ fn without_winner<A: Allocator>(
     ensures { result ≡ without_winner timeline.now attempts.now fates.now timeline.now.aaaa timeline.now.a }
 {
     let limit = timeline.settings().limit();
-    let Some((aaaa_tick, aaaa)) = timeline.answer(Family::V6) else {
+    let Some(aaaa) = timeline.answer(Family::V6) else {
         return Outcome3::Limit(limit);
     };
-    let Some((a_tick, a)) = timeline.answer(Family::V4) else {
+    let Some(a) = timeline.answer(Family::V4) else {
         return Outcome3::Limit(limit);
     };
-    let aaaa_seen = timeline.seen(aaaa_tick);
-    let a_seen = timeline.seen(a_tick);
+    let aaaa_seen = timeline.seen(aaaa.0);
+    let a_seen = timeline.seen(a.0);
     if aaaa_seen <= limit
         && a_seen <= limit
         && are_failed(fates)
-        && are_tried_out(timeline, attempts, aaaa_tick, aaaa, a_tick, a)
+        && are_tried_out(timeline, attempts, aaaa, a)
     {
         Outcome3::Exhausted(last_failure(aaaa_seen.max(a_seen), fates))
     } else {
@@ -273,26 +249,24 @@ fn is_failed(fate: Fate) -> bool
     matches!(fate, Fate::Failed(_))
 }
 
-// Whether each usable address of both answers was tried. Where there is room for one more attempt, an address that is left
-// would have been tried in it, so they need not be looked at.
+// Whether each usable address of both answers, which are a tick and addresses, was tried. Where there is room for one more
+// attempt, an address that is left would have been tried in it, so they need not be looked at.
 fn are_tried_out<A: Allocator>(
     timeline: &Timeline<A>,
     attempts: &[Attempt],
-    aaaa_tick: u64,
-    aaaa: &[Ip],
-    a_tick: u64,
-    a: &[Ip],
+    aaaa: (u64, &[Ip]),
+    a: (u64, &[Ip]),
 ) -> bool
     requires are { AreAttempts timeline.now attempts.now }
-    requires six { timeline.now.aaaa ≡ Some (record { tick = aaaa_tick; addresses = aaaa.now }) }
-    requires four { timeline.now.a ≡ Some (record { tick = a_tick; addresses = a.now }) }
-    ensures { result ≡ (is_tried_out attempts.now (record { tick = aaaa_tick; addresses = aaaa.now }) && is_tried_out attempts.now (record { tick = a_tick; addresses = a.now })) }
+    requires six { timeline.now.aaaa ≡ Some (record { tick = aaaa.0; addresses = aaaa.1.now }) }
+    requires four { timeline.now.a ≡ Some (record { tick = a.0; addresses = a.1.now }) }
+    ensures { result ≡ (is_tried_out attempts.now (record { tick = aaaa.entry.0; addresses = aaaa.entry.1.now }) && is_tried_out attempts.now (record { tick = a.entry.0; addresses = a.entry.1.now })) }
 {
-    let answered = aaaa_tick.max(a_tick);
+    let answered = aaaa.0.max(a.0);
     if has_room(timeline, attempts, answered) {
         return true;
     }
-    is_tried_out(attempts, aaaa) && is_tried_out(attempts, a)
+    is_tried_out(attempts, aaaa.1) && is_tried_out(attempts, a.1)
 }
 
 // Whether the delay after the last attempt ends below the limit, at or after the tick.
