@@ -17,15 +17,6 @@ zeros-le (g ∷ gs) = grown (eqb g 0) (zeros gs) (length gs) (zeros-le gs)
 abbrev chosen : Bool → ℕ → Run → Run
 chosen b here behind = cond b (record { start = 0; len = here }) (record { start = behind.start + 1; len = behind.len })
 
-either_within : (b : Bool) (here n : ℕ) (run : Run) → here ≤ suc n → run.start + run.len ≤ n → (chosen b here run).start + (chosen b here run).len ≤ suc n
-either_within true here n run fits behind = omega arith
-either_within false here n run fits behind = omega arith
-
--- the longest run lies within the groups
-pub longest_within : (groups : List ℕ) → (longest groups).start + (longest groups).len ≤ length groups
-longest_within [] = omega arith
-longest_within (g ∷ gs) = either_within (leb (longest gs).len (zeros (g ∷ gs))) (zeros (g ∷ gs)) (length gs) (longest gs) (zeros-le (g ∷ gs)) (longest_within gs)
-
 -- the zeros that stand first
 zeros_step : (b : Bool) (g : ℕ) (gs : List ℕ) → eqb g 0 ≡ b → take (zeros gs) gs ≡ replicate (zeros gs) 0 → take (cond b (zeros gs + 1) 0) (g ∷ gs) ≡ replicate (cond b (zeros gs + 1) 0) 0
 zeros_step true g gs e rest = rw add-one (ap (λ x. x ∷ take (zeros gs) gs) (eqb-true g 0 e) ∙ ap (λ xs. 0 ∷ xs) rest)

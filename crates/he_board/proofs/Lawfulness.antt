@@ -1,5 +1,5 @@
 -- The rule by sums and minima holds exactly of the lawful states.
-use Rattle.std.proofs.Common.{◌≡◌, ◌≢◌, ◌⊎◌, ℕ, zero, suc, ◌<◌, ◌≤◌, List, get_or, refl, sym, ◌∙◌, subst, inl, inr, ⊎_elim, arith}
+use Rattle.std.proofs.Common.{◌≡◌, ◌≢◌, ◌⊎◌, ℕ, ◌<◌, ◌≤◌, List, get_or, refl, sym, ◌∙◌, subst, inl, inr, ⊎_elim, arith}
 use Rattle.std.specs.Prelude.{Contains}
 use mathlib.Core.Logic.{dite}
 use native.Mathlib.Decide.{ℕ_discrete}
@@ -12,10 +12,6 @@ use Rattle.he_board.proofs.Found.{times-contains, times-none, least_of-contains,
 use Rattle.he_board.proofs.Keeping.{taken_of, known_of, offer_of, looked_of}
 use Rattle.he_board.proofs.Sums.{total-at, total-none, total-alone, least-at, least-ge, least-le_top}
 use Rattle.he_board.proofs.Witnesses.{total-some, least-some, total-one}
-
-not_positive : (n : ℕ) → (0 < n → ⊥) → n ≡ 0
-not_positive zero none = refl
-not_positive (suc n) none = absurd (none (omega arith))
 
 module _ (jobs races : ℕ) (words : List ℕ) (views : List View) where
   taken_once : Balanced jobs races words views → (job : ℕ) → 0 < takers job views → TakenOnce views job

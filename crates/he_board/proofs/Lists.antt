@@ -53,14 +53,6 @@ pub cond-offers : (b : Bool) (job : ℕ) (v : View) → (cond b (taking job v) (
 cond-offers true job v = refl
 cond-offers false job v = refl
 
-pub cond-looked : (b : Bool) (job : ℕ) (v : View) → (cond b (taking job v) (knowing job v)).looked ≡ v.looked
-cond-looked true job v = refl
-cond-looked false job v = refl
-
-pub cond-known : (b : Bool) (job : ℕ) (v : View) → (cond b (taking job v) (knowing job v)).known ≡ v.known ++ job ∷ []
-cond-known true job v = refl
-cond-known false job v = refl
-
 -- no value of the race is noted
 pub least_of-none : (r : ℕ) (xs : List (ℕ × ℕ)) → count_of r xs ≡ 0 → least_of r xs ≡ NO_OFFER
 least_of-none r [] none = refl

@@ -7,10 +7,6 @@ use Rattle.he_text.specs.declared.fault.TextKind.{TextKind}
 use Rattle.he_text.specs.Forms.{address_in, addresses_in, ◌>>=◌}
 use Rattle.he_text.specs.Reading.{prepend}
 
-pub prepend_nothing : (read : Result (List Ip) TextKind) → prepend [] read ≡ read
-prepend_nothing (Ok ips) = refl
-prepend_nothing (Err kind) = refl
-
 prepend_more : (ips : List Ip) (ip : Ip) (read : Result (List Ip) TextKind) → prepend ips (read >>= λ more. Ok (ip ∷ more)) ≡ prepend (ips ++ ip ∷ []) read
 prepend_more ips ip (Ok more) = ap Ok (sym (append_assoc ips (ip ∷ []) more))
 prepend_more ips ip (Err kind) = refl

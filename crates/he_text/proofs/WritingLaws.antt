@@ -25,10 +25,6 @@ grows_more a b c h =
 pub grows_after : (a b s c : List ℕ) → s ≡ a ++ b → Grows s c → Grows a c
 grows_after a b s c is h = let P : List ℕ → Type 0 = λ t. Grows t c in grows_more a b c (subst P is h)
 
--- one token more
-pub spaced_more : (tokens : List (List ℕ)) (token : List ℕ) → spaced (tokens ++ token ∷ []) ≡ spaced tokens ++ 32 ∷ token
-spaced_more tokens token = flat_map-append (λ t. 32 ∷ t) tokens (token ∷ []) ∙ ap (λ ts. spaced tokens ++ ts) (append-nil (32 ∷ token))
-
 joined_spaced : (first : List ℕ) (others : List (List ℕ)) → join_with_byte 32 (first ∷ others) ≡ first ++ spaced others
 joined_spaced first [] = sym (append-nil first)
 joined_spaced first (next ∷ others) = ap (λ text. first ++ 32 ∷ text) (joined_spaced next others)
