@@ -53,9 +53,11 @@ none_before (x ∷ xs) ys p h =
     is_false : (b : Bool) → not b ≡ true → b ≡ false
     is_false true h = cc
     is_false false h = refl
+
     without : (zs : List (Ip × Outcome)) → has_outcome x.0 (zs ++ p ∷ ys) ≡ false → same_ip p.0 x.0 ≡ false
     without [] k = or_left_none _ _ k
     without (z ∷ zs) k = without zs (or_right_none _ _ k)
+
     both : (b c : Bool) → b ≡ false → c ≡ false → (b || c) ≡ false
     both true c k l = cc
     both false c k l = l

@@ -8,5 +8,6 @@ mod faults;
 mod homes;
 mod interlacing;
 mod memory;
+mod pairs;
 mod plain;
 mod plans;
