@@ -19,11 +19,14 @@ pub loop-ip-preserved : goal.loop-ip-preserved
 loop-ip-preserved g c =
     let done : List (Ip × Outcome) = c.loop-ip.invariant.0 in
     let told : Ip × Outcome = (c.in-Some.ip.now, c.in-Some.outcome.now) in
-    let old : List ℕ = c.args.out.now.items in
-    (done ++ told ∷ [], (
-      c.in_ok-write_outcome.ensures ∙ ap (λ (text : List ℕ). text ++ outcome_text told) c.loop-ip.invariant.1.0
-        ∙ append_assoc old (flat_map outcome_text done) (outcome_text told) ∙ ap (λ (text : List ℕ). old ++ text) (sym (one_more done told)),
-      append_assoc done (told ∷ []) c.next.new.self ∙ ap (λ rest. done ++ rest) (sym c.in-Some.ensures.steps) ∙ c.loop-ip.invariant.1.1))
+    let old : List ℕ = c.args.out.now.items in (
+      done ++ told ∷ [],
+      (
+        c.in_ok-write_outcome.ensures ∙ ap (λ (text : List ℕ). text ++ outcome_text told) c.loop-ip.invariant.1.0
+            ∙ append_assoc old (flat_map outcome_text done) (outcome_text told) ∙ ap (λ (text : List ℕ). old ++ text) (sym (one_more done told)),
+        append_assoc done (told ∷ []) c.next.new.self ∙ ap (λ rest. done ++ rest) (sym c.in-Some.ensures.steps) ∙ c.loop-ip.invariant.1.1,
+      ),
+    )
 
 pub returns-in_err-write_outcome : goal.returns-in_err-write_outcome
 returns-in_err-write_outcome g c =
