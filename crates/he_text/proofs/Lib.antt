@@ -34,5 +34,6 @@ mod Results
 mod SaidLaws
 mod SaysLaws
 mod SelectionFacts
+mod Tables
 mod ToldLaws
 mod WritingLaws
