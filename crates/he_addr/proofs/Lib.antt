@@ -12,6 +12,7 @@ mod Numbers
 mod Options
 mod PartLaws
 mod PrintedTexts
+pub mod ReadLaws
 mod Runs
 mod SixTexts
 pub mod TextLaws
