@@ -13,9 +13,9 @@ use Rattle.he_text.specs.declared.fault.TextKind.{TextKind}
 use Rattle.he_text.specs.declared.fault.TextKind.TheVariants as kinds
 use Rattle.he_text.specs.declared.limits.TheConstants.{MAX_LINE}
 use Rattle.he_text.specs.Beginnings.{FaultStands, IsTableFault, MayChange}
-use Rattle.he_text.specs.Faults.{test, first_fault, last_group, known_to, said_before, too_long, unfinished, wrong_header, wrong_word, too_often, wrong_form, wrong_bounds, repeated, is_policy_next, wrong_table, of_said, line_fault, at_line_number, ends, fault_from, fault_in, fault_of}
+use Rattle.he_text.specs.Faults.{test, first_fault, last_group, known_to, said_before, too_long, unfinished, wrong_header, wrong_word, too_often, wrong_form, wrong_bounds, repeated, is_policy_next, wrong_table, of_said, header_fault, line_fault, at_line_number, ends, fault_from, fault_in, fault_of}
 use Rattle.he_text.specs.Forms.{word_of, said_in}
-use Rattle.he_text.specs.Parts.{parts_of, lines_of, tokens_of}
+use Rattle.he_text.specs.Parts.{pieces_of, lines_of, tokens_of}
 use Rattle.he_text.specs.Said.{Said, Setting, PolicyRow, HostSource, HostRoute, Answer, Told, Paused, Ended, rows_given}
 use Rattle.he_text.specs.Text.{IsRaceText, TellsFault}
 use Rattle.he_text.proofs.CompleteFaults.{begins_right, right_begins}
@@ -40,13 +40,13 @@ one_part : (parts longer : List (List ℕ)) → GoOn parts longer → GoOn ([] �
 one_part [] longer h = absurd h
 one_part (part ∷ parts) longer h = (refl, h)
 
-pub parts_go_on : (mark : ℕ) (text more : List ℕ) → GoOn (parts_of mark text) (parts_of mark (text ++ more))
-parts_go_on mark [] more = by_parts (parts_of mark more) (omega (arith, length-slice_split (λ b. eqb b mark) more))
+pub parts_go_on : (mark : ℕ) (text more : List ℕ) → GoOn (pieces_of mark text) (pieces_of mark (text ++ more))
+parts_go_on mark [] more = by_parts (pieces_of mark more) (omega (arith, length-slice_split (λ b. eqb b mark) more))
   where
     by_parts : (parts : List (List ℕ)) → 0 < length parts → GoOn ([] ∷ []) parts
     by_parts [] some = absurd (omega arith)
     by_parts (part ∷ parts) some = omega arith
-parts_go_on mark (x ∷ xs) more = by_mark (eqb x mark) (parts_of mark xs) (parts_of mark (xs ++ more)) (parts_go_on mark xs more)
+parts_go_on mark (x ∷ xs) more = by_mark (eqb x mark) (pieces_of mark xs) (pieces_of mark (xs ++ more)) (parts_go_on mark xs more)
   where
     by_mark : (b : Bool) (parts longer : List (List ℕ)) → GoOn parts longer → GoOn (cond b ([] ∷ parts) (onto_first x parts)) (cond b ([] ∷ longer) (onto_first x longer))
     by_mark true parts longer h = one_part parts longer h
@@ -200,7 +200,7 @@ last_line before last line more longer = elim (long_or_open (ltb MAX_LINE (lengt
 abbrev MayBeMended : ℕ → List (List ℕ) → ℕ → TextKind → Type 0
 MayBeMended n lines m kind = (kind ≡ kinds.Unfinished) ⊎ (IsTableFault kind × (n + length lines ≡ m + 2))
 
-number_is : (n m : ℕ) (k kind : TextKind) → ◌≡◌ {A = Option (ℕ × TextKind)} (Some (n, k)) (Some (m, kind)) → (n ≡ m) × (k ≡ kind)
+pub number_is : (n m : ℕ) (k kind : TextKind) → ◌≡◌ {A = Option (ℕ × TextKind)} (Some (n, k)) (Some (m, kind)) → (n ≡ m) × (k ≡ kind)
 number_is n m k kind h =
     (ap (λ (o : Option (ℕ × TextKind)). option_map_or (λ p. p.0) o 0) h, ap (λ (o : Option (ℕ × TextKind)). option_map_or (λ p. p.1) o kinds.Header) h)
 
@@ -305,19 +305,15 @@ more_follow line [] (next ∷ more) on = refl
 more_follow line (other ∷ lines) [] on = absurd on
 more_follow line (other ∷ lines) (next ∷ more) on = refl
 
-header_fault : List ℕ → List (List ℕ) → Option TextKind
-header_fault line after = first_fault (too_long line ∷ unfinished after ∷ wrong_header line ∷ [])
-
 last_header : (last line : List ℕ) (more : List (List ℕ)) → length last ≤ length line
     → ((header_fault last [] ≡ Some kinds.TooMany) × (header_fault line more ≡ Some kinds.TooMany)) ⊎ (header_fault last [] ≡ Some kinds.Unfinished)
-unfolding header_fault
 last_header last line more longer = elim (long_or_open (ltb MAX_LINE (length last)) (wrong_header last ∷ [])) [
   | inl long ↦ inl (long.1, ap (λ o. first_fault (o ∷ unfinished more ∷ wrong_header line ∷ [])) (longer_line last line longer long.0))
   | inr rest ↦ inr rest
 ]
 
 in_stands : (lines longer : List (List ℕ)) (m : ℕ) (kind : TextKind) → GoOn lines longer → fault_in lines ≡ Some (m, kind) → MayBeMended 1 lines m kind ⊎ (fault_in longer ≡ Some (m, kind))
-unfolding fault_in header_fault
+unfolding fault_in
 in_stands [] longer m kind on h = absurd on
 in_stands (last ∷ []) [] m kind on h = absurd on
 in_stands (last ∷ []) (line ∷ more) m kind on h = elim (last_header last line more on) [
@@ -341,7 +337,7 @@ in_stands (line ∷ next ∷ lines) (other ∷ more) m kind on h =
     ]
 
 in_later : (lines longer : List (List ℕ)) (m : ℕ) (kind : TextKind) → GoOn lines longer → fault_in lines ≡ Some (m, kind) → NotBefore m (fault_in longer)
-unfolding fault_in header_fault
+unfolding fault_in
 in_later [] longer m kind on h = absurd on
 in_later (last ∷ []) [] m kind on h = absurd on
 in_later (last ∷ []) (line ∷ more) m kind on h =

@@ -19,7 +19,7 @@ use Rattle.he_text.specs.declared.limits.TheConstants.{MAX_ANSWERS, MAX_LINE}
 use Rattle.he_text.specs.declared.words.Name.{Name}
 use Rattle.he_text.specs.declared.words.Name.TheVariants.{Resolution, Attempt, Count, Limit}
 use Rattle.he_text.specs.Faults.{test, excess, too_often, wrong_bounds, repeated, wrong_table, begins_policy, is_policy_next, lines_with}
-use Rattle.he_text.specs.Said.{Said, Setting, PolicyRow, HostSource, HostRoute, Answer, Told, Paused, Ended, setting_said, row_said, source_said, route_said, answer_said, outcome_said, pause_said, first_of, setting_given, rows_given, sources_given, routes_given, outcomes_given, pauses_given, table_of_rows, race_of}
+use Rattle.he_text.specs.Said.{Said, Setting, PolicyRow, HostSource, HostRoute, Answer, Told, Paused, Ended, setting_said, row_said, source_said, route_said, answer_said, outcome_said, pause_said, at_front, setting_given, rows_given, sources_given, routes_given, outcomes_given, pauses_given, table_of_rows, race_of}
 use Rattle.he_text.specs.Text.{group_said, are_in_order}
 use Rattle.he_text.proofs.CompleteForms.{IsLine, word_said}
 use Rattle.he_text.proofs.CompleteGroups.{order_split, none_later, few_lines}
@@ -145,7 +145,7 @@ no_setting : (name : Name) (value : ℕ) (told later : List Said) → IsWhole (t
 no_setting name value told later whole =
     let split = given_split (setting_said name) told later (Setting name value) value (setting_gives name value) in
     let P : List ℕ → Type 0 = λ values. length values ≤ 1 in
-    ap first_of (none_before (filter_map (setting_said name) told) (filter_map (setting_said name) later) value (subst P split (whole.settings_once name)))
+    ap at_front (none_before (filter_map (setting_said name) told) (filter_map (setting_said name) later) value (subst P split (whole.settings_once name)))
 
 pub not_twice : (told later : List Said) (s : Said) → IsWhole (told ++ s ∷ later) → repeated told s ≡ None
 not_twice told later (Setting name value) whole = not_failing (is_some (setting_given name told)) kinds.Repeated (ap is_some (no_setting name value told later whole))

@@ -25,7 +25,7 @@ use Rattle.he_select.specs.Rules.{first_repeat}
 use Rattle.he_select.specs.Tables.{IsAdmitted, same_row, table_causes, table_fault}
 use Rattle.he_text.specs.declared.words.Name.{Name}
 use Rattle.he_text.specs.Faults.{known_to}
-use Rattle.he_text.specs.Said.{Said, Setting, PolicyRow, HostSource, HostRoute, Answer, Told, Paused, Ended, setting_said, source_said, answer_said, outcome_said, first_of, rows_given, sources_given, routes_given, answer_given, outcomes_given, table_of_rows, race_of}
+use Rattle.he_text.specs.Said.{Said, Setting, PolicyRow, HostSource, HostRoute, Answer, Told, Paused, Ended, setting_said, source_said, answer_said, outcome_said, at_front, rows_given, sources_given, routes_given, answer_given, outcomes_given, table_of_rows, race_of}
 use Rattle.he_text.specs.Text.{group_said, are_in_order}
 use Rattle.he_text.proofs.CompleteForms.{Knows, Suits}
 use Rattle.he_text.proofs.CompleteGroups.{order_split, none_later}
@@ -101,15 +101,15 @@ answer_gives : (family : Family) (reply : Reply) → answer_said family (Answer 
 answer_gives families.V6 reply = refl
 answer_gives families.V4 reply = refl
 
-only_first : {A : Type 0} (xs ys : List A) (y : A) → length (xs ++ y ∷ ys) ≤ 1 → first_of (xs ++ y ∷ ys) ≡ Some y
-only_first xs ys y h = let P : List _ → Type 0 = λ zs. first_of (zs ++ y ∷ ys) ≡ Some y in subst P (sym (none_before xs ys y h)) refl
+only_first : {A : Type 0} (xs ys : List A) (y : A) → length (xs ++ y ∷ ys) ≤ 1 → at_front (xs ++ y ∷ ys) ≡ Some y
+only_first xs ys y h = let P : List _ → Type 0 = λ zs. at_front (zs ++ y ∷ ys) ≡ Some y in subst P (sym (none_before xs ys y h)) refl
 
 pub answer_is : (family : Family) (told later : List Said) (reply : Reply) → IsWhole (told ++ Answer family reply ∷ later) → is_answer family (Some reply) ≡ true
 answer_is family told later reply whole =
     let split = given_split (answer_said family) told later (Answer family reply) reply (answer_gives family reply) in
     let once = whole.answers_once family in
     let few : length (filter_map (answer_said family) told ++ reply ∷ filter_map (answer_said family) later) ≤ 1 = (let P : List Reply → Type 0 = λ rs. length rs ≤ 1 in subst P split once) in
-    ap (is_answer family) (sym (ap first_of split ∙ only_first (filter_map (answer_said family) told) (filter_map (answer_said family) later) reply few))
+    ap (is_answer family) (sym (ap at_front split ∙ only_first (filter_map (answer_said family) told) (filter_map (answer_said family) later) reply few))
     ∙ answer_fits family (told ++ Answer family reply ∷ later) whole
 
 pub answer_parts : (family : Family) (reply : Reply) → is_answer family (Some reply) ≡ true → (are_of family reply.addresses ≡ true) × (are_distinct reply.addresses ≡ true)
@@ -146,7 +146,7 @@ no_answer families.V4 _ h = refl
 answers_before : (family : Family) (told later : List Said) (ip : Ip) (outcome : Outcome) → IsWhole (told ++ Told ip outcome ∷ later) → answer_given family (told ++ Told ip outcome ∷ later) ≡ answer_given family told
 answers_before family told later ip outcome whole =
     let order = order_split 0 told later (Told ip outcome) whole.order in
-    ap first_of (given_none (answer_said family) told later (Told ip outcome) (no_answer family (Told ip outcome) (omega arith))
+    ap at_front (given_none (answer_said family) told later (Told ip outcome) (no_answer family (Told ip outcome) (omega arith))
     ∙ ap (λ rs. filter_map (answer_said family) told ++ rs) (none_later (answer_said family) 7 (no_answer family) later order.1)
     ∙ append-nil (filter_map (answer_said family) told))
 

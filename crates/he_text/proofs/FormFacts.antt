@@ -16,7 +16,7 @@ use Rattle.he_plan.specs.Race.{Reply}
 use Rattle.he_plan.specs.Timeline.{is_of, are_of, duration_of}
 use Rattle.he_text.specs.declared.fault.TextKind.TheVariants as kinds
 use Rattle.he_text.specs.declared.words.Name.{Name}
-use Rattle.he_text.specs.Forms.{◌>>=◌, within, number_from, setting_in, address_in, addresses_in, listed_in, answer_in, known_in, mark_in, connect_in, pause_in, least_of, most_of}
+use Rattle.he_text.specs.Forms.{◌>>=◌, within, number_from, setting_in, address_in, addresses_in, listed_in, answer_in, known_in, mark_in, connect_in, pause_in, least_value, most_value}
 use Rattle.he_text.specs.Text.{mark_text}
 use Rattle.he_text.proofs.LineReads.{ReadsNumber}
 use Rattle.he_text.specs.Words.{name_in}
@@ -40,7 +40,7 @@ pub record IsSetting (tokens : List (List ℕ)) (name : Name) (value : ℕ) : Ty
   pub second : List ℕ
   pub tokens_are : tokens ≡ first ∷ second ∷ []
   pub name_is : name_in first ≡ Some name
-  pub value_is : ReadsNumber (least_of name) (most_of name) second value
+  pub value_is : ReadsNumber (least_value name) (most_value name) second value
 
 pub setting_ok : (tokens : List (List ℕ)) (s : Name × ℕ) → setting_in tokens ≡ Ok s → IsSetting tokens s.0 s.1
 unfolding setting_in
@@ -48,8 +48,8 @@ setting_ok [] s h = cc
 setting_ok (a ∷ []) s h = cc
 setting_ok (a ∷ b ∷ c ∷ more) s h = cc
 setting_ok (a ∷ b ∷ []) s h =
-    let name = bind_ok (ok_or (name_in a) kinds.Word) (λ name. number_from (least_of name) (most_of name) b >>= λ value. Ok (name, value)) s h in
-    let value = bind_ok (number_from (least_of name.0) (most_of name.0) b) (λ value. Ok (name.0, value)) s name.2 in
+    let name = bind_ok (ok_or (name_in a) kinds.Word) (λ name. number_from (least_value name) (most_value name) b >>= λ value. Ok (name, value)) s h in
+    let value = bind_ok (number_from (least_value name.0) (most_value name.0) b) (λ value. Ok (name.0, value)) s name.2 in
     let P : Name × ℕ → Type 0 = λ s. IsSetting (a ∷ b ∷ []) s.0 s.1 in
     let same : (name.0, value.0) ≡ s = cc (value.2) in
     subst P same (record {
@@ -57,7 +57,7 @@ setting_ok (a ∷ b ∷ []) s h =
       second = b;
       tokens_are = refl;
       name_is = ok_or_ok (name_in a) kinds.Word name.0 name.1;
-      value_is = number_ok (least_of name.0) (most_of name.0) b value.0 value.1;
+      value_is = number_ok (least_value name.0) (most_value name.0) b value.0 value.1;
     })
 
 -- addresses of a family

@@ -24,7 +24,7 @@ use Rattle.he_text.specs.declared.words.Name.{Name}
 use Rattle.he_text.specs.declared.words.Name.TheVariants.{Resolution, Attempt, Count, Limit}
 use Rattle.he_text.specs.declared.words.Word.{Word}
 use Rattle.he_text.specs.declared.words.Word.TheVariants as words
-use Rattle.he_text.specs.Forms.{◌>>=◌, within, number_from, setting_in, row_in, source_address_in, source_marks_in, host_source_in, route_marks_in, host_route_in, address_in, addresses_in, listed_in, answer_in, known_in, mark_in, connect_in, pause_in, least_of, most_of}
+use Rattle.he_text.specs.Forms.{◌>>=◌, within, number_from, setting_in, row_in, source_address_in, source_marks_in, host_source_in, route_marks_in, host_route_in, address_in, addresses_in, listed_in, answer_in, known_in, mark_in, connect_in, pause_in, least_value, most_value}
 use Rattle.he_text.specs.Text.{mark_text, marked, source_marks, route_marks}
 use Rattle.he_text.proofs.LineReads.{ReadsList, ReadsNumber}
 use Rattle.he_text.specs.Words.{spelling_of, name_spelling, word_in, name_in}
@@ -55,12 +55,12 @@ number_reads low high token n h =
     ∙ ap (λ fits. cond fits (Ok n) (Err kinds.Range)) (and_from (leb low n) (leb n high) (le-leb low n h.least) (le-leb n high h.most))
 
 -- set NAME N
-pub setting_reads : (name : Name) (number : List ℕ) (value : ℕ) → ReadsNumber (least_of name) (most_of name) number value
+pub setting_reads : (name : Name) (number : List ℕ) (value : ℕ) → ReadsNumber (least_value name) (most_value name) number value
     → setting_in (name_spelling name ∷ number ∷ []) ≡ Ok (name, value)
 unfolding setting_in
 setting_reads name number value h =
-    ap (λ o. ok_or o kinds.Word >>= λ name. number_from (least_of name) (most_of name) number >>= λ value. Ok (name, value)) (name_reads name)
-    ∙ ap (λ r. r >>= λ value. Ok (name, value)) (number_reads (least_of name) (most_of name) number value h)
+    ap (λ o. ok_or o kinds.Word >>= λ name. number_from (least_value name) (most_value name) number >>= λ value. Ok (name, value)) (name_reads name)
+    ∙ ap (λ r. r >>= λ value. Ok (name, value)) (number_reads (least_value name) (most_value name) number value h)
 
 -- policy PREFIX PRECEDENCE LABEL
 pub row_reads : (first second third : List ℕ) (row : Row) → prefix_in first ≡ Some row.prefix

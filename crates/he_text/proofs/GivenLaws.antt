@@ -18,9 +18,9 @@ use Rattle.he_text.specs.declared.words.Name.TheVariants.{Resolution, Attempt, C
 use Rattle.he_text.specs.declared.words.Word.{Word}
 use Rattle.he_text.specs.declared.words.Word.TheVariants as words
 use Rattle.he_text.specs.Faults.{first_fault, test, wrong_bounds, repeated}
-use Rattle.he_text.specs.Forms.{◌>>=◌, setting_in, row_in, host_source_in, host_route_in, said_by, least_of, most_of}
+use Rattle.he_text.specs.Forms.{◌>>=◌, setting_in, row_in, host_source_in, host_route_in, said_by, least_value, most_value}
 use Rattle.he_text.specs.Reading.{once, put, ranged, settings_from}
-use Rattle.he_text.specs.Said.{Said, Setting, PolicyRow, HostSource, HostRoute, same_name, setting_said, first_of, setting_given, settings_given}
+use Rattle.he_text.specs.Said.{Said, Setting, PolicyRow, HostSource, HostRoute, same_name, setting_said, at_front, setting_given, settings_given}
 use Rattle.he_text.specs.Words.{is_head_word}
 use Rattle.he_text.proofs.FormFacts.{setting_ok}
 use Rattle.he_text.proofs.Results.{bind_ok}
@@ -43,7 +43,7 @@ given_same r r' a a' c c' l l' er ea ec el =
 
 setting_new : (name : Name) (said : List Said) (value : ℕ) → same_name name name ≡ true → setting_given name said ≡ None → setting_given name (said ++ Setting name value ∷ []) ≡ Some value
 setting_new name said value same none =
-    ap first_of (one_more (setting_said name) said (Setting name value) value (ap (λ b. cond b (Some value) None) same)) ∙ first_more (filter_map (setting_said name) said) value none
+    ap at_front (one_more (setting_said name) said (Setting name value) value (ap (λ b. cond b (Some value) None) same)) ∙ first_more (filter_map (setting_said name) said) value none
 
 -- one more setting, where there is none of its name yet
 put_one : (before : Option ℕ) (value : ℕ) (with_value : Option ℕ → Given) (after : Given) → (before ≡ None → with_value (Some value) ≡ after)
@@ -75,8 +75,8 @@ default_of Count = DEFAULT_COUNT
 default_of Limit = DEFAULT_LIMIT
 
 pub record Fits (name : Name) (given : Option ℕ) : Type 0 where
-  pub least : least_of name ≤ unwrap_or given (default_of name)
-  pub most : unwrap_or given (default_of name) ≤ most_of name
+  pub least : least_value name ≤ unwrap_or given (default_of name)
+  pub most : unwrap_or given (default_of name) ≤ most_value name
 
 abbrev pub AllFit : List Said → Type 0
 AllFit said = (name : Name) → Fits name (setting_given name said)
@@ -99,7 +99,7 @@ settings_agree said fit = checked _ _ _ _ _ _ _ (settings_given said)
     (le-ltb _ MIN_COUNT (fit Count).least) (le-ltb MAX_COUNT _ (fit Count).most)
     (le-ltb _ MIN_LIMIT (fit Limit).least) (le-ltb MAX_LIMIT _ (fit Limit).most)
 
-first_or : (xs : List ℕ) (value : ℕ) (name : Name) → Fits name (first_of xs) → Fits name (Some value) → Fits name (first_of (xs ++ value ∷ []))
+first_or : (xs : List ℕ) (value : ℕ) (name : Name) → Fits name (at_front xs) → Fits name (Some value) → Fits name (at_front (xs ++ value ∷ []))
 first_or [] value name before new = new
 first_or (x ∷ xs) value name before new = before
 
@@ -110,14 +110,14 @@ pub record IsHead (said : List Said) (s : Said) : Type 0 where
 
 fits_here : (name : Name) (value : ℕ) (said : List Said) → same_name name name ≡ true → Fits name (setting_given name said) → Fits name (Some value) → Fits name (setting_given name (said ++ Setting name value ∷ []))
 fits_here name value said same before new =
-    let P : List ℕ → Type 0 = λ xs. Fits name (first_of xs) in
+    let P : List ℕ → Type 0 = λ xs. Fits name (at_front xs) in
     subst P (sym (one_more (setting_said name) said (Setting name value) value (ap (λ b. cond b (Some value) None) same)))
     (first_or (filter_map (setting_said name) said) value name before new)
 
 fits_kept : (name : Name) (said : List Said) (s : Said) → setting_said name s ≡ None → Fits name (setting_given name said) → Fits name (setting_given name (said ++ s ∷ []))
 fits_kept name said s none before = let P : Option ℕ → Type 0 = Fits name in subst P (sym (setting_kept name said s none)) before
 
-setting_head : (name : Name) (value : ℕ) (said : List Said) → least_of name ≤ value → value ≤ most_of name → AllFit said → AllFit (said ++ Setting name value ∷ [])
+setting_head : (name : Name) (value : ℕ) (said : List Said) → least_value name ≤ value → value ≤ most_value name → AllFit said → AllFit (said ++ Setting name value ∷ [])
 setting_head Resolution value said least most fit Resolution = fits_here Resolution value said refl (fit Resolution) (record { least = least; most = most })
 setting_head Resolution value said least most fit Attempt = fits_kept Attempt said (Setting Resolution value) refl (fit Attempt)
 setting_head Resolution value said least most fit Count = fits_kept Count said (Setting Resolution value) refl (fit Count)

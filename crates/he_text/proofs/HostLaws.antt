@@ -25,7 +25,7 @@ use Rattle.he_text.specs.declared.words.Word.TheVariants as words
 use Rattle.he_text.specs.Faults.{test, repeated, begins_policy, is_policy_next, wrong_table}
 use Rattle.he_text.specs.Forms.{◌>>=◌, setting_in, row_in, host_source_in, host_route_in, word_of, said_by}
 use Rattle.he_text.specs.Parts.{tokens_of}
-use Rattle.he_text.specs.Reading.{table_kind, host_kind, told_by, policy_from, host_from, race_from}
+use Rattle.he_text.specs.Reading.{table_kind, host_kind, told_by, policy_from, host_from, race_begun}
 use Rattle.he_text.specs.Said.{Said, Setting, PolicyRow, HostSource, HostRoute, row_said, source_said, route_said, rows_given, sources_given, routes_given, settings_given, table_of_rows, host_given}
 use Rattle.he_text.specs.Words.{is_head_word, is_policy}
 use Rattle.he_text.proofs.GivenLaws.{AllFit, settings_agree}
@@ -247,8 +247,8 @@ table_more known line after words.End tokens said s is h e right table = cc
 
 -- what the lines give makes the race in which nothing happens yet
 pub starts : (said : List Said) → AllFit said → AreHostsOf said → policy_from (rows_given said) ≡ Ok (table_of_rows (rows_given said))
-    → race_from (head_given said) ≡ Ok (empty_race (settings_given said) (table_of_rows (rows_given said)) (host_given said))
-unfolding race_from
+    → race_begun (head_given said) ≡ Ok (empty_race (settings_given said) (table_of_rows (rows_given said)) (host_given said))
+unfolding race_begun
 starts said fit are table =
     ap (λ s. s >>= λ settings. policy_from (rows_given said) >>= λ policy. host_from (sources_given said) (routes_given said) >>= λ host. Ok (empty_race settings policy host)) (settings_agree said fit)
     ∙ ap (λ p. p >>= λ policy. host_from (sources_given said) (routes_given said) >>= λ host. Ok (empty_race (settings_given said) policy host)) table

@@ -11,12 +11,14 @@ mod CompletePlaces
 mod CompleteRaces
 mod CompleteTexts
 mod FaultTexts
+mod FirstFaults
 mod FormFacts
 mod FormLaws
 mod FormReads
 mod GivenLaws
 mod HeadLaws
 mod HostLaws
+mod LineLaws
 mod LineReads
 mod NextLines
 mod OrderLaws

@@ -10,7 +10,7 @@ use Rattle.he_plan.specs.declared.limits.TheConstants.{MAX_TICK, MIN_DURATION, M
 use Rattle.he_plan.specs.Timeline.{duration_of}
 use Rattle.he_text.specs.declared.limits.TheConstants.{MAX_PRECEDENCE, MAX_LABEL, MIN_INTERFACE, MAX_INTERFACE}
 use Rattle.he_text.specs.declared.words.Word.TheVariants as words
-use Rattle.he_text.specs.Forms.{least_of, most_of}
+use Rattle.he_text.specs.Forms.{least_value, most_value}
 use Rattle.he_text.specs.Parts.{tokens_of}
 use Rattle.he_text.specs.Said.{Said, Setting, PolicyRow, HostSource, HostRoute, Answer, Told, Paused, Ended}
 use Rattle.he_text.specs.Text.{IsNumber, Lists, Says, mark_text, answer_word, source_marks, route_marks}
@@ -29,7 +29,7 @@ ReadsList tokens ips = ((tokens ≡ codes "none" ∷ []) × (ips ≡ [])) ⊎ ((
 -- a line, by its tokens, and what is read of it
 abbrev pub Reads : List ℕ → Said → Type 0
 Reads line (Setting name value) =
-    (number : List ℕ) × (tokens_of line ≡ spelling_of words.Set ∷ name_spelling name ∷ number ∷ []) × ReadsNumber (least_of name) (most_of name) number value
+    (number : List ℕ) × (tokens_of line ≡ spelling_of words.Set ∷ name_spelling name ∷ number ∷ []) × ReadsNumber (least_value name) (most_value name) number value
 Reads line (PolicyRow row) =
     (first : List ℕ) × (second : List ℕ) × (third : List ℕ) × (tokens_of line ≡ spelling_of words.Policy ∷ first ∷ second ∷ third ∷ [])
     × (prefix_in first ≡ Some row.prefix) × ReadsNumber 0 MAX_PRECEDENCE second row.precedence × ReadsNumber 0 MAX_LABEL third row.label
@@ -76,7 +76,7 @@ list_read : (tokens : List (List ℕ)) (ips : List Ip) → Lists tokens ips → 
 list_read tokens ips lists = elim lists [ inl none ↦ inl none | inr some ↦ inr (some.0, all_read tokens ips some.1) ]
 
 pub says_read : (line : List ℕ) (s : Said) → Reads line s → Says line s
-says_read line (Setting name value) r = (r.0, r.1, number_spelled (least_of name) (most_of name) r.0 value r.2)
+says_read line (Setting name value) r = (r.0, r.1, number_spelled (least_value name) (most_value name) r.0 value r.2)
 says_read line (PolicyRow row) r =
     (r.0, r.1, r.2, r.3, read_prefix_spells r.0 row.prefix r.4, number_spelled 0 MAX_PRECEDENCE r.1 row.precedence r.5, number_spelled 0 MAX_LABEL r.2 row.label r.6)
 says_read line (HostSource source) r =
@@ -88,7 +88,7 @@ says_read line (Paused from to) r = (r.0, r.1, r.2, number_spelled 0 MAX_TICK r.
 says_read line Ended r = absurd r
 
 pub reads_said : (line : List ℕ) (s : Said) → Says line s → Reads line s
-reads_said line (Setting name value) r = (r.0, r.1, number_read (least_of name) (most_of name) r.0 value r.2)
+reads_said line (Setting name value) r = (r.0, r.1, number_read (least_value name) (most_value name) r.0 value r.2)
 reads_said line (PolicyRow row) r =
     (r.0, r.1, r.2, r.3, spelled_prefix_reads r.0 row.prefix r.4, number_read 0 MAX_PRECEDENCE r.1 row.precedence r.5, number_read 0 MAX_LABEL r.2 row.label r.6)
 reads_said line (HostSource source) r =

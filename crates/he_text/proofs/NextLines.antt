@@ -12,7 +12,8 @@ use Rattle.he_text.specs.declared.words.Word.{Word}
 use Rattle.he_text.specs.declared.words.Word.TheVariants as words
 use Rattle.he_text.specs.Faults.{begins_policy, is_policy_next}
 use Rattle.he_text.specs.Forms.{word_of}
-use Rattle.he_text.specs.Parts.{lines_of, parts_of, parts_behind, tokens_of}
+use Rattle.he_text.specs.Left.{parts_behind}
+use Rattle.he_text.specs.Parts.{lines_of, pieces_of, tokens_of}
 use Rattle.he_text.specs.Words.{spelling_of, is_policy}
 use Rattle.he_text.proofs.SaysLaws.{word_tokens}
 
@@ -21,7 +22,7 @@ pub next_begins : (mark : ℕ) (lines : List (List ℕ)) (line : List ℕ) (behi
     → lines ≡ line ∷ parts_behind mark behind → is_some behind ≡ true → length line ≤ MAX_LINE → word_of (tokens_of line) ≡ word → is_policy_next lines ≡ begins_policy word
 next_begins mark lines line None word is whole short e = cc
 next_begins mark lines line (Some rest) word is whole short e =
-    ap is_policy_next is ∙ by_parts (parts_of mark rest.now) (omega (arith, length-slice_split (λ b. b == mark) rest.now))
+    ap is_policy_next is ∙ by_parts (pieces_of mark rest.now) (omega (arith, length-slice_split (λ b. b == mark) rest.now))
   where
     by_parts : (parts : List (List ℕ)) → 0 < length parts → is_policy_next (line ∷ parts) ≡ begins_policy word
     by_parts [] some = absurd (omega arith)

@@ -20,7 +20,7 @@ use Rattle.he_text.specs.declared.words.Word.TheVariants as words
 use Rattle.he_text.specs.Faults.{test, group_on, lines_with, too_often, anyone, said_before}
 use Rattle.he_text.specs.Forms.{◌>>=◌, number_from, setting_in, row_in, host_source_in, host_route_in, answer_in, known_in, mark_in, connect_in, pause_in, end_in, word_of, said_by, said_in}
 use Rattle.he_text.specs.Parts.{tokens_of}
-use Rattle.he_text.specs.Said.{Said, Setting, PolicyRow, HostSource, HostRoute, Answer, Told, Paused, Ended, source_said, route_said, answer_said, pause_said, first_of, race_of}
+use Rattle.he_text.specs.Said.{Said, Setting, PolicyRow, HostSource, HostRoute, Answer, Told, Paused, Ended, source_said, route_said, answer_said, pause_said, at_front, race_of}
 use Rattle.he_text.specs.Text.{group_said}
 use Rattle.he_text.specs.Words.{group_of}
 use Rattle.he_text.proofs.FormFacts.{outcome_of}
@@ -134,7 +134,7 @@ not_failed : (b : Bool) (kind : TextKind) → test b kind ≡ None → b ≡ fal
 not_failed true kind h = cc
 not_failed false kind h = refl
 
-none_given : {A : Type 0} (xs : List A) → length xs ≤ 0 → first_of xs ≡ None
+none_given : {A : Type 0} (xs : List A) → length xs ≤ 0 → at_front xs ≡ None
 none_given [] h = refl
 none_given (x ∷ xs) h = absurd (omega arith)
 

@@ -28,7 +28,7 @@ use Rattle.he_text.specs.Faults.{anyone, first_fault, test, group_on, last_group
 use Rattle.he_text.specs.Forms.{◌>>=◌, setting_in, row_in, host_source_in, host_route_in, answer_in, connect_in, pause_in, end_in, word_of, said_by, said_in}
 use Rattle.he_text.specs.Parts.{lines_of, tokens_of}
 use Rattle.he_text.specs.Reading.{read_lines}
-use Rattle.he_text.specs.Said.{Said, Setting, PolicyRow, HostSource, HostRoute, Answer, Told, Paused, Ended, same_name, setting_said, answer_said, first_of, setting_given, race_of}
+use Rattle.he_text.specs.Said.{Said, Setting, PolicyRow, HostSource, HostRoute, Answer, Told, Paused, Ended, same_name, setting_said, answer_said, at_front, setting_given, race_of}
 use Rattle.he_text.specs.Text.{Says, group_said, are_in_order, AreLines, IsRaceText}
 use Rattle.he_text.specs.Words.{group_of, spelling_of, word_in, is_end}
 use Rattle.he_text.proofs.LineReads.{says_read}
@@ -86,12 +86,12 @@ same_name_is Limit Attempt h = cc
 same_name_is Limit Count h = cc
 same_name_is Limit Limit h = refl
 
-empty_first : {A : Type 0} (xs : List A) → first_of xs ≡ None → length xs ≤ 0
+empty_first : {A : Type 0} (xs : List A) → at_front xs ≡ None → length xs ≤ 0
 empty_first [] h = omega arith
 empty_first (x ∷ xs) h = cc
 
 -- what is said at most once stays so where it was not said before
-once_more : {Y : Type 0} (h : Said → Option Y) (said : List Said) (s : Said) → length (filter_map h said) ≤ 1 → (is_some (h s) ≡ true → first_of (filter_map h said) ≡ None) → length (filter_map h (said ++ s ∷ [])) ≤ 1
+once_more : {Y : Type 0} (h : Said → Option Y) (said : List Said) (s : Said) → length (filter_map h said) ≤ 1 → (is_some (h s) ≡ true → at_front (filter_map h said) ≡ None) → length (filter_map h (said ++ s ∷ [])) ≤ 1
 once_more {Y = Y} h said s once new = by_case (h s) refl
   where
     by_case : (o : Option Y) → h s ≡ o → length (filter_map h (said ++ s ∷ [])) ≤ 1
@@ -105,10 +105,10 @@ given_none : (o : Option ℕ) (kind : TextKind) → test (is_some o) kind ≡ No
 given_none None kind h = refl
 given_none (Some x) kind h = cc
 
-setting_new : (name : Name) (said : List Said) (s : Said) → repeated said s ≡ None → is_some (setting_said name s) ≡ true → first_of (filter_map (setting_said name) said) ≡ None
+setting_new : (name : Name) (said : List Said) (s : Said) → repeated said s ≡ None → is_some (setting_said name s) ≡ true → at_front (filter_map (setting_said name) said) ≡ None
 setting_new name said (Setting other value) h some = by_name (same_name name other) refl some
   where
-    by_name : (b : Bool) → same_name name other ≡ b → is_some (cond b (Some value) None) ≡ true → first_of (filter_map (setting_said name) said) ≡ None
+    by_name : (b : Bool) → same_name name other ≡ b → is_some (cond b (Some value) None) ≡ true → at_front (filter_map (setting_said name) said) ≡ None
     by_name true e found = ap (λ n. setting_given n said) (same_name_is name other e) ∙ given_none (setting_given other said) kinds.Repeated h
     by_name false e found = cc
 setting_new name said (PolicyRow row) h some = cc
@@ -157,7 +157,7 @@ no_fault : Some kinds.Word ≡ None → ⊥
 no_fault h = cc
 
 -- a second answer is refused by its line
-answer_new : (known : Ip → Bool) (word : Word) (tokens : List (List ℕ)) (said : List Said) (s : Said) (family : Family) → said_by known word tokens ≡ Ok s → HasPlace word said → is_some (answer_said family s) ≡ true → first_of (filter_map (answer_said family) said) ≡ None
+answer_new : (known : Ip → Bool) (word : Word) (tokens : List (List ℕ)) (said : List Said) (s : Said) (family : Family) → said_by known word tokens ≡ Ok s → HasPlace word said → is_some (answer_said family s) ≡ true → at_front (filter_map (answer_said family) said) ≡ None
 unfolding said_by race_of
 answer_new known words.Set tokens said s family e place some =
     let read = bind_ok (setting_in tokens) (λ setting. Ok (Setting setting.0 setting.1)) s e in

@@ -36,7 +36,7 @@ use Rattle.he_text.specs.declared.words.Word.{Word}
 use Rattle.he_text.specs.declared.words.Word.TheVariants as words
 use Rattle.he_text.specs.Forms.{◌>>=◌, word_of, answer_in, connect_in, pause_in, end_in}
 use Rattle.he_text.specs.Parts.{tokens_of}
-use Rattle.he_text.specs.Reading.{built, admit, HeadGiven, no_head, told_by, table_kind, host_kind, ranged, settings_from, policy_from, host_from, race_from, take_answer, take_told, take_line, at_line, ended_by, wholeness, read_body, head_of, take_head, settle, read_head, read_lines, order_at_start}
+use Rattle.he_text.specs.Reading.{built, admit, HeadGiven, no_head, told_by, table_kind, host_kind, ranged, settings_from, policy_from, host_from, race_begun, take_answer, take_told, take_line, at_line, ended_by, wholeness, read_body, head_of, take_head, settle, read_head, read_lines, order_at_start}
 use Rattle.he_text.specs.Words.{is_end}
 use Rattle.he_text.proofs.PartLaws.{Lacks}
 use Rattle.he_text.proofs.Results.{bind_ok, not_stopped}
@@ -178,8 +178,8 @@ host_fits sources routes host h = by_fault (host_fault sources routes) refl h
         subst P same (ap is_none e)
     by_fault (Some fault) e h = cc
 
-start_fits : (head : HeadGiven) (race : Race) → race_from head ≡ Ok race → IsRace race
-unfolding race_from
+start_fits : (head : HeadGiven) (race : Race) → race_begun head ≡ Ok race → IsRace race
+unfolding race_begun
 start_fits head race h =
     let settings = bind_ok (settings_from head.settings) (λ settings. policy_from head.rows >>= λ policy. host_from head.sources head.routes >>= λ host. Ok (empty_race settings policy host)) race h in
     let policy = bind_ok (policy_from head.rows) (λ policy. host_from head.sources head.routes >>= λ host. Ok (empty_race settings.0 policy host)) race settings.2 in
@@ -245,13 +245,13 @@ head_reads n order head (line ∷ after) x h =
     by_head (head_of (tokens_of line)) whole.2 (λ next more. later line after x (head_reads (n + 1) next.0 next.1 after x more))
   where
     step : Option (Word × List (List ℕ)) → Result (Race × List (List ℕ)) (ℕ × TextKind)
-    step None = at_line n (race_from head) >>= λ race. read_body n order race (line ∷ after)
+    step None = at_line n (race_begun head) >>= λ race. read_body n order race (line ∷ after)
     step (Some parts) = at_line n (take_head after parts order head) >>= λ next. read_head (n + 1) next.0 next.1 after
 
     by_head : (parts : Option (Word × List (List ℕ))) → step parts ≡ Ok x → ((next : Order × HeadGiven) → read_head (n + 1) next.0 next.1 after ≡ Ok x → IsReading (line ∷ after) x) → IsReading (line ∷ after) x
     by_head None e more =
-        let race = bind_ok (at_line n (race_from head)) (λ race. read_body n order race (line ∷ after)) x e in
-        body_reads n order race.0 (line ∷ after) x (start_fits head race.0 (line_ok n (race_from head) race.0 race.1)) race.2
+        let race = bind_ok (at_line n (race_begun head)) (λ race. read_body n order race (line ∷ after)) x e in
+        body_reads n order race.0 (line ∷ after) x (start_fits head race.0 (line_ok n (race_begun head) race.0 race.1)) race.2
     by_head (Some parts) e more =
         let next = bind_ok (at_line n (take_head after parts order head)) (λ next. read_head (n + 1) next.0 next.1 after) x e in
         more next.0 next.2

@@ -11,9 +11,10 @@ use Rattle.he_text.specs.declared.fault.TextKind.TheVariants as kinds
 use Rattle.he_text.specs.declared.limits.TheConstants.{MAX_LINE}
 use Rattle.he_text.specs.declared.words.Word.{Word}
 use Rattle.he_text.specs.Forms.{◌>>=◌}
-use Rattle.he_text.specs.Parts.{parts_of, lines_of, lines_left, tokens_of, IsAmong}
+use Rattle.he_text.specs.Left.{lines_left, IsAmong}
+use Rattle.he_text.specs.Parts.{pieces_of, lines_of, tokens_of}
 use Rattle.he_text.specs.declared.lines.Lines.{Lines}
-use Rattle.he_text.specs.Reading.{Fails, FailsAt, at_line, ended_by, wholeness, take_line, read_body, HeadGiven, head_of, take_head, race_from, settle, read_head, read_lines, order_at_start, no_head}
+use Rattle.he_text.specs.Reading.{Fails, FailsAt, at_line, ended_by, wholeness, take_line, read_body, HeadGiven, head_of, take_head, race_begun, settle, read_head, read_lines, order_at_start, no_head}
 use Rattle.he_text.specs.Text.{IsLineOf}
 use Rattle.he_text.specs.Words.{is_end}
 
@@ -22,13 +23,13 @@ ended_by_some [] some = absurd (omega arith)
 ended_by_some (part ∷ parts) some = refl
 
 -- a line that is short enough, with its line end behind it
-pub wholeness_of : (lines : List (List ℕ)) (line rest : List ℕ) (mark : ℕ) → lines ≡ line ∷ parts_of mark rest → length line ≤ MAX_LINE → wholeness lines ≡ Ok tt
+pub wholeness_of : (lines : List (List ℕ)) (line rest : List ℕ) (mark : ℕ) → lines ≡ line ∷ pieces_of mark rest → length line ≤ MAX_LINE → wholeness lines ≡ Ok tt
 unfolding wholeness
 wholeness_of lines line rest mark is short =
-    let some : 0 < length (parts_of mark rest) = omega (arith, length-slice_split (λ b. b == mark) rest) in
+    let some : 0 < length (pieces_of mark rest) = omega (arith, length-slice_split (λ b. b == mark) rest) in
     ap wholeness is
-    ∙ ap (λ b. cond b (Err kinds.TooMany) (ended_by (parts_of mark rest))) (le-ltb MAX_LINE (length line) short)
-    ∙ ended_by_some (parts_of mark rest) some
+    ∙ ap (λ b. cond b (Err kinds.TooMany) (ended_by (pieces_of mark rest))) (le-ltb MAX_LINE (length line) short)
+    ∙ ended_by_some (pieces_of mark rest) some
 
 -- the other groups: what follows a line
 abbrev body_after : ℕ → List (List ℕ) → Result (Word × Order × Race) TextKind → Result (Race × List (List ℕ)) (ℕ × TextKind)
@@ -146,7 +147,7 @@ head_not_before n order given (line ∷ after) =
   where
     by_head : (head : Option (Word × List (List ℕ))) → ((next : Order) (more : HeadGiven) → IfErr (read_head (n + 1) next more after) (λ fault. n + 1 ≤ fault.0))
         → IfErr (head_after n order given (line ∷ after) after head) (λ fault. n ≤ fault.0)
-    by_head None later = settle_not_before n order (line ∷ after) (race_from given)
+    by_head None later = settle_not_before n order (line ∷ after) (race_begun given)
     by_head (Some parts) later = taken_not_before n after (take_head after parts order given) later
 
 above : (n : ℕ) (read : Result (Race × List (List ℕ)) (ℕ × TextKind)) → IfErr read (λ fault. n + 1 ≤ fault.0) → IfErr read (λ fault. n < fault.0)
@@ -190,17 +191,17 @@ fails_body n order race lines after line kind read reads is whole fails = elim f
     by_end next false = above n _ (body_not_before (n + 1) next.1 next.2 after)
 
 -- what the lines of the first groups make
-pub settle_reads : (n : ℕ) (order : Order) (given : HeadGiven) (lines : List (List ℕ)) (race : Race) → race_from given ≡ Ok race → settle n order given lines ≡ read_body n order race lines
+pub settle_reads : (n : ℕ) (order : Order) (given : HeadGiven) (lines : List (List ℕ)) (race : Race) → race_begun given ≡ Ok race → settle n order given lines ≡ read_body n order race lines
 unfolding settle
 settle_reads n order given lines race h = ap (λ s. at_line n s >>= λ race. read_body n order race lines) h
 
-pub settle_wrong : (n : ℕ) (order : Order) (given : HeadGiven) (lines : List (List ℕ)) (kind : TextKind) → race_from given ≡ Err kind → settle n order given lines ≡ Err (n, kind)
+pub settle_wrong : (n : ℕ) (order : Order) (given : HeadGiven) (lines : List (List ℕ)) (kind : TextKind) → race_begun given ≡ Err kind → settle n order given lines ≡ Err (n, kind)
 unfolding settle
 settle_wrong n order given lines kind h = ap (λ s. at_line n s >>= λ race. read_body n order race lines) h
 
 settled_not_before : (n : ℕ) (order : Order) (given : HeadGiven) (lines : List (List ℕ)) → IfErr (settle n order given lines) (λ fault. n ≤ fault.0)
 unfolding settle
-settled_not_before n order given lines = settle_not_before n order lines (race_from given)
+settled_not_before n order given lines = settle_not_before n order lines (race_begun given)
 
 below_here : (n m : ℕ) (read : Result (Race × List (List ℕ)) (ℕ × TextKind)) → m < n → IfErr read (λ fault. n ≤ fault.0) → IfErr read (λ fault. m < fault.0)
 below_here n m (Ok x) lt h = tt

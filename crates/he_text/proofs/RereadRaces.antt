@@ -19,7 +19,7 @@ use Rattle.he_select.specs.Hosts.{Interfaces}
 use Rattle.he_select.specs.Tables.{IsAdmitted, table_fault}
 use Rattle.he_text.specs.declared.words.Name.{Name}
 use Rattle.he_text.specs.declared.words.Name.TheVariants.{Resolution, Attempt, Count, Limit}
-use Rattle.he_text.specs.Said.{Said, Setting, PolicyRow, HostSource, HostRoute, Answer, Told, Paused, setting_said, row_said, source_said, route_said, answer_said, outcome_said, pause_said, first_of, setting_given, rows_given, sources_given, routes_given, answer_given, outcomes_given, pauses_given, settings_given, table_of_rows, race_of}
+use Rattle.he_text.specs.Said.{Said, Setting, PolicyRow, HostSource, HostRoute, Answer, Told, Paused, setting_said, row_said, source_said, route_said, answer_said, outcome_said, pause_said, at_front, setting_given, rows_given, sources_given, routes_given, answer_given, outcomes_given, pauses_given, settings_given, table_of_rows, race_of}
 use Rattle.he_text.specs.Text.{group_said, are_in_order}
 use Rattle.he_text.proofs.CompleteGroups.{order_below}
 
@@ -202,7 +202,7 @@ pauses_back race = pieces pause_said race [] [] [] [] [] [] [] race.pauses refl
     (none_of told_as pause_said (λ x. refl) race.outcomes) (all_of paused_as pause_said (λ x. refl) race.pauses)
 
 -- the race that they make
-first_listed : (o : Option Reply) → first_of (listed o) ≡ o
+first_listed : (o : Option Reply) → at_front (listed o) ≡ o
 first_listed None = refl
 first_listed (Some reply) = refl
 
@@ -222,7 +222,7 @@ abbrev made : SettingValues → List Row → Interfaces → Option Reply → Opt
 made s t h aaaa a o p = record { settings = s; policy = t; host = h; aaaa = aaaa; a = a; outcomes = o; pauses = p }
 
 setting_back : (name : Name) (race : Race) (default : ℕ) → unwrap_or (setting_given name (race_said race)) default ≡ value_of name race.settings
-setting_back name race default = ap (λ values. unwrap_or (first_of values) default) (settings_back name race)
+setting_back name race default = ap (λ values. unwrap_or (at_front values) default) (settings_back name race)
 
 all_settings_back : (race : Race) → settings_given (race_said race) ≡ race.settings
 all_settings_back race =
@@ -246,8 +246,8 @@ race_back race admitted =
     ∙ ap (λ x. made race.settings x (made_host (sources_given said) (routes_given said)) (answer_given families.V6 said) (answer_given families.V4 said) (outcomes_given said) (pauses_given said)) (ap table_of_rows (rows_back race) ∙ table_back race.policy admitted)
     ∙ ap (λ x. made race.settings race.policy (made_host x (routes_given said)) (answer_given families.V6 said) (answer_given families.V4 said) (outcomes_given said) (pauses_given said)) (sources_back race)
     ∙ ap (λ x. made race.settings race.policy (made_host race.host.sources x) (answer_given families.V6 said) (answer_given families.V4 said) (outcomes_given said) (pauses_given said)) (routes_back race)
-    ∙ ap (λ x. made race.settings race.policy race.host x (answer_given families.V4 said) (outcomes_given said) (pauses_given said)) (ap first_of (aaaa_back race) ∙ first_listed race.aaaa)
-    ∙ ap (λ x. made race.settings race.policy race.host race.aaaa x (outcomes_given said) (pauses_given said)) (ap first_of (a_back race) ∙ first_listed race.a)
+    ∙ ap (λ x. made race.settings race.policy race.host x (answer_given families.V4 said) (outcomes_given said) (pauses_given said)) (ap at_front (aaaa_back race) ∙ first_listed race.aaaa)
+    ∙ ap (λ x. made race.settings race.policy race.host race.aaaa x (outcomes_given said) (pauses_given said)) (ap at_front (a_back race) ∙ first_listed race.a)
     ∙ ap (λ x. made race.settings race.policy race.host race.aaaa race.a x (pauses_given said)) (outcomes_back race)
     ∙ ap (λ x. made race.settings race.policy race.host race.aaaa race.a race.outcomes x) (pauses_back race))
 

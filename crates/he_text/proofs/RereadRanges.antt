@@ -21,7 +21,7 @@ use Rattle.he_select.specs.declared.host.Source.{Source}
 use Rattle.he_select.specs.declared.host.Route.{Route}
 use Rattle.he_select.specs.declared.policy.Row.{Row}
 use Rattle.he_select.specs.Hosts.{host_causes, host_fault, is_sound_source, is_sound_route}
-use Rattle.he_text.specs.Ranges.{RowInRange, SourceInRange, RouteInRange, RaceInRange}
+use Rattle.he_text.specs.InRange.{RowInRange, SourceInRange, RouteInRange, RaceInRange}
 use Rattle.he_text.specs.Said.{Said, PolicyRow, HostSource, HostRoute}
 use Rattle.he_text.proofs.CompleteRaces.{admitted_host}
 use Rattle.he_text.proofs.RereadRaces.{settings_said, answer_as, told_as, paused_as, told_on, a_on, aaaa_on, routes_on, sources_on, rows_on, race_said}

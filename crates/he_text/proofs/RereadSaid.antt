@@ -18,9 +18,9 @@ use Rattle.he_text.specs.declared.words.Name.{Name}
 use Rattle.he_text.specs.declared.words.Name.TheVariants.{Resolution, Attempt, Count, Limit}
 use Rattle.he_text.specs.declared.words.Word.{Word}
 use Rattle.he_text.specs.declared.words.Word.TheVariants as words
-use Rattle.he_text.specs.Forms.{least_of, most_of}
+use Rattle.he_text.specs.Forms.{least_value, most_value}
 use Rattle.he_text.specs.Parts.{tokens_of}
-use Rattle.he_text.specs.Ranges.{RowInRange, RouteInRange}
+use Rattle.he_text.specs.InRange.{RowInRange, RouteInRange}
 use Rattle.he_text.specs.Said.{Said, Setting, PolicyRow, HostSource, HostRoute, Answer, Told, Paused, Ended}
 use Rattle.he_text.specs.Text.{mark_text, marked, source_marks, route_marks}
 use Rattle.he_text.proofs.LineReads.{Reads, ReadsList, ReadsNumber}
@@ -50,7 +50,7 @@ line_of s = join_with_byte 32 (spelling_of (word_said s) ∷ others_of s)
 
 -- what can be written
 abbrev pub Spellable : Said → Type 0
-Spellable (Setting name value) = (least_of name ≤ value) × (value ≤ most_of name)
+Spellable (Setting name value) = (least_value name ≤ value) × (value ≤ most_value name)
 Spellable (PolicyRow row) = RowInRange row
 Spellable (HostSource source) = InRange source.ip × (source.plen ≤ width_of source.ip) × (MIN_INTERFACE ≤ source.interface) × (source.interface ≤ MAX_INTERFACE)
 Spellable (HostRoute route) = RouteInRange route × (MIN_INTERFACE ≤ route.interface)
@@ -85,7 +85,7 @@ name_token Attempt = token_from (codes "attempt") refl
 name_token Count = token_from (codes "count") refl
 name_token Limit = token_from (codes "limit") refl
 
-name_small : (name : Name) → most_of name < 10 ^ 10
+name_small : (name : Name) → most_value name < 10 ^ 10
 name_small Resolution = omega arith
 name_small Attempt = omega arith
 name_small Count = omega arith
@@ -114,7 +114,7 @@ listed_tokens [] small = (token_from (codes "none") refl, tt)
 listed_tokens (ip ∷ ips) small = printed_tokens (ip ∷ ips) small
 
 others_tokens : (s : Said) → Spellable s → AreTokens (others_of s)
-others_tokens (Setting name value) h = (name_token name, (number_token value (most_of name) h.1 (name_small name), tt))
+others_tokens (Setting name value) h = (name_token name, (number_token value (most_value name) h.1 (name_small name), tt))
 others_tokens (PolicyRow row) h =
     (prefixes_are_tokens false row.prefix h.0, (number_token row.precedence MAX_PRECEDENCE h.1 (omega arith), (number_token row.label MAX_LABEL h.2 (omega arith), tt)))
 others_tokens (HostSource source) h =
@@ -181,7 +181,7 @@ listed_read (ip ∷ ips) small = inr (omega arith, printed_read (ip ∷ ips) sma
 
 pub written_says : (s : Said) → Spellable s → Reads (line_of s) s
 written_says (Setting name value) h =
-    (decimal value, written_tokens (Setting name value) h, number_is (least_of name) (most_of name) value h.0 h.1 (name_small name))
+    (decimal value, written_tokens (Setting name value) h, number_is (least_value name) (most_value name) value h.0 h.1 (name_small name))
 written_says (PolicyRow row) h = (
   prefix_text false row.prefix,
   decimal row.precedence,

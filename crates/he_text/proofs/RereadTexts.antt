@@ -13,7 +13,7 @@ use Rattle.he_plan.specs.Race.{Race, Reply}
 use Rattle.he_plan.specs.Settings.{SettingValues}
 use Rattle.he_plan.specs.Timeline.{IsRace}
 use Rattle.he_text.specs.Parts.{lines_of}
-use Rattle.he_text.specs.Ranges.{RaceInRange}
+use Rattle.he_text.specs.InRange.{RaceInRange}
 use Rattle.he_text.specs.Said.{Said, PolicyRow, HostSource, HostRoute, Answer}
 use Rattle.he_text.specs.Text.{Says, answer_word, IsRaceText}
 use Rattle.he_text.specs.Words.{spelling_of}

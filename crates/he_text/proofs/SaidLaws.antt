@@ -18,7 +18,7 @@ use Rattle.he_select.specs.declared.host.Route.{Route}
 use Rattle.he_select.specs.Hosts.{Interfaces}
 use Rattle.he_text.specs.declared.words.Name.{Name}
 use Rattle.he_text.specs.declared.words.Name.TheVariants.{Resolution, Attempt, Count, Limit}
-use Rattle.he_text.specs.Said.{Said, Answer, Told, Paused, Ended, setting_said, row_said, source_said, route_said, answer_said, outcome_said, pause_said, first_of, setting_given, rows_given, sources_given, routes_given, answer_given, outcomes_given, pauses_given, settings_given, table_of_rows, host_given, race_of}
+use Rattle.he_text.specs.Said.{Said, Answer, Told, Paused, Ended, setting_said, row_said, source_said, route_said, answer_said, outcome_said, pause_said, at_front, setting_given, rows_given, sources_given, routes_given, answer_given, outcomes_given, pauses_given, settings_given, table_of_rows, host_given, race_of}
 
 pub none_more : {X Y : Type 0} (h : X → Option Y) (xs : List X) (x : X) → h x ≡ None → filter_map h (xs ++ x ∷ []) ≡ filter_map h xs
 none_more h xs x none = filter_map-append h xs (x ∷ []) ∙ ap (λ o. filter_map h xs ++ cons_option o []) none ∙ append-nil (filter_map h xs)
@@ -26,7 +26,7 @@ none_more h xs x none = filter_map-append h xs (x ∷ []) ∙ ap (λ o. filter_m
 pub one_more : {X Y : Type 0} (h : X → Option Y) (xs : List X) (x : X) (y : Y) → h x ≡ Some y → filter_map h (xs ++ x ∷ []) ≡ filter_map h xs ++ y ∷ []
 one_more h xs x y some = filter_map-append h xs (x ∷ []) ∙ ap (λ o. filter_map h xs ++ cons_option o []) some
 
-pub first_more : {A : Type 0} (xs : List A) (y : A) → first_of xs ≡ None → first_of (xs ++ y ∷ []) ≡ Some y
+pub first_more : {A : Type 0} (xs : List A) (y : A) → at_front xs ≡ None → at_front (xs ++ y ∷ []) ≡ Some y
 first_more [] y h = refl
 first_more (x ∷ xs) y h = cc
 
@@ -50,7 +50,7 @@ race_same s s' t t' h h' aaaa aaaa' a a' o o' p p' es et eh eaaaa ea eo ep =
     ∙ ap (λ x. made s' t' h' x a o p) eaaaa ∙ ap (λ x. made s' t' h' aaaa' x o p) ea ∙ ap (λ x. made s' t' h' aaaa' a' x p) eo ∙ ap (made s' t' h' aaaa' a' o') ep
 
 pub setting_kept : (name : Name) (said : List Said) (s : Said) → setting_said name s ≡ None → setting_given name (said ++ s ∷ []) ≡ setting_given name said
-setting_kept name said s none = ap first_of (none_more (setting_said name) said s none)
+setting_kept name said s none = ap at_front (none_more (setting_said name) said s none)
 
 pub settings_kept : (said : List Said) (s : Said) → ((name : Name) → setting_said name s ≡ None) → settings_given (said ++ s ∷ []) ≡ settings_given said
 settings_kept said s none = settings_same _ _ _ _ _ _ _ _
@@ -67,10 +67,10 @@ host_kept said s no_source no_route =
     ap (λ x. made_host x (routes_given (said ++ s ∷ []))) (none_more source_said said s no_source) ∙ ap (made_host (sources_given said)) (none_more route_said said s no_route)
 
 answer_kept : (family : Family) (said : List Said) (s : Said) → answer_said family s ≡ None → answer_given family (said ++ s ∷ []) ≡ answer_given family said
-answer_kept family said s none = ap first_of (none_more (answer_said family) said s none)
+answer_kept family said s none = ap at_front (none_more (answer_said family) said s none)
 
 answer_new : (family : Family) (said : List Said) (s : Said) (reply : Reply) → answer_said family s ≡ Some reply → answer_given family said ≡ None → answer_given family (said ++ s ∷ []) ≡ Some reply
-answer_new family said s reply some none = ap first_of (one_more (answer_said family) said s reply some) ∙ first_more (filter_map (answer_said family) said) reply none
+answer_new family said s reply some none = ap at_front (one_more (answer_said family) said s reply some) ∙ first_more (filter_map (answer_said family) said) reply none
 
 pub race_answered : (family : Family) (said : List Said) (reply : Reply) → reply_of (race_of said) family ≡ None → race_of (said ++ Answer family reply ∷ []) ≡ with_answer (race_of said) family reply
 unfolding race_of

@@ -4,7 +4,8 @@ use Rattle.std.specs.List.{join_with_byte}
 use Rattle.std.proofs.lemmas.List.{take_at, append-nil}
 use Rattle.std.proofs.lemmas.List.Concat.{flat_map-cons}
 use Rattle.std.specs.Prelude.{Result, Ok, Err, OnOk, OnErr}
-use Rattle.he_text.specs.Written.{Grows, Writes, spaced, written_line}
+use Rattle.he_text.specs.Writing.{Grows, AppendsText, spaced}
+use Rattle.he_text.specs.Written.{written_line}
 
 pub grows_append : (a b : List ℕ) → Grows a (a ++ b)
 grows_append a b = take_at a b (length a) refl
@@ -34,7 +35,7 @@ line_is first others = ap (λ text. text ++ 10 ∷ []) (joined_spaced first othe
 -- the three steps of a line
 pub line_written : {E : Type 0} (old one two new first : List ℕ) (others : List (List ℕ)) (result : Result (Unit {0}) E)
     → one ≡ old ++ first → two ≡ one ++ spaced others → OnOk result (new ≡ two ++ 10 ∷ []) → OnErr result (new ≡ two)
-    → Writes result old new (written_line (first ∷ others))
+    → AppendsText result old new (written_line (first ∷ others))
 line_written old one two new first others (Ok done) h1 h2 ok err =
     let joined : two ≡ old ++ (first ++ spaced others) = h2 ∙ ap (λ t. t ++ spaced others) h1 ∙ append_assoc old first (spaced others) in
     ok ∙ ap (λ t. t ++ 10 ∷ []) joined ∙ append_assoc old (first ++ spaced others) (10 ∷ []) ∙ ap (λ t. old ++ t) (sym (line_is first others))
@@ -46,7 +47,7 @@ line_written old one two new first others (Err fault) h1 h2 ok err =
 -- a line of a word, a number and other tokens
 pub listed_written : {E : Type 0} (old one two new word number : List ℕ) (others : List (List ℕ)) (result : Result (Unit {0}) E)
     → one ≡ old ++ (word ++ 32 ∷ number) → two ≡ one ++ spaced others → OnOk result (new ≡ two ++ 10 ∷ []) → OnErr result (new ≡ two)
-    → Writes result old new (written_line (word ∷ number ∷ others))
+    → AppendsText result old new (written_line (word ∷ number ∷ others))
 listed_written old one two new word number others result h1 h2 ok err =
     let first : two ≡ (old ++ word) ++ spaced (number ∷ others) =
     h2 ∙ ap (λ t. t ++ spaced others) (h1 ∙ sym (append_assoc old word (32 ∷ number)))
@@ -55,6 +56,6 @@ listed_written old one two new word number others result h1 h2 ok err =
     line_written old (old ++ word) two new word (number ∷ others) result refl first ok err
 
 -- one text and then another
-pub writes_then : {E : Type 0} (old one new a b : List ℕ) (result : Result (Unit {0}) E) → one ≡ old ++ a → Writes result one new b → Writes result old new (a ++ b)
+pub writes_then : {E : Type 0} (old one new a b : List ℕ) (result : Result (Unit {0}) E) → one ≡ old ++ a → AppendsText result one new b → AppendsText result old new (a ++ b)
 writes_then old one new a b (Ok done) h w = w ∙ ap (λ t. t ++ b) h ∙ append_assoc old a b
 writes_then old one new a b (Err fault) h w = grows_after old a one new h w

@@ -9,9 +9,9 @@ use Rattle.he_addr.specs.declared.ip.Ip.{Ip}
 use Rattle.he_plan.specs.Building.{last_end}
 use Rattle.he_plan.specs.Race.{stands, has_outcome}
 use Rattle.he_plan.specs.Timeline.{are_distinct}
+use Rattle.he_text.specs.Ranges.{most_line_bytes}
 use Rattle.he_text.specs.declared.fault.TextKind.{TextKind}
 use Rattle.he_text.specs.declared.fault.TextKind.TheVariants as kinds
-use Rattle.he_text.specs.declared.limits.TheConstants.{MAX_LINE}
 use Rattle.he_select.specs.Hosts.{same_source, same_route}
 use Rattle.he_select.specs.Tables.{same_row, table_fault}
 use Rattle.he_text.specs.declared.words.Word.{Word}
@@ -60,7 +60,7 @@ known_to said ip = stands (race_of said) ip
 
 -- 1: more bytes than a line may have
 abbrev pub too_long : List ℕ → Option TextKind
-too_long line = test (nat_lt MAX_LINE (length line)) kinds.TooMany
+too_long line = test (nat_lt most_line_bytes (length line)) kinds.TooMany
 
 -- 2: the text ends inside the line, by the parts behind it
 abbrev pub unfinished : List (List ℕ) → Option TextKind
@@ -112,7 +112,7 @@ begins_policy (Ok parts) = is_policy parts.0
 begins_policy (Err kind) = false
 
 abbrev pub is_policy_next : List (List ℕ) → Bool
-is_policy_next (line ∷ next ∷ after) = nat_le (length line) MAX_LINE && begins_policy (word_of (tokens_of line))
+is_policy_next (line ∷ next ∷ after) = nat_le (length line) most_line_bytes && begins_policy (word_of (tokens_of line))
 is_policy_next _ = false
 
 -- 10: on the last line of a policy table, a table that isn't admitted
@@ -161,11 +161,15 @@ fault_from n before [] = Some (n, kinds.Unfinished)
 fault_from n before (line ∷ after) =
     at_line_number n (line_fault before line after) (if ends line then None else fault_from (n + 1) (before ++ line ∷ []) after)
 
+-- the fault of the first line
+abbrev pub header_fault : List ℕ → List (List ℕ) → Option TextKind
+header_fault line after = first_fault (too_long line ∷ unfinished after ∷ wrong_header line ∷ [])
+
 -- the same from the first line on
 unfoldable pub fault_in : List (List ℕ) → Option (ℕ × TextKind)
 fault_in [] = Some (1, kinds.Unfinished)
 fault_in (line ∷ after) =
-    at_line_number 1 (first_fault (too_long line ∷ unfinished after ∷ wrong_header line ∷ [])) (fault_from 2 [] after)
+    at_line_number 1 (header_fault line after) (fault_from 2 [] after)
 
 -- the fault of a text: its least faulty line, counted from 1, and the first check that fails on it
 abbrev pub fault_of : List ℕ → Option (ℕ × TextKind)

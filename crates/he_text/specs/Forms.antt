@@ -8,9 +8,9 @@ use Rattle.he_addr.specs.declared.ip.Family.TheVariants as families
 use Rattle.he_addr.specs.declared.ip.Ip.{Ip}
 use Rattle.he_plan.specs.declared.outcome.Outcome.{Outcome}
 use Rattle.he_plan.specs.declared.outcome.Outcome.TheVariants as outcomes
-use Rattle.he_plan.specs.declared.limits.TheConstants.{MAX_RESOLUTION, MIN_ATTEMPT, MAX_ATTEMPT, MIN_COUNT, MAX_COUNT, MIN_LIMIT, MAX_LIMIT, MAX_TICK, MIN_DURATION, MAX_DURATION, MAX_PAUSE_END, MAX_ADDRESSES}
 use Rattle.he_plan.specs.Race.{Reply}
 use Rattle.he_plan.specs.Timeline.{is_of}
+use Rattle.he_text.specs.Ranges.{most_addresses, most_source_marks, most_route_marks, most_resolution, least_attempt, most_attempt, least_count, most_count, least_limit, most_limit, most_precedence, most_label, least_interface, most_interface, most_tick, least_duration, most_duration, least_pause_end, most_pause_end}
 use Rattle.he_text.specs.declared.fault.TextKind.{TextKind}
 use Rattle.he_text.specs.declared.fault.TextKind.TheVariants as kinds
 use Rattle.he_text.specs.declared.words.Name.{Name}
@@ -22,7 +22,6 @@ use Rattle.he_addr.specs.Reading.{number_in, ip_in, prefix_in, source_in}
 use Rattle.he_select.specs.declared.policy.Row.{Row}
 use Rattle.he_select.specs.declared.host.Source.{Source}
 use Rattle.he_select.specs.declared.host.Route.{Route}
-use Rattle.he_text.specs.declared.limits.TheConstants.{MAX_PRECEDENCE, MAX_LABEL, MIN_INTERFACE, MAX_INTERFACE, SOURCE_MARKS, ROUTE_MARKS}
 use Rattle.he_text.specs.Said.{Said, Setting, PolicyRow, HostSource, HostRoute, Answer, Told, Paused, Ended}
 use Rattle.he_text.specs.Parts.{tokens_of}
 use Rattle.he_text.specs.Words.{name_in, word_in}
@@ -33,17 +32,17 @@ abbrev pub ◌>>=◌ : {A B E : Type 0} → Result A E → (A → Result B E) �
 (Err e) >>= f = Err e
 
 -- the least and the greatest value of a setting
-abbrev pub least_of : Name → ℕ
-least_of Resolution = 0
-least_of Attempt = MIN_ATTEMPT
-least_of Count = MIN_COUNT
-least_of Limit = MIN_LIMIT
+abbrev pub least_value : Name → ℕ
+least_value Resolution = 0
+least_value Attempt = least_attempt
+least_value Count = least_count
+least_value Limit = least_limit
 
-abbrev pub most_of : Name → ℕ
-most_of Resolution = MAX_RESOLUTION
-most_of Attempt = MAX_ATTEMPT
-most_of Count = MAX_COUNT
-most_of Limit = MAX_LIMIT
+abbrev pub most_value : Name → ℕ
+most_value Resolution = most_resolution
+most_value Attempt = most_attempt
+most_value Count = most_count
+most_value Limit = most_limit
 
 abbrev pub within : ℕ → ℕ → ℕ → Result ℕ TextKind
 within low high n = if nat_le low n && nat_le n high then Ok n else Err kinds.Range
@@ -56,7 +55,7 @@ number_from low high token = ok_or (number_in token) kinds.Number >>= within low
 unfoldable pub setting_in : List (List ℕ) → Result (Name × ℕ) TextKind
 setting_in (token ∷ number ∷ []) = do
   name ← ok_or (name_in token) kinds.Word
-  value ← number_from (least_of name) (most_of name) number
+  value ← number_from (least_value name) (most_value name) number
   Ok (name, value)
 setting_in _ = Err kinds.Word
 
@@ -64,8 +63,8 @@ setting_in _ = Err kinds.Word
 unfoldable pub row_in : List (List ℕ) → Result Row TextKind
 row_in (first ∷ second ∷ third ∷ []) = do
   prefix ← ok_or (prefix_in first) kinds.Prefix
-  precedence ← number_from 0 MAX_PRECEDENCE second
-  label ← number_from 0 MAX_LABEL third
+  precedence ← number_from 0 most_precedence second
+  label ← number_from 0 most_label third
   Ok (record { prefix = prefix; precedence = precedence; label = label })
 row_in _ = Err kinds.Word
 
@@ -77,7 +76,7 @@ source_address_in token = do
 
 -- the number of an interface
 abbrev pub interface_in : List ℕ → Result ℕ TextKind
-interface_in token = number_from MIN_INTERFACE MAX_INTERFACE token
+interface_in token = number_from least_interface most_interface token
 
 -- whether a source is deprecated, and whether it is temporary: the marks stand in this order
 unfoldable pub source_marks_in : List (List ℕ) → Result (Bool × Bool) TextKind
@@ -92,7 +91,7 @@ source_marks_in (first ∷ second ∷ more) =
 -- source SOURCE INTERFACE [deprecated] [temporary]
 unfoldable pub host_source_in : List (List ℕ) → Result Source TextKind
 host_source_in (first ∷ second ∷ marks) =
-    if nat_lt SOURCE_MARKS (length marks) then Err kinds.Word
+    if nat_lt most_source_marks (length marks) then Err kinds.Word
     else do
       source ← source_address_in first
       interface ← interface_in second
@@ -108,7 +107,7 @@ route_marks_in (mark ∷ more) = if bytes_eq mark (codes "tunnel") then Ok true 
 -- route PREFIX INTERFACE [tunnel]
 unfoldable pub host_route_in : List (List ℕ) → Result Route TextKind
 host_route_in (first ∷ second ∷ marks) =
-    if nat_lt ROUTE_MARKS (length marks) then Err kinds.Word
+    if nat_lt most_route_marks (length marks) then Err kinds.Word
     else do
       prefix ← ok_or (prefix_in first) kinds.Prefix
       interface ← interface_in second
@@ -137,9 +136,9 @@ listed_in family tokens = addresses_in family tokens
 -- aaaa TICK none, aaaa TICK ADDRESS .. and the same of a
 unfoldable pub answer_in : Family → List (List ℕ) → Result Reply TextKind
 answer_in family (number ∷ first ∷ more) =
-    if nat_lt MAX_ADDRESSES (length (first ∷ more)) then Err kinds.TooMany
+    if nat_lt most_addresses (length (first ∷ more)) then Err kinds.TooMany
     else do
-      tick ← number_from 0 MAX_TICK number
+      tick ← number_from 0 most_tick number
       ips ← listed_in family (first ∷ more)
       Ok (record { tick = tick; addresses = ips })
 answer_in family _ = Err kinds.Word
@@ -159,15 +158,15 @@ unfoldable pub connect_in : (Ip → Bool) → List (List ℕ) → Result (Ip × 
 connect_in known (address ∷ mark ∷ number ∷ []) = do
   ip ← known_in known address
   succeeds ← mark_in mark
-  ticks ← number_from MIN_DURATION MAX_DURATION number
+  ticks ← number_from least_duration most_duration number
   Ok (ip, if succeeds then outcomes.Ok ticks else outcomes.Fail ticks)
 connect_in known _ = Err kinds.Word
 
 -- pause FROM TO
 unfoldable pub pause_in : List (List ℕ) → Result (ℕ × ℕ) TextKind
 pause_in (from ∷ to ∷ []) = do
-  first ← number_from 0 MAX_TICK from
-  last ← number_from 1 MAX_PAUSE_END to
+  first ← number_from 0 most_tick from
+  last ← number_from least_pause_end most_pause_end to
   Ok (first, last)
 pause_in _ = Err kinds.Word
 

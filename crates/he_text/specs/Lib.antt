@@ -1,6 +1,9 @@
 pub mod Beginnings
 pub mod Faults
+pub mod FirstFault
 pub mod Forms
+pub mod InRange
+pub mod Left
 pub mod Orders
 pub mod Parts
 pub mod Ranges
@@ -8,4 +11,5 @@ pub mod Reading
 pub mod Said
 pub mod Text
 pub mod Words
+pub mod Writing
 pub mod Written

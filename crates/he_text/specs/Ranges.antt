@@ -1,28 +1,96 @@
--- The ranges that the parts of a race have in the program by their types. A race of the definitions may have others, which no
--- text spells.
-use Rattle.std.specs.Prelude.{◌≤◌}
-use Rattle.std.specs.List.{All}
-use Rattle.he_addr.specs.Ip.{InRange}
-use Rattle.he_addr.specs.Prefix.{IsPrefix}
-use Rattle.he_plan.specs.Race.{Race, addresses_of}
-use Rattle.he_select.specs.declared.policy.Row.{Row}
-use Rattle.he_select.specs.declared.host.Source.{Source}
-use Rattle.he_select.specs.declared.host.Route.{Route}
-use Rattle.he_text.specs.declared.limits.TheConstants.{MAX_PRECEDENCE, MAX_LABEL, MAX_INTERFACE}
+-- The numbers of the texts. The law `laws::ranges` ties the constants of the program to them.
+use Rattle.std.specs.Prelude.{ℕ}
 
-abbrev pub RowInRange : Row → Type 0
-RowInRange row = IsPrefix row.prefix.bits row.prefix.len × (row.precedence ≤ MAX_PRECEDENCE) × (row.label ≤ MAX_LABEL)
+-- the most bytes of a line, its line end not counted
+abbrev pub most_line_bytes : ℕ
+most_line_bytes = 4096
 
-abbrev pub SourceInRange : Source → Type 0
-SourceInRange source = InRange source.ip × (source.interface ≤ MAX_INTERFACE)
+-- the most lines of each word, and of each family's answer
+abbrev pub most_rows : ℕ
+most_rows = 64
 
-abbrev pub RouteInRange : Route → Type 0
-RouteInRange route = IsPrefix route.prefix.bits route.prefix.len × (route.interface ≤ MAX_INTERFACE)
+abbrev pub most_sources : ℕ
+most_sources = 64
 
--- the race's prefixes, addresses and 16-bit numbers are in their ranges
-pub record RaceInRange (race : Race) : Type 0 where
-  pub rows : All RowInRange race.policy
-  pub sources : All SourceInRange race.host.sources
-  pub routes : All RouteInRange race.host.routes
-  pub aaaa : All InRange (addresses_of race.aaaa)
-  pub a : All InRange (addresses_of race.a)
+abbrev pub most_routes : ℕ
+most_routes = 64
+
+abbrev pub most_answers : ℕ
+most_answers = 1
+
+abbrev pub most_pauses : ℕ
+most_pauses = 136
+
+-- the most addresses of an answer
+abbrev pub most_addresses : ℕ
+most_addresses = 64
+
+-- the most marks of a source and of a route
+abbrev pub most_source_marks : ℕ
+most_source_marks = 2
+
+abbrev pub most_route_marks : ℕ
+most_route_marks = 1
+
+-- the settings, in ticks but for the count, and their defaults
+abbrev pub most_resolution : ℕ
+most_resolution = 1000
+
+abbrev pub default_resolution : ℕ
+default_resolution = 50
+
+abbrev pub least_attempt : ℕ
+least_attempt = 10
+
+abbrev pub most_attempt : ℕ
+most_attempt = 2000
+
+abbrev pub default_attempt : ℕ
+default_attempt = 250
+
+abbrev pub least_count : ℕ
+least_count = 1
+
+abbrev pub most_count : ℕ
+most_count = 8
+
+abbrev pub default_count : ℕ
+default_count = 1
+
+abbrev pub least_limit : ℕ
+least_limit = 1
+
+abbrev pub most_limit : ℕ
+most_limit = 3600000
+
+abbrev pub default_limit : ℕ
+default_limit = 30000
+
+-- the numbers of a row, and of an interface
+abbrev pub most_precedence : ℕ
+most_precedence = 65535
+
+abbrev pub most_label : ℕ
+most_label = 65535
+
+abbrev pub least_interface : ℕ
+least_interface = 1
+
+abbrev pub most_interface : ℕ
+most_interface = 65535
+
+-- the tick of an answer and at which a pause begins, how long a connect takes, and the first tick behind a pause
+abbrev pub most_tick : ℕ
+most_tick = 3600000
+
+abbrev pub least_duration : ℕ
+least_duration = 1
+
+abbrev pub most_duration : ℕ
+most_duration = 3600000
+
+abbrev pub least_pause_end : ℕ
+least_pause_end = 1
+
+abbrev pub most_pause_end : ℕ
+most_pause_end = 3600001

@@ -1,5 +1,5 @@
--- What the private readers answer, as functions on lists. They help the proofs; what the lines of a race are stands in
--- `Text`, what is wrong with them in `Faults`.
+-- Mirrors the code: what the private readers answer, as functions on lists. What the lines of a race are stands in `Text`,
+-- what is wrong with them in `Faults`.
 use Rattle.std.specs.Prelude.{ℕ, ◌≡◌, ◌⊎◌, ◌<◌, ◌+◌, ◌++◌, ◌==◌, ◌&&◌, Bool, List, [], ◌∷◌, length, Option, Some, None, option_map, Result, Ok, Err, if◌then◌else◌, nat_le, nat_lt, unwrap_or, IsOk, IfErr, codes}
 use Rattle.std.specs.List.{list_any}
 use Rattle.std.specs.Option.{option_map_or}
@@ -165,8 +165,8 @@ unfoldable pub host_from : List Source → List Route → Result Interfaces Text
 host_from sources routes = told_by host_kind (host_of sources routes)
 
 -- the race in which nothing happens yet
-unfoldable pub race_from : HeadGiven → Result Race TextKind
-race_from head = do
+unfoldable pub race_begun : HeadGiven → Result Race TextKind
+race_begun head = do
   settings ← settings_from head.settings
   policy ← policy_from head.rows
   host ← host_from head.sources head.routes
@@ -230,7 +230,7 @@ take_head after parts order head = do
 
 -- what follows the lines of the first four groups
 unfoldable pub settle : ℕ → Order → HeadGiven → List (List ℕ) → Result (Race × List (List ℕ)) (ℕ × TextKind)
-settle n order head lines = at_line n (race_from head) >>= λ race. read_body n order race lines
+settle n order head lines = at_line n (race_begun head) >>= λ race. read_body n order race lines
 
 -- the lines of the first four groups, and then the others
 unfoldable pub read_head : ℕ → Order → HeadGiven → List (List ℕ) → Result (Race × List (List ℕ)) (ℕ × TextKind)

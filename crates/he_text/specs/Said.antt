@@ -5,9 +5,9 @@ use Rattle.he_addr.specs.declared.ip.Family.{Family}
 use Rattle.he_addr.specs.declared.ip.Family.TheVariants as families
 use Rattle.he_addr.specs.declared.ip.Ip.{Ip}
 use Rattle.he_plan.specs.declared.outcome.Outcome.{Outcome}
-use Rattle.he_plan.specs.declared.limits.TheConstants.{DEFAULT_RESOLUTION, DEFAULT_ATTEMPT, DEFAULT_COUNT, DEFAULT_LIMIT}
 use Rattle.he_plan.specs.Settings.{SettingValues}
 use Rattle.he_plan.specs.Race.{Race, Reply}
+use Rattle.he_text.specs.Ranges.{default_resolution, default_attempt, default_count, default_limit}
 use Rattle.he_text.specs.declared.words.Name.{Name}
 use Rattle.he_text.specs.declared.words.Name.TheVariants.{Resolution, Attempt, Count, Limit}
 use Rattle.he_select.specs.declared.policy.Row.{Row}
@@ -64,13 +64,13 @@ abbrev pub pause_said : Said → Option (ℕ × ℕ)
 pause_said (Paused from to) = Some (from, to)
 pause_said _ = None
 
-abbrev pub first_of : {A : Type 0} → List A → Option A
-first_of [] = None
-first_of (x ∷ xs) = Some x
+abbrev pub at_front : {A : Type 0} → List A → Option A
+at_front [] = None
+at_front (x ∷ xs) = Some x
 
 -- what the lines give: the value of a setting, a family's answer, and rows, sources, routes, outcomes and pauses in their order
 abbrev pub setting_given : Name → List Said → Option ℕ
-setting_given name said = first_of (filter_map (setting_said name) said)
+setting_given name said = at_front (filter_map (setting_said name) said)
 
 abbrev pub rows_given : List Said → List Row
 rows_given said = filter_map row_said said
@@ -82,7 +82,7 @@ abbrev pub routes_given : List Said → List Route
 routes_given said = filter_map route_said said
 
 abbrev pub answer_given : Family → List Said → Option Reply
-answer_given family said = first_of (filter_map (answer_said family) said)
+answer_given family said = at_front (filter_map (answer_said family) said)
 
 abbrev pub outcomes_given : List Said → List (Ip × Outcome)
 outcomes_given said = filter_map outcome_said said
@@ -93,10 +93,10 @@ pauses_given said = filter_map pause_said said
 -- a setting that isn't given has its default
 abbrev pub settings_given : List Said → SettingValues
 settings_given said = record {
-  resolution = unwrap_or (setting_given Resolution said) DEFAULT_RESOLUTION;
-  attempt = unwrap_or (setting_given Attempt said) DEFAULT_ATTEMPT;
-  count = unwrap_or (setting_given Count said) DEFAULT_COUNT;
-  limit = unwrap_or (setting_given Limit said) DEFAULT_LIMIT;
+  resolution = unwrap_or (setting_given Resolution said) default_resolution;
+  attempt = unwrap_or (setting_given Attempt said) default_attempt;
+  count = unwrap_or (setting_given Count said) default_count;
+  limit = unwrap_or (setting_given Limit said) default_limit;
 }
 
 -- the given rows are the whole table; where none is given, the standard table holds

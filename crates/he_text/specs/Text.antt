@@ -4,21 +4,21 @@ use Rattle.std.specs.List.{AllByRecursion, AllZip, filter_map}
 use Rattle.he_addr.specs.declared.ip.Family.{Family}
 use Rattle.he_addr.specs.declared.ip.Family.TheVariants as families
 use Rattle.he_addr.specs.declared.ip.Ip.{Ip}
+use Rattle.he_addr.specs.Ip.{is_usable}
 use Rattle.he_addr.specs.Text.{SpellsNumber, Spells, SpellsSource, SpellsPrefix}
 use Rattle.he_select.specs.declared.host.Source.{Source}
 use Rattle.he_select.specs.declared.host.Route.{Route}
-use Rattle.he_plan.specs.declared.limits.TheConstants.{MAX_TICK, MIN_DURATION, MAX_DURATION, MAX_PAUSE_END, MAX_ADDRESSES}
 use Rattle.he_plan.specs.declared.outcome.Outcome.{Outcome}
 use Rattle.he_plan.specs.declared.outcome.Outcome.TheVariants as outcomes
 use Rattle.he_plan.specs.Race.{Race}
-use Rattle.he_plan.specs.Timeline.{IsRace, duration_of}
+use Rattle.he_plan.specs.Timeline.{IsRace, are_of, duration_of}
+use Rattle.he_text.specs.Ranges.{most_line_bytes, most_addresses, most_precedence, most_label, least_interface, most_interface, most_tick, least_duration, most_duration, least_pause_end, most_pause_end}
 use Rattle.he_text.specs.declared.fault.TextKind.{TextKind}
 use Rattle.he_text.specs.declared.fault.TextKind.TheVariants as kinds
-use Rattle.he_text.specs.declared.limits.TheConstants.{MAX_LINE, MAX_PRECEDENCE, MAX_LABEL, MIN_INTERFACE, MAX_INTERFACE}
 use Rattle.he_text.specs.declared.words.Name.{Name}
 use Rattle.he_text.specs.declared.words.Word.{Word}
 use Rattle.he_text.specs.declared.words.Word.TheVariants as words
-use Rattle.he_text.specs.Forms.{least_of, most_of}
+use Rattle.he_text.specs.Forms.{least_value, most_value}
 use Rattle.he_text.specs.Parts.{lines_of, tokens_of}
 use Rattle.he_text.specs.Said.{Said, Setting, PolicyRow, HostSource, HostRoute, Answer, Told, Paused, Ended, setting_said, answer_said, race_of}
 use Rattle.he_text.specs.Words.{spelling_of, name_spelling}
@@ -54,26 +54,33 @@ route_marks route = marked route.tunnel (codes "tunnel")
 -- a line, by its tokens, and what it says
 abbrev pub Says : List ℕ → Said → Type 0
 Says line (Setting name value) =
-    (number : List ℕ) × (tokens_of line ≡ spelling_of words.Set ∷ name_spelling name ∷ number ∷ []) × IsNumber (least_of name) (most_of name) number value
+    (number : List ℕ) × (tokens_of line ≡ spelling_of words.Set ∷ name_spelling name ∷ number ∷ []) × IsNumber (least_value name) (most_value name) number value
 Says line (PolicyRow row) =
     (first : List ℕ) × (second : List ℕ) × (third : List ℕ) × (tokens_of line ≡ spelling_of words.Policy ∷ first ∷ second ∷ third ∷ [])
-    × SpellsPrefix first row.prefix × IsNumber 0 MAX_PRECEDENCE second row.precedence × IsNumber 0 MAX_LABEL third row.label
+    × SpellsPrefix first row.prefix × IsNumber 0 most_precedence second row.precedence × IsNumber 0 most_label third row.label
 Says line (HostSource source) =
     (first : List ℕ) × (second : List ℕ) × (tokens_of line ≡ spelling_of words.Source ∷ first ∷ second ∷ source_marks source)
-    × SpellsSource first source.ip source.plen × IsNumber MIN_INTERFACE MAX_INTERFACE second source.interface
+    × SpellsSource first source.ip source.plen × IsNumber least_interface most_interface second source.interface
 Says line (HostRoute route) =
     (first : List ℕ) × (second : List ℕ) × (tokens_of line ≡ spelling_of words.Route ∷ first ∷ second ∷ route_marks route)
-    × SpellsPrefix first route.prefix × IsNumber MIN_INTERFACE MAX_INTERFACE second route.interface
+    × SpellsPrefix first route.prefix × IsNumber least_interface most_interface second route.interface
 Says line (Answer family reply) =
     (number : List ℕ) × (tokens : List (List ℕ)) × (tokens_of line ≡ spelling_of (answer_word family) ∷ number ∷ tokens)
-    × IsNumber 0 MAX_TICK number reply.tick × Lists tokens reply.addresses × (length tokens ≤ MAX_ADDRESSES)
+    × IsNumber 0 most_tick number reply.tick × Lists tokens reply.addresses × (length tokens ≤ most_addresses)
 Says line (Told ip outcome) =
     (address : List ℕ) × (number : List ℕ) × (tokens_of line ≡ spelling_of words.Connect ∷ address ∷ mark_text outcome ∷ number ∷ [])
-    × Spells address ip × IsNumber MIN_DURATION MAX_DURATION number (duration_of outcome)
+    × Spells address ip × IsNumber least_duration most_duration number (duration_of outcome)
 Says line (Paused from to) =
     (first : List ℕ) × (second : List ℕ) × (tokens_of line ≡ spelling_of words.Pause ∷ first ∷ second ∷ [])
-    × IsNumber 0 MAX_TICK first from × IsNumber 1 MAX_PAUSE_END second to
+    × IsNumber 0 most_tick first from × IsNumber least_pause_end most_pause_end second to
 Says line Ended = ⊥
+
+-- what a line may say where these addresses are known, besides how it is spelled
+abbrev pub IsAllowed : (Ip → Bool) → Said → Type 0
+IsAllowed known (HostSource source) = IsTrue (is_usable source.ip)
+IsAllowed known (Answer family reply) = IsTrue (are_of family reply.addresses)
+IsAllowed known (Told ip outcome) = IsTrue (known ip)
+IsAllowed known said = Unit {0}
 
 -- the group of the lines that say it
 abbrev pub group_said : Said → ℕ
@@ -94,7 +101,7 @@ are_in_order group (s ∷ said) = nat_le group (group_said s) && are_in_order (g
 
 -- the lines between the first and the last one of a race, and what they say
 pub record AreLines (lines : List (List ℕ)) (said : List Said) : Type 0 where
-  pub short : AllByRecursion (λ line. length line ≤ MAX_LINE) lines
+  pub short : AllByRecursion (λ line. length line ≤ most_line_bytes) lines
   pub say : AllZip Says lines said
   pub order : IsTrue (are_in_order 0 said)
   pub settings_once : (name : Name) → length (filter_map (setting_said name) said) ≤ 1

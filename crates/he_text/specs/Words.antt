@@ -1,11 +1,9 @@
 -- The words of timeline texts: how they are spelled, and the groups in which their lines stand.
 use Rattle.std.specs.Prelude.{ℕ, List, Bool, true, false, Option, Some, None, if◌then◌else◌, nat_le, codes}
 use Rattle.std.specs.Str.{bytes_eq}
-use Rattle.he_plan.specs.declared.limits.TheConstants.{MAX_PAUSES}
-use Rattle.he_select.specs.declared.limits.TheConstants.{ROWS, SOURCES, ROUTES}
+use Rattle.he_text.specs.Ranges.{most_rows, most_sources, most_routes, most_answers, most_pauses}
 use Rattle.he_text.specs.declared.fault.TextKind.{TextKind}
 use Rattle.he_text.specs.declared.fault.TextKind.TheVariants as kinds
-use Rattle.he_text.specs.declared.limits.TheConstants.{MAX_ANSWERS}
 use Rattle.he_text.specs.declared.words.Word.{Word}
 use Rattle.he_text.specs.declared.words.Word.TheVariants.{Set, Policy, Source, Route, Aaaa, A, Connect, Pause, End}
 use Rattle.he_text.specs.declared.words.Name.{Name}
@@ -56,12 +54,12 @@ is_end _ = false
 
 -- the most lines of a word, and the fault of one more
 abbrev pub most_lines : Word → Option (ℕ × TextKind)
-most_lines Policy = Some (ROWS, kinds.TooMany)
-most_lines Source = Some (SOURCES, kinds.TooMany)
-most_lines Route = Some (ROUTES, kinds.TooMany)
-most_lines Aaaa = Some (MAX_ANSWERS, kinds.Repeated)
-most_lines A = Some (MAX_ANSWERS, kinds.Repeated)
-most_lines Pause = Some (MAX_PAUSES, kinds.TooMany)
+most_lines Policy = Some (most_rows, kinds.TooMany)
+most_lines Source = Some (most_sources, kinds.TooMany)
+most_lines Route = Some (most_routes, kinds.TooMany)
+most_lines Aaaa = Some (most_answers, kinds.Repeated)
+most_lines A = Some (most_answers, kinds.Repeated)
+most_lines Pause = Some (most_pauses, kinds.TooMany)
 most_lines _ = None
 
 -- the word that a token spells

@@ -1,5 +1,5 @@
 -- The texts that are written.
-use Rattle.std.specs.Prelude.{ℕ, ◌≡◌, true, false, List, [], ◌∷◌, ◌++◌, map, take, length, decimal, Option, Some, None, Result, codes, MatchResult}
+use Rattle.std.specs.Prelude.{ℕ, true, false, List, [], ◌∷◌, ◌++◌, map, decimal, Option, Some, None, codes}
 use Rattle.std.specs.List.{flat_map, join_with_byte}
 use Rattle.he_addr.specs.declared.ip.Ip.{Ip}
 use Rattle.he_plan.specs.declared.transcript.Line.{Line}
@@ -17,34 +17,11 @@ use Rattle.he_select.specs.declared.host.Source.{Source}
 use Rattle.he_select.specs.declared.host.Route.{Route}
 use Rattle.he_select.specs.Hosts.{Interfaces}
 use Rattle.he_text.specs.Text.{mark_text, source_marks, route_marks}
-use Rattle.he_text.specs.declared.writing.Token.{Token}
-use Rattle.he_text.specs.declared.writing.Token.TheVariants as tokens
 use Rattle.he_addr.specs.Printing.{printed, source_text, prefix_text}
-
--- a token of a line that is written
-abbrev pub token_text : Token → List ℕ
-token_text (tokens.Word text) = text.now
-token_text (tokens.Number n) = decimal n
-token_text (tokens.Address ip) = printed ip
-token_text (tokens.Source ip len) = source_text ip len
-token_text (tokens.Prefix prefix) = prefix_text false prefix.now
-token_text (tokens.Dotted prefix) = prefix_text true prefix.now
 
 -- a line: its tokens parted by single spaces, and a line end
 abbrev pub written_line : List (List ℕ) → List ℕ
 written_line tokens = join_with_byte 32 tokens ++ 10 ∷ []
-
--- what was there is kept in front
-abbrev pub Grows : List ℕ → List ℕ → Type 0
-Grows old new = take (length old) new ≡ old
-
--- a call appended the text, or was refused memory and may have appended a part of it
-abbrev pub Writes : {E : Type 0} → Result (Unit {0}) E → List ℕ → List ℕ → List ℕ → Type 0
-Writes result old new text = MatchResult result (λ _. new ≡ old ++ text) (λ _. Grows old new)
-
--- tokens, each behind a space
-abbrev pub spaced : List (List ℕ) → List ℕ
-spaced tokens = flat_map (λ token. 32 ∷ token) tokens
 
 -- what became of an attempt
 abbrev pub fate_text : Mark → List (List ℕ)

@@ -1,7 +1,7 @@
 // What is known of a race while its lines are read.
 
 ghost use Rattle.std.specs.Prelude.{◌≡◌, ◌⊎◌, IsOk, Ok, Err, MatchResult};
-ghost use Rattle.he_text.specs.Parts.{tokens_left};
+ghost use Rattle.he_text.specs.Left.{tokens_left};
 ghost use Rattle.he_text.specs.Reading.{Fails, admit, once, put, settings_from, take_answer, take_told, order_at_start, none_given};
 
 use crate::fault::TextKind;

@@ -2,8 +2,8 @@
 // right; the first that is wrong decides.
 
 ghost use Rattle.std.specs.Prelude.{◌≡◌, ◌≤◌, IfOk};
-ghost use Rattle.he_text.specs.Forms.{number_from, setting_in, pause_in, end_in, least_of, most_of};
-ghost use Rattle.he_text.specs.Parts.{tokens_left};
+ghost use Rattle.he_text.specs.Forms.{number_from, setting_in, pause_in, end_in, least_value, most_value};
+ghost use Rattle.he_text.specs.Left.{tokens_left};
 
 mod answers;
 mod selection;
@@ -33,7 +33,7 @@ fn number(low: u64, high: u64, token: &[u8]) -> Result<u64, TextKind>
 }
 
 fn least(name: Name) -> u64
-    ensures { result ≡ least_of name }
+    ensures { result ≡ least_value name }
 {
     match name {
         Name::Resolution => 0,
@@ -44,7 +44,7 @@ fn least(name: Name) -> u64
 }
 
 fn most(name: Name) -> u64
-    ensures { result ≡ most_of name }
+    ensures { result ≡ most_value name }
 {
     match name {
         Name::Resolution => MAX_RESOLUTION,

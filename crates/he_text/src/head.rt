@@ -4,8 +4,8 @@ ghost use Rattle.std.specs.Prelude.{◌≡◌, ◌⊎◌, ◌++◌, [], ◌∷�
 ghost use Rattle.std.specs.Option.{option_map_or};
 ghost use Rattle.he_select.specs.Tables.{table_fault};
 ghost use Rattle.he_text.specs.declared.fault.TextKind.TheVariants as kinds;
-ghost use Rattle.he_text.specs.Parts.{tokens_left};
-ghost use Rattle.he_text.specs.Reading.{Fails, no_head, add_setting, add_row, add_source, add_route, take_given, policy_from, host_from, race_from};
+ghost use Rattle.he_text.specs.Left.{tokens_left};
+ghost use Rattle.he_text.specs.Reading.{Fails, no_head, add_setting, add_row, add_source, add_route, take_given, policy_from, host_from, race_begun};
 
 use crate::draft::Given;
 use crate::fault::TextKind;
@@ -119,9 +119,9 @@ impl<A: Allocator + Copy> Head<A> {
     }
 
     // The race in which nothing happens yet.
-    #[tactic(auto, unfolding(crate::specs::Reading::race_from))]
+    #[tactic(auto, unfolding(crate::specs::Reading::race_begun))]
     pub(crate) fn start(self, alloc: A) -> Result<TimelineBuilder<A>, TextKind>
-        ensures { MatchResult result (λ race. race_from self ≡ Ok race) (λ kind. (kind ≡ kinds.Memory) ⊎ (race_from self ≡ Err kind)) }
+        ensures { MatchResult result (λ race. race_begun self ≡ Ok race) (λ kind. (kind ≡ kinds.Memory) ⊎ (race_begun self ≡ Err kind)) }
     {
         let settings = self.settings.settings()?;
         let policy = policy(alloc, &self.rows)?;

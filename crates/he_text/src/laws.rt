@@ -1,13 +1,21 @@
 // Laws of the texts of races, each the contract of a function that runs nothing.
 
-ghost use Rattle.std.specs.Prelude.{◌≡◌, ◌⊎◌, ◌↔◌, ◌≤◌, ◌++◌, ℕ, List, [], Some, None, MatchOption};
+ghost use Rattle.std.specs.Prelude.{◌≡◌, ◌⊎◌, ◌↔◌, ◌≤◌, ◌++◌, ℕ, List, [], Bool, Some, None, Ok, MatchOption};
+ghost use Rattle.he_addr.specs.declared.ip.Ip.{Ip};
 ghost use Rattle.he_plan.specs.Race.{Race};
 ghost use Rattle.he_plan.specs.Timeline.{IsRace};
 ghost use Rattle.he_text.specs.declared.fault.TextKind.{TextKind};
+ghost use Rattle.he_text.specs.declared.limits.TheConstants.{MAX_LINE, MAX_ANSWERS, SOURCE_MARKS, ROUTE_MARKS, MAX_PRECEDENCE, MAX_LABEL, MIN_INTERFACE, MAX_INTERFACE};
+ghost use Rattle.he_plan.specs.declared.limits.TheConstants.{MAX_PAUSES, MAX_ADDRESSES, MAX_RESOLUTION, DEFAULT_RESOLUTION, MIN_ATTEMPT, MAX_ATTEMPT, DEFAULT_ATTEMPT, MIN_COUNT, MAX_COUNT, DEFAULT_COUNT, MIN_LIMIT, MAX_LIMIT, DEFAULT_LIMIT, MAX_TICK, MIN_DURATION, MAX_DURATION, MAX_PAUSE_END};
+ghost use Rattle.he_select.specs.declared.limits.TheConstants.{ROWS, SOURCES, ROUTES};
 ghost use Rattle.he_text.specs.Beginnings.{FaultStands, MayChange};
 ghost use Rattle.he_text.specs.Faults.{fault_of};
-ghost use Rattle.he_text.specs.Ranges.{RaceInRange};
-ghost use Rattle.he_text.specs.Text.{IsRaceText, BeginsWithRace, TellsFault};
+ghost use Rattle.he_text.specs.FirstFault.{IsFirstFaultOf};
+ghost use Rattle.he_text.specs.InRange.{RaceInRange};
+ghost use Rattle.he_text.specs.Ranges.{most_line_bytes, most_rows, most_sources, most_routes, most_answers, most_pauses, most_addresses, most_source_marks, most_route_marks, most_resolution, default_resolution, least_attempt, most_attempt, default_attempt, least_count, most_count, default_count, least_limit, most_limit, default_limit, most_precedence, most_label, least_interface, most_interface, most_tick, least_duration, most_duration, most_pause_end};
+ghost use Rattle.he_text.specs.Forms.{said_in};
+ghost use Rattle.he_text.specs.Said.{Said, Ended};
+ghost use Rattle.he_text.specs.Text.{Says, IsAllowed, IsRaceText, BeginsWithRace, TellsFault};
 ghost use Rattle.he_text.specs.Written.{timeline_text};
 
 use crate::ranges::timeline_range;
@@ -42,6 +50,19 @@ pub fn faults_stand()
     ensures { (text : List ℕ) (line : ℕ) (kind : TextKind) → fault_of text ≡ Some (line, kind) → MayChange text line kind ⊎ FaultStands text line kind }
 {}
 
+/// What the form of a line, its tokens checked from left to right, makes of it is what the line says, where it doesn't end the
+/// race. Runs nothing.
+pub fn lines_say()
+    ensures says { (known : Ip → Bool) (line : List ℕ) (said : Said) → said_in known line ≡ Ok said → (said ≡ Ended → ⊥) → Says line said × IsAllowed known said }
+    ensures read { (known : Ip → Bool) (line : List ℕ) (said : Said) → Says line said → IsAllowed known said → said_in known line ≡ Ok said }
+{}
+
+/// The fault of a text is that of the first check that fails on the first faulty line, where no race ends before: on none of
+/// the lines above it a check fails. Runs nothing.
+pub fn first_faults()
+    ensures { (text : List ℕ) (line : ℕ) (kind : TextKind) → (fault_of text ≡ Some (line, kind)) ↔ IsFirstFaultOf text line kind }
+{}
+
 /// What follows a text brings no fault on an earlier line than the text's own. Runs nothing.
 pub fn faults_come_no_earlier()
     ensures { (text more : List ℕ) (line : ℕ) (kind : TextKind) → fault_of text ≡ Some (line, kind) → MatchOption (fault_of (text ++ more)) (Unit {0}) (λ fault. line ≤ fault.0) }
@@ -50,6 +71,15 @@ pub fn faults_come_no_earlier()
 /// What `read_race` tells of a first part of a text it may tell of the whole, unless what follows may change it. Runs nothing.
 pub fn told_faults_stand()
     ensures { (text more : List ℕ) (line : ℕ) (kind : TextKind) → TellsFault line kind (fault_of text) → MayChange text line kind ⊎ TellsFault line kind (fault_of (text ++ more)) }
+{}
+
+/// The program's constants are the numbers of the definitions (`specs/Ranges`). Runs nothing.
+pub fn ranges()
+    ensures lines { (MAX_LINE ≡ most_line_bytes) × (ROWS ≡ most_rows) × (SOURCES ≡ most_sources) × (ROUTES ≡ most_routes) × (MAX_ANSWERS ≡ most_answers) × (MAX_PAUSES ≡ most_pauses) × (MAX_ADDRESSES ≡ most_addresses) }
+    ensures marks { (SOURCE_MARKS ≡ most_source_marks) × (ROUTE_MARKS ≡ most_route_marks) }
+    ensures settings { (MAX_RESOLUTION ≡ most_resolution) × (DEFAULT_RESOLUTION ≡ default_resolution) × (MIN_ATTEMPT ≡ least_attempt) × (MAX_ATTEMPT ≡ most_attempt) × (DEFAULT_ATTEMPT ≡ default_attempt) × (MIN_COUNT ≡ least_count) × (MAX_COUNT ≡ most_count) × (DEFAULT_COUNT ≡ default_count) × (MIN_LIMIT ≡ least_limit) × (MAX_LIMIT ≡ most_limit) × (DEFAULT_LIMIT ≡ default_limit) }
+    ensures selection { (MAX_PRECEDENCE ≡ most_precedence) × (MAX_LABEL ≡ most_label) × (MIN_INTERFACE ≡ least_interface) × (MAX_INTERFACE ≡ most_interface) }
+    ensures events { (MAX_TICK ≡ most_tick) × (MIN_DURATION ≡ least_duration) × (MAX_DURATION ≡ most_duration) × (MAX_PAUSE_END ≡ most_pause_end) }
 {}
 
 /// What is written of a race is a text of this race, so it is read as this race, whatever follows it. Runs nothing.

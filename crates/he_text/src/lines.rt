@@ -1,7 +1,8 @@
 // The lines of a text, one after the other.
 
 ghost use Rattle.std.specs.Prelude.{◌≡◌, ◌<◌, ◌+◌, ◌^◌, ◌∷◌, Ok, Err, length, MatchResult};
-ghost use Rattle.he_text.specs.Parts.{lines_of, lines_left, HasRoom};
+ghost use Rattle.he_text.specs.Left.{lines_left, HasRoom};
+ghost use Rattle.he_text.specs.Parts.{lines_of};
 ghost use Rattle.he_text.specs.Reading.{ended_by, wholeness};
 
 use crate::fault::TextKind;

@@ -6,7 +6,7 @@ ghost use Rattle.he_addr.specs.Ip.{is_usable};
 ghost use Rattle.he_plan.specs.Race.{reply_of, addresses_of};
 ghost use Rattle.he_select.specs.Selection.{world_of};
 ghost use Rattle.he_text.specs.Orders.{order_line, order_lines, order_text, usable_addresses};
-ghost use Rattle.he_text.specs.Written.{Writes};
+ghost use Rattle.he_text.specs.Writing.{AppendsText};
 
 use crate::writing::{Token, write_line, write_numbered};
 use he_addr::{Family, Ip, Memory};
@@ -60,7 +60,7 @@ fn write_place<A: Allocator + Copy, B: Allocator>(
     ip: Ip,
     out: &mut Vec<u8, A>,
 ) -> Result<(), Memory>
-    ensures { Writes result out.old.items out.new.items (order_line (world_of policy.now host.now) place ip) }
+    ensures { AppendsText result out.old.items out.new.items (order_line (world_of policy.now host.now) place ip) }
 {
     let source = match host.source(policy, ip) {
         Some(source) => Token::Address(source),
@@ -76,7 +76,7 @@ fn write_places<A: Allocator + Copy, B: Allocator>(
     ips: &[Ip],
     out: &mut Vec<u8, A>,
 ) -> Result<(), Memory>
-    ensures { Writes result out.old.items out.new.items (order_lines (world_of policy.now host.now) 0 ips.now) }
+    ensures { AppendsText result out.old.items out.new.items (order_lines (world_of policy.now host.now) 0 ips.now) }
 {
     for (place, ip) in ips.iter().enumerate() {
         write_place(policy, host, place, *ip, out)?;
@@ -89,7 +89,7 @@ fn write_whole<A: Allocator + Copy, B: Allocator>(
     timeline: &Timeline<B>,
     out: &mut Vec<u8, A>,
 ) -> Result<(), Memory>
-    ensures { Writes result out.old.items out.new.items (order_text timeline.now) }
+    ensures { AppendsText result out.old.items out.new.items (order_text timeline.now) }
 {
     let policy = timeline.policy();
     let host = timeline.host();

@@ -1,7 +1,8 @@
 // Lines and tokens: the parts of a text between two bytes.
 
 ghost use Rattle.std.specs.Prelude.{◌≡◌, ◌<◌, ◌+◌, ◌^◌, ◌==◌, [], ◌∷◌, length, MatchOption, position};
-ghost use Rattle.he_text.specs.Parts.{parts_of, parts_behind, tokens_left};
+ghost use Rattle.he_text.specs.Left.{parts_behind, tokens_left};
+ghost use Rattle.he_text.specs.Parts.{pieces_of};
 
 /// The byte after each line.
 pub(crate) const LINE_END: u8 = b'\n';
@@ -18,7 +19,7 @@ fn find(text: &[u8], mark: u8) -> Option<usize>
 // What stands before the first mark, and what stands behind it, if there is one.
 #[tactic(auto, using(crate::proofs::PartLaws::parts_whole))]
 pub(crate) fn cut(text: &[u8], mark: u8) -> (&[u8], Option<&[u8]>)
-    ensures parts { parts_of mark text.now ≡ result.0.now ∷ parts_behind mark result.1 }
+    ensures parts { pieces_of mark text.now ≡ result.0.now ∷ parts_behind mark result.1 }
     ensures shorter { MatchOption result.1 (Unit {0}) (λ rest. length rest.now < length text.now) }
 {
     match find(text, mark) {
@@ -63,7 +64,7 @@ impl<'a> Tokens<'a> {
 
 #[tactic(auto, using(crate::proofs::PartLaws::parts_counted))]
 fn count(text: &[u8], mark: u8) -> usize
-    ensures marks { result + 1 ≡ length (parts_of mark text.now) }
+    ensures marks { result + 1 ≡ length (pieces_of mark text.now) }
     ensures few { result < 2 ^ 63 }
 {
     text.iter().filter(|byte| **byte == mark).count()

@@ -4,7 +4,7 @@ ghost use Rattle.std.specs.Prelude.{◌≡◌};
 ghost use Rattle.std.specs.List.{All};
 ghost use Rattle.he_addr.specs.Ip.{InRange};
 ghost use Rattle.he_plan.specs.Race.{reply_of, addresses_of};
-ghost use Rattle.he_text.specs.Ranges.{RowInRange, SourceInRange, RouteInRange, RaceInRange};
+ghost use Rattle.he_text.specs.InRange.{RowInRange, SourceInRange, RouteInRange, RaceInRange};
 
 use he_addr::{Family, Ip};
 use he_plan::Timeline;

@@ -7,7 +7,8 @@ ghost use Rattle.he_text.specs.declared.fault.TextKind.TheVariants as kinds;
 ghost use Rattle.he_text.specs.Faults.{fault_of, is_policy_next};
 ghost use Rattle.he_text.specs.Forms.{word_of};
 ghost use Rattle.he_text.specs.declared.draft.Order.{Order};
-ghost use Rattle.he_text.specs.Parts.{lines_of, lines_left, tokens_left, tokens_of, HasRoom, IsAmong};
+ghost use Rattle.he_text.specs.Left.{lines_left, tokens_left, HasRoom, IsAmong};
+ghost use Rattle.he_text.specs.Parts.{lines_of, tokens_of};
 ghost use Rattle.he_text.specs.Reading.{Fails, FailsAt, take_line, read_body, head_of, take_head, settle, read_head, read_lines, order_at_start, no_head};
 ghost use Rattle.he_text.specs.Text.{IsRaceText, IsLineOf, TellsFault};
 

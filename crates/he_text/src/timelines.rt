@@ -3,7 +3,8 @@
 ghost use Rattle.std.specs.Prelude.{◌≡◌, ◌++◌, OnOk, OnErr};
 ghost use Rattle.std.specs.List.{flat_map};
 ghost use Rattle.he_plan.specs.Race.{reply_of};
-ghost use Rattle.he_text.specs.Written.{setting_text, delays_text, bounds_text, top_text, reply_text, answer_text, answers_text, outcome_text, pause_text, told_text, row_text, host_source_text, host_route_text, host_text, selection_text, timeline_text, Writes};
+ghost use Rattle.he_text.specs.Writing.{AppendsText};
+ghost use Rattle.he_text.specs.Written.{setting_text, delays_text, bounds_text, top_text, reply_text, answer_text, answers_text, outcome_text, pause_text, told_text, row_text, host_source_text, host_route_text, host_text, selection_text, timeline_text};
 
 use crate::words::HEADER;
 use crate::writing::{Token, write_line, write_listed};
@@ -17,20 +18,20 @@ fn write_setting<A: Allocator + Copy>(
     value: u64,
     out: &mut Vec<u8, A>,
 ) -> Result<(), Memory>
-    ensures { Writes result out.old.items out.new.items (setting_text name.now value) }
+    ensures { AppendsText result out.old.items out.new.items (setting_text name.now value) }
 {
     write_line(b"set", &[Token::Word(name), Token::Number(value)], out)
 }
 
 fn write_delays<A: Allocator + Copy>(settings: Settings, out: &mut Vec<u8, A>) -> Result<(), Memory>
-    ensures { Writes result out.old.items out.new.items (delays_text settings) }
+    ensures { AppendsText result out.old.items out.new.items (delays_text settings) }
 {
     write_setting(b"resolution", settings.resolution(), out)?;
     write_setting(b"attempt", settings.attempt(), out)
 }
 
 fn write_bounds<A: Allocator + Copy>(settings: Settings, out: &mut Vec<u8, A>) -> Result<(), Memory>
-    ensures { Writes result out.old.items out.new.items (bounds_text settings) }
+    ensures { AppendsText result out.old.items out.new.items (bounds_text settings) }
 {
     write_setting(b"count", settings.count(), out)?;
     write_setting(b"limit", settings.limit(), out)
@@ -40,14 +41,14 @@ fn write_settings<A: Allocator + Copy>(
     settings: Settings,
     out: &mut Vec<u8, A>,
 ) -> Result<(), Memory>
-    ensures { Writes result out.old.items out.new.items (delays_text settings ++ bounds_text settings) }
+    ensures { AppendsText result out.old.items out.new.items (delays_text settings ++ bounds_text settings) }
 {
     write_delays(settings, out)?;
     write_bounds(settings, out)
 }
 
 fn write_top<A: Allocator + Copy>(settings: Settings, out: &mut Vec<u8, A>) -> Result<(), Memory>
-    ensures { Writes result out.old.items out.new.items (top_text settings) }
+    ensures { AppendsText result out.old.items out.new.items (top_text settings) }
 {
     write_line(HEADER, &[], out)?;
     write_settings(settings, out)
@@ -55,7 +56,7 @@ fn write_top<A: Allocator + Copy>(settings: Settings, out: &mut Vec<u8, A>) -> R
 
 // policy PREFIX PRECEDENCE LABEL
 fn write_row<A: Allocator + Copy>(row: Row, out: &mut Vec<u8, A>) -> Result<(), Memory>
-    ensures { Writes result out.old.items out.new.items (row_text row) }
+    ensures { AppendsText result out.old.items out.new.items (row_text row) }
 {
     let tokens = [
         Token::Prefix(&row.prefix),
@@ -66,7 +67,7 @@ fn write_row<A: Allocator + Copy>(row: Row, out: &mut Vec<u8, A>) -> Result<(), 
 }
 
 fn write_rows<A: Allocator + Copy>(rows: &[Row], out: &mut Vec<u8, A>) -> Result<(), Memory>
-    ensures { Writes result out.old.items out.new.items (flat_map row_text rows.now) }
+    ensures { AppendsText result out.old.items out.new.items (flat_map row_text rows.now) }
 {
     for row in rows {
         write_row(*row, out)?;
@@ -76,7 +77,7 @@ fn write_rows<A: Allocator + Copy>(rows: &[Row], out: &mut Vec<u8, A>) -> Result
 
 // source SOURCE INTERFACE [deprecated] [temporary]
 fn write_source<A: Allocator + Copy>(source: Source, out: &mut Vec<u8, A>) -> Result<(), Memory>
-    ensures { Writes result out.old.items out.new.items (host_source_text source) }
+    ensures { AppendsText result out.old.items out.new.items (host_source_text source) }
 {
     let address = Token::Source(source.ip, source.plen);
     let interface = Token::Number(u64::from(source.interface));
@@ -97,7 +98,7 @@ fn write_sources<A: Allocator + Copy>(
     sources: &[Source],
     out: &mut Vec<u8, A>,
 ) -> Result<(), Memory>
-    ensures { Writes result out.old.items out.new.items (flat_map host_source_text sources.now) }
+    ensures { AppendsText result out.old.items out.new.items (flat_map host_source_text sources.now) }
 {
     for source in sources {
         write_source(*source, out)?;
@@ -107,7 +108,7 @@ fn write_sources<A: Allocator + Copy>(
 
 // route PREFIX INTERFACE [tunnel]
 fn write_route<A: Allocator + Copy>(route: Route, out: &mut Vec<u8, A>) -> Result<(), Memory>
-    ensures { Writes result out.old.items out.new.items (host_route_text route) }
+    ensures { AppendsText result out.old.items out.new.items (host_route_text route) }
 {
     let prefix = Token::Dotted(&route.prefix);
     let interface = Token::Number(u64::from(route.interface));
@@ -118,7 +119,7 @@ fn write_route<A: Allocator + Copy>(route: Route, out: &mut Vec<u8, A>) -> Resul
 }
 
 fn write_routes<A: Allocator + Copy>(routes: &[Route], out: &mut Vec<u8, A>) -> Result<(), Memory>
-    ensures { Writes result out.old.items out.new.items (flat_map host_route_text routes.now) }
+    ensures { AppendsText result out.old.items out.new.items (flat_map host_route_text routes.now) }
 {
     for route in routes {
         write_route(*route, out)?;
@@ -130,7 +131,7 @@ fn write_host<A: Allocator + Copy, B: Allocator>(
     host: &Host<B>,
     out: &mut Vec<u8, A>,
 ) -> Result<(), Memory>
-    ensures { Writes result out.old.items out.new.items (host_text host.now) }
+    ensures { AppendsText result out.old.items out.new.items (host_text host.now) }
 {
     write_sources(host.sources(), out)?;
     write_routes(host.routes(), out)
@@ -141,7 +142,7 @@ fn write_selection<A: Allocator + Copy, B: Allocator>(
     timeline: &Timeline<B>,
     out: &mut Vec<u8, A>,
 ) -> Result<(), Memory>
-    ensures { Writes result out.old.items out.new.items (selection_text timeline.now) }
+    ensures { AppendsText result out.old.items out.new.items (selection_text timeline.now) }
 {
     write_rows(timeline.policy().rows(), out)?;
     write_host(timeline.host(), out)
@@ -154,7 +155,7 @@ fn write_reply<A: Allocator + Copy>(
     ips: &[Ip],
     out: &mut Vec<u8, A>,
 ) -> Result<(), Memory>
-    ensures { Writes result out.old.items out.new.items (reply_text word.now tick ips.now) }
+    ensures { AppendsText result out.old.items out.new.items (reply_text word.now tick ips.now) }
 {
     if ips.is_empty() {
         return write_line(word, &[Token::Number(tick), Token::Word(b"none")], out);
@@ -168,7 +169,7 @@ fn write_answer<A: Allocator + Copy, B: Allocator>(
     family: Family,
     out: &mut Vec<u8, A>,
 ) -> Result<(), Memory>
-    ensures { Writes result out.old.items out.new.items (answer_text word.now (reply_of timeline.now family)) }
+    ensures { AppendsText result out.old.items out.new.items (answer_text word.now (reply_of timeline.now family)) }
 {
     match timeline.answer(family) {
         Some((tick, ips)) => write_reply(word, tick, ips, out),
@@ -180,7 +181,7 @@ fn write_answers<A: Allocator + Copy, B: Allocator>(
     timeline: &Timeline<B>,
     out: &mut Vec<u8, A>,
 ) -> Result<(), Memory>
-    ensures { Writes result out.old.items out.new.items (answers_text timeline.now) }
+    ensures { AppendsText result out.old.items out.new.items (answers_text timeline.now) }
 {
     write_answer(timeline, b"aaaa", Family::V6, out)?;
     write_answer(timeline, b"a", Family::V4, out)
@@ -190,7 +191,7 @@ fn write_outcome<A: Allocator + Copy>(
     told: (Ip, Outcome),
     out: &mut Vec<u8, A>,
 ) -> Result<(), Memory>
-    ensures { Writes result out.old.items out.new.items (outcome_text told) }
+    ensures { AppendsText result out.old.items out.new.items (outcome_text told) }
 {
     let mark = match told.1 {
         Outcome::Ok(_) => b"ok".as_slice(),
@@ -208,7 +209,7 @@ fn write_outcomes<A: Allocator + Copy, B: Allocator>(
     timeline: &Timeline<B>,
     out: &mut Vec<u8, A>,
 ) -> Result<(), Memory>
-    ensures { Writes result out.old.items out.new.items (flat_map outcome_text timeline.now.outcomes) }
+    ensures { AppendsText result out.old.items out.new.items (flat_map outcome_text timeline.now.outcomes) }
 {
     for (ip, outcome) in timeline.outcomes().iter() {
         write_outcome((*ip, *outcome), out)?;
@@ -217,7 +218,7 @@ fn write_outcomes<A: Allocator + Copy, B: Allocator>(
 }
 
 fn write_pause<A: Allocator + Copy>(pause: (u64, u64), out: &mut Vec<u8, A>) -> Result<(), Memory>
-    ensures { Writes result out.old.items out.new.items (pause_text pause) }
+    ensures { AppendsText result out.old.items out.new.items (pause_text pause) }
 {
     write_line(
         b"pause",
@@ -230,7 +231,7 @@ fn write_pauses<A: Allocator + Copy>(
     pauses: &[(u64, u64)],
     out: &mut Vec<u8, A>,
 ) -> Result<(), Memory>
-    ensures { Writes result out.old.items out.new.items (flat_map pause_text pauses.now) }
+    ensures { AppendsText result out.old.items out.new.items (flat_map pause_text pauses.now) }
 {
     for pause in pauses {
         write_pause(*pause, out)?;
@@ -242,7 +243,7 @@ fn write_told<A: Allocator + Copy, B: Allocator>(
     timeline: &Timeline<B>,
     out: &mut Vec<u8, A>,
 ) -> Result<(), Memory>
-    ensures { Writes result out.old.items out.new.items (told_text timeline.now) }
+    ensures { AppendsText result out.old.items out.new.items (told_text timeline.now) }
 {
     write_outcomes(timeline, out)?;
     write_pauses(timeline.pauses(), out)
@@ -252,7 +253,7 @@ fn write_events<A: Allocator + Copy, B: Allocator>(
     timeline: &Timeline<B>,
     out: &mut Vec<u8, A>,
 ) -> Result<(), Memory>
-    ensures { Writes result out.old.items out.new.items (answers_text timeline.now ++ told_text timeline.now) }
+    ensures { AppendsText result out.old.items out.new.items (answers_text timeline.now ++ told_text timeline.now) }
 {
     write_answers(timeline, out)?;
     write_told(timeline, out)
@@ -263,7 +264,7 @@ fn write_rest<A: Allocator + Copy, B: Allocator>(
     timeline: &Timeline<B>,
     out: &mut Vec<u8, A>,
 ) -> Result<(), Memory>
-    ensures { Writes result out.old.items out.new.items (selection_text timeline.now ++ (answers_text timeline.now ++ told_text timeline.now)) }
+    ensures { AppendsText result out.old.items out.new.items (selection_text timeline.now ++ (answers_text timeline.now ++ told_text timeline.now)) }
 {
     write_selection(timeline, out)?;
     write_events(timeline, out)
@@ -273,7 +274,7 @@ fn write_lines<A: Allocator + Copy, B: Allocator>(
     timeline: &Timeline<B>,
     out: &mut Vec<u8, A>,
 ) -> Result<(), Memory>
-    ensures { Writes result out.old.items out.new.items (top_text timeline.now.settings ++ (selection_text timeline.now ++ (answers_text timeline.now ++ told_text timeline.now))) }
+    ensures { AppendsText result out.old.items out.new.items (top_text timeline.now.settings ++ (selection_text timeline.now ++ (answers_text timeline.now ++ told_text timeline.now))) }
 {
     write_top(timeline.settings(), out)?;
     write_rest(timeline, out)
@@ -283,7 +284,7 @@ fn write_whole<A: Allocator + Copy, B: Allocator>(
     timeline: &Timeline<B>,
     out: &mut Vec<u8, A>,
 ) -> Result<(), Memory>
-    ensures { Writes result out.old.items out.new.items (timeline_text timeline.now) }
+    ensures { AppendsText result out.old.items out.new.items (timeline_text timeline.now) }
 {
     write_lines(timeline, out)?;
     write_line(b"end", &[], out)

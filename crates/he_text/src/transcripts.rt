@@ -1,7 +1,8 @@
 // Transcripts written to texts.
 
 ghost use Rattle.std.specs.Prelude.{◌≡◌, ◌++◌, ◌∷◌, [], OnOk, OnErr};
-ghost use Rattle.he_text.specs.Written.{attempt_text, attempts_text, result_text, transcript_text, Writes};
+ghost use Rattle.he_text.specs.Writing.{AppendsText};
+ghost use Rattle.he_text.specs.Written.{attempt_text, attempts_text, result_text, transcript_text};
 
 use crate::writing::{Token, write_line};
 use he_addr::Memory;
@@ -10,7 +11,7 @@ use std::alloc::Allocator;
 
 // attempt PLACE START ADDRESS MARK TICK
 fn write_attempt<A: Allocator + Copy>(line: Line, out: &mut Vec<u8, A>) -> Result<(), Memory>
-    ensures { Writes result out.old.items out.new.items (attempt_text line) }
+    ensures { AppendsText result out.old.items out.new.items (attempt_text line) }
 {
     let (mark, end) = match line.mark {
         Mark::Won(tick) => (b"won".as_slice(), tick),
@@ -29,7 +30,7 @@ fn write_attempt<A: Allocator + Copy>(line: Line, out: &mut Vec<u8, A>) -> Resul
 
 // won PLACE TICK, exhausted TICK or limit TICK
 fn write_result<A: Allocator + Copy>(ending: Outcome3, out: &mut Vec<u8, A>) -> Result<(), Memory>
-    ensures { Writes result out.old.items out.new.items (result_text ending) }
+    ensures { AppendsText result out.old.items out.new.items (result_text ending) }
 {
     match ending {
         Outcome3::Won(place, tick) => write_line(
@@ -43,7 +44,7 @@ fn write_result<A: Allocator + Copy>(ending: Outcome3, out: &mut Vec<u8, A>) -> 
 }
 
 fn write_attempts<A: Allocator + Copy>(lines: &[Line], out: &mut Vec<u8, A>) -> Result<(), Memory>
-    ensures { Writes result out.old.items out.new.items (attempts_text lines.now) }
+    ensures { AppendsText result out.old.items out.new.items (attempts_text lines.now) }
 {
     for line in lines {
         write_attempt(*line, out)?;
@@ -55,7 +56,7 @@ fn write_whole<A: Allocator + Copy, B: Allocator>(
     transcript: &Transcript<B>,
     out: &mut Vec<u8, A>,
 ) -> Result<(), Memory>
-    ensures { Writes result out.old.items out.new.items (transcript_text transcript.now) }
+    ensures { AppendsText result out.old.items out.new.items (transcript_text transcript.now) }
 {
     write_attempts(transcript.attempts(), out)?;
     write_result(transcript.result(), out)

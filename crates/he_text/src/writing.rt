@@ -2,7 +2,8 @@
 
 ghost use Rattle.std.specs.Prelude.{◌≡◌, ◌++◌, ◌∷◌, [], decimal, map, OnOk, OnErr};
 ghost use Rattle.he_addr.specs.Printing.{printed};
-ghost use Rattle.he_text.specs.Written.{token_text, written_line, Writes, spaced, Grows};
+ghost use Rattle.he_text.specs.Writing.{token_text, AppendsText, spaced, Grows};
+ghost use Rattle.he_text.specs.Written.{written_line};
 
 use crate::parts::{LINE_END, TOKEN_END};
 use he_addr::{Ip, Memory, Prefix, write_ip, write_number, write_prefix, write_source};
@@ -45,7 +46,7 @@ fn write_token<A: Allocator + Copy>(token: Token, out: &mut Vec<u8, A>) -> Resul
 
 // A space, and the token.
 fn write_spaced<A: Allocator + Copy>(token: Token, out: &mut Vec<u8, A>) -> Result<(), Memory>
-    ensures { Writes result out.old.items out.new.items (32 ∷ token_text token.entry) }
+    ensures { AppendsText result out.old.items out.new.items (32 ∷ token_text token.entry) }
 {
     write_bytes(&[TOKEN_END], out)?;
     write_token(token, out)
@@ -53,7 +54,7 @@ fn write_spaced<A: Allocator + Copy>(token: Token, out: &mut Vec<u8, A>) -> Resu
 
 // The tokens, each behind a space.
 fn write_tokens<A: Allocator + Copy>(tokens: &[Token], out: &mut Vec<u8, A>) -> Result<(), Memory>
-    ensures { Writes result out.old.items out.new.items (spaced (map token_text tokens.now)) }
+    ensures { AppendsText result out.old.items out.new.items (spaced (map token_text tokens.now)) }
 {
     for token in tokens {
         write_spaced(*token, out)?;
@@ -63,7 +64,7 @@ fn write_tokens<A: Allocator + Copy>(tokens: &[Token], out: &mut Vec<u8, A>) -> 
 
 // The addresses, each behind a space.
 fn write_addresses<A: Allocator + Copy>(ips: &[Ip], out: &mut Vec<u8, A>) -> Result<(), Memory>
-    ensures { Writes result out.old.items out.new.items (spaced (map printed ips.now)) }
+    ensures { AppendsText result out.old.items out.new.items (spaced (map printed ips.now)) }
 {
     for ip in ips {
         write_spaced(Token::Address(*ip), out)?;
@@ -77,7 +78,7 @@ fn write_joined<A: Allocator + Copy>(
     others: &[Token],
     out: &mut Vec<u8, A>,
 ) -> Result<(), Memory>
-    ensures { Writes result out.old.items out.new.items (written_line (token_text first.entry ∷ map token_text others.now)) }
+    ensures { AppendsText result out.old.items out.new.items (written_line (token_text first.entry ∷ map token_text others.now)) }
 {
     write_token(first, out)?;
     write_tokens(others, out)?;
@@ -90,7 +91,7 @@ pub(crate) fn write_line<A: Allocator + Copy>(
     others: &[Token],
     out: &mut Vec<u8, A>,
 ) -> Result<(), Memory>
-    ensures { Writes result out.old.items out.new.items (written_line (word.now ∷ map token_text others.now)) }
+    ensures { AppendsText result out.old.items out.new.items (written_line (word.now ∷ map token_text others.now)) }
 {
     write_joined(Token::Word(word), others, out)
 }
@@ -101,7 +102,7 @@ pub(crate) fn write_numbered<A: Allocator + Copy>(
     others: &[Token],
     out: &mut Vec<u8, A>,
 ) -> Result<(), Memory>
-    ensures { Writes result out.old.items out.new.items (written_line (decimal number ∷ map token_text others.now)) }
+    ensures { AppendsText result out.old.items out.new.items (written_line (decimal number ∷ map token_text others.now)) }
 {
     write_joined(Token::Number(number), others, out)
 }
@@ -113,7 +114,7 @@ pub(crate) fn write_listed<A: Allocator + Copy>(
     ips: &[Ip],
     out: &mut Vec<u8, A>,
 ) -> Result<(), Memory>
-    ensures { Writes result out.old.items out.new.items (written_line (word.now ∷ decimal number ∷ map printed ips.now)) }
+    ensures { AppendsText result out.old.items out.new.items (written_line (word.now ∷ decimal number ∷ map printed ips.now)) }
 {
     write_word(word, number, out)?;
     write_addresses(ips, out)?;
@@ -125,7 +126,7 @@ fn write_word<A: Allocator + Copy>(
     number: u64,
     out: &mut Vec<u8, A>,
 ) -> Result<(), Memory>
-    ensures { Writes result out.old.items out.new.items (word.now ++ (32 ∷ decimal number)) }
+    ensures { AppendsText result out.old.items out.new.items (word.now ++ (32 ∷ decimal number)) }
 {
     write_bytes(word, out)?;
     write_spaced(Token::Number(number), out)

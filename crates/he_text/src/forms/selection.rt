@@ -2,7 +2,7 @@
 
 ghost use Rattle.std.specs.Prelude.{◌≡◌, ◌≤◌};
 ghost use Rattle.he_text.specs.Forms.{number_from, row_in, source_address_in, interface_in, source_marks_in, host_source_in, route_marks_in, host_route_in};
-ghost use Rattle.he_text.specs.Parts.{tokens_left};
+ghost use Rattle.he_text.specs.Left.{tokens_left};
 
 use super::number;
 use crate::fault::TextKind;

@@ -1,7 +1,7 @@
 use Rattle.std.proofs.Common.{rules, take}
 use Rattle.he_select.specs.Selection.{world_of}
 use Rattle.he_text.specs.Orders.{order_lines}
-use Rattle.he_text.specs.Written.{Grows}
+use Rattle.he_text.specs.Writing.{Grows}
 use Rattle.he_text.proofs.OrderTexts.{place_written}
 use Rattle.he_text.proofs.WritingLaws.{grows_after}
 use Rattle.he_text.proofs.orders.write_places.Goals as goal

@@ -1,4 +1,4 @@
-use Rattle.he_text.specs.Ranges.{RouteInRange}
+use Rattle.he_text.specs.InRange.{RouteInRange}
 use Rattle.he_text.proofs.ranges.routes_range.Given as goal
 use Rattle.std.specs.List.{AllWithin}
 

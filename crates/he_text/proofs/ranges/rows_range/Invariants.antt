@@ -1,4 +1,4 @@
-use Rattle.he_text.specs.Ranges.{RowInRange}
+use Rattle.he_text.specs.InRange.{RowInRange}
 use Rattle.he_text.proofs.ranges.rows_range.Given as goal
 use Rattle.std.specs.List.{AllWithin}
 

@@ -1,4 +1,4 @@
-use Rattle.he_text.specs.Ranges.{SourceInRange}
+use Rattle.he_text.specs.InRange.{SourceInRange}
 use Rattle.he_text.proofs.ranges.sources_range.Given as goal
 use Rattle.std.specs.List.{AllWithin}
 

@@ -1,5 +1,6 @@
 use Rattle.std.proofs.Common.{rules, ◌≡◌, ℕ, List, Err, Bor, sym, ◌∙◌, ap}
-use Rattle.he_text.specs.Parts.{lines_of, lines_left, tokens_left}
+use Rattle.he_text.specs.Left.{lines_left, tokens_left}
+use Rattle.he_text.specs.Parts.{lines_of}
 use Rattle.he_text.specs.Reading.{FailsAt, read_head, order_at_start, no_head}
 use Rattle.he_text.proofs.ReadingLaws.{shrinks, among_more, head_unwhole, head_settles, fails_head, head_more}
 use Rattle.he_text.proofs.reading.read_head.Goals as goal

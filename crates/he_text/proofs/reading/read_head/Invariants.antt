@@ -1,5 +1,5 @@
 use Rattle.std.proofs.Common.{◌≡◌, ◌≤◌, length}
-use Rattle.he_text.specs.Parts.{lines_left, HasRoom, IsAmong}
+use Rattle.he_text.specs.Left.{lines_left, HasRoom, IsAmong}
 use Rattle.he_text.specs.Reading.{read_head, order_at_start, no_head}
 use Rattle.he_text.proofs.reading.read_head.Given as goal
 

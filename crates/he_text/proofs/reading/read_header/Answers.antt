@@ -2,7 +2,8 @@ use Rattle.std.proofs.Common.{rules, ◌≡◌, ◌+◌, ℕ, List, Err, true, f
 use Rattle.std.specs.Prelude.{codes}
 use Rattle.std.specs.Str.{bytes_eq}
 use Rattle.he_text.specs.declared.fault.TextKind.TheVariants as kinds
-use Rattle.he_text.specs.Parts.{lines_of, lines_left}
+use Rattle.he_text.specs.Left.{lines_left}
+use Rattle.he_text.specs.Parts.{lines_of}
 use Rattle.he_text.specs.Reading.{read_head, read_lines, order_at_start, no_head}
 use Rattle.he_text.proofs.ReadingLaws.{lines_unwhole, lines_begin, agrees, differs}
 use Rattle.he_text.proofs.reading.read_header.Goals as goal

@@ -1,6 +1,7 @@
 use Rattle.std.proofs.Common.{rules, ◌≡◌, ℕ, List, Ok, Err, Bor, sym, ◌∙◌, ap}
 use Rattle.he_plan.specs.Race.{Race}
-use Rattle.he_text.specs.Parts.{lines_of, lines_left}
+use Rattle.he_text.specs.Left.{lines_left}
+use Rattle.he_text.specs.Parts.{lines_of}
 use Rattle.he_text.specs.Reading.{FailsAt, read_body}
 use Rattle.he_text.proofs.ReadingLaws.{shrinks, among_more, body_unwhole, body_ends, body_more, fails_body}
 use Rattle.he_text.proofs.reading.read_rest.Goals as goal

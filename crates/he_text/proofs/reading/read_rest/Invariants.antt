@@ -1,5 +1,5 @@
 use Rattle.std.proofs.Common.{◌≡◌, ◌≤◌, length}
-use Rattle.he_text.specs.Parts.{lines_left, HasRoom, IsAmong}
+use Rattle.he_text.specs.Left.{lines_left, HasRoom, IsAmong}
 use Rattle.he_text.specs.Reading.{read_body}
 use Rattle.he_text.proofs.reading.read_rest.Given as goal
 

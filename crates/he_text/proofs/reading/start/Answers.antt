@@ -1,8 +1,8 @@
 use Rattle.std.proofs.Common.{◌≡◌, ◌⊎◌, ℕ, ◌-◌, Err, sym, ◌∙◌, ap, subst, inl, inr, arith}
 use Rattle.he_text.specs.declared.fault.TextKind.{TextKind}
 use Rattle.he_text.specs.declared.fault.TextKind.TheVariants as kinds
-use Rattle.he_text.specs.Parts.{lines_left}
-use Rattle.he_text.specs.Reading.{FailsAt, race_from, settle}
+use Rattle.he_text.specs.Left.{lines_left}
+use Rattle.he_text.specs.Reading.{FailsAt, race_begun, settle}
 use Rattle.he_text.proofs.ReadingLaws.{settle_reads, settle_wrong, refused_before, not_both}
 use Rattle.he_text.proofs.reading.start.Goals as goal
 
@@ -17,7 +17,7 @@ returns-in-Err-clause-read g c = λ order.
 
 pub returns-in-Err-2-clause-read : goal.returns-in-Err-2-clause-read
 returns-in-Err-2-clause-read g c = λ order.
-    let told : (c.in-Err.kind ≡ kinds.Memory) ⊎ (race_from c.args.head ≡ Err c.in-Err.kind) = c.in-Err.ensures in
+    let told : (c.in-Err.kind ≡ kinds.Memory) ⊎ (race_begun c.args.head ≡ Err c.in-Err.kind) = c.in-Err.ensures in
     elim told [
       | inl memory ↦ absurd (not_both c.is_memory.result (c.is_memory.ensures.1 memory) c.if-is_memory.false)
       | inr wrong ↦

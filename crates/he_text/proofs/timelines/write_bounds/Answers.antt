@@ -1,12 +1,13 @@
 use Rattle.std.proofs.Common.{◌++◌, ℕ, ◌∙◌, ap, subst}
 use Rattle.std.specs.Prelude.{codes}
-use Rattle.he_text.specs.Written.{setting_text, Writes}
+use Rattle.he_text.specs.Writing.{AppendsText}
+use Rattle.he_text.specs.Written.{setting_text}
 use Rattle.he_text.proofs.WritingLaws.{writes_then}
 use Rattle.he_text.proofs.timelines.write_bounds.Goals as goal
 
 pub returns : goal.returns
 returns g c =
-    let P : ℕ → Type 0 = λ v. Writes c.write_setting-2.result c.write_setting.new.out.items c.write_setting-2.new.out.items (setting_text (codes "limit") v) in
+    let P : ℕ → Type 0 = λ v. AppendsText c.write_setting-2.result c.write_setting.new.out.items c.write_setting-2.new.out.items (setting_text (codes "limit") v) in
     writes_then c.args.out.now.items c.write_setting.new.out.items c.write_setting-2.new.out.items
     (setting_text (codes "count") c.args.settings.count)
     (setting_text (codes "limit") c.args.settings.limit)

@@ -4,7 +4,8 @@ use Rattle.std.proofs.lemmas.Grind.{flat_map-append}
 use Rattle.std.specs.List.{flat_map}
 use Rattle.he_addr.specs.declared.ip.Ip.{Ip}
 use Rattle.he_plan.specs.declared.outcome.Outcome.{Outcome}
-use Rattle.he_text.specs.Written.{outcome_text, Grows}
+use Rattle.he_text.specs.Writing.{Grows}
+use Rattle.he_text.specs.Written.{outcome_text}
 use Rattle.he_text.proofs.WritingLaws.{grows_after}
 use Rattle.he_text.proofs.timelines.write_outcomes.Goals as goal
 

@@ -1,6 +1,7 @@
 use Rattle.std.proofs.Common.{rules, take}
 use Rattle.std.specs.List.{flat_map}
-use Rattle.he_text.specs.Written.{host_source_text, Grows}
+use Rattle.he_text.specs.Writing.{Grows}
+use Rattle.he_text.specs.Written.{host_source_text}
 use Rattle.he_text.proofs.WritingLaws.{grows_after}
 use Rattle.he_text.proofs.timelines.write_sources.Goals as goal
 

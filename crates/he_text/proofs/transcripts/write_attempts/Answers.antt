@@ -1,5 +1,6 @@
 use Rattle.std.proofs.Common.{rules, take}
-use Rattle.he_text.specs.Written.{attempts_text, Grows}
+use Rattle.he_text.specs.Writing.{Grows}
+use Rattle.he_text.specs.Written.{attempts_text}
 use Rattle.he_text.proofs.WritingLaws.{grows_after}
 use Rattle.he_text.proofs.transcripts.write_attempts.Goals as goal
 

@@ -1,6 +1,6 @@
 use Rattle.std.proofs.Common.{rules, map, take}
 use Rattle.he_addr.specs.Printing.{printed}
-use Rattle.he_text.specs.Written.{spaced, Grows}
+use Rattle.he_text.specs.Writing.{spaced, Grows}
 use Rattle.he_text.proofs.WritingLaws.{grows_after}
 use Rattle.he_text.proofs.writing.write_addresses.Goals as goal
 

@@ -1,5 +1,5 @@
 use Rattle.std.proofs.Common.{map}
-use Rattle.he_text.specs.Written.{token_text}
+use Rattle.he_text.specs.Writing.{token_text}
 use Rattle.he_text.proofs.WritingLaws.{line_written}
 use Rattle.he_text.proofs.writing.write_joined.Goals as goal
 

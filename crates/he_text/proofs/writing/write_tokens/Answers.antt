@@ -1,5 +1,5 @@
 use Rattle.std.proofs.Common.{rules, map, take}
-use Rattle.he_text.specs.Written.{token_text, spaced, Grows}
+use Rattle.he_text.specs.Writing.{token_text, spaced, Grows}
 use Rattle.he_text.proofs.WritingLaws.{grows_after}
 use Rattle.he_text.proofs.writing.write_tokens.Goals as goal
 

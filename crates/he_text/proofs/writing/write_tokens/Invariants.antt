@@ -1,5 +1,5 @@
 use Rattle.std.proofs.Common.{◌≡◌, ◌++◌, map, take}
-use Rattle.he_text.specs.Written.{token_text, spaced}
+use Rattle.he_text.specs.Writing.{token_text, spaced}
 use Rattle.he_text.proofs.writing.write_tokens.Given as goal
 
 abbrev pub invariant-loop-token : goal.invariant-loop-token

@@ -2,7 +2,7 @@ use Rattle.std.proofs.Common.{rules, ◌≡◌, List, Err, sym, ◌∙◌, ap}
 use Rattle.he_addr.specs.declared.ip.Ip.{Ip}
 use Rattle.he_plan.specs.declared.limits.TheConstants.{MAX_ADDRESSES}
 use Rattle.he_text.specs.Forms.{addresses_in}
-use Rattle.he_text.specs.Parts.{tokens_left}
+use Rattle.he_text.specs.Left.{tokens_left}
 use Rattle.he_text.specs.Reading.{prepend}
 use Rattle.he_text.proofs.FormLaws.{addresses_more, addresses_wrong, addresses_end, one_fewer, has_room}
 use Rattle.he_text.proofs.forms.answers.addresses.Goals as goal

@@ -1,7 +1,7 @@
 use Rattle.std.proofs.Common.{◌≡◌, ◌+◌, ◌≤◌, length}
 use Rattle.he_plan.specs.declared.limits.TheConstants.{MAX_ADDRESSES}
 use Rattle.he_text.specs.Forms.{addresses_in}
-use Rattle.he_text.specs.Parts.{tokens_left}
+use Rattle.he_text.specs.Left.{tokens_left}
 use Rattle.he_text.specs.Reading.{prepend}
 use Rattle.he_text.proofs.forms.answers.addresses.Given as goal
 

@@ -1,5 +1,5 @@
 use Rattle.std.proofs.Common.{◌∙◌, ap, ◌∷◌, arith}
-use Rattle.he_text.specs.Parts.{lines_left, parts_behind}
+use Rattle.he_text.specs.Left.{lines_left, parts_behind}
 use Rattle.he_text.proofs.ReadingLaws.{wholeness_of}
 use Rattle.he_text.proofs.lines.Lines.next_line.Goals as goal
 

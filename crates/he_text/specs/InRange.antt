@@ -1,0 +1,28 @@
+-- The ranges that the parts of a race have in the program by their types. A race of the definitions may have others, which no
+-- text spells.
+use Rattle.std.specs.Prelude.{◌≤◌}
+use Rattle.std.specs.List.{All}
+use Rattle.he_addr.specs.Ip.{InRange}
+use Rattle.he_addr.specs.Prefix.{IsPrefix}
+use Rattle.he_plan.specs.Race.{Race, addresses_of}
+use Rattle.he_select.specs.declared.policy.Row.{Row}
+use Rattle.he_select.specs.declared.host.Source.{Source}
+use Rattle.he_select.specs.declared.host.Route.{Route}
+use Rattle.he_text.specs.Ranges.{most_precedence, most_label, most_interface}
+
+abbrev pub RowInRange : Row → Type 0
+RowInRange row = IsPrefix row.prefix.bits row.prefix.len × (row.precedence ≤ most_precedence) × (row.label ≤ most_label)
+
+abbrev pub SourceInRange : Source → Type 0
+SourceInRange source = InRange source.ip × (source.interface ≤ most_interface)
+
+abbrev pub RouteInRange : Route → Type 0
+RouteInRange route = IsPrefix route.prefix.bits route.prefix.len × (route.interface ≤ most_interface)
+
+-- the race's prefixes, addresses and 16-bit numbers are in their ranges
+pub record RaceInRange (race : Race) : Type 0 where
+  pub rows : All RowInRange race.policy
+  pub sources : All SourceInRange race.host.sources
+  pub routes : All RouteInRange race.host.routes
+  pub aaaa : All InRange (addresses_of race.aaaa)
+  pub a : All InRange (addresses_of race.a)
