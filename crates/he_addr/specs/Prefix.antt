@@ -4,6 +4,7 @@ use Rattle.he_addr.specs.declared.ip.Ip.{Ip}
 use Rattle.he_addr.specs.declared.ip.Ip.TheVariants.{V4, V6}
 use Rattle.he_addr.specs.Bits.{agrees, greatest}
 use Rattle.he_addr.specs.Ip.{mapped_of}
+use Rattle.he_addr.specs.Ranges.{v4_bits, v6_bits, mapped_len}
 
 -- the first `len` bits of `bits`, an IPv6 number; an IPv4 prefix is the mapped one
 pub record PrefixBits : Type 0 where
@@ -22,7 +23,7 @@ contains prefix ip = agrees 128 (mapped_of ip) prefix.bits prefix.len
 
 -- inside ::ffff:0:0/96: the prefix of IPv4 addresses alone
 abbrev pub is_inside_mapped : PrefixBits → Bool
-is_inside_mapped prefix = nat_le 96 prefix.len && agrees 128 prefix.bits (0xffff * 2 ^ 32) 96
+is_inside_mapped prefix = nat_le mapped_len prefix.len && agrees 128 prefix.bits (0xffff * 2 ^ 32) 96
 
 -- the common prefix length of a source and a destination (RFC 6724 section 2.2): the greatest number of leading bits,
 -- at most the source's prefix length, that two addresses of one family have in common
@@ -33,5 +34,5 @@ common_of _ len _ = 0
 
 -- how many bits an address of its family has
 abbrev pub width_of : Ip → ℕ
-width_of (V4 n) = 32
-width_of (V6 n) = 128
+width_of (V4 n) = v4_bits
+width_of (V6 n) = v6_bits

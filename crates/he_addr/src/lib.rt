@@ -25,8 +25,6 @@
 
 pub mod common;
 pub mod decimal;
-mod dotted;
-mod groups;
 pub mod ip;
 pub mod laws;
 pub mod memory;
