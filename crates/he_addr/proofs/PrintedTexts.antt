@@ -15,7 +15,7 @@ use Rattle.he_addr.specs.declared.ip.Ip.{Ip}
 use Rattle.he_addr.specs.declared.ip.Ip.TheVariants.{V4, V6}
 use Rattle.he_addr.specs.Ip.{InRange}
 use Rattle.he_addr.specs.Prefix.{PrefixBits, is_inside_mapped}
-use Rattle.he_addr.specs.Printed.{dotted, groups_of, hex, joined, IsZeroRun, shortened, IsPrintedV6, IsPrinted, IsPrintedSource, source_of, IsPrintedPrefix}
+use Rattle.he_addr.specs.Printed.{dotted, groups_of, hex, joined, IsZeroRun, shortened, IsPrintedV6, IsPrinted, IsPrintedSource, shown_as, IsPrintedPrefix}
 use Rattle.he_addr.specs.Printing.{longest, printed_groups, printed_v6, printed, source_text, prefix_text}
 use Rattle.he_addr.specs.Text.{Spells}
 use Rattle.he_addr.proofs.HexDigits.{length-hex}
@@ -67,17 +67,17 @@ source_form : (b : Bool) (x y : Ip × ℕ) → source_text (cond b x y).0 (cond 
 source_form true x y = refl
 source_form false x y = refl
 
-prefix_form : (is_dotted : Bool) (prefix : PrefixBits) → source_text (source_of is_dotted prefix).0 (source_of is_dotted prefix).1 ≡ prefix_text is_dotted prefix
+prefix_form : (is_dotted : Bool) (prefix : PrefixBits) → source_text (shown_as is_dotted prefix).0 (shown_as is_dotted prefix).1 ≡ prefix_text is_dotted prefix
 prefix_form is_dotted prefix = source_form (is_dotted && is_inside_mapped prefix) (V4 (prefix.bits % 2 ^ 32), prefix.len - 96) (V6 prefix.bits, prefix.len)
 
 pub printed_prefix : (is_dotted : Bool) (prefix : PrefixBits) → IsPrintedPrefix is_dotted prefix (prefix_text is_dotted prefix)
 printed_prefix is_dotted prefix =
-    let source = source_of is_dotted prefix in
+    let source = shown_as is_dotted prefix in
     subst (IsPrintedSource source.0 source.1) (prefix_form is_dotted prefix) (printed_source source.0 source.1)
 
 pub IsPrintedPrefix_only : (is_dotted : Bool) (prefix : PrefixBits) (text : List ℕ) → IsPrintedPrefix is_dotted prefix text → text ≡ prefix_text is_dotted prefix
 IsPrintedPrefix_only is_dotted prefix text h =
-    let source = source_of is_dotted prefix in
+    let source = shown_as is_dotted prefix in
     IsPrintedSource_only source.0 source.1 text h ∙ prefix_form is_dotted prefix
 
 -- groups of sixteen bits
