@@ -48,10 +48,21 @@ abbrev pub scope_of : Ip → ℕ
 scope_of (V4 n) = if is_link_local_v4 n then link_local_scope else global_scope
 scope_of (V6 n) = if is_link_local_v6 n then link_local_scope else if is_site_local_v6 n then site_local_scope else global_scope
 
--- neither the unspecified address, nor multicast, nor an IPv6 address in ::ffff:0:0/96
+-- 224.0.0.0/4 (RFC 5771) and ff00::/8 (RFC 4291 section 2.7)
+abbrev pub is_multicast_v4 : ℕ → Bool
+is_multicast_v4 n = agrees 32 n 0xe000_0000 4
+
+abbrev pub is_multicast_v6 : ℕ → Bool
+is_multicast_v6 n = agrees 128 n (0xff00 * 2 ^ 112) 8
+
+-- ::ffff:0:0/96 (RFC 4291 section 2.5.5.2)
+abbrev pub is_mapped_v6 : ℕ → Bool
+is_mapped_v6 n = agrees 128 n (0xffff * 2 ^ 32) 96
+
+-- neither the unspecified address, nor multicast, nor an IPv6 address that stands for an IPv4 one
 abbrev pub is_usable : Ip → Bool
-is_usable (V4 n) = not (n == 0) && not (agrees 32 n 0xe000_0000 4)
-is_usable (V6 n) = not (n == 0) && not (agrees 128 n (0xff00 * 2 ^ 112) 8) && not (agrees 128 n (0xffff * 2 ^ 32) 96)
+is_usable (V4 n) = not (n == 0) && not (is_multicast_v4 n)
+is_usable (V6 n) = not (n == 0) && not (is_multicast_v6 n) && not (is_mapped_v6 n)
 
 -- an address that may be tried
 abbrev pub IsUsable : Ip → Type 0
