@@ -1,3 +1,4 @@
+pub mod Agreement
 pub mod Attempts
 pub mod Building
 pub mod Equality

@@ -26,6 +26,7 @@
 //! Tested only: that a call succeeds where memory is granted.
 #![tactic(auto)]
 
+pub mod agreement;
 pub mod attempts;
 pub mod builder;
 mod fates;
