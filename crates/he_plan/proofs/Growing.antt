@@ -54,7 +54,7 @@ free_from low (p ∷ pauses) t are over =
     ends_late low (q ∷ qs) are =
         let after : low ≤ q.0 = le_from low q.0 (and_left _ _ (and_left _ _ (and_left _ _ are))) in
         let some : q.0 < q.1 = lt_from q.0 q.1 (and_right _ _ (and_left _ _ (and_left _ _ are))) in
-        omega (arith, ends_late q.1 qs (and_right _ _ are))
+        omega (arith, after, some, ends_late q.1 qs (and_right _ _ are))
 
 pub pauses-over : (race : Race) → IsRace race → (t : ℕ) → last_end race.pauses ≤ t → IsFree race t
 pauses-over race r t over = free_from 0 race.pauses t r.pauses (let e : last_end race.pauses ≡ end_from 0 race.pauses = end_from-is 0 race.pauses in omega arith)

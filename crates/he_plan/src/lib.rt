@@ -29,6 +29,7 @@
 pub mod agreement;
 pub mod attempts;
 pub mod builder;
+pub mod due;
 mod fates;
 pub mod finish;
 pub mod interlacing;
