@@ -18,6 +18,7 @@ use Rattle.he_plan.specs.Settings.{IsSettings, SettingValues}
 use Rattle.he_plan.specs.Timeline.{IsRace, are_pauses}
 use Rattle.he_plan.proofs.Bools.{above, and_left, and_right, before, le_from, le_test, lt_from, lt_test, or_left_none, or_none, or_right, or_right_none, outside}
 use Rattle.he_plan.proofs.Lawful.{is_paused-more}
+use Rattle.he_plan.proofs.Seen.{IsFirst, first}
 use Rattle.he_plan.proofs.Ranges.{IsRace-with_answer, IsRace-with_outcome, IsRace-with_pause, end_from, end_from-is}
 use Rattle.he_select.specs.declared.policy.Row.{Row}
 use Rattle.he_select.specs.Hosts.{Interfaces, IsHost}
@@ -52,9 +53,8 @@ free_from low (p ∷ pauses) t are over =
     ends_late : (low : ℕ) (pauses : List (ℕ × ℕ)) → are_pauses low pauses ≡ true → low ≤ end_from low pauses
     ends_late low [] are = omega arith
     ends_late low (q ∷ qs) are =
-        let after : low ≤ q.0 = le_from low q.0 (and_left _ _ (and_left _ _ (and_left _ _ are))) in
-        let some : q.0 < q.1 = lt_from q.0 q.1 (and_right _ _ (and_left _ _ (and_left _ _ are))) in
-        omega (arith, after, some, ends_late q.1 qs (and_right _ _ are))
+        let f : IsFirst low q qs = first low q qs are in
+        omega (arith, f.after, f.some, ends_late q.1 qs f.rest)
 
 pub pauses-over : (race : Race) → IsRace race → (t : ℕ) → last_end race.pauses ≤ t → IsFree race t
 pauses-over race r t over = free_from 0 race.pauses t r.pauses (let e : last_end race.pauses ≡ end_from 0 race.pauses = end_from-is 0 race.pauses in omega arith)

@@ -10,20 +10,18 @@ use Rattle.he_addr.specs.Ip.{InRange, is_usable}
 use Rattle.he_plan.specs.declared.attempts.Attempt.{Attempt}
 use Rattle.he_plan.specs.declared.finish.Fate.{Fate}
 use Rattle.he_plan.specs.declared.finish.Fate.TheVariants.{Succeeded, Failed, Running, Skipped}
-use Rattle.he_plan.specs.declared.outcome.Outcome.{Outcome}
-use Rattle.he_plan.specs.declared.outcome.Outcome.TheVariants as outcomes
 use Rattle.he_plan.specs.declared.transcript.Line.{Line}
 use Rattle.he_plan.specs.declared.transcript.Mark.{Mark}
 use Rattle.he_plan.specs.declared.transcript.Mark.TheVariants as marks
 use Rattle.he_plan.specs.Attempts.{AreAttempts, Continues, Follow, MayStart, is_tried, is_untried, received, received_of, seen}
-use Rattle.he_plan.specs.Finish.{fate_by, fate_of, finish_of, outcome_of, known_at, known_by, IsWinner}
+use Rattle.he_plan.specs.Finish.{fate_of, outcome_of, known_at, known_by, IsWinner}
 use Rattle.he_plan.specs.Planning.{told_line, told_lines}
 use Rattle.he_plan.specs.Race.{Race, Reply, addresses_of}
 use Rattle.he_plan.specs.Timeline.{IsRace}
 use Rattle.he_plan.specs.Transcript.{AreKnown, IsTranscript, failed_mark, is_tried_out, is_place, line_of, lines_of, mark_at, result_of, stop_of}
 use Rattle.he_plan.proofs.Bools.{and_left, and_right, clash, or_none, le_from, le_test, not_lt}
 use Rattle.he_plan.proofs.Existing.{plan-some}
-use Rattle.he_plan.proofs.Finishing.{success-in_range, failure-in_range}
+use Rattle.he_plan.proofs.Finishing.{success-in_range, failure-in_range, not_skipped}
 use Rattle.he_plan.proofs.Lawful.{attempts-prefix}
 use Rattle.he_plan.proofs.Planned.{starts_any}
 use Rattle.he_plan.proofs.Starting.{any_filter}
@@ -58,19 +56,6 @@ known_success : (race : Race) (stop finish : ℕ) (xs later : List Attempt) (i :
 known_success race stop finish [] later i h = cc
 known_success race stop finish (x ∷ xs) later zero h = ap Some (known_is stop finish (fate_of race x) (fate_is _ _ h))
 known_success race stop finish (x ∷ xs) later (suc i) h = known_success race stop finish xs later i h
-
-not_skipped : (race : Race) (start : ℕ) (outcome : Option Outcome) → fate_by race start outcome ≡ Skipped → ⊥
-not_skipped race start None h = cc
-not_skipped race start (Some (outcomes.Ok duration)) h = by_limit (nat_le (finish_of race start duration) race.settings.limit) h
-  where
-    by_limit : (b : Bool) → (if b then Succeeded (finish_of race start duration) else Running) ≡ Skipped → ⊥
-    by_limit true h = cc
-    by_limit false h = cc
-not_skipped race start (Some (outcomes.Fail duration)) h = by_limit (nat_le (finish_of race start duration) race.settings.limit) h
-  where
-    by_limit : (b : Bool) → (if b then Failed (finish_of race start duration) else Running) ≡ Skipped → ⊥
-    by_limit true h = cc
-    by_limit false h = cc
 
 -- what starts at the stop or later succeeds after it
 late_success : (race : Race) → IsRace race → (stop finish : ℕ) (later : List Attempt) (i : ℕ) → list_all (λ (x : Attempt). nat_le stop x.tick) later ≡ true → slice_get (map (fate_of race) later) i ≡ Some (Succeeded finish) → stop < finish

@@ -197,14 +197,16 @@ impl<A: Allocator> Timeline<A> {
 
     /// The policy table by which addresses are ordered.
     pub fn policy(&self) -> &Policy<A>
-        ensures { result.now ≡ self.now.policy }
+        ensures value { result.now ≡ self.now.policy }
+        ensures race { IsRace self.now }
     {
         &self.policy
     }
 
     /// The host from which connections are made: its sources and routes.
     pub fn host(&self) -> &Host<A>
-        ensures { result.now ≡ self.now.host }
+        ensures value { result.now ≡ self.now.host }
+        ensures race { IsRace self.now }
     {
         &self.host
     }
@@ -226,7 +228,8 @@ impl<A: Allocator> Timeline<A> {
 
     /// The addresses that have an outcome, in the order in which they were given; every other one is silent.
     pub fn outcomes(&self) -> Slice<'_, Ip, Outcome>
-        ensures { result ≡ self.now.outcomes }
+        ensures value { result ≡ self.now.outcomes }
+        ensures race { IsRace self.now }
     {
         self.outcomes.as_slice()
     }
