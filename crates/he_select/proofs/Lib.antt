@@ -2,11 +2,12 @@ pub mod Arranged
 pub mod Causes
 pub mod Chosen
 pub mod Counting
+pub mod Equality
 pub mod Families
 pub mod Inserted
 pub mod Keyed
-pub mod Listing
 pub mod LawsOfOrder
+pub mod Listing
 pub mod LookUps
 pub mod Ordered
 pub mod Orders

@@ -1,4 +1,5 @@
 pub mod DestinationKeys
+pub mod Equality
 pub mod Hosts
 pub mod Keys
 pub mod Laws
