@@ -1,6 +1,6 @@
 -- The addresses of an answer, read one after the other.
-use Rattle.std.proofs.Common.{◌≡◌, ℕ, List, [], ◌∷◌, ◌++◌, Result, Ok, Err, refl, sym, ◌∙◌, ap, append_assoc}
-use Rattle.std.proofs.lemmas.List.{append-nil}
+use Rattle.std.proofs.Common.{◌≡◌, ℕ, ◌+◌, ◌<◌, ◌≤◌, List, [], ◌∷◌, ◌++◌, length, Result, Ok, Err, refl, sym, ◌∙◌, ap, arith, append_assoc}
+use Rattle.std.proofs.lemmas.List.{append-nil, length-append}
 use Rattle.he_addr.specs.declared.ip.Family.{Family}
 use Rattle.he_addr.specs.declared.ip.Ip.{Ip}
 use Rattle.he_text.specs.declared.fault.TextKind.{TextKind}
@@ -31,3 +31,13 @@ addresses_wrong ips family tokens more token kind is read =
 pub addresses_end : (ips : List Ip) (family : Family) (tokens : List (List ℕ)) → tokens ≡ [] → prepend ips (addresses_in family tokens) ≡ Ok ips
 unfolding addresses_in
 addresses_end ips family tokens is = ap (λ ts. prepend ips (addresses_in family ts)) is ∙ ap Ok (append-nil ips)
+
+-- as many addresses more as tokens are read
+pub one_fewer : (ips pushed : List Ip) (ip : Ip) (tokens more : List (List ℕ)) (token : List ℕ) (most : ℕ) → pushed ≡ ips ++ ip ∷ [] → tokens ≡ token ∷ more → length ips + length tokens ≤ most → length pushed + length more ≤ most
+one_fewer ips pushed ip tokens more token most one is within =
+    let longer : length pushed ≡ length ips + 1 = ap length one ∙ length-append ips (ip ∷ []) in
+    let fewer : length tokens ≡ length (token ∷ more) = ap length is in
+    omega arith
+
+pub has_room : (ips : List Ip) (tokens more : List (List ℕ)) (token : List ℕ) (most : ℕ) → tokens ≡ token ∷ more → length ips + length tokens ≤ most → length ips < most
+has_room ips tokens more token most is within = let fewer : length tokens ≡ length (token ∷ more) = ap length is in omega arith

@@ -1,4 +1,5 @@
 mod Agreement
+mod Beginnings
 mod Checks
 mod CompleteChecks
 mod CompleteFaults
@@ -33,5 +34,6 @@ mod Results
 mod SaidLaws
 mod SaysLaws
 mod SelectionFacts
+mod Tables
 mod ToldLaws
 mod WritingLaws

@@ -1,6 +1,6 @@
 -- Reading on, line by line.
 use Rattle.std.proofs.Common.{◌≡◌, ◌==◌, ℕ, ◌+◌, ◌<◌, ◌≤◌, Bool, true, false, not, cond, List, [], ◌∷◌, length, Option, Some, None, Result, Ok, Err, Bor, refl, sym, ◌∙◌, ap, subst, inl, inr, arith}
-use Rattle.std.specs.Prelude.{IfErr, codes}
+use Rattle.std.specs.Prelude.{IsOk, IfErr, codes}
 use Rattle.std.specs.Str.{bytes_eq}
 use Rattle.std.proofs.lemmas.Bool.{le-ltb}
 use Rattle.std.proofs.lemmas.List.Splits.{length-slice_split}
@@ -11,8 +11,10 @@ use Rattle.he_text.specs.declared.fault.TextKind.TheVariants as kinds
 use Rattle.he_text.specs.declared.limits.TheConstants.{MAX_LINE}
 use Rattle.he_text.specs.declared.words.Word.{Word}
 use Rattle.he_text.specs.Forms.{◌>>=◌}
-use Rattle.he_text.specs.Parts.{parts_of, tokens_of}
+use Rattle.he_text.specs.Parts.{parts_of, lines_of, lines_left, tokens_of, IsAmong}
+use Rattle.he_text.specs.declared.lines.Lines.{Lines}
 use Rattle.he_text.specs.Reading.{Fails, FailsAt, at_line, ended_by, wholeness, take_line, read_body, HeadGiven, head_of, take_head, race_from, settle, read_head, read_lines, order_at_start, no_head}
+use Rattle.he_text.specs.Text.{IsLineOf}
 use Rattle.he_text.specs.Words.{is_end}
 
 ended_by_some : (parts : List (List ℕ)) → 0 < length parts → ended_by parts ≡ Ok tt
@@ -147,13 +149,24 @@ head_not_before n order given (line ∷ after) =
     by_head None later = settle_not_before n order (line ∷ after) (race_from given)
     by_head (Some parts) later = taken_not_before n after (take_head after parts order given) later
 
+above : (n : ℕ) (read : Result (Race × List (List ℕ)) (ℕ × TextKind)) → IfErr read (λ fault. n + 1 ≤ fault.0) → IfErr read (λ fault. n < fault.0)
+above n (Ok x) h = tt
+above n (Err fault) h = omega arith
+
+taken_is : {B : Type 0} (taken : Result B TextKind) → IsOk taken → (x : B) × (taken ≡ Ok x)
+taken_is (Ok x) h = (x, refl)
+taken_is (Err kind) h = cc
+
 -- a line of the first groups that is refused, for its fault or for memory
 pub fails_head : (n : ℕ) (order : Order) (given : HeadGiven) (parts : Word × List (List ℕ)) (lines after : List (List ℕ)) (line : List ℕ) (kind : TextKind) (read : Result (Race × List (List ℕ)) (ℕ × TextKind))
     → read ≡ read_head n order given lines → lines ≡ line ∷ after → wholeness lines ≡ Ok tt → head_of (tokens_of line) ≡ Some parts
     → Fails kind (take_head after parts order given) → FailsAt n kind read
 fails_head n order given parts lines after line kind read reads is whole some fails = elim fails [
-  | inl memory ↦ let P : Result (Race × List (List ℕ)) (ℕ × TextKind) → Type 0 = λ r. IfErr r (λ fault. n ≤ fault.0) in
-      inl (memory, subst P (sym reads) (head_not_before n order given lines))
+  | inl memory ↦
+      let P : Result (Race × List (List ℕ)) (ℕ × TextKind) → Type 0 = λ r. IfErr r (λ fault. n < fault.0) in
+      let taken = taken_is (take_head after parts order given) memory.1 in
+      let more : read_head n order given lines ≡ read_head (n + 1) taken.0.0 taken.0.1 after = head_more n order taken.0.0 given taken.0.1 parts lines after line is whole some taken.1 in
+      inl (memory.0, subst P (sym (reads ∙ more)) (above n _ (head_not_before (n + 1) taken.0.0 taken.0.1 after)))
   | inr wrong ↦ inr (reads ∙ head_wrong n order given parts lines after line kind is whole some wrong)
 ]
 
@@ -162,17 +175,26 @@ pub fails_body : (n : ℕ) (order : Order) (race : Race) (lines after : List (Li
     → read ≡ read_body n order race lines → lines ≡ line ∷ after → wholeness lines ≡ Ok tt
     → Fails kind (take_line (tokens_of line) order race) → FailsAt n kind read
 fails_body n order race lines after line kind read reads is whole fails = elim fails [
-  | inl memory ↦ let P : Result (Race × List (List ℕ)) (ℕ × TextKind) → Type 0 = λ r. IfErr r (λ fault. n ≤ fault.0) in
-      inl (memory, subst P (sym reads) (body_not_before n order race lines))
+  | inl memory ↦
+      let P : Result (Race × List (List ℕ)) (ℕ × TextKind) → Type 0 = λ r. IfErr r (λ fault. n < fault.0) in
+      let taken = taken_is (take_line (tokens_of line) order race) memory.1 in
+      let next : Word × Order × Race = taken.0 in
+      let more : read_body n order race lines ≡ cond (is_end next.0) (Ok (next.2, after)) (read_body (n + 1) next.1 next.2 after) =
+      body_whole n order race lines after line is whole ∙ ap (body_after n after) taken.1 in
+      inl (memory.0, subst P (sym (reads ∙ more)) (by_end next (is_end next.0)))
   | inr wrong ↦ inr (reads ∙ body_wrong n order race lines after line kind is whole wrong)
 ]
+  where
+    by_end : (next : Word × Order × Race) (b : Bool) → IfErr (cond b (Ok (next.2, after)) (read_body (n + 1) next.1 next.2 after)) (λ fault. n < fault.0)
+    by_end next true = tt
+    by_end next false = above n _ (body_not_before (n + 1) next.1 next.2 after)
 
 -- what the lines of the first groups make
 pub settle_reads : (n : ℕ) (order : Order) (given : HeadGiven) (lines : List (List ℕ)) (race : Race) → race_from given ≡ Ok race → settle n order given lines ≡ read_body n order race lines
 unfolding settle
 settle_reads n order given lines race h = ap (λ s. at_line n s >>= λ race. read_body n order race lines) h
 
-settle_wrong : (n : ℕ) (order : Order) (given : HeadGiven) (lines : List (List ℕ)) (kind : TextKind) → race_from given ≡ Err kind → settle n order given lines ≡ Err (n, kind)
+pub settle_wrong : (n : ℕ) (order : Order) (given : HeadGiven) (lines : List (List ℕ)) (kind : TextKind) → race_from given ≡ Err kind → settle n order given lines ≡ Err (n, kind)
 unfolding settle
 settle_wrong n order given lines kind h = ap (λ s. at_line n s >>= λ race. read_body n order race lines) h
 
@@ -180,13 +202,13 @@ settled_not_before : (n : ℕ) (order : Order) (given : HeadGiven) (lines : List
 unfolding settle
 settled_not_before n order given lines = settle_not_before n order lines (race_from given)
 
-pub fails_settled : (n : ℕ) (order : Order) (given : HeadGiven) (lines : List (List ℕ)) (kind : TextKind) (read : Result (Race × List (List ℕ)) (ℕ × TextKind))
-    → read ≡ settle n order given lines → Fails kind (race_from given) → FailsAt n kind read
-fails_settled n order given lines kind read reads fails = elim fails [
-  | inl memory ↦ let P : Result (Race × List (List ℕ)) (ℕ × TextKind) → Type 0 = λ r. IfErr r (λ fault. n ≤ fault.0) in
-      inl (memory, subst P (sym reads) (settled_not_before n order given lines))
-  | inr wrong ↦ inr (reads ∙ settle_wrong n order given lines kind wrong)
-]
+below_here : (n m : ℕ) (read : Result (Race × List (List ℕ)) (ℕ × TextKind)) → m < n → IfErr read (λ fault. n ≤ fault.0) → IfErr read (λ fault. m < fault.0)
+below_here n m (Ok x) lt h = tt
+below_here n m (Err fault) lt h = omega arith
+
+-- memory was refused before line n
+pub refused_before : (n m : ℕ) (order : Order) (given : HeadGiven) (lines : List (List ℕ)) → m < n → FailsAt m kinds.Memory (settle n order given lines)
+refused_before n m order given lines lt = inl (refl, below_here n m _ lt (settled_not_before n order given lines))
 
 -- the first line
 abbrev pub begin : List ℕ → List (List ℕ) → Bool → Result (Race × List (List ℕ)) (ℕ × TextKind)
@@ -213,6 +235,38 @@ pub differs : (b : Bool) → true ≡ not b → b ≡ false
 differs true h = cc
 differs false h = refl
 
+pub not_both : (b : Bool) → b ≡ true → b ≡ false → ⊥
+not_both true is other = cc
+not_both false is other = cc
+
 -- what stands behind a line is no longer than the text
 pub shrinks : (new rest old : Bor (List ℕ)) {n : ℕ} → new ≡ rest → length rest.now < length old.now → length old.now ≤ n → length new.now ≤ n
 shrinks new rest old {n} same shorter within = let P : Bor (List ℕ) → Type 0 = λ r. length r.now ≤ n in subst P (sym same) (omega arith)
+
+-- a line more was passed
+pub among_more : (first old new : Lines) (line : List ℕ) (rest : Bor (List ℕ)) → IsAmong first old → lines_left old ≡ line ∷ lines_of rest.now → new.rest ≡ rest → new.number ≡ old.number + 1 → IsAmong first new
+among_more first old new line rest among parts same number =
+    let one : length (lines_left old) ≡ length (line ∷ lines_of rest.now) = ap length parts in
+    let here : length (lines_left new) ≡ length (lines_of rest.now) = ap (λ (r : Bor (List ℕ)). length (lines_of r.now)) same in
+    let above : first.number ≤ old.number = among.0 in
+    let count : old.number + length (lines_left old) ≡ first.number + length (lines_left first) = among.1 in
+    (omega arith, omega arith)
+
+-- a line that is reached is one of the text
+pub line_in : (text : Bor (List ℕ)) (first now : Lines) (n : ℕ) → IsAmong first now → first.rest ≡ text → first.number ≡ 1 → 1 ≤ n → n ≤ now.number → IsLineOf text.now n
+line_in text first now n among same one least most =
+    let some : 0 < length (lines_left now) = omega (arith, length-slice_split (λ b. b == 10) now.rest.now) in
+    let count : now.number + length (lines_left now) ≡ first.number + length (lines_left first) = among.1 in
+    let all : length (lines_left first) ≡ length (lines_of text.now) = ap (λ (r : Bor (List ℕ)). length (lines_of r.now)) same in
+    (least, omega arith)
+
+pub line_at : (text : Bor (List ℕ)) (first now : Lines) (n : ℕ) → IsAmong first now → first.rest ≡ text → first.number ≡ 1 → n ≡ now.number → IsLineOf text.now n
+line_at text first now n among same one is =
+    let above : first.number ≤ now.number = among.0 in
+    line_in text first now n among same one (omega arith) (omega arith)
+
+pub among_both : (first next now : Lines) → IsAmong first next → IsAmong next now → IsAmong first now
+among_both first next now one other =
+    let a : first.number ≤ next.number = one.0 in
+    let b : next.number ≤ now.number = other.0 in
+    (omega arith, other.1 ∙ one.1)

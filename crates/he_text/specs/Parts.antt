@@ -1,6 +1,6 @@
 -- What a text is cut into. The last part of a text stands behind its last line end, so it is no whole line; where the text
 -- ends with a whole line it is empty.
-use Rattle.std.specs.Prelude.{ℕ, ◌+◌, ◌^◌, ◌<◌, ◌==◌, length, List, [], Option, Some, None}
+use Rattle.std.specs.Prelude.{ℕ, ◌≡◌, ◌+◌, ◌^◌, ◌<◌, ◌≤◌, ◌==◌, length, List, [], Option, Some, None}
 use Rattle.std.specs.Borrow.{Bor}
 use Rattle.std.specs.List.{slice_split}
 use Rattle.he_text.specs.declared.parts.TheConstants.{LINE_END, TOKEN_END}
@@ -35,3 +35,7 @@ lines_left lines = lines_of lines.rest.now
 -- the lines can be counted: each has a byte
 abbrev pub HasRoom : Lines → Type 0
 HasRoom lines = lines.number + length lines.rest.now < 2 ^ 64
+
+-- what is left is so much less as lines were passed
+abbrev pub IsAmong : Lines → Lines → Type 0
+IsAmong old new = (old.number ≤ new.number) × (new.number + length (lines_left new) ≡ old.number + length (lines_left old))

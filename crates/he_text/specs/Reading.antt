@@ -1,6 +1,6 @@
 -- What the private readers answer, as functions on lists. They help the proofs; what the lines of a race are stands in
 -- `Text`, what is wrong with them in `Faults`.
-use Rattle.std.specs.Prelude.{ℕ, ◌≡◌, ◌⊎◌, ◌≤◌, ◌+◌, ◌++◌, ◌==◌, ◌&&◌, Bool, List, [], ◌∷◌, length, Option, Some, None, option_map, Result, Ok, Err, if◌then◌else◌, nat_le, nat_lt, unwrap_or, IfErr, codes}
+use Rattle.std.specs.Prelude.{ℕ, ◌≡◌, ◌⊎◌, ◌<◌, ◌+◌, ◌++◌, ◌==◌, ◌&&◌, Bool, List, [], ◌∷◌, length, Option, Some, None, option_map, Result, Ok, Err, if◌then◌else◌, nat_le, nat_lt, unwrap_or, IsOk, IfErr, codes}
 use Rattle.std.specs.List.{list_any}
 use Rattle.std.specs.Option.{option_map_or}
 use Rattle.std.specs.Str.{bytes_eq}
@@ -37,9 +37,9 @@ use Rattle.he_text.specs.Forms.{◌>>=◌, word_of, setting_in, row_in, host_sou
 use Rattle.he_text.specs.Parts.{tokens_of}
 use Rattle.he_text.specs.Words.{group_of, most_lines, is_head_word, is_policy, is_end}
 
--- a call that failed did so as `read` does, unless it was for memory
+-- a call that failed did so as `read` does, or was refused memory where `read` finds nothing wrong
 abbrev pub Fails : {B : Type 0} → TextKind → Result B TextKind → Type 0
-Fails kind read = (kind ≡ kinds.Memory) ⊎ (read ≡ Err kind)
+Fails kind read = ((kind ≡ kinds.Memory) × IsOk read) ⊎ (read ≡ Err kind)
 
 -- some addresses, and then what is read of the others
 abbrev pub prepend : List Ip → Result (List Ip) TextKind → Result (List Ip) TextKind
@@ -248,6 +248,6 @@ read_lines (line ∷ after) =
     at_line 1 (wholeness (line ∷ after)) >>= λ _.
     if bytes_eq line (codes "race 1") then read_head 2 order_at_start no_head after else Err (1, kinds.Header)
 
--- a failed reading did so at line n as `read` does, or was refused memory there, where nothing above it is wrong
+-- a failed reading did so at line n as `read` does, or was refused memory there, where nothing is wrong up to this line
 abbrev pub FailsAt : {B : Type 0} → ℕ → TextKind → Result B (ℕ × TextKind) → Type 0
-FailsAt n kind read = ((kind ≡ kinds.Memory) × IfErr read (λ fault. n ≤ fault.0)) ⊎ (read ≡ Err (n, kind))
+FailsAt n kind read = ((kind ≡ kinds.Memory) × IfErr read (λ fault. n < fault.0)) ⊎ (read ≡ Err (n, kind))

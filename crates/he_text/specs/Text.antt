@@ -115,6 +115,10 @@ pub record IsRaceText (text : List ℕ) (race : Race) : Type 0 where
 abbrev pub BeginsWithRace : List ℕ → Type 0
 BeginsWithRace text = (front : List ℕ) × (rest : List ℕ) × (race : Race) × (text ≡ front ++ rest) × IsRaceText front race
 
--- the fault of a reading is the text's, or memory was refused on a line above which nothing is wrong
+-- the number of a line of the text, or of what stands behind the last one
+abbrev pub IsLineOf : List ℕ → ℕ → Type 0
+IsLineOf text line = (1 ≤ line) × (line ≤ length (lines_of text))
+
+-- the fault of a reading is the text's, or memory was refused at a line up to which nothing is wrong, it included
 abbrev pub TellsFault : ℕ → TextKind → Option (ℕ × TextKind) → Type 0
-TellsFault line kind fault = ((kind ≡ kinds.Memory) × MatchOption fault (Unit {0}) (λ f. line ≤ f.0)) ⊎ (fault ≡ Some (line, kind))
+TellsFault line kind fault = ((kind ≡ kinds.Memory) × MatchOption fault (Unit {0}) (λ f. line < f.0)) ⊎ (fault ≡ Some (line, kind))

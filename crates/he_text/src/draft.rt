@@ -1,6 +1,6 @@
 // What is known of a race while its lines are read.
 
-ghost use Rattle.std.specs.Prelude.{◌≡◌, ◌⊎◌, Ok, Err, MatchResult};
+ghost use Rattle.std.specs.Prelude.{◌≡◌, ◌⊎◌, IsOk, Ok, Err, MatchResult};
 ghost use Rattle.he_text.specs.Parts.{tokens_left};
 ghost use Rattle.he_text.specs.Reading.{Fails, admit, once, put, settings_from, take_answer, take_told, order_at_start, none_given};
 
@@ -122,22 +122,20 @@ fn once(given: Option<u64>, value: u64) -> Result<Option<u64>, TextKind>
 
 #[tactic(auto, unfolding(crate::specs::Reading::take_answer))]
 fn take_answer<A: Allocator + Copy>(
-    alloc: A,
     family: Family,
     tokens: Tokens,
     race: &mut TimelineBuilder<A>,
 ) -> Result<(), TextKind>
     ensures { MatchResult result (λ _. take_answer family (tokens_left tokens.entry) race.old ≡ Ok race.new) (λ kind. Fails kind (take_answer family (tokens_left tokens.entry) race.old)) }
 {
-    let (tick, ips) = forms::answer(alloc, family, tokens)?;
-    race.answer(family, tick, &ips)?;
+    let (tick, ips) = forms::answer(family, tokens)?;
+    race.answer(family, tick, ips.as_slice())?;
     Ok(())
 }
 
 // Adds what a line of the other groups tells, behind its word, to the race.
 #[tactic(auto, unfolding(crate::specs::Reading::take_told))]
 pub(crate) fn take<A: Allocator + Copy>(
-    alloc: A,
     word: Word,
     tokens: Tokens,
     race: &mut TimelineBuilder<A>,
@@ -145,8 +143,8 @@ pub(crate) fn take<A: Allocator + Copy>(
     ensures { MatchResult result (λ _. take_told word (tokens_left tokens.entry) race.old ≡ Ok race.new) (λ kind. Fails kind (take_told word (tokens_left tokens.entry) race.old)) }
 {
     match word {
-        Word::Aaaa => take_answer(alloc, Family::V6, tokens, race),
-        Word::A => take_answer(alloc, Family::V4, tokens, race),
+        Word::Aaaa => take_answer(Family::V6, tokens, race),
+        Word::A => take_answer(Family::V4, tokens, race),
         Word::Connect => {
             let (ip, outcome) = forms::connect(tokens, race)?;
             race.outcome(ip, outcome)?;

@@ -1,6 +1,9 @@
 // What the lines of the first four groups give: where a race runs.
 
-ghost use Rattle.std.specs.Prelude.{◌≡◌, ◌⊎◌, Ok, Err, MatchResult};
+ghost use Rattle.std.specs.Prelude.{◌≡◌, ◌⊎◌, ◌++◌, [], ◌∷◌, Ok, Err, IsOk, option_map, MatchResult};
+ghost use Rattle.std.specs.Option.{option_map_or};
+ghost use Rattle.he_select.specs.Tables.{table_fault};
+ghost use Rattle.he_text.specs.declared.fault.TextKind.TheVariants as kinds;
 ghost use Rattle.he_text.specs.Parts.{tokens_left};
 ghost use Rattle.he_text.specs.Reading.{Fails, no_head, add_setting, add_row, add_source, add_route, take_given, policy_from, host_from, race_from};
 
@@ -10,6 +13,7 @@ use crate::forms;
 use crate::parts::Tokens;
 use crate::words::{Name, Word};
 use he_plan::TimelineBuilder;
+use he_select::limits::ROWS;
 use he_select::{Host, Policy, PolicyFault, Route, Row, Source};
 use std::alloc::Allocator;
 use std::marker::Model;
@@ -59,14 +63,11 @@ impl<A: Allocator + Copy> Head<A> {
         if row.repeats(&self.rows) {
             return Err(TextKind::Repeated);
         }
+        if !more {
+            check_table(&self.rows, row)?;
+        }
         self.rows.push(row)?;
-        if more {
-            return Ok(());
-        }
-        match PolicyFault::find(&self.rows) {
-            None => Ok(()),
-            Some(fault) => Err(TextKind::Policy(fault)),
-        }
+        Ok(())
     }
 
     #[tactic(auto, unfolding(crate::specs::Reading::add_source))]
@@ -120,12 +121,34 @@ impl<A: Allocator + Copy> Head<A> {
     // The race in which nothing happens yet.
     #[tactic(auto, unfolding(crate::specs::Reading::race_from))]
     pub(crate) fn start(self, alloc: A) -> Result<TimelineBuilder<A>, TextKind>
-        ensures { MatchResult result (λ race. race_from self ≡ Ok race) (λ kind. Fails kind (race_from self)) }
+        ensures { MatchResult result (λ race. race_from self ≡ Ok race) (λ kind. (kind ≡ kinds.Memory) ⊎ (race_from self ≡ Err kind)) }
     {
         let settings = self.settings.settings()?;
         let policy = policy(alloc, &self.rows)?;
         let host = host(alloc, &self.sources, &self.routes)?;
         Ok(TimelineBuilder::new(alloc, settings, policy, host))
+    }
+}
+
+// Why the rows with a last one are no policy table. It needs no memory.
+fn table_fault(rows: &[Row], last: Row) -> Option<PolicyFault>
+    ensures { result ≡ table_fault (rows.now ++ last ∷ []) }
+{
+    let count = rows.len();
+    if count >= ROWS {
+        return Some(PolicyFault::Size);
+    }
+    let mut table = [last; ROWS];
+    table[..count].copy_from_slice(rows);
+    PolicyFault::find(&table[..count + 1])
+}
+
+fn check_table(rows: &[Row], last: Row) -> Result<(), TextKind>
+    ensures { result ≡ option_map_or Err (option_map kinds.Policy (table_fault (rows.now ++ last ∷ []))) (Ok tt) }
+{
+    match table_fault(rows, last) {
+        None => Ok(()),
+        Some(fault) => Err(TextKind::Policy(fault)),
     }
 }
 

@@ -1,14 +1,15 @@
 // Reading a race.
 
-ghost use Rattle.std.specs.Prelude.{◌≡◌, ◌≤◌, ◌<◌, ◌↔◌, ℕ, List, length, drop, slice_range, IfOk, IfSome, IsNone, Some, None, Ok, Err, IfErr, MatchOption, MatchResult};
+ghost use Rattle.std.specs.Prelude.{◌≡◌, ◌+◌, ◌≤◌, ◌<◌, ◌↔◌, ℕ, List, length, drop, slice_range, IfOk, IfSome, IsNone, Some, None, Ok, Err, IfErr, MatchOption, MatchResult};
 ghost use Rattle.he_plan.specs.Race.{Race};
 ghost use Rattle.he_plan.specs.Timeline.{IsRace};
 ghost use Rattle.he_text.specs.declared.fault.TextKind.TheVariants as kinds;
 ghost use Rattle.he_text.specs.Faults.{fault_of, is_policy_next};
 ghost use Rattle.he_text.specs.Forms.{word_of};
-ghost use Rattle.he_text.specs.Parts.{lines_of, lines_left, tokens_left, tokens_of, HasRoom};
+ghost use Rattle.he_text.specs.declared.draft.Order.{Order};
+ghost use Rattle.he_text.specs.Parts.{lines_of, lines_left, tokens_left, tokens_of, HasRoom, IsAmong};
 ghost use Rattle.he_text.specs.Reading.{Fails, FailsAt, take_line, read_body, head_of, take_head, settle, read_head, read_lines, order_at_start, no_head};
-ghost use Rattle.he_text.specs.Text.{IsRaceText, TellsFault};
+ghost use Rattle.he_text.specs.Text.{IsRaceText, IsLineOf, TellsFault};
 
 use crate::draft::{Order, take};
 use crate::fault::{TextFault, TextKind};
@@ -63,7 +64,6 @@ fn is_policy_next(rest: &[u8]) -> bool
 // Takes a line of the other groups.
 #[tactic(auto, unfolding(crate::specs::Reading::take_line))]
 fn take_told<A: Allocator + Copy>(
-    alloc: A,
     line: &[u8],
     order: Order,
     race: &mut TimelineBuilder<A>,
@@ -72,7 +72,7 @@ fn take_told<A: Allocator + Copy>(
 {
     let (word, tokens) = first_word(line)?;
     let next = order.admit(word)?;
-    take(alloc, word, tokens, race)?;
+    take(word, tokens, race)?;
     Ok((word, next))
 }
 
@@ -96,6 +96,7 @@ fn take_given<A: Allocator + Copy>(
 // The lines of the first four groups, up to the first other line.
 fn read_head<A: Allocator + Copy>(alloc: A, lines: &mut Lines) -> Result<(Order, Head<A>), TextKind>
     requires { HasRoom lines.old }
+    ensures count { IsAmong lines.old lines.new }
     ensures read { MatchResult result (λ x. read_head lines.old.number order_at_start no_head (lines_left lines.old) ≡ settle lines.new.number x.0 x.1 (lines_left lines.new)) (λ kind. FailsAt lines.new.number kind (read_head lines.old.number order_at_start no_head (lines_left lines.old))) }
     ensures room { HasRoom lines.new }
     ensures shorter { length lines.new.rest.now ≤ length lines.old.rest.now }
@@ -114,12 +115,12 @@ fn read_head<A: Allocator + Copy>(alloc: A, lines: &mut Lines) -> Result<(Order,
 
 // The other lines, up to the end of the race.
 fn read_rest<A: Allocator + Copy>(
-    alloc: A,
     first: Order,
     start: TimelineBuilder<A>,
     lines: &mut Lines,
 ) -> Result<Timeline<A>, TextKind>
     requires { HasRoom lines.old }
+    ensures count { IsAmong lines.old lines.new }
     ensures read { MatchResult result (λ race. read_body lines.old.number first start (lines_left lines.old) ≡ Ok (race, lines_left lines.new)) (λ kind. FailsAt lines.new.number kind (read_body lines.old.number first start (lines_left lines.old))) }
     ensures fits { IfOk result (λ race. IsRace race) }
     ensures shorter { length lines.new.rest.now ≤ length lines.old.rest.now }
@@ -128,7 +129,7 @@ fn read_rest<A: Allocator + Copy>(
     let mut race = start;
     loop {
         let (line, rest) = lines.next_line()?;
-        let (word, next) = take_told(alloc, line, order, &mut race)?;
+        let (word, next) = take_told(line, order, &mut race)?;
         lines.pass(rest);
         if word.is_end() {
             return Ok(race.finish());
@@ -141,6 +142,8 @@ fn read_rest<A: Allocator + Copy>(
 fn read_header(lines: &mut Lines) -> Result<(), TextKind>
     requires room { HasRoom lines.old }
     requires first { lines.old.number ≡ 1 }
+    ensures passed { IfOk result (λ _. lines.new.number ≡ 2) }
+    ensures count { IsAmong lines.old lines.new }
     ensures read { MatchResult result (λ _. read_lines (lines_left lines.old) ≡ read_head lines.new.number order_at_start no_head (lines_left lines.new)) (λ kind. read_lines (lines_left lines.old) ≡ Err (lines.new.number, kind)) }
     ensures room { HasRoom lines.new }
     ensures shorter { length lines.new.rest.now ≤ length lines.old.rest.now }
@@ -153,28 +156,65 @@ fn read_header(lines: &mut Lines) -> Result<(), TextKind>
     Ok(())
 }
 
-// A whole race.
-fn read_timeline<A: Allocator + Copy>(alloc: A, lines: &mut Lines) -> Result<Timeline<A>, TextKind>
+// The first line, and the lines of the first four groups.
+fn read_given<A: Allocator + Copy>(
+    alloc: A,
+    lines: &mut Lines,
+) -> Result<(Order, Head<A>), TextKind>
     requires room { HasRoom lines.old }
     requires first { lines.old.number ≡ 1 }
-    ensures read { MatchResult result (λ race. read_lines (lines_left lines.old) ≡ Ok (race, lines_left lines.new)) (λ kind. FailsAt lines.new.number kind (read_lines (lines_left lines.old))) }
-    ensures fits { IfOk result (λ race. IsRace race) }
+    ensures read { MatchResult result (λ x. read_lines (lines_left lines.old) ≡ settle lines.new.number x.0 x.1 (lines_left lines.new)) (λ kind. FailsAt lines.new.number kind (read_lines (lines_left lines.old))) }
+    ensures passed { IfOk result (λ _. 2 ≤ lines.new.number) }
+    ensures count { IsAmong lines.old lines.new }
+    ensures room { HasRoom lines.new }
     ensures shorter { length lines.new.rest.now ≤ length lines.old.rest.now }
 {
     read_header(lines)?;
-    let (order, head) = read_head(alloc, lines)?;
-    let race = head.start(alloc)?;
-    read_rest(alloc, order, race, lines)
+    read_head(alloc, lines)
+}
+
+// The race in which nothing happens yet. If memory is refused for it, that is told with the last line that was read.
+fn start<A: Allocator + Copy>(
+    alloc: A,
+    head: Head<A>,
+    lines: &Lines,
+) -> Result<TimelineBuilder<A>, TextFault>
+    requires { 2 ≤ lines.now.number }
+    ensures read { (order : Order) → MatchResult result (λ race. settle lines.now.number order head (lines_left lines.now) ≡ read_body lines.now.number order race (lines_left lines.now)) (λ fault. FailsAt fault.line fault.kind (settle lines.now.number order head (lines_left lines.now))) }
+    ensures line { IfErr result (λ fault. (1 ≤ fault.line) × (fault.line ≤ lines.now.number)) }
+{
+    match head.start(alloc) {
+        Ok(race) => Ok(race),
+        Err(kind) if kind.is_memory() => Err(TextFault {
+            line: lines.number() - 1,
+            kind,
+        }),
+        Err(kind) => Err(TextFault {
+            line: lines.number(),
+            kind,
+        }),
+    }
 }
 
 // The race with which the text begins, and how many bytes stand behind it.
 fn read_first<A: Allocator + Copy>(alloc: A, text: &[u8]) -> Result<(Timeline<A>, usize), TextFault>
     ensures read { MatchResult result (λ x. (rest : List ℕ) × (length rest ≡ x.1) × (read_lines (lines_of text.now) ≡ Ok (x.0, lines_of rest))) (λ fault. FailsAt fault.line fault.kind (read_lines (lines_of text.now))) }
+    ensures line { IfErr result (λ fault. IsLineOf text.now fault.line) }
     ensures fits { IfOk result (λ x. IsRace x.0) }
     ensures shorter { MatchResult result (λ x. x.1 ≤ length text.now) (λ _. Unit {0}) }
 {
     let mut lines = Lines::new(text);
-    match read_timeline(alloc, &mut lines) {
+    let (order, head) = match read_given(alloc, &mut lines) {
+        Ok(given) => given,
+        Err(kind) => {
+            return Err(TextFault {
+                line: lines.number(),
+                kind,
+            });
+        }
+    };
+    let first = start(alloc, head, &lines)?;
+    match read_rest(order, first, &mut lines) {
         Ok(race) => Ok((race, lines.len())),
         Err(kind) => Err(TextFault {
             line: lines.number(),
@@ -186,7 +226,7 @@ fn read_first<A: Allocator + Copy>(alloc: A, text: &[u8]) -> Result<(Timeline<A>
 /// The race that begins at `from`, and the place behind it; None exactly where the text ends at `from`. A race is `race 1`,
 /// then lines in the order of their groups, and `end`, each with a line end. Where the text from there on begins with no
 /// race, the fault is that of its least faulty line, counted from 1 at `from`, and on it of the first check that fails;
-/// `Memory` may come before that fault, with the line that was being read.
+/// `Memory` may come before that fault, with a line that is right, as are those before it.
 pub fn read_race<A: Allocator + Copy>(
     alloc: A,
     text: &[u8],
@@ -203,7 +243,9 @@ pub fn read_race<A: Allocator + Copy>(
     // A race's text that stands at `from` is found, with its value and its end, unless memory is refused.
     ensures complete { (end : ℕ) (race : Race) → end ≤ length text.now → IsRaceText (slice_range text.now from end) race → MatchResult result (λ found. found ≡ Some (race, end)) (λ fault. fault.kind ≡ kinds.Memory) }
 
+    // A fault is that of the text, or of want of memory at a line up to which nothing is wrong.
     ensures fault { IfErr result (λ fault. TellsFault fault.line fault.kind (fault_of (drop from text.now))) }
+    ensures line { IfErr result (λ fault. IsLineOf (drop from text.now) fault.line) }
 {
     if from == text.len() {
         return Ok(None);

@@ -1,7 +1,7 @@
 use Rattle.std.proofs.Common.{rules, ◌≡◌, ℕ, List, Err, Bor, sym, ◌∙◌, ap}
 use Rattle.he_text.specs.Parts.{lines_of, lines_left, tokens_left}
 use Rattle.he_text.specs.Reading.{FailsAt, read_head, order_at_start, no_head}
-use Rattle.he_text.proofs.ReadingLaws.{shrinks, head_unwhole, head_settles, fails_head, head_more}
+use Rattle.he_text.proofs.ReadingLaws.{shrinks, among_more, head_unwhole, head_settles, fails_head, head_more}
 use Rattle.he_text.proofs.reading.read_head.Goals as goal
 
 pub returns-in_err-line-clause-read : goal.returns-in_err-line-clause-read
@@ -34,4 +34,5 @@ loop-head-preserved g c = (
       ∙ ap (λ (rest : Bor (List ℕ)). read_head c.pass.new.self.number c.in_ok-order.order c.take_given.new.head (lines_of rest.now)) (sym c.pass.ensures.rest),
   c.pass.ensures.room,
   shrinks c.pass.new.self.rest c.in_ok-line.rest c.loop-head.lines.rest c.pass.ensures.rest c.in_ok-line.ensures.shorter c.loop-head.invariant.2,
+  among_more c.args.lines.now c.loop-head.lines c.pass.new.self c.in_ok-line.line.now c.in_ok-line.rest c.loop-head.invariant.3 c.in_ok-line.ensures.parts c.pass.ensures.rest c.pass.ensures.number,
 )

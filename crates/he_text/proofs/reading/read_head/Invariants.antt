@@ -1,5 +1,5 @@
 use Rattle.std.proofs.Common.{◌≡◌, ◌≤◌, length}
-use Rattle.he_text.specs.Parts.{lines_left, HasRoom}
+use Rattle.he_text.specs.Parts.{lines_left, HasRoom, IsAmong}
 use Rattle.he_text.specs.Reading.{read_head, order_at_start, no_head}
 use Rattle.he_text.proofs.reading.read_head.Given as goal
 
@@ -9,6 +9,7 @@ invariant-loop-head g l =
     (read_head l.fn.lines.number order_at_start no_head (lines_left l.fn.lines) ≡ read_head l.lines.number l.order l.head (lines_left l.lines))
     × HasRoom l.lines
     × (length l.lines.rest.now ≤ length l.fn.lines.rest.now)
+    × IsAmong l.fn.lines l.lines
 
 abbrev pub decreases-loop-head : goal.decreases-loop-head
 decreases-loop-head g l = length l.lines.rest.now

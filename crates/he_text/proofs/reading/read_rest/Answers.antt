@@ -2,7 +2,7 @@ use Rattle.std.proofs.Common.{rules, ◌≡◌, ℕ, List, Ok, Err, Bor, sym, �
 use Rattle.he_plan.specs.Race.{Race}
 use Rattle.he_text.specs.Parts.{lines_of, lines_left}
 use Rattle.he_text.specs.Reading.{FailsAt, read_body}
-use Rattle.he_text.proofs.ReadingLaws.{shrinks, body_unwhole, body_ends, body_more, fails_body}
+use Rattle.he_text.proofs.ReadingLaws.{shrinks, among_more, body_unwhole, body_ends, body_more, fails_body}
 use Rattle.he_text.proofs.reading.read_rest.Goals as goal
 
 pub returns-in_err-line-clause-read : goal.returns-in_err-line-clause-read
@@ -39,4 +39,5 @@ loop-race-preserved g c = (
       ∙ ap (λ (rest : Bor (List ℕ)). read_body c.pass.new.self.number c.in_ok-word.next c.take_told.new.race (lines_of rest.now)) (sym c.pass.ensures.rest),
   c.pass.ensures.room,
   shrinks c.pass.new.self.rest c.in_ok-line.rest c.loop-race.lines.rest c.pass.ensures.rest c.in_ok-line.ensures.shorter c.loop-race.invariant.2,
+  among_more c.args.lines.now c.loop-race.lines c.pass.new.self c.in_ok-line.line.now c.in_ok-line.rest c.loop-race.invariant.3 c.in_ok-line.ensures.parts c.pass.ensures.rest c.pass.ensures.number,
 )

@@ -1,5 +1,5 @@
 use Rattle.std.proofs.Common.{◌≡◌, ◌≤◌, length}
-use Rattle.he_text.specs.Parts.{lines_left, HasRoom}
+use Rattle.he_text.specs.Parts.{lines_left, HasRoom, IsAmong}
 use Rattle.he_text.specs.Reading.{read_body}
 use Rattle.he_text.proofs.reading.read_rest.Given as goal
 
@@ -9,6 +9,7 @@ invariant-loop-race g l =
     (read_body l.fn.lines.number l.fn.first l.fn.start (lines_left l.fn.lines) ≡ read_body l.lines.number l.order l.race (lines_left l.lines))
     × HasRoom l.lines
     × (length l.lines.rest.now ≤ length l.fn.lines.rest.now)
+    × IsAmong l.fn.lines l.lines
 
 abbrev pub decreases-loop-race : goal.decreases-loop-race
 decreases-loop-race g l = length l.lines.rest.now
