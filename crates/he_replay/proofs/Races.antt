@@ -8,10 +8,10 @@ use Rattle.he_plan.specs.Race.{Race}
 use Rattle.he_text.specs.Faults.{fault_of}
 use Rattle.he_text.specs.Text.{IsRaceText}
 use Rattle.he_text.specs.declared.fault.TextFault.{TextFault}
-use Rattle.he_tool.specs.declared.limits.TheConstants.{MOST_RACES}
-use Rattle.he_tool.specs.declared.output.InputFault.{InputFault}
-use Rattle.he_tool.specs.Output.{AreTexts, IsFault, IsOutput, fault_at_end, fault_behind, line_count}
-use Rattle.he_tool.specs.Steps.{TakesRace, IsUnderWay}
+use Rattle.he_replay.specs.declared.limits.TheConstants.{MOST_RACES}
+use Rattle.he_replay.specs.declared.output.InputFault.{InputFault}
+use Rattle.he_replay.specs.Output.{AreTexts, IsFault, IsOutput, fault_at_end, fault_behind, line_count}
+use Rattle.he_replay.specs.Steps.{TakesRace, IsUnderWay}
 
 pub AreTexts-snoc : (IsText : List ℕ → Race → Type 0) (races : List Race) (text : List ℕ) → AreTexts IsText races text
     → (race : Race) (last : List ℕ) → IsText last race → AreTexts IsText (races ++ race ∷ []) (text ++ last)

@@ -1,6 +1,6 @@
 //! Replaying the timelines of a reader to a writer.
 ghost use Rattle.std.specs.Prelude.{◌≤◌};
-ghost use Rattle.he_tool.specs.Stream.{Replays};
+ghost use Rattle.he_replay.specs.Stream.{Replays};
 
 use crate::content::Content;
 use crate::fault::ReplayFault;

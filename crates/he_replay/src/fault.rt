@@ -1,6 +1,6 @@
 //! Why a replay stopped.
 ghost use Rattle.std.specs.Prelude.{◌≡◌};
-ghost use Rattle.he_tool.specs.declared.fault.ReplayFault.TheVariants.{Memory, Write};
+ghost use Rattle.he_replay.specs.declared.fault.ReplayFault.TheVariants.{Memory, Write};
 
 use he_stream::WriteFault;
 use he_text::TextFault;

@@ -4,11 +4,11 @@ use Rattle.std.specs.Bool.{OnFalse}
 use Rattle.std.specs.Io.KnownBytes.{Appends, Consumes, IsAtEnd, Keeps}
 use Rattle.he_stream.specs.Output.{AppendsPart}
 use Rattle.he_plan.specs.Race.{Race}
-use Rattle.he_tool.specs.Output.{IsOutput, IsTranscriptText, IsOrderText}
-use Rattle.he_tool.specs.declared.output.InputFault.{InputFault}
-use Rattle.he_tool.specs.declared.output.InputFault.TheVariants as inputs
-use Rattle.he_tool.specs.declared.fault.ReplayFault.{ReplayFault}
-use Rattle.he_tool.specs.declared.fault.ReplayFault.TheVariants.{Text, Read, Write, Memory}
+use Rattle.he_replay.specs.Output.{IsOutput, IsTranscriptText, IsOrderText}
+use Rattle.he_replay.specs.declared.output.InputFault.{InputFault}
+use Rattle.he_replay.specs.declared.output.InputFault.TheVariants as inputs
+use Rattle.he_replay.specs.declared.fault.ReplayFault.{ReplayFault}
+use Rattle.he_replay.specs.declared.fault.ReplayFault.TheVariants.{Text, Read, Write, Memory}
 
 -- the reader gave an input, whole unless it broke off, whose output is this text with this fault
 pub record Answers (IsText : List ℕ → Race → Type 0) (before after : Option (List ℕ)) (text : List ℕ) (fault : Option InputFault) : Type 0 where

@@ -3,9 +3,9 @@ use Rattle.std.specs.Prelude.{ℕ, ◌≡◌, ◌<◌, ◌≤◌, ◌+◌, ◌++
 use Rattle.he_plan.specs.Race.{Race}
 use Rattle.he_text.specs.Faults.{fault_of}
 use Rattle.he_text.specs.Text.{IsRaceText}
-use Rattle.he_tool.specs.declared.output.Step.{Step}
-use Rattle.he_tool.specs.declared.output.Step.TheVariants as steps
-use Rattle.he_tool.specs.Output.{AreTexts, line_count}
+use Rattle.he_replay.specs.declared.output.Step.{Step}
+use Rattle.he_replay.specs.declared.output.Step.TheVariants as steps
+use Rattle.he_replay.specs.Output.{AreTexts, line_count}
 
 -- a text of the race was appended
 pub record WritesRace (IsText : List ℕ → Race → Type 0) (race : Race) (old new : List ℕ) : Type 0 where

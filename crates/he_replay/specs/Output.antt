@@ -9,11 +9,11 @@ use Rattle.he_text.specs.Faults.{fault_of}
 use Rattle.he_text.specs.Text.{IsRaceText}
 use Rattle.he_text.specs.Orders.{order_text}
 use Rattle.he_text.specs.Written.{transcript_text}
-use Rattle.he_tool.specs.declared.content.Content.{Content}
-use Rattle.he_tool.specs.declared.content.Content.TheVariants as contents
-use Rattle.he_tool.specs.declared.limits.TheConstants.{MOST_RACES}
-use Rattle.he_tool.specs.declared.output.InputFault.{InputFault}
-use Rattle.he_tool.specs.declared.output.InputFault.TheVariants.{Text, Read}
+use Rattle.he_replay.specs.declared.content.Content.{Content}
+use Rattle.he_replay.specs.declared.content.Content.TheVariants as contents
+use Rattle.he_replay.specs.declared.limits.TheConstants.{MOST_RACES}
+use Rattle.he_replay.specs.declared.output.InputFault.{InputFault}
+use Rattle.he_replay.specs.declared.output.InputFault.TheVariants.{Text, Read}
 
 -- the text is, one after the other, a text of each of the races
 abbrev pub AreTexts : (List ℕ → Race → Type 0) → List Race → List ℕ → Type 0

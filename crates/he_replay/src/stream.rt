@@ -3,8 +3,8 @@ ghost use Rattle.std.specs.Prelude.{IfOk, OnErr, OnOk};
 ghost use Rattle.std.specs.Bool.{OnFalse};
 ghost use Rattle.std.specs.Io.KnownBytes.{Appends, Consumes, IsAtEnd};
 ghost use Rattle.he_stream.specs.Output.{AppendsPart};
-ghost use Rattle.he_tool.specs.Output.{IsTextOf};
-ghost use Rattle.he_tool.specs.Stream.{Streams};
+ghost use Rattle.he_replay.specs.Output.{IsTextOf};
+ghost use Rattle.he_replay.specs.Stream.{Streams};
 
 use crate::content::Content;
 use crate::fault::ReplayFault;

@@ -1,7 +1,7 @@
 //! What is written of a race.
 ghost use Rattle.std.specs.Prelude.{OnOk};
-ghost use Rattle.he_tool.specs.Output.{IsOrderText, IsTextOf, IsTranscriptText};
-ghost use Rattle.he_tool.specs.Steps.{WritesRace};
+ghost use Rattle.he_replay.specs.Output.{IsOrderText, IsTextOf, IsTranscriptText};
+ghost use Rattle.he_replay.specs.Steps.{WritesRace};
 
 use he_plan::{Timeline, transcript_of};
 use he_text::{write_order, write_transcript};

@@ -1,5 +1,5 @@
 //! The orders of the addresses of a reader's races, written to a writer.
-ghost use Rattle.he_tool.specs.Stream.{Orders};
+ghost use Rattle.he_replay.specs.Stream.{Orders};
 
 use crate::content::Content;
 use crate::fault::ReplayFault;

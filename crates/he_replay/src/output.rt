@@ -1,7 +1,7 @@
 //! What is written for an input: a text of each of its races.
 ghost use Rattle.std.specs.Prelude.{◌≡◌, ◌+◌, ◌^◌, ◌<◌, ◌≤◌, IfOk, length};
-ghost use Rattle.he_tool.specs.Output.{IsFault, IsOutput, IsTextOf, fault_at_end, fault_behind, line_count};
-ghost use Rattle.he_tool.specs.Steps.{IsStep};
+ghost use Rattle.he_replay.specs.Output.{IsFault, IsOutput, IsTextOf, fault_at_end, fault_behind, line_count};
+ghost use Rattle.he_replay.specs.Steps.{IsStep};
 
 use crate::content::Content;
 use crate::limits::MOST_RACES;

@@ -1,13 +1,13 @@
 use Rattle.std.proofs.Common.{ℕ, ◌≡◌, ◌+◌, ◌-◌, ◌<◌, ◌≤◌, List, Option, Some, arith, sym, subst, length, take, drop, length-drop}
 use Rattle.std.specs.List.{slice_range}
 use Rattle.std.proofs.lemmas.List.{take_all}
-use Rattle.he_tool.specs.declared.limits.TheConstants.{MOST_RACES}
-use Rattle.he_tool.specs.declared.output.InputFault.{InputFault}
-use Rattle.he_tool.specs.declared.output.Step.TheVariants as steps
-use Rattle.he_tool.specs.Output.{IsFault, IsOutput, IsTextOf, fault_behind, line_count}
-use Rattle.he_tool.specs.Steps.{IsStep, TakesRace, IsUnderWay}
-use Rattle.he_tool.proofs.Races.{one_more, ended, found_fault}
-use Rattle.he_tool.proofs.output.output_of.Goals as goal
+use Rattle.he_replay.specs.declared.limits.TheConstants.{MOST_RACES}
+use Rattle.he_replay.specs.declared.output.InputFault.{InputFault}
+use Rattle.he_replay.specs.declared.output.Step.TheVariants as steps
+use Rattle.he_replay.specs.Output.{IsFault, IsOutput, IsTextOf, fault_behind, line_count}
+use Rattle.he_replay.specs.Steps.{IsStep, TakesRace, IsUnderWay}
+use Rattle.he_replay.proofs.Races.{one_more, ended, found_fault}
+use Rattle.he_replay.proofs.output.output_of.Goals as goal
 
 pub returns-in-Fault : goal.returns-in-Fault
 returns-in-Fault g c =
