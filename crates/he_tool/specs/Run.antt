@@ -1,7 +1,7 @@
 -- What a run of the program has done, by its exit status.
 use Rattle.std.specs.Prelude.{◌≡◌, ℕ, List, Option, Result, Ok, Err}
-use Rattle.he_tool.specs.Stream.{Replays, Orders}
-use Rattle.he_tool.specs.declared.fault.ReplayFault.{ReplayFault}
+use Rattle.he_replay.specs.Stream.{Replays, Orders}
+use Rattle.he_replay.specs.declared.fault.ReplayFault.{ReplayFault}
 use Rattle.he_tool.specs.declared.run.TheConstants.{DONE, FAULT}
 
 -- the status that tells how a command ended

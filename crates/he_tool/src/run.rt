@@ -3,11 +3,9 @@ ghost use Rattle.std.specs.Prelude.{◌≡◌, ◌⊎◌};
 ghost use Rattle.he_tool.specs.Run.{HasReplayed, HasOrdered};
 
 use crate::command::{Action, read_words};
-use crate::fault::ReplayFault;
-use crate::orders::orders;
-use crate::replay::replay;
 use clap::Error;
 use clap::error::ErrorKind;
+use he_replay::{ReplayFault, orders, replay};
 use he_stream::{WriteFault, finish_output};
 use std::alloc::Global;
 use std::io::{Read, Write};

@@ -1,8 +1,7 @@
 mod orders;
 
-use crate::fault::ReplayFault;
-use crate::replay::replay;
 use crate::run::run_words;
+use he_replay::{ReplayFault, replay};
 use he_text::{TextFault, TextKind};
 use refusing::{Refusing, each_growth_refused};
 use std::test::Fail;

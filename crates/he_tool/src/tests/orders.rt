@@ -1,9 +1,8 @@
 // Orders of addresses, by the program and by the call.
 
 use super::{READ_LINE, WRITE_LINE};
-use crate::fault::ReplayFault;
-use crate::orders::orders;
 use crate::run::run_words;
+use he_replay::{ReplayFault, orders};
 use he_text::{TextFault, TextKind};
 use refusing::{Refusing, each_growth_refused};
 use std::test::Fail;

@@ -1,0 +1,38 @@
+//! Replaying the timelines of a reader to a writer.
+ghost use Rattle.std.specs.Prelude.{◌≤◌};
+ghost use Rattle.he_replay.specs.Stream.{Replays};
+
+use crate::content::Content;
+use crate::fault::ReplayFault;
+use crate::limits::{LEAST_WORKERS, MOST_WORKERS};
+use crate::stream::stream;
+use std::alloc::Allocator;
+use std::io::{Read, Write};
+
+/// Reads timelines to the end of the reader and writes their transcripts, with so many workers.
+///
+/// After `Text` and `Read` all that the input before the fault asks for was written, after `Write` a
+/// first part of it, after `Memory` nothing. The writer is flushed at the end, after `Text` and
+/// `Read` too.
+///
+/// # Errors
+///
+/// - `Text` where the input is no timeline text.
+/// - `Read` where a read failed before a fault of the text was found, or the bound of reads was
+///   reached.
+/// - `Write` where a write or the flush failed, whatever the input was.
+/// - `Memory` where an allocation was refused.
+pub fn replay<T, A: Allocator + Copy, R: Read, W: Write>(
+    rt: &T,
+    alloc: A,
+    reader: &mut R,
+    writer: &mut W,
+    workers: u16,
+) -> Result<(), ReplayFault>
+    requires some { LEAST_WORKERS ≤ workers }
+    requires few { workers ≤ MOST_WORKERS }
+    ensures { Replays (R.remaining reader.old) (R.remaining reader.new)
+        (W.contents writer.old) (W.contents writer.new) result }
+{
+    stream(alloc, reader, writer, Content::Transcript)
+}
