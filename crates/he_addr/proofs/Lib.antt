@@ -9,5 +9,6 @@ mod Numbers
 mod Options
 mod PartLaws
 mod PrintedTexts
+pub mod ReadLaws
 mod Runs
 pub mod TextLaws

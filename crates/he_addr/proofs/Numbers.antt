@@ -1,12 +1,11 @@
--- Decimal numbers: what is read is spelled, what is spelled is read, and a number has one spelling.
+-- Decimal numbers: what is read is spelled, and what is spelled is read.
 use Rattle.std.proofs.Common.{◌≡◌, ◌⊎◌, ℕ, ◌+◌, ◌*◌, ◌^◌, ◌<◌, ◌≤◌, false, ltb, leb, eqb, List, [], ◌∷◌, Some, None, length, get_or, decimal, refl, sym, ◌∙◌, ap, ◌&&◌, ⊎_elim, arith}
 use Rattle.std.specs.Char.{digit_value}
 use Rattle.std.specs.Str.Parse.{AllDigits, digits_value, digits_value_after}
 use Rattle.std.proofs.Math.Nat.{pow-le-pow_right}
 use Rattle.std.proofs.lemmas.Bool.{lt-ltb, le-leb, ltb-true, leb-true, ne_eqb, and_parts, and_from, and_cases, and_left, and_right, eqb-false, ltb-false, cond-true, cond-false, cases_eq, le-ltb}
-use Rattle.std.proofs.lemmas.Int.Digits.{digits_value-lt}
-use Rattle.std.proofs.lemmas.Str.Parse.{IsNumeralModel, numerals_by_value, tells_digits, digit_from_value}
-use Rattle.std.proofs.lemmas.Fmt.{decimal-digits_value, decimal_is_IsNumeral, length-decimal-le, first_decimal, decimal_digit}
+use Rattle.std.proofs.lemmas.Str.Parse.{digit_from_value}
+use Rattle.std.proofs.lemmas.Fmt.{decimal_is_IsNumeral, length-decimal-le, first_decimal, decimal_digit}
 use Rattle.he_addr.specs.Reading.{digits_after, digits_in, numeral_in}
 use Rattle.he_addr.specs.Text.{SpellsDecimal, Lacks}
 use Rattle.he_addr.proofs.Options.{allowed, not_refused}
@@ -73,26 +72,11 @@ numeral_in-spelled most text n h =
     (cases_eq (get_or text 0 0) 48))
     ∙ digits_in-digits most text n (record { some = h.numeral.0; few = h.few; digits = h.numeral.1; value = h.value })
 
-own : IsNumeralModel (AllDigits 10) (digits_value 10)
-own = numerals_by_value (AllDigits 10) tells_digits
-
--- a number below 10 ^ most, at most ten digits
-pub spelled_small : (most : ℕ) (text : List ℕ) (n : ℕ) → SpellsDecimal most text n → n < 10 ^ most
-spelled_small most text n h =
-    let short : 10 ^ length text ≤ 10 ^ most = pow-le-pow_right {n = 10} (omega arith) {i = length text} {j = most} h.few in
-    omega (arith, digits_value-lt 10 text h.numeral.1, h.value)
-
 -- no number of the texts is too large for the program
 pub below_ten_digits : (most n : ℕ) → most ≤ 10 → n < 10 ^ most → n < 2 ^ 64
 below_ten_digits most n short small =
     let within : 10 ^ most ≤ 10 ^ 10 = pow-le-pow_right {n = 10} (omega arith) {i = most} {j = 10} short in
     omega arith
-
--- its one text
-pub spelled_decimal : (most : ℕ) (text : List ℕ) (n : ℕ) → most ≤ 10 → SpellsDecimal most text n → text ≡ decimal n
-spelled_decimal most text n short h =
-    let small : digits_value 10 text < 2 ^ 64 = omega (arith, below_ten_digits most n short (spelled_small most text n h), h.value) in
-    sym (decimal-digits_value own text h.numeral.1 h.numeral.0 h.plain small) ∙ ap decimal (sym h.value)
 
 pub decimal_spells : (most n : ℕ) → 0 < most → most ≤ 10 → n < 10 ^ most → SpellsDecimal most (decimal n) n
 decimal_spells most n some short small =

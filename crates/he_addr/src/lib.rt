@@ -22,8 +22,8 @@
 //! - scope, usable, mapped, containment and common length are their definitions (`specs/Ip.antt`, `specs/Prefix.antt`),
 //!   and the common length is the greatest that qualifies.
 //!
-//! `specs/Reading.antt` and `specs/Printing.antt` mirror the code, for the proofs and for the crates above; the laws tie
-//! them to the definitions.
+//! `specs/Reading.antt` and `specs/Printing.antt` mirror the code, for the proofs and for the crates above; the contracts
+//! of the readers and writers and the laws tie them to the definitions.
 //!
 //! Only tested: that a write succeeds where memory is granted.
 #![tactic(auto)]
