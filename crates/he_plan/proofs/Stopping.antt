@@ -1,9 +1,9 @@
 -- A race that stops: its transcript is known from the attempts before the stop, and from what became of them by then.
-use Rattle.std.proofs.Common.{◌≡◌, ℕ, zero, suc, ◌≤◌, ◌<◌, ◌++◌, ◌&&◌, ◌||◌, Bool, true, false, not, List, [], ◌∷◌, if◌then◌else◌, map, filter, Option, Some, None, nat_le, nat_lt, refl, sym, ◌∙◌, ap, subst, arith, inl, inr, append_assoc}
-use Rattle.std.specs.Prelude.{All}
+use Rattle.std.proofs.Common.{◌≡◌, ℕ, zero, suc, ◌≤◌, ◌<◌, ◌++◌, ◌&&◌, ◌||◌, Bool, true, false, not, List, [], ◌∷◌, if◌then◌else◌, length, map, filter, Option, Some, None, nat_le, nat_lt, refl, sym, ◌∙◌, ap, subst, arith, inl, inr, append_assoc}
+use Rattle.std.specs.Prelude.{All, IfNone}
 use Rattle.std.specs.List.{list_all, list_any, slice_get}
 use Rattle.std.proofs.lemmas.Bool.{cases_lt}
-use Rattle.std.proofs.lemmas.List.{append-nil}
+use Rattle.std.proofs.lemmas.List.{append-nil, length-map}
 use Rattle.std.proofs.lemmas.List.Folds.{list_any-append}
 use Rattle.he_addr.specs.declared.ip.Ip.{Ip}
 use Rattle.he_addr.specs.Ip.{InRange, is_usable}
@@ -134,13 +134,24 @@ limit_fates : (race : Race) → IsRace race → (xs : List Attempt) → map (kno
 limit_fates race r [] = refl
 limit_fates race r (x ∷ xs) = rw (limit_fate race r x, limit_fates race r xs)
 
+-- at the limit the attempts that are known are all
+known_all : (race : Race) (attempts : List Attempt) (known : List Fate) → AreKnown race attempts known None → AreAttempts race attempts
+known_all race attempts known k = continue_from race [] attempts k.follow (λ t m. let late : race.settings.limit ≤ t = k.stops t m in omega (arith, m.0))
+
+pub known-all : (race : Race) (attempts : List Attempt) (known : List Fate) (winner : Option (ℕ × ℕ)) → AreKnown race attempts known winner → IfNone winner (AreAttempts race attempts)
+known-all race attempts known None k = known_all race attempts known k
+known-all race attempts known (Some w) k = tt
+
+pub length-known : (race : Race) (attempts : List Attempt) (known : List Fate) (winner : Option (ℕ × ℕ)) → AreKnown race attempts known winner → length attempts ≡ length known
+length-known race attempts known winner k = sym (ap length k.fates ∙ length-map attempts (known_at race (stop_of race winner)))
+
 at_limit : (race : Race) → IsRace race → (attempts : List Attempt) (known : List Fate) → AreKnown race attempts known None → IsTranscript race (record { lines = told_lines race.settings.limit None attempts known; result = result_of race attempts known None })
 at_limit race r attempts known k =
     let own : known ≡ map (fate_of race) attempts = k.fates ∙ limit_fates race r attempts in
     record {
       attempts = attempts;
       winner = None;
-      are = continue_from race [] attempts k.follow (λ t m. let late : race.settings.limit ≤ t = k.stops t m in omega (arith, m.0));
+      are = known_all race attempts known k;
       wins = subst (λ (fates : List Fate). IsWinner fates None) own k.wins;
       lines = ap (told_lines race.settings.limit None attempts) k.fates ∙ lines_known race None attempts [] refl ∙ ap (lines_of race None) (append-nil attempts);
       result = ap (λ fates. result_of race attempts fates None) own;

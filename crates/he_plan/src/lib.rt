@@ -52,7 +52,9 @@ pub use outcome::Outcome;
 pub use planning::plan;
 pub use settings::{Range, Settings};
 pub use timeline::Timeline;
-pub use transcript::{Line, Mark, Outcome3, Transcript, transcript_of, transcript_of_fates};
+pub use transcript::{
+    Line, Mark, Outcome3, Transcript, transcript_at_stop, transcript_of, transcript_of_fates,
+};
 
 #[cfg(test)]
 mod tests;
