@@ -12,7 +12,8 @@ use Rattle.he_text.specs.Faults.{anyone, said_before, ends, ends_by}
 use Rattle.he_text.specs.Forms.{◌>>=◌, word_of, said_by, said_in}
 use Rattle.he_text.specs.Parts.{tokens_of}
 use Rattle.he_text.specs.Said.{Said, Setting, PolicyRow, HostSource, HostRoute, Answer, Told, Paused, Ended}
-use Rattle.he_text.specs.Text.{Says, answer_word, group_said, source_marks, route_marks, mark_text}
+use Rattle.he_text.specs.Text.{answer_word, group_said, source_marks, route_marks, mark_text}
+use Rattle.he_text.proofs.LineReads.{Reads}
 use Rattle.he_text.specs.Words.{group_of, spelling_of, name_spelling, is_end}
 use Rattle.he_text.proofs.FormReads.{word_reads, setting_reads, row_reads, source_reads, route_reads, answer_reads, connect_reads, pause_reads}
 
@@ -73,7 +74,7 @@ spelled_word word tokens = let is = word_reads word in rw is
 word_is : (line : List ℕ) (word : Word) (tokens : List (List ℕ)) → tokens_of line ≡ spelling_of word ∷ tokens → word_of (tokens_of line) ≡ Ok (word, tokens)
 word_is line word tokens is = ap word_of is ∙ spelled_word word tokens
 
-pub is_line : (line : List ℕ) (s : Said) → Says line s → Suits s → IsLine line s
+pub is_line : (line : List ℕ) (s : Said) → Reads line s → Suits s → IsLine line s
 unfolding said_by
 is_line line (Setting name value) says suits = record {
   tokens = name_spelling name ∷ says.0 ∷ [];

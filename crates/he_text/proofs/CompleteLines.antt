@@ -18,6 +18,7 @@ use Rattle.he_text.specs.Words.{group_of, word_in}
 use Rattle.he_text.proofs.CompleteChecks.{has_room, in_bounds, not_twice, table_fits}
 use Rattle.he_text.proofs.CompleteForms.{IsLine, is_line, said_are, goes_on, word_said, word_group}
 use Rattle.he_text.proofs.CompleteGroups.{group_last, last_is, order_split}
+use Rattle.he_text.proofs.LineReads.{reads_said}
 use Rattle.he_text.proofs.CompleteRaces.{IsWhole, suits, knows}
 
 abbrev pub AreShort : List (List ℕ) → Type 0
@@ -29,7 +30,7 @@ lines_are told [] [] says whole = tt
 lines_are told [] (s ∷ said) says whole = absurd says
 lines_are told (line ∷ lines) [] says whole = absurd says
 lines_are told (line ∷ lines) (s ∷ said) says whole =
-    (is_line line s says.0 (suits told said s whole), lines_are (told ++ s ∷ []) lines said says.1 (subst IsWhole (sym (append_assoc told (s ∷ []) said)) whole))
+    (is_line line s (reads_said line s says.0) (suits told said s whole), lines_are (told ++ s ∷ []) lines said says.1 (subst IsWhole (sym (append_assoc told (s ∷ []) said)) whole))
 
 all_none : (long fin word often : Option TextKind) (r : Result Said TextKind) (bounds again table : Said → Option TextKind) (s : Said)
     → long ≡ None → fin ≡ None → word ≡ None → often ≡ None → r ≡ Ok s → bounds s ≡ None → again s ≡ None → table s ≡ None

@@ -17,11 +17,12 @@ use Rattle.he_plan.specs.Timeline.{is_of, are_of, duration_of}
 use Rattle.he_text.specs.declared.fault.TextKind.TheVariants as kinds
 use Rattle.he_text.specs.declared.words.Name.{Name}
 use Rattle.he_text.specs.Forms.{◌>>=◌, within, number_from, setting_in, address_in, addresses_in, listed_in, answer_in, known_in, mark_in, connect_in, pause_in, least_of, most_of}
-use Rattle.he_text.specs.Text.{IsNumber, mark_text}
+use Rattle.he_text.specs.Text.{mark_text}
+use Rattle.he_text.proofs.LineReads.{ReadsNumber}
 use Rattle.he_text.specs.Words.{name_in}
 use Rattle.he_text.proofs.Results.{bind_ok, ok_or_ok, let_through, not_stopped}
 
-pub number_ok : (low high : ℕ) (token : List ℕ) (n : ℕ) → number_from low high token ≡ Ok n → IsNumber low high token n
+pub number_ok : (low high : ℕ) (token : List ℕ) (n : ℕ) → number_from low high token ≡ Ok n → ReadsNumber low high token n
 unfolding number_from
 number_ok low high token n h =
     let read = bind_ok (ok_or (number_in token) kinds.Number) (within low high) n h in
@@ -39,7 +40,7 @@ pub record IsSetting (tokens : List (List ℕ)) (name : Name) (value : ℕ) : Ty
   pub second : List ℕ
   pub tokens_are : tokens ≡ first ∷ second ∷ []
   pub name_is : name_in first ≡ Some name
-  pub value_is : IsNumber (least_of name) (most_of name) second value
+  pub value_is : ReadsNumber (least_of name) (most_of name) second value
 
 pub setting_ok : (tokens : List (List ℕ)) (s : Name × ℕ) → setting_in tokens ≡ Ok s → IsSetting tokens s.0 s.1
 unfolding setting_in
@@ -124,7 +125,7 @@ pub record IsAnswer (family : Family) (tokens : List (List ℕ)) (reply : Reply)
   pub tokens_are : tokens ≡ first ∷ others
   pub some : 0 < length others
   pub few : length others ≤ MAX_ADDRESSES
-  pub tick : IsNumber 0 MAX_TICK first reply.tick
+  pub tick : ReadsNumber 0 MAX_TICK first reply.tick
   pub addresses : IsListed family others reply.addresses
 
 pub answer_ok : (family : Family) (tokens : List (List ℕ)) (reply : Reply) → answer_in family tokens ≡ Ok reply → IsAnswer family tokens reply
@@ -155,7 +156,7 @@ pub record IsTold (known : Ip → Bool) (tokens : List (List ℕ)) (ip : Ip) (ou
   pub tokens_are : tokens ≡ first ∷ mark_text outcome ∷ last ∷ []
   pub ip_is : ip_in first ≡ Some ip
   pub known_is : known ip ≡ true
-  pub ticks : IsNumber MIN_DURATION MAX_DURATION last (duration_of outcome)
+  pub ticks : ReadsNumber MIN_DURATION MAX_DURATION last (duration_of outcome)
 
 known_ok : (known : Ip → Bool) (token : List ℕ) (ip : Ip) → known_in known token ≡ Ok ip → (ip_in token ≡ Some ip) × (known ip ≡ true)
 unfolding known_in
@@ -201,7 +202,7 @@ connect_ok known (a ∷ b ∷ c ∷ []) told h =
     let is = known_ok known a ip.0 ip.1 in
     let same : (ip.0, outcome_of mark.0 ticks.0) ≡ told = cc (ticks.2) in
     let number = number_ok MIN_DURATION MAX_DURATION c ticks.0 ticks.1 in
-    let N : ℕ → Type 0 = IsNumber MIN_DURATION MAX_DURATION c in
+    let N : ℕ → Type 0 = ReadsNumber MIN_DURATION MAX_DURATION c in
     let P : Ip × Outcome → Type 0 = λ told. IsTold known (a ∷ b ∷ c ∷ []) told.0 told.1 in
     subst P same (record {
       first = a;
@@ -217,8 +218,8 @@ pub record IsPause (tokens : List (List ℕ)) (from to : ℕ) : Type 0 where
   pub first : List ℕ
   pub second : List ℕ
   pub tokens_are : tokens ≡ first ∷ second ∷ []
-  pub from_is : IsNumber 0 MAX_TICK first from
-  pub to_is : IsNumber 1 MAX_PAUSE_END second to
+  pub from_is : ReadsNumber 0 MAX_TICK first from
+  pub to_is : ReadsNumber 1 MAX_PAUSE_END second to
 
 pub pause_ok : (tokens : List (List ℕ)) (p : ℕ × ℕ) → pause_in tokens ≡ Ok p → IsPause tokens p.0 p.1
 unfolding pause_in

@@ -26,7 +26,8 @@ use Rattle.he_text.specs.declared.words.Name.TheVariants.{Resolution, Attempt, C
 use Rattle.he_text.specs.declared.words.Word.{Word}
 use Rattle.he_text.specs.declared.words.Word.TheVariants as words
 use Rattle.he_text.specs.Forms.{◌>>=◌, within, number_from, setting_in, row_in, source_address_in, source_marks_in, host_source_in, route_marks_in, host_route_in, address_in, addresses_in, listed_in, answer_in, known_in, mark_in, connect_in, pause_in, least_of, most_of}
-use Rattle.he_text.specs.Text.{IsNumber, Lists, mark_text, marked, source_marks, route_marks}
+use Rattle.he_text.specs.Text.{mark_text, marked, source_marks, route_marks}
+use Rattle.he_text.proofs.LineReads.{ReadsList, ReadsNumber}
 use Rattle.he_text.specs.Words.{spelling_of, name_spelling, word_in, name_in}
 
 pub word_reads : (word : Word) → word_in (spelling_of word) ≡ Some word
@@ -48,14 +49,14 @@ name_reads Attempt = refl
 name_reads Count = refl
 name_reads Limit = refl
 
-pub number_reads : (low high : ℕ) (token : List ℕ) (n : ℕ) → IsNumber low high token n → number_from low high token ≡ Ok n
+pub number_reads : (low high : ℕ) (token : List ℕ) (n : ℕ) → ReadsNumber low high token n → number_from low high token ≡ Ok n
 unfolding number_from
 number_reads low high token n h =
     ap (λ o. ok_or o kinds.Number >>= within low high) h.value
     ∙ ap (λ fits. cond fits (Ok n) (Err kinds.Range)) (and_from (leb low n) (leb n high) (le-leb low n h.least) (le-leb n high h.most))
 
 -- set NAME N
-pub setting_reads : (name : Name) (number : List ℕ) (value : ℕ) → IsNumber (least_of name) (most_of name) number value
+pub setting_reads : (name : Name) (number : List ℕ) (value : ℕ) → ReadsNumber (least_of name) (most_of name) number value
     → setting_in (name_spelling name ∷ number ∷ []) ≡ Ok (name, value)
 unfolding setting_in
 setting_reads name number value h =
@@ -64,7 +65,7 @@ setting_reads name number value h =
 
 -- policy PREFIX PRECEDENCE LABEL
 pub row_reads : (first second third : List ℕ) (row : Row) → prefix_in first ≡ Some row.prefix
-    → IsNumber 0 MAX_PRECEDENCE second row.precedence → IsNumber 0 MAX_LABEL third row.label → row_in (first ∷ second ∷ third ∷ []) ≡ Ok row
+    → ReadsNumber 0 MAX_PRECEDENCE second row.precedence → ReadsNumber 0 MAX_LABEL third row.label → row_in (first ∷ second ∷ third ∷ []) ≡ Ok row
 unfolding row_in
 row_reads first second third row prefix precedence label =
     let p = number_reads 0 MAX_PRECEDENCE second row.precedence precedence in
@@ -90,7 +91,7 @@ few_marks false true = refl
 few_marks true true = refl
 
 pub source_reads : (first second : List ℕ) (source : Source) → source_in first ≡ Some (source.ip, source.plen) → is_usable source.ip ≡ true
-    → IsNumber MIN_INTERFACE MAX_INTERFACE second source.interface → host_source_in (first ∷ second ∷ source_marks source) ≡ Ok source
+    → ReadsNumber MIN_INTERFACE MAX_INTERFACE second source.interface → host_source_in (first ∷ second ∷ source_marks source) ≡ Ok source
 unfolding host_source_in
 source_reads first second source spelled usable interface =
     let few = few_marks source.deprecated source.temporary in
@@ -110,7 +111,7 @@ few_route_marks false = refl
 few_route_marks true = refl
 
 pub route_reads : (first second : List ℕ) (route : Route) → prefix_in first ≡ Some route.prefix
-    → IsNumber MIN_INTERFACE MAX_INTERFACE second route.interface → host_route_in (first ∷ second ∷ route_marks route) ≡ Ok route
+    → ReadsNumber MIN_INTERFACE MAX_INTERFACE second route.interface → host_route_in (first ∷ second ∷ route_marks route) ≡ Ok route
 unfolding host_route_in
 route_reads first second route prefix interface =
     let few = few_route_marks route.tunnel in
@@ -152,12 +153,12 @@ listed_as_addresses family (only ∷ []) (ip ∷ ips) h of_family some =
     by_word true e = let is : only ≡ codes "none" = (bytes_eq-Decides only (codes "none")).0 e in let none : None ≡ Some ip = sym none_is_no_address ∙ ap ip_in (sym is) ∙ h.0 in cc
     by_word false e = addresses_read family (only ∷ []) (ip ∷ ips) h of_family
 
-pub listed_reads : (family : Family) (tokens : List (List ℕ)) (ips : List Ip) → Lists tokens ips → are_of family ips ≡ true → listed_in family tokens ≡ Ok ips
+pub listed_reads : (family : Family) (tokens : List (List ℕ)) (ips : List Ip) → ReadsList tokens ips → are_of family ips ≡ true → listed_in family tokens ≡ Ok ips
 unfolding listed_in
 listed_reads family tokens ips (inl h) of_family = ap (listed_in family) h.0 ∙ ap Ok (sym h.1)
 listed_reads family tokens ips (inr h) of_family = listed_as_addresses family tokens ips h.1 of_family h.0
 
-lists_some : (tokens : List (List ℕ)) (ips : List Ip) → Lists tokens ips → 0 < length tokens
+lists_some : (tokens : List (List ℕ)) (ips : List Ip) → ReadsList tokens ips → 0 < length tokens
 lists_some tokens ips (inl h) = omega (arith, ap length h.0)
 lists_some tokens ips (inr h) = h.0
 
@@ -167,8 +168,8 @@ unfolding answer_in
 answer_with family number [] reply tick listed few some = absurd (omega arith)
 answer_with family number (first ∷ more) reply tick listed few some = rw (few, tick, listed)
 
-pub answer_reads : (family : Family) (number : List ℕ) (tokens : List (List ℕ)) (reply : Reply) → IsNumber 0 MAX_TICK number reply.tick
-    → Lists tokens reply.addresses → length tokens ≤ MAX_ADDRESSES → are_of family reply.addresses ≡ true → answer_in family (number ∷ tokens) ≡ Ok reply
+pub answer_reads : (family : Family) (number : List ℕ) (tokens : List (List ℕ)) (reply : Reply) → ReadsNumber 0 MAX_TICK number reply.tick
+    → ReadsList tokens reply.addresses → length tokens ≤ MAX_ADDRESSES → are_of family reply.addresses ≡ true → answer_in family (number ∷ tokens) ≡ Ok reply
 answer_reads family number tokens reply tick listed few of_family =
     answer_with family number tokens reply (number_reads 0 MAX_TICK number reply.tick tick) (listed_reads family tokens reply.addresses listed of_family)
     (le-ltb MAX_ADDRESSES (length tokens) few) (lists_some tokens reply.addresses listed)
@@ -179,7 +180,7 @@ unfolding known_in
 known_reads known token ip h is_known = rw (h, is_known)
 
 pub connect_reads : (known : Ip → Bool) (address number : List ℕ) (ip : Ip) (outcome : Outcome) → ip_in address ≡ Some ip → known ip ≡ true
-    → IsNumber MIN_DURATION MAX_DURATION number (duration_of outcome) → connect_in known (address ∷ mark_text outcome ∷ number ∷ []) ≡ Ok (ip, outcome)
+    → ReadsNumber MIN_DURATION MAX_DURATION number (duration_of outcome) → connect_in known (address ∷ mark_text outcome ∷ number ∷ []) ≡ Ok (ip, outcome)
 unfolding connect_in mark_in
 connect_reads known address number ip (outcomes.Ok ticks) h is_known duration =
     let k = known_reads known address ip h is_known in
@@ -191,7 +192,7 @@ connect_reads known address number ip (outcomes.Fail ticks) h is_known duration 
     rw (k, n)
 
 -- pause FROM TO
-pub pause_reads : (first second : List ℕ) (from to : ℕ) → IsNumber 0 MAX_TICK first from → IsNumber 1 MAX_PAUSE_END second to → pause_in (first ∷ second ∷ []) ≡ Ok (from, to)
+pub pause_reads : (first second : List ℕ) (from to : ℕ) → ReadsNumber 0 MAX_TICK first from → ReadsNumber 1 MAX_PAUSE_END second to → pause_in (first ∷ second ∷ []) ≡ Ok (from, to)
 unfolding pause_in
 pause_reads first second from to f t =
     let a = number_reads 0 MAX_TICK first from f in

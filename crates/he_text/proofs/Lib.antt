@@ -17,6 +17,7 @@ mod FormReads
 mod GivenLaws
 mod HeadLaws
 mod HostLaws
+mod LineReads
 mod NextLines
 mod OrderLaws
 mod OrderTexts

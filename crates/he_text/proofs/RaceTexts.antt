@@ -31,6 +31,7 @@ use Rattle.he_text.specs.Reading.{read_lines}
 use Rattle.he_text.specs.Said.{Said, Setting, PolicyRow, HostSource, HostRoute, Answer, Told, Paused, Ended, same_name, setting_said, answer_said, first_of, setting_given, race_of}
 use Rattle.he_text.specs.Text.{Says, group_said, are_in_order, AreLines, IsRaceText}
 use Rattle.he_text.specs.Words.{group_of, spelling_of, word_in, is_end}
+use Rattle.he_text.proofs.LineReads.{says_read}
 use Rattle.he_text.proofs.Agreement.{stop, walk, walk_all, raced, lines_agree, ends_known}
 use Rattle.he_text.proofs.Checks.{line_checks, line_fault_is, checks_said, checks_passed, in_order}
 use Rattle.he_text.proofs.SaysLaws.{word_tokens, says}
@@ -236,7 +237,7 @@ right_more before line after right r goes =
     record {
       are = subst A (sym more) (record {
         short = all_more (λ l. length l ≤ MAX_LINE) before line right.are.short r.short;
-        say = zip_more Says before told line s right.are.say (says known line r.parts.0 r.parts.1 s (word_tokens (tokens_of line) r.parts r.word) goes passed.said_is);
+        say = zip_more Says before told line s right.are.say (says_read line s (says known line r.parts.0 r.parts.1 s (word_tokens (tokens_of line) r.parts r.word) goes passed.said_is));
         order = order_said_more 0 told s right.are.order le;
         settings_once = λ name. once_more (setting_said name) told s (right.are.settings_once name) (setting_new name told s passed.again_is);
         answers_once = λ family. once_more (answer_said family) told s (right.are.answers_once family) (answer_new known r.parts.0 r.parts.1 told s family passed.said_is (has_place r.parts.0 r.parts.1 before passed.often_is));

@@ -22,7 +22,8 @@ use Rattle.he_text.specs.Forms.{least_of, most_of}
 use Rattle.he_text.specs.Parts.{tokens_of}
 use Rattle.he_text.specs.Ranges.{RowInRange, RouteInRange}
 use Rattle.he_text.specs.Said.{Said, Setting, PolicyRow, HostSource, HostRoute, Answer, Told, Paused, Ended}
-use Rattle.he_text.specs.Text.{IsNumber, Lists, Says, mark_text, marked, source_marks, route_marks}
+use Rattle.he_text.specs.Text.{mark_text, marked, source_marks, route_marks}
+use Rattle.he_text.proofs.LineReads.{Reads, ReadsList, ReadsNumber}
 use Rattle.he_text.specs.Words.{spelling_of, name_spelling}
 use Rattle.he_text.proofs.CompleteForms.{word_said}
 use Rattle.he_text.proofs.PartLaws.{Lacks}
@@ -58,7 +59,7 @@ Spellable (Told ip outcome) = InRange ip × (MIN_DURATION ≤ duration_of outcom
 Spellable (Paused from to) = (from ≤ MAX_TICK) × (1 ≤ to) × (to ≤ MAX_PAUSE_END)
 Spellable Ended = ⊥
 
-number_is : (low high n : ℕ) → low ≤ n → n ≤ high → high < 10 ^ 10 → IsNumber low high (decimal n) n
+number_is : (low high n : ℕ) → low ≤ n → n ≤ high → high < 10 ^ 10 → ReadsNumber low high (decimal n) n
 number_is low high n least most small = record { value = (numbers_read_back n (omega arith)).1; least = least; most = most }
 
 number_token : (n high : ℕ) → n ≤ high → high < 10 ^ 10 → IsToken 43 (decimal n)
@@ -174,11 +175,11 @@ printed_read : (ips : List Ip) → AllByRecursion InRange ips → AllZip (λ tok
 printed_read [] small = tt
 printed_read (ip ∷ ips) small = ((addresses_read_back ip small.0).1, printed_read ips small.1)
 
-listed_read : (ips : List Ip) → AllByRecursion InRange ips → Lists (listed_text ips) ips
+listed_read : (ips : List Ip) → AllByRecursion InRange ips → ReadsList (listed_text ips) ips
 listed_read [] small = inl (refl, refl)
 listed_read (ip ∷ ips) small = inr (omega arith, printed_read (ip ∷ ips) small)
 
-pub written_says : (s : Said) → Spellable s → Says (line_of s) s
+pub written_says : (s : Said) → Spellable s → Reads (line_of s) s
 written_says (Setting name value) h =
     (decimal value, written_tokens (Setting name value) h, number_is (least_of name) (most_of name) value h.0 h.1 (name_small name))
 written_says (PolicyRow row) h = (

@@ -18,6 +18,7 @@ use Rattle.he_text.specs.Said.{Said, PolicyRow, HostSource, HostRoute, Answer}
 use Rattle.he_text.specs.Text.{Says, answer_word, IsRaceText}
 use Rattle.he_text.specs.Words.{spelling_of}
 use Rattle.he_text.specs.Written.{setting_text, delays_text, bounds_text, row_text, host_source_text, host_route_text, reply_text, answer_text, outcome_text, pause_text, timeline_text}
+use Rattle.he_text.proofs.LineReads.{says_read}
 use Rattle.he_text.proofs.CompleteLines.{AreShort}
 use Rattle.he_text.proofs.PartLaws.{Lacks}
 use Rattle.he_text.proofs.RereadLines.{ended, lines_back, lacks_from}
@@ -93,7 +94,7 @@ text_is race =
 -- each line keeps to what a line of a text does
 all_say : (said : List Said) → AllSpellable said → AllZip Says (map line_of said) said
 all_say [] h = tt
-all_say (s ∷ said) h = (written_says s h.0, all_say said h.1)
+all_say (s ∷ said) h = (says_read (line_of s) s (written_says s h.0), all_say said h.1)
 
 all_short : (said : List Said) → AllSpellable said → AreShort (map line_of said)
 all_short [] h = tt

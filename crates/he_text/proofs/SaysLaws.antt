@@ -14,7 +14,7 @@ use Rattle.he_text.specs.declared.words.Word.TheVariants as words
 use Rattle.he_text.specs.Forms.{setting_in, row_in, host_source_in, host_route_in, answer_in, connect_in, pause_in, word_of, said_by}
 use Rattle.he_text.specs.Parts.{tokens_of}
 use Rattle.he_text.specs.Said.{Said, Setting, PolicyRow, HostSource, HostRoute, Answer, Told, Paused}
-use Rattle.he_text.specs.Text.{Says}
+use Rattle.he_text.proofs.LineReads.{Reads}
 use Rattle.he_text.specs.Words.{spelling_of, name_spelling, word_in, name_in, is_end}
 use Rattle.he_text.proofs.FormFacts.{setting_ok, answer_ok, connect_ok, pause_ok}
 use Rattle.he_text.proofs.Results.{bind_ok, ok_or_ok}
@@ -77,54 +77,54 @@ word_tokens (token ∷ tokens) parts h =
     subst P same (ap (λ t. t ∷ tokens) spelled)
 
 -- a line that is right says what was read of it
-pub says : (known : Ip → Bool) (line : List ℕ) (word : Word) (tokens : List (List ℕ)) (s : Said) → tokens_of line ≡ spelling_of word ∷ tokens → is_end word ≡ false → said_by known word tokens ≡ Ok s → Says line s
+pub says : (known : Ip → Bool) (line : List ℕ) (word : Word) (tokens : List (List ℕ)) (s : Said) → tokens_of line ≡ spelling_of word ∷ tokens → is_end word ≡ false → said_by known word tokens ≡ Ok s → Reads line s
 unfolding said_by
 says known line words.Set tokens s is h e =
     let read = bind_ok (setting_in tokens) (λ setting. Ok (Setting setting.0 setting.1)) s e in
     let fact = setting_ok tokens read.0 read.1 in
     let same : Setting read.0.0 read.0.1 ≡ s = cc (read.2) in
-    let P : Said → Type 0 = Says line in
+    let P : Said → Type 0 = Reads line in
     subst P same (fact.second, is ∙ ap (λ ts. spelling_of words.Set ∷ ts) (fact.tokens_are ∙ ap (λ t. t ∷ fact.second ∷ []) (name_spelled fact.first read.0.0 fact.name_is)), fact.value_is)
 says known line words.Policy tokens s is h e =
     let read = bind_ok (row_in tokens) (λ row. Ok (PolicyRow row)) s e in
     let fact = row_ok tokens read.0 read.1 in
     let same : PolicyRow read.0 ≡ s = cc (read.2) in
-    let P : Said → Type 0 = Says line in
+    let P : Said → Type 0 = Reads line in
     subst P same (fact.first, fact.second, fact.third, is ∙ ap (λ ts. spelling_of words.Policy ∷ ts) fact.tokens_are, fact.prefix_is, fact.precedence_is, fact.label_is)
 says known line words.Source tokens s is h e =
     let read = bind_ok (host_source_in tokens) (λ source. Ok (HostSource source)) s e in
     let fact = source_ok tokens read.0 read.1 in
     let same : HostSource read.0 ≡ s = cc (read.2) in
-    let P : Said → Type 0 = Says line in
+    let P : Said → Type 0 = Reads line in
     subst P same (fact.first, fact.second, is ∙ ap (λ ts. spelling_of words.Source ∷ ts) fact.tokens_are, fact.source_is, fact.interface_is)
 says known line words.Route tokens s is h e =
     let read = bind_ok (host_route_in tokens) (λ route. Ok (HostRoute route)) s e in
     let fact = route_ok tokens read.0 read.1 in
     let same : HostRoute read.0 ≡ s = cc (read.2) in
-    let P : Said → Type 0 = Says line in
+    let P : Said → Type 0 = Reads line in
     subst P same (fact.first, fact.second, is ∙ ap (λ ts. spelling_of words.Route ∷ ts) fact.tokens_are, fact.prefix_is, fact.interface_is)
 says known line words.Aaaa tokens s is h e =
     let read = bind_ok (answer_in families.V6 tokens) (λ reply. Ok (Answer families.V6 reply)) s e in
     let fact = answer_ok families.V6 tokens read.0 read.1 in
     let same : Answer families.V6 read.0 ≡ s = cc (read.2) in
-    let P : Said → Type 0 = Says line in
+    let P : Said → Type 0 = Reads line in
     subst P same (fact.first, fact.others, is ∙ ap (λ ts. spelling_of words.Aaaa ∷ ts) fact.tokens_are, fact.tick, fact.addresses.listed, fact.few)
 says known line words.A tokens s is h e =
     let read = bind_ok (answer_in families.V4 tokens) (λ reply. Ok (Answer families.V4 reply)) s e in
     let fact = answer_ok families.V4 tokens read.0 read.1 in
     let same : Answer families.V4 read.0 ≡ s = cc (read.2) in
-    let P : Said → Type 0 = Says line in
+    let P : Said → Type 0 = Reads line in
     subst P same (fact.first, fact.others, is ∙ ap (λ ts. spelling_of words.A ∷ ts) fact.tokens_are, fact.tick, fact.addresses.listed, fact.few)
 says known line words.Connect tokens s is h e =
     let read = bind_ok (connect_in known tokens) (λ told. Ok (Told told.0 told.1)) s e in
     let fact = connect_ok known tokens read.0 read.1 in
     let same : Told read.0.0 read.0.1 ≡ s = cc (read.2) in
-    let P : Said → Type 0 = Says line in
+    let P : Said → Type 0 = Reads line in
     subst P same (fact.first, fact.last, is ∙ ap (λ ts. spelling_of words.Connect ∷ ts) fact.tokens_are, fact.ip_is, fact.ticks)
 says known line words.Pause tokens s is h e =
     let read = bind_ok (pause_in tokens) (λ pause. Ok (Paused pause.0 pause.1)) s e in
     let fact = pause_ok tokens read.0 read.1 in
     let same : Paused read.0.0 read.0.1 ≡ s = cc (read.2) in
-    let P : Said → Type 0 = Says line in
+    let P : Said → Type 0 = Reads line in
     subst P same (fact.first, fact.second, is ∙ ap (λ ts. spelling_of words.Pause ∷ ts) fact.tokens_are, fact.from_is, fact.to_is)
 says known line words.End tokens s is h e = cc

@@ -16,7 +16,8 @@ use Rattle.he_select.specs.declared.policy.Row.{Row}
 use Rattle.he_text.specs.declared.fault.TextKind.TheVariants as kinds
 use Rattle.he_text.specs.declared.limits.TheConstants.{MAX_PRECEDENCE, MAX_LABEL, MIN_INTERFACE, MAX_INTERFACE, SOURCE_MARKS, ROUTE_MARKS}
 use Rattle.he_text.specs.Forms.{◌>>=◌, number_from, row_in, source_address_in, interface_in, source_marks_in, host_source_in, route_marks_in, host_route_in}
-use Rattle.he_text.specs.Text.{IsNumber, marked, source_marks, route_marks}
+use Rattle.he_text.specs.Text.{marked, source_marks, route_marks}
+use Rattle.he_text.proofs.LineReads.{ReadsNumber}
 use Rattle.he_text.proofs.FormFacts.{number_ok}
 use Rattle.he_text.proofs.Results.{bind_ok, ok_or_ok, let_through, not_stopped}
 
@@ -27,8 +28,8 @@ pub record IsRow (tokens : List (List ℕ)) (row : Row) : Type 0 where
   pub third : List ℕ
   pub tokens_are : tokens ≡ first ∷ second ∷ third ∷ []
   pub prefix_is : prefix_in first ≡ Some row.prefix
-  pub precedence_is : IsNumber 0 MAX_PRECEDENCE second row.precedence
-  pub label_is : IsNumber 0 MAX_LABEL third row.label
+  pub precedence_is : ReadsNumber 0 MAX_PRECEDENCE second row.precedence
+  pub label_is : ReadsNumber 0 MAX_LABEL third row.label
 
 abbrev row_with : PrefixBits → ℕ → ℕ → Row
 row_with prefix precedence label = record { prefix = prefix; precedence = precedence; label = label }
@@ -63,7 +64,7 @@ pub record IsHostSource (tokens : List (List ℕ)) (source : Source) : Type 0 wh
   pub source_is : source_in first ≡ Some (source.ip, source.plen)
   pub usable : is_usable source.ip ≡ true
   pub within_width : source.plen ≤ width_of source.ip
-  pub interface_is : IsNumber MIN_INTERFACE MAX_INTERFACE second source.interface
+  pub interface_is : ReadsNumber MIN_INTERFACE MAX_INTERFACE second source.interface
 
 some_step : {A B : Type 0} (o : Option A) (f : A → Option B) (y : B) → option_and_then f o ≡ Some y → (x : A) × (f x ≡ Some y)
 some_step None f y h = cc
@@ -156,7 +157,7 @@ pub record IsHostRoute (tokens : List (List ℕ)) (route : Route) : Type 0 where
   pub second : List ℕ
   pub tokens_are : tokens ≡ first ∷ second ∷ route_marks route
   pub prefix_is : prefix_in first ≡ Some route.prefix
-  pub interface_is : IsNumber MIN_INTERFACE MAX_INTERFACE second route.interface
+  pub interface_is : ReadsNumber MIN_INTERFACE MAX_INTERFACE second route.interface
 
 tunnel_by : (mark : List ℕ) (tunnel is : Bool) → bytes_eq mark (codes "tunnel") ≡ tunnel → cond tunnel (Ok true) (Err kinds.Word) ≡ Ok is → mark ∷ [] ≡ marked is (codes "tunnel")
 tunnel_by mark true is e h =

@@ -4,7 +4,7 @@ use Rattle.std.specs.List.{AllByRecursion, AllZip, filter_map}
 use Rattle.he_addr.specs.declared.ip.Family.{Family}
 use Rattle.he_addr.specs.declared.ip.Family.TheVariants as families
 use Rattle.he_addr.specs.declared.ip.Ip.{Ip}
-use Rattle.he_addr.specs.Reading.{number_in, ip_in, prefix_in, source_in}
+use Rattle.he_addr.specs.Text.{SpellsNumber, Spells, SpellsSource, SpellsPrefix}
 use Rattle.he_select.specs.declared.host.Source.{Source}
 use Rattle.he_select.specs.declared.host.Route.{Route}
 use Rattle.he_plan.specs.declared.limits.TheConstants.{MAX_TICK, MIN_DURATION, MAX_DURATION, MAX_PAUSE_END, MAX_ADDRESSES}
@@ -25,13 +25,13 @@ use Rattle.he_text.specs.Words.{spelling_of, name_spelling}
 
 -- a token that spells a number from `low` to `high`
 pub record IsNumber (low high : ℕ) (token : List ℕ) (n : ℕ) : Type 0 where
-  pub value : number_in token ≡ Some n
+  pub value : SpellsNumber token n
   pub least : low ≤ n
   pub most : n ≤ high
 
 -- `none`, or tokens that spell the addresses
 abbrev pub Lists : List (List ℕ) → List Ip → Type 0
-Lists tokens ips = ((tokens ≡ codes "none" ∷ []) × (ips ≡ [])) ⊎ ((0 < length tokens) × AllZip (λ token ip. ip_in token ≡ Some ip) tokens ips)
+Lists tokens ips = ((tokens ≡ codes "none" ∷ []) × (ips ≡ [])) ⊎ ((0 < length tokens) × AllZip Spells tokens ips)
 
 abbrev pub mark_text : Outcome → List ℕ
 mark_text (outcomes.Ok ticks) = codes "ok"
@@ -57,19 +57,19 @@ Says line (Setting name value) =
     (number : List ℕ) × (tokens_of line ≡ spelling_of words.Set ∷ name_spelling name ∷ number ∷ []) × IsNumber (least_of name) (most_of name) number value
 Says line (PolicyRow row) =
     (first : List ℕ) × (second : List ℕ) × (third : List ℕ) × (tokens_of line ≡ spelling_of words.Policy ∷ first ∷ second ∷ third ∷ [])
-    × (prefix_in first ≡ Some row.prefix) × IsNumber 0 MAX_PRECEDENCE second row.precedence × IsNumber 0 MAX_LABEL third row.label
+    × SpellsPrefix first row.prefix × IsNumber 0 MAX_PRECEDENCE second row.precedence × IsNumber 0 MAX_LABEL third row.label
 Says line (HostSource source) =
     (first : List ℕ) × (second : List ℕ) × (tokens_of line ≡ spelling_of words.Source ∷ first ∷ second ∷ source_marks source)
-    × (source_in first ≡ Some (source.ip, source.plen)) × IsNumber MIN_INTERFACE MAX_INTERFACE second source.interface
+    × SpellsSource first source.ip source.plen × IsNumber MIN_INTERFACE MAX_INTERFACE second source.interface
 Says line (HostRoute route) =
     (first : List ℕ) × (second : List ℕ) × (tokens_of line ≡ spelling_of words.Route ∷ first ∷ second ∷ route_marks route)
-    × (prefix_in first ≡ Some route.prefix) × IsNumber MIN_INTERFACE MAX_INTERFACE second route.interface
+    × SpellsPrefix first route.prefix × IsNumber MIN_INTERFACE MAX_INTERFACE second route.interface
 Says line (Answer family reply) =
     (number : List ℕ) × (tokens : List (List ℕ)) × (tokens_of line ≡ spelling_of (answer_word family) ∷ number ∷ tokens)
     × IsNumber 0 MAX_TICK number reply.tick × Lists tokens reply.addresses × (length tokens ≤ MAX_ADDRESSES)
 Says line (Told ip outcome) =
     (address : List ℕ) × (number : List ℕ) × (tokens_of line ≡ spelling_of words.Connect ∷ address ∷ mark_text outcome ∷ number ∷ [])
-    × (ip_in address ≡ Some ip) × IsNumber MIN_DURATION MAX_DURATION number (duration_of outcome)
+    × Spells address ip × IsNumber MIN_DURATION MAX_DURATION number (duration_of outcome)
 Says line (Paused from to) =
     (first : List ℕ) × (second : List ℕ) × (tokens_of line ≡ spelling_of words.Pause ∷ first ∷ second ∷ [])
     × IsNumber 0 MAX_TICK first from × IsNumber 1 MAX_PAUSE_END second to
