@@ -51,6 +51,3 @@ pub use planning::plan;
 pub use settings::{Range, Settings};
 pub use timeline::Timeline;
 pub use transcript::{Line, Mark, Outcome3, Transcript, transcript_of, transcript_of_fates};
-
-#[cfg(test)]
-mod tests;
