@@ -55,6 +55,3 @@ pub use timeline::Timeline;
 pub use transcript::{
     Line, Mark, Outcome3, Transcript, transcript_at_stop, transcript_of, transcript_of_fates,
 };
-
-#[cfg(test)]
-mod tests;
