@@ -23,15 +23,15 @@ no : true ≡ false → ⊥
 unfolding is_true
 no h = subst is_true h tt
 
-and_left : (a b : Bool) → (a && b) ≡ true → a ≡ true
+pub and_left : (a b : Bool) → (a && b) ≡ true → a ≡ true
 and_left true b h = refl
 and_left false b h = h
 
-and_right : (a b : Bool) → (a && b) ≡ true → b ≡ true
+pub and_right : (a b : Bool) → (a && b) ≡ true → b ≡ true
 and_right true b h = h
 and_right false b h = absurd (no (sym h))
 
-and_both : (a b : Bool) → a ≡ true → b ≡ true → (a && b) ≡ true
+pub and_both : (a b : Bool) → a ≡ true → b ≡ true → (a && b) ≡ true
 and_both true b h k = k
 and_both false b h k = h
 
@@ -45,13 +45,13 @@ eq_from m n h = (Decides-eqb m n).0 h
 eq_self : (n : ℕ) → (n == n) ≡ true
 eq_self n = (Decides-eqb n n).1 refl
 
-ip_from : (x y : Ip) → same_ip x y ≡ true → x ≡ y
+pub ip_from : (x y : Ip) → same_ip x y ≡ true → x ≡ y
 ip_from (V4 m) (V4 n) h = ap V4 (eq_from m n h)
 ip_from (V6 m) (V6 n) h = ap V6 (eq_from m n h)
 ip_from (V4 m) (V6 n) h = absurd (no (sym h))
 ip_from (V6 m) (V4 n) h = absurd (no (sym h))
 
-ip_self : (x : Ip) → same_ip x x ≡ true
+pub ip_self : (x : Ip) → same_ip x x ≡ true
 ip_self (V4 m) = eq_self m
 ip_self (V6 m) = eq_self m
 
@@ -65,13 +65,13 @@ flag_self : (x : Bool) → beq x x ≡ true
 flag_self true = refl
 flag_self false = refl
 
-prefix_from : (x y : PrefixBits) → same_prefix x y ≡ true → x ≡ y
+pub prefix_from : (x y : PrefixBits) → same_prefix x y ≡ true → x ≡ y
 prefix_from x y h =
     let f : ℕ → PrefixBits = λ v. record { bits = v; len = x.len } in
     let g : ℕ → PrefixBits = λ v. record { bits = y.bits; len = v } in
     ap f (eq_from x.bits y.bits (and_left _ _ h)) ∙ ap g (eq_from x.len y.len (and_right _ _ h))
 
-prefix_self : (x : PrefixBits) → same_prefix x x ≡ true
+pub prefix_self : (x : PrefixBits) → same_prefix x x ≡ true
 prefix_self x = and_both _ _ (eq_self x.bits) (eq_self x.len)
 
 row_from : (x y : Row) → equal_row x y ≡ true → x ≡ y

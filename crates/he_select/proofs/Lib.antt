@@ -1,12 +1,16 @@
+pub mod Admitted
+pub mod Apart
 pub mod Arranged
 pub mod Causes
 pub mod Chosen
 pub mod Counting
 pub mod Equality
 pub mod Families
+pub mod Hosted
 pub mod Inserted
 pub mod Keyed
 pub mod LawsOfOrder
+pub mod Least
 pub mod Listing
 pub mod LookUps
 pub mod Ordered

@@ -4,7 +4,8 @@ ghost use Rattle.std.specs.Prelude.{◌≡◌, not, option_map, IsTrue, IfOk, If
 ghost use Rattle.he_addr.specs.Prefix.{width_of};
 ghost use Rattle.std.specs.List.{list_all, list_any, position_from};
 ghost use Rattle.he_select.specs.Equality.{equal_hosts};
-ghost use Rattle.he_select.specs.Hosts.{same_source, same_route, is_sound_source, is_sound_route, host_fault, host_of, IsHost};
+ghost use Rattle.he_select.specs.HostFaults.{is_sound_source, is_sound_route, host_fault, host_of};
+ghost use Rattle.he_select.specs.Hosts.{same_source, same_route, IsHost};
 ghost use Rattle.he_select.specs.Selection.{source_of, world_of};
 
 use crate::distinct::{Distinct, first_repeated, stands_in};
@@ -136,7 +137,7 @@ impl Distinct for Route {
 
 impl HostFault {
     /// Why the lists are no host, the first cause in the order of the variants; `None` for a host's lists. Never `Memory`.
-    #[tactic(auto, unfolding(crate::specs::Hosts::host_fault))]
+    #[tactic(auto, unfolding(crate::specs::HostFaults::host_fault))]
     pub fn find(sources: &[Source], routes: &[Route]) -> Option<HostFault>
         ensures { result ≡ host_fault sources.now routes.now }
     {
@@ -273,7 +274,7 @@ impl<A: Allocator> Host<A> {
 
     /// The source that the host uses for a destination (RFC 6724 section 5): of the candidates the best by the source rules;
     /// `None` where the destination has no route or no candidate.
-    #[tactic(auto, using(crate::proofs::Causes::all_sound))]
+    #[tactic(auto, using(crate::proofs::Hosted::all_sound))]
     pub fn source<B: Allocator>(&self, policy: &Policy<B>, ip: Ip) -> Option<Ip>
         ensures { result ≡ option_map (λ source. source.ip) (source_of (world_of policy.now self.now) ip) }
     {
