@@ -1,13 +1,15 @@
 //! Replaying the timelines of a reader to a writer.
-ghost use Rattle.std.specs.Prelude.{◌≤◌};
+ghost use Rattle.std.specs.Prelude.{◌≡◌, ◌≤◌};
+ghost use Rattle.he_stream.specs.Input.{Gives};
+ghost use Rattle.he_stream.specs.Output.{PutsPart, PutsWhole};
 ghost use Rattle.he_replay.specs.Stream.{Replays};
 
 use crate::content::Content;
 use crate::fault::ReplayFault;
 use crate::limits::{LEAST_WORKERS, MOST_WORKERS};
 use crate::stream::stream;
+use he_stream::{InputStream, OutputStream};
 use std::alloc::Allocator;
-use std::io::{Read, Write};
 
 /// Reads timelines to the end of the reader and writes their transcripts, with so many workers.
 ///
@@ -22,17 +24,18 @@ use std::io::{Read, Write};
 ///   reached.
 /// - `Write` where a write or the flush failed, whatever the input was.
 /// - `Memory` where an allocation was refused.
-pub fn replay<T, A: Allocator + Copy, R: Read, W: Write>(
+pub fn replay<T, A: Allocator + Copy, I: InputStream, O: OutputStream>(
     rt: &T,
     alloc: A,
-    reader: &mut R,
-    writer: &mut W,
+    input: &mut I,
+    output: &mut O,
     workers: u16,
 ) -> Result<(), ReplayFault>
     requires some { LEAST_WORKERS ≤ workers }
     requires few { workers ≤ MOST_WORKERS }
-    ensures { Replays (R.remaining reader.old) (R.remaining reader.new)
-        (W.contents writer.old) (W.contents writer.new) result }
+    ensures { Replays (Gives I.remaining I.takes input.old input.new)
+        (PutsWhole O.contents O.puts O.flushes output.old output.new)
+        (PutsPart O.contents O.puts O.flushes output.old output.new) (output.new ≡ output.old) result }
 {
-    stream(alloc, reader, writer, Content::Transcript)
+    stream(alloc, input, output, Content::Transcript)
 }

@@ -1,4 +1,5 @@
 mod Agreement
+mod Beginnings
 mod Checks
 mod CompleteChecks
 mod CompleteFaults

@@ -1,11 +1,13 @@
 // Laws of the texts of races, each the contract of a function that runs nothing.
 
-ghost use Rattle.std.specs.Prelude.{◌≡◌, ◌↔◌, ◌++◌, ℕ, List, [], None};
+ghost use Rattle.std.specs.Prelude.{◌≡◌, ◌⊎◌, ◌↔◌, ◌≤◌, ◌++◌, ℕ, List, [], Some, None, MatchOption};
 ghost use Rattle.he_plan.specs.Race.{Race};
 ghost use Rattle.he_plan.specs.Timeline.{IsRace};
+ghost use Rattle.he_text.specs.declared.fault.TextKind.{TextKind};
+ghost use Rattle.he_text.specs.Beginnings.{FaultStands, MayChange};
 ghost use Rattle.he_text.specs.Faults.{fault_of};
 ghost use Rattle.he_text.specs.Ranges.{RaceInRange};
-ghost use Rattle.he_text.specs.Text.{IsRaceText, BeginsWithRace};
+ghost use Rattle.he_text.specs.Text.{IsRaceText, BeginsWithRace, TellsFault};
 ghost use Rattle.he_text.specs.Written.{timeline_text};
 
 use crate::ranges::timeline_range;
@@ -26,6 +28,28 @@ pub fn no_race_is_a_prefix()
 /// A text begins with a race exactly where nothing is wrong with it. Runs nothing.
 pub fn begins_where_no_fault()
     ensures { (text : List ℕ) → BeginsWithRace text ↔ (fault_of text ≡ None) }
+{}
+
+/// The race with which a text begins is one, and so is its end: what is found in a first part of a text is what the whole text
+/// begins with. Runs nothing.
+pub fn one_race_first()
+    ensures { (front rest other_front other_rest : List ℕ) (race other : Race) → IsRaceText front race → IsRaceText other_front other → front ++ rest ≡ other_front ++ other_rest → (front ≡ other_front) × (race ≡ other) }
+{}
+
+/// A fault of a text is the fault of every text that begins with its bytes, unless the text ends inside a race, or with the
+/// last row of a policy table that more rows may mend. Runs nothing.
+pub fn faults_stand()
+    ensures { (text : List ℕ) (line : ℕ) (kind : TextKind) → fault_of text ≡ Some (line, kind) → MayChange text line kind ⊎ FaultStands text line kind }
+{}
+
+/// What follows a text brings no fault on an earlier line than the text's own. Runs nothing.
+pub fn faults_come_no_earlier()
+    ensures { (text more : List ℕ) (line : ℕ) (kind : TextKind) → fault_of text ≡ Some (line, kind) → MatchOption (fault_of (text ++ more)) (Unit {0}) (λ fault. line ≤ fault.0) }
+{}
+
+/// What `read_race` tells of a first part of a text it may tell of the whole, unless what follows may change it. Runs nothing.
+pub fn told_faults_stand()
+    ensures { (text more : List ℕ) (line : ℕ) (kind : TextKind) → TellsFault line kind (fault_of text) → MayChange text line kind ⊎ TellsFault line kind (fault_of (text ++ more)) }
 {}
 
 /// What is written of a race is a text of this race, so it is read as this race, whatever follows it. Runs nothing.

@@ -17,6 +17,7 @@ mod run;
 mod tests;
 
 use he_replay::ReplayFault;
+use he_stream::{FromReader, ToWriter};
 use run::{report, report_not_text, run_words};
 use std::process::ExitCode;
 use std::{env, io};
@@ -28,7 +29,7 @@ fn main(rt: HostRuntime) -> ExitCode {
 // Runs the command line that the program was started with, and answers the exit status.
 fn run_program(rt: &HostRuntime) -> u8 {
     match words_of(rt) {
-        Ok(words) => run_line(rt, words.as_slice()),
+        Ok(words) => run_texts(rt, words.as_slice()),
         Err(error) if error.kind() == io::ErrorKind::OutOfMemory => report(
             ReplayFault::Memory,
             &mut rt.stderr(),
@@ -42,7 +43,7 @@ fn words_of(rt: &HostRuntime) -> io::Result<Vec<String>> {
     Ok(env::args(rt)?.collect(rt.alloc())?)
 }
 
-fn run_line(rt: &HostRuntime, words: &[String]) -> u8 {
+fn run_texts(rt: &HostRuntime, words: &[String]) -> u8 {
     let texts = words
         .iter()
         .map(|word| word.as_str())
@@ -52,8 +53,8 @@ fn run_line(rt: &HostRuntime, words: &[String]) -> u8 {
             rt,
             rt.alloc(),
             texts.as_slice(),
-            &mut rt.stdin(),
-            &mut rt.stdout(),
+            &mut FromReader::new(rt.stdin()),
+            &mut ToWriter::new(rt.stdout()),
             &mut rt.stderr(),
         ),
         Err(_) => report(ReplayFault::Memory, &mut rt.stderr()),

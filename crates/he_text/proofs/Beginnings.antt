@@ -1,0 +1,450 @@
+-- What is wrong with a text is wrong with each longer one, unless what follows may mend it.
+use Rattle.std.proofs.Common.{◌≡◌, ℕ, ◌+◌, ◌<◌, ◌≤◌, Bool, true, false, cond, ltb, eqb, List, [], ◌∷◌, ◌++◌, length, Option, Some, None, Result, Ok, Err, refl, sym, ◌∙◌, ap, subst, inl, inr, arith, append_assoc}
+use Rattle.std.specs.Prelude.{◌⊎◌, MatchOption, option_map}
+use Rattle.std.specs.List.{onto_first}
+use Rattle.std.specs.Option.{option_map_or}
+use Rattle.std.proofs.lemmas.Bool.{lt-ltb, ltb-true, eq-eqb, eqb-true}
+use Rattle.std.proofs.lemmas.List.{append-nil}
+use Rattle.std.proofs.lemmas.List.Splits.{length-slice_split}
+use Rattle.he_plan.specs.Race.{Race}
+use Rattle.he_select.specs.declared.policy.PolicyFault.{PolicyFault}
+use Rattle.he_select.specs.Tables.{table_fault}
+use Rattle.he_text.specs.declared.fault.TextKind.{TextKind}
+use Rattle.he_text.specs.declared.fault.TextKind.TheVariants as kinds
+use Rattle.he_text.specs.declared.limits.TheConstants.{MAX_LINE}
+use Rattle.he_text.specs.Beginnings.{FaultStands, IsTableFault, MayChange}
+use Rattle.he_text.specs.Faults.{test, first_fault, last_group, known_to, said_before, too_long, unfinished, wrong_header, wrong_word, too_often, wrong_form, wrong_bounds, repeated, is_policy_next, wrong_table, of_said, line_fault, at_line_number, ends, fault_from, fault_in, fault_of}
+use Rattle.he_text.specs.Forms.{word_of, said_in}
+use Rattle.he_text.specs.Parts.{parts_of, lines_of, tokens_of}
+use Rattle.he_text.specs.Said.{Said, Setting, PolicyRow, HostSource, HostRoute, Answer, Told, Paused, Ended, rows_given}
+use Rattle.he_text.specs.Text.{IsRaceText, TellsFault}
+use Rattle.he_text.proofs.CompleteFaults.{begins_right, right_begins}
+use Rattle.he_text.proofs.CompleteTexts.{no_longer}
+
+-- the lines of a longer text: the last one goes on, and others may follow
+abbrev pub GoOn : List (List ℕ) → List (List ℕ) → Type 0
+GoOn [] longer = ⊥
+GoOn (last ∷ []) [] = ⊥
+GoOn (last ∷ []) (line ∷ more) = length last ≤ length line
+GoOn (line ∷ next ∷ lines) [] = ⊥
+GoOn (line ∷ next ∷ lines) (other ∷ more) = (line ≡ other) × GoOn (next ∷ lines) more
+
+one_more : (x : ℕ) (parts longer : List (List ℕ)) → GoOn parts longer → GoOn (onto_first x parts) (onto_first x longer)
+one_more x [] longer h = absurd h
+one_more x (part ∷ []) [] h = absurd h
+one_more x (part ∷ []) (other ∷ more) h = omega arith
+one_more x (part ∷ next ∷ parts) [] h = absurd h
+one_more x (part ∷ next ∷ parts) (other ∷ more) h = (ap (λ p. x ∷ p) h.0, h.1)
+
+one_part : (parts longer : List (List ℕ)) → GoOn parts longer → GoOn ([] ∷ parts) ([] ∷ longer)
+one_part [] longer h = absurd h
+one_part (part ∷ parts) longer h = (refl, h)
+
+pub parts_go_on : (mark : ℕ) (text more : List ℕ) → GoOn (parts_of mark text) (parts_of mark (text ++ more))
+parts_go_on mark [] more = by_parts (parts_of mark more) (omega (arith, length-slice_split (λ b. eqb b mark) more))
+  where
+    by_parts : (parts : List (List ℕ)) → 0 < length parts → GoOn ([] ∷ []) parts
+    by_parts [] some = absurd (omega arith)
+    by_parts (part ∷ parts) some = omega arith
+parts_go_on mark (x ∷ xs) more = by_mark (eqb x mark) (parts_of mark xs) (parts_of mark (xs ++ more)) (parts_go_on mark xs more)
+  where
+    by_mark : (b : Bool) (parts longer : List (List ℕ)) → GoOn parts longer → GoOn (cond b ([] ∷ parts) (onto_first x parts)) (cond b ([] ∷ longer) (onto_first x longer))
+    by_mark true parts longer h = one_part parts longer h
+    by_mark false parts longer h = one_more x parts longer h
+
+-- the last of the checks finds something else
+last_check : (checks : List (Option TextKind)) (one other : Option TextKind) (kind : TextKind) → first_fault (checks ++ one ∷ []) ≡ Some kind
+    → (first_fault (checks ++ other ∷ []) ≡ Some kind) ⊎ (one ≡ Some kind)
+last_check [] None other kind h = cc
+last_check [] (Some k) other kind h = inr h
+last_check (None ∷ checks) one other kind h = last_check checks one other kind h
+last_check (Some k ∷ checks) one other kind h = inl h
+
+last_passes : (checks : List (Option TextKind)) (one other : Option TextKind) → (one ≡ None → other ≡ None) → first_fault (checks ++ one ∷ []) ≡ None → first_fault (checks ++ other ∷ []) ≡ None
+last_passes [] None other same h = ap (λ o. first_fault (o ∷ [])) (same refl)
+last_passes [] (Some k) other same h = cc
+last_passes (None ∷ checks) one other same h = last_passes checks one other same h
+last_passes (Some k ∷ checks) one other same h = cc
+
+-- the check of a table, where a row follows and where none does
+table_check : Bool → Option PolicyFault → Option TextKind
+table_check more fault = cond more None (option_map kinds.Policy fault)
+
+is_table_fault : (more : Bool) (fault : Option PolicyFault) (kind : TextKind) → table_check more fault ≡ Some kind → IsTableFault kind
+unfolding table_check
+is_table_fault true fault kind h = cc
+is_table_fault false None kind h = cc
+is_table_fault false (Some fault) kind h = (fault, cc)
+
+table_fault_is : (told : List Said) (after : List (List ℕ)) (said : Result Said TextKind) (kind : TextKind) → of_said (wrong_table told after) said ≡ Some kind → IsTableFault kind
+unfolding table_check
+table_fault_is told after (Err k) kind h = cc
+table_fault_is told after (Ok (Setting name value)) kind h = cc
+table_fault_is told after (Ok (PolicyRow row)) kind h = is_table_fault (is_policy_next after) (table_fault (rows_given told ++ row ∷ [])) kind h
+table_fault_is told after (Ok (HostSource source)) kind h = cc
+table_fault_is told after (Ok (HostRoute route)) kind h = cc
+table_fault_is told after (Ok (Answer family reply)) kind h = cc
+table_fault_is told after (Ok (Told ip outcome)) kind h = cc
+table_fault_is told after (Ok (Paused from to)) kind h = cc
+table_fault_is told after (Ok Ended) kind h = cc
+
+same_table : (told : List Said) (after longer : List (List ℕ)) (said : Result Said TextKind) → is_policy_next after ≡ is_policy_next longer → of_said (wrong_table told after) said ≡ of_said (wrong_table told longer) said
+unfolding table_check
+same_table told after longer (Err k) same = refl
+same_table told after longer (Ok (Setting name value)) same = refl
+same_table told after longer (Ok (PolicyRow row)) same = ap (λ b. table_check b (table_fault (rows_given told ++ row ∷ []))) same
+same_table told after longer (Ok (HostSource source)) same = refl
+same_table told after longer (Ok (HostRoute route)) same = refl
+same_table told after longer (Ok (Answer family reply)) same = refl
+same_table told after longer (Ok (Told ip outcome)) same = refl
+same_table told after longer (Ok (Paused from to)) same = refl
+same_table told after longer (Ok Ended) same = refl
+
+table_passes : (told : List Said) (last : List ℕ) (longer : List (List ℕ)) (said : Result Said TextKind) → of_said (wrong_table told (last ∷ [])) said ≡ None → of_said (wrong_table told longer) said ≡ None
+unfolding table_check
+table_passes told last longer (Err k) h = refl
+table_passes told last longer (Ok (Setting name value)) h = refl
+table_passes told last longer (Ok (PolicyRow row)) h = by_next (is_policy_next longer) (table_fault (rows_given told ++ row ∷ [])) h
+  where
+    by_next : (b : Bool) (fault : Option PolicyFault) → table_check false fault ≡ None → table_check b fault ≡ None
+    by_next true fault e = refl
+    by_next false fault e = e
+table_passes told last longer (Ok (HostSource source)) h = refl
+table_passes told last longer (Ok (HostRoute route)) h = refl
+table_passes told last longer (Ok (Answer family reply)) h = refl
+table_passes told last longer (Ok (Told ip outcome)) h = refl
+table_passes told last longer (Ok (Paused from to)) h = refl
+table_passes told last longer (Ok Ended) h = refl
+
+-- whether a row follows is known once the next line is whole
+row_known : (after longer : List (List ℕ)) → GoOn after longer → (is_policy_next after ≡ is_policy_next longer) ⊎ ((last : List ℕ) × (after ≡ last ∷ []))
+row_known [] longer h = absurd h
+row_known (last ∷ []) longer h = inr (last, refl)
+row_known (line ∷ next ∷ lines) [] h = absurd h
+row_known (line ∷ next ∷ []) (other ∷ []) h = absurd h.1
+row_known (line ∷ next ∷ third ∷ lines) (other ∷ []) h = absurd h.1
+row_known (line ∷ next ∷ lines) (other ∷ more ∷ others) h = inl (ap (λ l. is_policy_next (l ∷ next ∷ lines)) h.0)
+
+-- all checks but the last
+abbrev early : List (List ℕ) → List ℕ → List (List ℕ) → List (Option TextKind)
+early before line after =
+    too_long line ∷ unfinished after ∷ wrong_word (last_group 0 before) (word_of (tokens_of line)) ∷ too_often before (word_of (tokens_of line))
+    ∷ wrong_form (said_in (known_to (said_before before)) line) ∷ of_said (wrong_bounds (said_before before)) (said_in (known_to (said_before before)) line)
+    ∷ of_said (repeated (said_before before)) (said_in (known_to (said_before before)) line) ∷ []
+
+abbrev table_of_line : List (List ℕ) → List ℕ → List (List ℕ) → Option TextKind
+table_of_line before line after = of_said (wrong_table (said_before before) after) (said_in (known_to (said_before before)) line)
+
+same_early : (before : List (List ℕ)) (line : List ℕ) (after longer : List (List ℕ)) → GoOn after longer → early before line after ≡ early before line longer
+same_early before line [] longer h = absurd h
+same_early before line (last ∷ []) [] h = absurd h
+same_early before line (next ∷ other ∷ lines) [] h = absurd h
+same_early before line (next ∷ lines) (other ∷ more) h = refl
+
+line_stands : (before : List (List ℕ)) (line : List ℕ) (after longer : List (List ℕ)) (kind : TextKind) → GoOn after longer → line_fault before line after ≡ Some kind
+    → (line_fault before line longer ≡ Some kind) ⊎ (IsTableFault kind × ((last : List ℕ) × (after ≡ last ∷ [])))
+unfolding line_fault
+line_stands before line after longer kind on h =
+    let early_is : early before line after ≡ early before line longer = same_early before line after longer on in
+    let P : List (Option TextKind) → Type 0 = λ checks. first_fault (checks ++ table_of_line before line after ∷ []) ≡ Some kind in
+    let here : first_fault (early before line longer ++ table_of_line before line after ∷ []) ≡ Some kind = subst P early_is h in
+    elim (row_known after longer on) [
+      | inl same ↦ inl (ap (λ t. first_fault (early before line longer ++ t ∷ [])) (sym (same_table (said_before before) after longer (said_in (known_to (said_before before)) line) same)) ∙ here)
+      | inr last ↦ elim (last_check (early before line longer) (table_of_line before line after) (table_of_line before line longer) kind here) [
+        | inl stands ↦ inl stands
+        | inr table ↦ inr (table_fault_is (said_before before) after (said_in (known_to (said_before before)) line) kind table, last)
+      ]
+    ]
+
+line_passes : (before : List (List ℕ)) (line : List ℕ) (after longer : List (List ℕ)) → GoOn after longer → line_fault before line after ≡ None → line_fault before line longer ≡ None
+unfolding line_fault
+line_passes before line after longer on h =
+    let P : List (Option TextKind) → Type 0 = λ checks. first_fault (checks ++ table_of_line before line after ∷ []) ≡ None in
+    let here : first_fault (early before line longer ++ table_of_line before line after ∷ []) ≡ None = subst P (same_early before line after longer on) h in
+    let said : Result Said TextKind = said_in (known_to (said_before before)) line in
+    last_passes (early before line longer) (table_of_line before line after) (table_of_line before line longer)
+    (elim (row_known after longer on) [
+      | inl same ↦ λ none. sym (same_table (said_before before) after longer said same) ∙ none
+      | inr last ↦ λ none. let Q : List (List ℕ) → Type 0 = λ a. of_said (wrong_table (said_before before) a) said ≡ None in
+          table_passes (said_before before) last.0 longer said (subst Q last.1 none)
+    ])
+    here
+
+-- all checks but the first two
+abbrev later_checks : List (List ℕ) → List ℕ → List (List ℕ) → List (Option TextKind)
+later_checks before line after =
+    wrong_word (last_group 0 before) (word_of (tokens_of line)) ∷ too_often before (word_of (tokens_of line))
+    ∷ wrong_form (said_in (known_to (said_before before)) line) ∷ of_said (wrong_bounds (said_before before)) (said_in (known_to (said_before before)) line)
+    ∷ of_said (repeated (said_before before)) (said_in (known_to (said_before before)) line) ∷ table_of_line before line after ∷ []
+
+-- the line that the text ends in
+long_or_open : (long : Bool) (others : List (Option TextKind)) → ((long ≡ true) × (first_fault (test long kinds.TooMany ∷ unfinished [] ∷ others) ≡ Some kinds.TooMany))
+    ⊎ (first_fault (test long kinds.TooMany ∷ unfinished [] ∷ others) ≡ Some kinds.Unfinished)
+long_or_open true others = inl (refl, refl)
+long_or_open false others = inr refl
+
+longer_line : (last line : List ℕ) → length last ≤ length line → ltb MAX_LINE (length last) ≡ true → too_long line ≡ Some kinds.TooMany
+longer_line last line longer long =
+    let above = ltb-true MAX_LINE (length last) long in
+    ap (λ b. test b kinds.TooMany) (lt-ltb MAX_LINE (length line) (omega arith))
+
+last_line : (before : List (List ℕ)) (last line : List ℕ) (more : List (List ℕ)) → length last ≤ length line
+    → ((line_fault before last [] ≡ Some kinds.TooMany) × (line_fault before line more ≡ Some kinds.TooMany)) ⊎ (line_fault before last [] ≡ Some kinds.Unfinished)
+unfolding line_fault
+last_line before last line more longer = elim (long_or_open (ltb MAX_LINE (length last)) (later_checks before last [])) [
+  | inl long ↦ inl (long.1, ap (λ o. first_fault (o ∷ unfinished more ∷ later_checks before line more)) (longer_line last line longer long.0))
+  | inr rest ↦ inr rest
+]
+
+-- a fault on a line that what follows may mend, among the lines from line n on
+abbrev MayBeMended : ℕ → List (List ℕ) → ℕ → TextKind → Type 0
+MayBeMended n lines m kind = (kind ≡ kinds.Unfinished) ⊎ (IsTableFault kind × (n + length lines ≡ m + 2))
+
+number_is : (n m : ℕ) (k kind : TextKind) → ◌≡◌ {A = Option (ℕ × TextKind)} (Some (n, k)) (Some (m, kind)) → (n ≡ m) × (k ≡ kind)
+number_is n m k kind h =
+    (ap (λ (o : Option (ℕ × TextKind)). option_map_or (λ p. p.0) o 0) h, ap (λ (o : Option (ℕ × TextKind)). option_map_or (λ p. p.1) o kinds.Header) h)
+
+only : (n m : ℕ) (k kind : TextKind) (o : Option TextKind) (later : Option (ℕ × TextKind)) → o ≡ Some k → at_line_number n o later ≡ Some (m, kind) → ◌≡◌ {A = Option (ℕ × TextKind)} (Some (n, k)) (Some (m, kind))
+only n m k kind o later e h = ap (λ f. at_line_number n f later) (sym e) ∙ h
+
+from_stands : (n : ℕ) (before lines longer : List (List ℕ)) (m : ℕ) (kind : TextKind) → GoOn lines longer → fault_from n before lines ≡ Some (m, kind)
+    → MayBeMended n lines m kind ⊎ (fault_from n before longer ≡ Some (m, kind))
+unfolding fault_from
+from_stands n before [] longer m kind on h = absurd on
+from_stands n before (last ∷ []) [] m kind on h = absurd on
+from_stands n before (last ∷ []) (line ∷ more) m kind on h = elim (last_line before last line more on) [
+  | inl long ↦ inr (ap (λ o. at_line_number n o (cond (ends line) None (fault_from (n + 1) (before ++ line ∷ []) more))) long.1 ∙ only n m kinds.TooMany kind (line_fault before last []) _ long.0 h)
+  | inr rest ↦ let is = number_is n m kinds.Unfinished kind (only n m kinds.Unfinished kind (line_fault before last []) _ rest h) in inl (inl (sym is.1))
+]
+from_stands n before (line ∷ next ∷ lines) [] m kind on h = absurd on
+from_stands n before (line ∷ next ∷ lines) (other ∷ more) m kind on h =
+    let P : List ℕ → Type 0 = λ l. MayBeMended n (line ∷ next ∷ lines) m kind ⊎ (fault_from n before (l ∷ more) ≡ Some (m, kind)) in
+    subst P on.0 (by_fault (λ e. from_stands (n + 1) (before ++ line ∷ []) (next ∷ lines) more m kind on.1 e) (line_fault before line (next ∷ lines)) refl h)
+  where
+    ended : (last : List ℕ) → next ∷ lines ≡ last ∷ [] → length lines ≡ 0
+    ended last e = let size : length (next ∷ lines) ≡ 1 = ap length e in omega arith
+
+    by_end : (fault_from (n + 1) (before ++ line ∷ []) (next ∷ lines) ≡ Some (m, kind) → MayBeMended (n + 1) (next ∷ lines) m kind ⊎ (fault_from (n + 1) (before ++ line ∷ []) more ≡ Some (m, kind)))
+        → (b : Bool) → cond b None (fault_from (n + 1) (before ++ line ∷ []) (next ∷ lines)) ≡ Some (m, kind)
+        → MayBeMended n (line ∷ next ∷ lines) m kind ⊎ (cond b None (fault_from (n + 1) (before ++ line ∷ []) more) ≡ Some (m, kind))
+    by_end later true e = cc
+    by_end later false e = elim (later e) [
+      | inr stands ↦ inr stands
+      | inl may ↦ inl (elim may [ inl rest ↦ inl rest | inr table ↦ let size : n + 1 + length (next ∷ lines) ≡ m + 2 = table.1 in inr (table.0, omega arith) ])
+    ]
+
+    by_fault : (fault_from (n + 1) (before ++ line ∷ []) (next ∷ lines) ≡ Some (m, kind) → MayBeMended (n + 1) (next ∷ lines) m kind ⊎ (fault_from (n + 1) (before ++ line ∷ []) more ≡ Some (m, kind)))
+        → (o : Option TextKind) → line_fault before line (next ∷ lines) ≡ o → at_line_number n o (cond (ends line) None (fault_from (n + 1) (before ++ line ∷ []) (next ∷ lines))) ≡ Some (m, kind)
+        → MayBeMended n (line ∷ next ∷ lines) m kind ⊎ (at_line_number n (line_fault before line more) (cond (ends line) None (fault_from (n + 1) (before ++ line ∷ []) more)) ≡ Some (m, kind))
+    by_fault later None e found = elim (by_end later (ends line) found) [
+      | inl may ↦ inl may
+      | inr stands ↦ inr (ap (λ o. at_line_number n o (cond (ends line) None (fault_from (n + 1) (before ++ line ∷ []) more))) (line_passes before line (next ∷ lines) more on.1 e) ∙ stands)
+    ]
+    by_fault later (Some k) e found = elim (line_stands before line (next ∷ lines) more k on.1 e) [
+      | inl stands ↦ inr (ap (λ o. at_line_number n o (cond (ends line) None (fault_from (n + 1) (before ++ line ∷ []) more))) stands ∙ found)
+      | inr table ↦
+          let is = number_is n m k kind found in
+          let size : length lines ≡ 0 = ended table.1.0 table.1.1 in
+          let T : TextKind → Type 0 = IsTableFault in
+          inl (inr (subst T is.1 table.0, omega arith))
+    ]
+
+-- no fault comes on an earlier line
+abbrev NotBefore : ℕ → Option (ℕ × TextKind) → Type 0
+NotBefore n fault = MatchOption fault (Unit {0}) (λ f. n ≤ f.0)
+
+here_or_behind : (n m : ℕ) (o : Option TextKind) (later : Option (ℕ × TextKind)) → n ≤ m → NotBefore m later → NotBefore n (at_line_number m o later)
+here_or_behind n m (Some kind) later le h = le
+here_or_behind n m None None le h = tt
+here_or_behind n m None (Some f) le h = omega arith
+
+unless_ended : (n : ℕ) (b : Bool) (later : Option (ℕ × TextKind)) → NotBefore n later → NotBefore n (cond b None later)
+unless_ended n true later h = tt
+unless_ended n false later h = h
+
+weaker : (n m : ℕ) (later : Option (ℕ × TextKind)) → n ≤ m → NotBefore m later → NotBefore n later
+weaker n m None le h = tt
+weaker n m (Some f) le h = omega arith
+
+from_here : (n : ℕ) (before lines : List (List ℕ)) → NotBefore n (fault_from n before lines)
+unfolding fault_from
+from_here n before [] = omega arith
+from_here n before (line ∷ after) =
+    here_or_behind n n (line_fault before line after) _ (omega arith) (unless_ended n (ends line) _ (weaker n (n + 1) _ (omega arith) (from_here (n + 1) (before ++ line ∷ []) after)))
+
+from_later : (n : ℕ) (before lines longer : List (List ℕ)) (m : ℕ) (kind : TextKind) → GoOn lines longer → fault_from n before lines ≡ Some (m, kind) → NotBefore m (fault_from n before longer)
+unfolding fault_from
+from_later n before [] longer m kind on h = absurd on
+from_later n before (last ∷ []) longer m kind on h = elim (last_line before last last [] (omega arith)) [
+  | inl long ↦ let is = number_is n m kinds.TooMany kind (only n m kinds.TooMany kind (line_fault before last []) _ long.0 h) in weaker m n _ (omega arith) (from_here n before longer)
+  | inr rest ↦ let is = number_is n m kinds.Unfinished kind (only n m kinds.Unfinished kind (line_fault before last []) _ rest h) in weaker m n _ (omega arith) (from_here n before longer)
+]
+from_later n before (line ∷ next ∷ lines) [] m kind on h = absurd on
+from_later n before (line ∷ next ∷ lines) (other ∷ more) m kind on h =
+    let P : List ℕ → Type 0 = λ l. NotBefore m (fault_from n before (l ∷ more)) in
+    subst P on.0 (by_fault (λ e. from_later (n + 1) (before ++ line ∷ []) (next ∷ lines) more m kind on.1 e) (line_fault before line (next ∷ lines)) refl h)
+  where
+    by_end : (fault_from (n + 1) (before ++ line ∷ []) (next ∷ lines) ≡ Some (m, kind) → NotBefore m (fault_from (n + 1) (before ++ line ∷ []) more))
+        → (b : Bool) → cond b None (fault_from (n + 1) (before ++ line ∷ []) (next ∷ lines)) ≡ Some (m, kind)
+        → NotBefore m (cond b None (fault_from (n + 1) (before ++ line ∷ []) more))
+    by_end later true e = cc
+    by_end later false e = later e
+
+    by_fault : (fault_from (n + 1) (before ++ line ∷ []) (next ∷ lines) ≡ Some (m, kind) → NotBefore m (fault_from (n + 1) (before ++ line ∷ []) more))
+        → (o : Option TextKind) → line_fault before line (next ∷ lines) ≡ o → at_line_number n o (cond (ends line) None (fault_from (n + 1) (before ++ line ∷ []) (next ∷ lines))) ≡ Some (m, kind)
+        → NotBefore m (fault_from n before (line ∷ more))
+    by_fault later None e found =
+        let Q : Option TextKind → Type 0 = λ o. NotBefore m (at_line_number n o (cond (ends line) None (fault_from (n + 1) (before ++ line ∷ []) more))) in
+        subst Q (sym (line_passes before line (next ∷ lines) more on.1 e)) (by_end later (ends line) found)
+    by_fault later (Some k) e found = let is = number_is n m k kind found in weaker m n _ (omega arith) (from_here n before (line ∷ more))
+
+-- the same from the first line on
+more_follow : (line : List ℕ) (lines more : List (List ℕ)) → GoOn (line ∷ lines) more → unfinished more ≡ None
+more_follow line [] [] on = absurd on
+more_follow line [] (next ∷ more) on = refl
+more_follow line (other ∷ lines) [] on = absurd on
+more_follow line (other ∷ lines) (next ∷ more) on = refl
+
+header_fault : List ℕ → List (List ℕ) → Option TextKind
+header_fault line after = first_fault (too_long line ∷ unfinished after ∷ wrong_header line ∷ [])
+
+last_header : (last line : List ℕ) (more : List (List ℕ)) → length last ≤ length line
+    → ((header_fault last [] ≡ Some kinds.TooMany) × (header_fault line more ≡ Some kinds.TooMany)) ⊎ (header_fault last [] ≡ Some kinds.Unfinished)
+unfolding header_fault
+last_header last line more longer = elim (long_or_open (ltb MAX_LINE (length last)) (wrong_header last ∷ [])) [
+  | inl long ↦ inl (long.1, ap (λ o. first_fault (o ∷ unfinished more ∷ wrong_header line ∷ [])) (longer_line last line longer long.0))
+  | inr rest ↦ inr rest
+]
+
+in_stands : (lines longer : List (List ℕ)) (m : ℕ) (kind : TextKind) → GoOn lines longer → fault_in lines ≡ Some (m, kind) → MayBeMended 1 lines m kind ⊎ (fault_in longer ≡ Some (m, kind))
+unfolding fault_in header_fault
+in_stands [] longer m kind on h = absurd on
+in_stands (last ∷ []) [] m kind on h = absurd on
+in_stands (last ∷ []) (line ∷ more) m kind on h = elim (last_header last line more on) [
+  | inl long ↦ inr (ap (λ o. at_line_number 1 o (fault_from 2 [] more)) long.1 ∙ only 1 m kinds.TooMany kind (header_fault last []) _ long.0 h)
+  | inr rest ↦ let is = number_is 1 m kinds.Unfinished kind (only 1 m kinds.Unfinished kind (header_fault last []) _ rest h) in inl (inl (sym is.1))
+]
+in_stands (line ∷ next ∷ lines) [] m kind on h = absurd on
+in_stands (line ∷ next ∷ lines) (other ∷ more) m kind on h =
+    let P : List ℕ → Type 0 = λ l. MayBeMended 1 (line ∷ next ∷ lines) m kind ⊎ (fault_in (l ∷ more) ≡ Some (m, kind)) in
+    subst P on.0 (elim (by_fault (first_fault (too_long line ∷ None ∷ wrong_header line ∷ [])) h) [
+      | inl may ↦ inl may
+      | inr stands ↦ inr (ap (λ u. at_line_number 1 (first_fault (too_long line ∷ u ∷ wrong_header line ∷ [])) (fault_from 2 [] more)) (more_follow next lines more on.1) ∙ stands)
+    ])
+  where
+    by_fault : (o : Option TextKind) → at_line_number 1 o (fault_from 2 [] (next ∷ lines)) ≡ Some (m, kind)
+        → MayBeMended 1 (line ∷ next ∷ lines) m kind ⊎ (at_line_number 1 o (fault_from 2 [] more) ≡ Some (m, kind))
+    by_fault (Some k) found = inr found
+    by_fault None found = elim (from_stands 2 [] (next ∷ lines) more m kind on.1 found) [
+      | inr stands ↦ inr stands
+      | inl may ↦ inl (elim may [ inl rest ↦ inl rest | inr table ↦ let size : 2 + length (next ∷ lines) ≡ m + 2 = table.1 in inr (table.0, omega arith) ])
+    ]
+
+in_later : (lines longer : List (List ℕ)) (m : ℕ) (kind : TextKind) → GoOn lines longer → fault_in lines ≡ Some (m, kind) → NotBefore m (fault_in longer)
+unfolding fault_in header_fault
+in_later [] longer m kind on h = absurd on
+in_later (last ∷ []) [] m kind on h = absurd on
+in_later (last ∷ []) (line ∷ more) m kind on h =
+    let first : m ≤ 1 = by_header (last_header last last [] (omega arith)) in
+    weaker m 1 _ first (here_or_behind 1 1 (header_fault line more) _ (omega arith) (weaker 1 2 _ (omega arith) (from_here 2 [] more)))
+  where
+    by_header : ((header_fault last [] ≡ Some kinds.TooMany) × (header_fault last [] ≡ Some kinds.TooMany)) ⊎ (header_fault last [] ≡ Some kinds.Unfinished) → m ≤ 1
+    by_header (inl long) = let is = number_is 1 m kinds.TooMany kind (only 1 m kinds.TooMany kind (header_fault last []) _ long.0 h) in omega arith
+    by_header (inr rest) = let is = number_is 1 m kinds.Unfinished kind (only 1 m kinds.Unfinished kind (header_fault last []) _ rest h) in omega arith
+in_later (line ∷ next ∷ lines) [] m kind on h = absurd on
+in_later (line ∷ next ∷ lines) (other ∷ more) m kind on h =
+    let P : List ℕ → Type 0 = λ l. NotBefore m (fault_in (l ∷ more)) in
+    let Q : Option TextKind → Type 0 = λ u. NotBefore m (at_line_number 1 (first_fault (too_long line ∷ u ∷ wrong_header line ∷ [])) (fault_from 2 [] more)) in
+    subst P on.0 (subst Q (sym (more_follow next lines more on.1)) (by_fault (first_fault (too_long line ∷ None ∷ wrong_header line ∷ [])) h))
+  where
+    by_fault : (o : Option TextKind) → at_line_number 1 o (fault_from 2 [] (next ∷ lines)) ≡ Some (m, kind) → NotBefore m (at_line_number 1 o (fault_from 2 [] more))
+    by_fault (Some k) found = let is = number_is 1 m k kind found in omega arith
+    by_fault None found = from_later 2 [] (next ∷ lines) more m kind on.1 found
+
+-- whether what follows may mend the fault
+by_kind : (kind : TextKind) → ((kind ≡ kinds.Unfinished) ⊎ IsTableFault kind) ⊎ ((kind ≡ kinds.Unfinished → ⊥) × (IsTableFault kind → ⊥))
+by_kind kinds.Header = inr (λ e. cc, λ t. let e = t.1 in cc)
+by_kind kinds.Word = inr (λ e. cc, λ t. let e = t.1 in cc)
+by_kind kinds.Number = inr (λ e. cc, λ t. let e = t.1 in cc)
+by_kind kinds.Address = inr (λ e. cc, λ t. let e = t.1 in cc)
+by_kind kinds.Prefix = inr (λ e. cc, λ t. let e = t.1 in cc)
+by_kind kinds.Repeated = inr (λ e. cc, λ t. let e = t.1 in cc)
+by_kind kinds.Range = inr (λ e. cc, λ t. let e = t.1 in cc)
+by_kind kinds.TooMany = inr (λ e. cc, λ t. let e = t.1 in cc)
+by_kind kinds.Unfinished = inl (inl refl)
+by_kind (kinds.Policy fault) = inl (inr (fault, refl))
+by_kind kinds.Memory = inr (λ e. cc, λ t. let e = t.1 in cc)
+
+same_or_not : (a b : ℕ) → (a ≡ b) ⊎ (a ≡ b → ⊥)
+same_or_not a b = by_test (eqb a b) refl
+  where
+    by_test : (t : Bool) → eqb a b ≡ t → (a ≡ b) ⊎ (a ≡ b → ⊥)
+    by_test true e = inl (eqb-true a b e)
+    by_test false e = inr (λ same. let wrong : true ≡ false = sym (eq-eqb a b same) ∙ e in cc)
+
+may_or_not : (text : List ℕ) (n : ℕ) (kind : TextKind) → MayChange text n kind ⊎ (MayChange text n kind → ⊥)
+may_or_not text n kind = elim (by_kind kind) [
+  | inr other ↦ inr (λ may. elim may [ inl e ↦ other.0 e | inr t ↦ other.1 t.0 ])
+  | inl known ↦ elim known [
+    | inl e ↦ inl (inl e)
+    | inr table ↦ elim (same_or_not (length (lines_of text)) (n + 1)) [
+      | inl last ↦ inl (inr (table, last))
+      | inr inside ↦ inr (λ may. elim may [ inl e ↦ let wrong : kinds.Policy table.0 ≡ kinds.Unfinished = sym table.1 ∙ e in cc | inr t ↦ inside t.1 ])
+    ]
+  ]
+]
+
+changes : (text : List ℕ) (n : ℕ) (kind : TextKind) → MayBeMended 1 (lines_of text) n kind → MayChange text n kind
+changes text n kind may = elim may [ inl rest ↦ inl rest | inr table ↦ let size : 1 + length (lines_of text) ≡ n + 2 = table.1 in inr (table.0, omega arith) ]
+
+pub stands : (text : List ℕ) (n : ℕ) (kind : TextKind) → fault_of text ≡ Some (n, kind) → MayChange text n kind ⊎ FaultStands text n kind
+stands text n kind h = elim (may_or_not text n kind) [
+  | inl may ↦ inl may
+  | inr never ↦ inr (λ more. elim (in_stands (lines_of text) (lines_of (text ++ more)) n kind (parts_go_on 10 text more) h) [
+    | inl may ↦ absurd (never (changes text n kind may))
+    | inr same ↦ same
+  ])
+]
+
+pub not_earlier : (text more : List ℕ) (n : ℕ) (kind : TextKind) → fault_of text ≡ Some (n, kind) → NotBefore n (fault_of (text ++ more))
+not_earlier text more n kind h = in_later (lines_of text) (lines_of (text ++ more)) n kind (parts_go_on 10 text more) h
+
+-- what a call tells of a first part it may tell of the whole
+pub tells : (text more : List ℕ) (n : ℕ) (kind : TextKind) → TellsFault n kind (fault_of text) → MayChange text n kind ⊎ TellsFault n kind (fault_of (text ++ more))
+tells text more n kind told = elim told [
+  | inr is ↦ elim (stands text n kind is) [ inl may ↦ inl may | inr same ↦ inr (inr (same more)) ]
+  | inl memory ↦ by_fault (fault_of text) refl memory.0 memory.1
+]
+  where
+    by_fault : (fault : Option (ℕ × TextKind)) → fault_of text ≡ fault → kind ≡ kinds.Memory → NotBefore n fault → MayChange text n kind ⊎ TellsFault n kind (fault_of (text ++ more))
+    by_fault None e refused later =
+        let P : Option (ℕ × TextKind) → Type 0 = NotBefore n in
+        let begins = right_begins text e in
+        let none : fault_of (text ++ more) ≡ None = begins_right (text ++ more) (begins.0, begins.1 ++ more, begins.2, ap (λ t. t ++ more) begins.3 ∙ append_assoc begins.0 begins.1 more, begins.4) in
+        inr (inl (refused, subst P (sym none) tt))
+    by_fault (Some f) e refused later = inr (inl (refused, weaker n f.0 (fault_of (text ++ more)) later (not_earlier text more f.0 f.1 e)))
+
+-- two texts with which a text begins: one is the beginning of the other
+one_in_front : (xs ys more others : List ℕ) → xs ++ more ≡ ys ++ others → ((m : List ℕ) × (ys ≡ xs ++ m)) ⊎ ((m : List ℕ) × (xs ≡ ys ++ m))
+one_in_front [] ys more others h = inl (ys, refl)
+one_in_front (x ∷ xs) [] more others h = inr (x ∷ xs, refl)
+one_in_front (x ∷ xs) (y ∷ ys) more others h =
+    let first : x ≡ y = cc (h) in
+    let rest : xs ++ more ≡ ys ++ others = cc (h) in
+    elim (one_in_front xs ys more others rest) [
+      | inl longer ↦ inl (longer.0, ap (λ t. y ∷ t) longer.1 ∙ ap (λ b. b ∷ xs ++ longer.0) (sym first))
+      | inr longer ↦ inr (longer.0, ap (λ t. x ∷ t) longer.1 ∙ ap (λ b. b ∷ ys ++ longer.0) first)
+    ]
+
+pub one_race_first : (front rest other_front other_rest : List ℕ) (race other : Race) → IsRaceText front race → IsRaceText other_front other → front ++ rest ≡ other_front ++ other_rest
+    → (front ≡ other_front) × (race ≡ other)
+one_race_first front rest other_front other_rest race other is also same = elim (one_in_front front other_front rest other_rest same) [
+  | inl longer ↦
+      let P : List ℕ → Type 0 = λ t. IsRaceText t other in
+      let both = no_longer front longer.0 race other is (subst P longer.1 also) in
+      (sym (longer.1 ∙ ap (λ m. front ++ m) both.1 ∙ append-nil front), both.0)
+  | inr longer ↦
+      let P : List ℕ → Type 0 = λ t. IsRaceText t race in
+      let both = no_longer other_front longer.0 other race also (subst P longer.1 is) in
+      (longer.1 ∙ ap (λ m. other_front ++ m) both.1 ∙ append-nil other_front, sym both.0)
+]
