@@ -1,14 +1,15 @@
 # What a newcomer needs. The README says what each does and how long it takes.
-.PHONY: help race test install examples
+.PHONY: help race test edits install examples
 
 PREFIX ?= /usr/local
-RACE ?= examples/ipv6-late-but-within-delay-leads.timeline
+RACE ?= crates/cases/data/ipv6-late-but-within-delay-leads.timeline
 HE ?= crates/he_tool/out/he_tool
 
 help:
 	@echo 'make race                  replays an example race, with the program unproved: the fastest way to see a transcript'
 	@echo 'make race RACE=FILE        replays the races of a file the same way'
 	@echo 'make test                  the gate: proves every crate, tries the wrong edits, runs the tests and the program'
+	@echo 'make edits                 tries the wrong edits that the gate leaves out: each must be refused'
 	@echo 'make install PREFIX=DIR    proves and builds the program, and puts it at DIR/bin/he'
 	@echo 'make examples HE=FILE      runs a built program over all examples'
 
@@ -18,9 +19,12 @@ race:
 test:
 	rt ci
 
+edits:
+	scripts/edits $(CRATES)
+
 install:
 	cd crates/he_tool && rt run -- --version
 	install -D -m 755 crates/he_tool/out/he_tool $(PREFIX)/bin/he
 
 examples:
-	examples/check $(HE)
+	scripts/examples $(HE)

@@ -1,64 +1,16 @@
--- Texts of addresses, sources and prefixes: what is read is spelled, and what is spelled is read.
-use Rattle.std.proofs.Common.{◌≡◌, inl, inr, ℕ, ◌-◌, ◌/◌, ◌%◌, ◌^◌, ◌<◌, true, leb, ltb, eqb, ◌&&◌, List, [], ◌∷◌, ◌++◌, Option, Some, None, length, decimal, refl, sym, ◌∙◌, ap, subst, arith}
-use Rattle.std.specs.Option.{option_map, option_map_or}
-use Rattle.std.proofs.lemmas.Bool.{leb-true, le-leb, cond-true, eq-eqb, eqb-true, eqb-false, and_parts, and_from, lt-ltb, ltb-true}
+-- Texts of sources and prefixes: what is read is spelled, and what is spelled is read.
+use Rattle.std.proofs.Common.{◌≡◌, ℕ, ◌-◌, ◌%◌, ◌^◌, true, leb, ltb, eqb, ◌&&◌, List, Some, None, sym, ◌∙◌, ap, subst}
+use Rattle.std.proofs.lemmas.Bool.{leb-true, le-leb, cond-true, eq-eqb, eqb-true, and_parts, and_from, lt-ltb, ltb-true}
 use Rattle.std.proofs.lemmas.Option.{same_Some}
 use Rattle.he_addr.specs.declared.ip.Ip.{Ip}
-use Rattle.he_addr.specs.declared.ip.Ip.TheVariants.{V4, V6}
 use Rattle.he_addr.specs.Prefix.{PrefixBits, IsPrefix, width_of}
-use Rattle.he_addr.specs.Reading.{◌>>=◌, cut_in, v4_in, v6_in, ip_in, source_in, is_prefix, checked, prefix_in}
-use Rattle.he_addr.specs.Text.{SpellGroups, SpellsV6, Spells, SpellsSource, SpellsPrefix, prefix_of, dotted, Lacks}
+use Rattle.he_addr.specs.Reading.{◌>>=◌, cut_in, source_in, is_prefix, checked, prefix_in}
+use Rattle.he_addr.specs.Text.{SpellsSource, SpellsPrefix, prefix_of}
 use Rattle.he_addr.proofs.AddressBytes.{address_bytes, bytes_lack, no_slash}
-use Rattle.he_addr.proofs.DottedTexts.{v4_in_some, v4_in-dotted, decimal_lacks}
+use Rattle.he_addr.proofs.NetTexts.{ip_in_some, ip_in-spelled}
 use Rattle.he_addr.proofs.Numbers.{numeral_in_some, numeral_in-spelled}
-use Rattle.he_addr.proofs.Options.{bind_some, allowed, none_from}
-use Rattle.he_addr.proofs.PartLaws.{cut_some, cut_joined, parts_whole}
-use Rattle.he_addr.proofs.SixTexts.{v6_in_some, v6_in-spelled}
-
--- an IPv4 text has no colon
-pub lacks-append : (mark : ℕ) (xs ys : List ℕ) → Lacks mark xs → Lacks mark ys → Lacks mark (xs ++ ys)
-lacks-append mark [] ys hx hy = hy
-lacks-append mark (x ∷ xs) ys hx hy = (hx.0, lacks-append mark xs ys hx.1 hy)
-
-lacks_mark : (mark : ℕ) (front rest : List ℕ) → Lacks mark (front ++ mark ∷ rest) → ⊥
-lacks_mark mark [] rest h = eqb-false mark mark h.0 refl
-lacks_mark mark (x ∷ xs) rest h = lacks_mark mark xs rest h.1
-
-dotted_lacks : (n : ℕ) → Lacks 58 (dotted n)
-dotted_lacks n =
-    let byte : (b : ℕ) → b < 256 → Lacks 58 (decimal b) = λ b small. decimal_lacks 58 b (inr (omega arith)) (omega arith) in
-    let behind : (b : ℕ) (rest : List ℕ) → b < 256 → Lacks 58 rest → Lacks 58 (decimal b ++ 46 ∷ rest) = λ b rest small h. lacks-append 58 (decimal b) (46 ∷ rest) (byte b small) (refl, h) in
-    behind (n / 16777216 % 256) _ (omega arith) (behind (n / 65536 % 256) _ (omega arith) (behind (n / 256 % 256) _ (omega arith) (byte (n % 256) (omega arith))))
-
-one_part : (text groups : List ℕ) → SpellGroups true (text ∷ []) groups → length groups ≡ 8 → ⊥
-one_part text groups (inl (g, s, e)) eight = omega (arith, eight, ap length e)
-one_part text groups (inr (t, (m, s, e))) eight = omega (arith, eight, ap length e)
-
-has_colon : (text : List ℕ) (n : ℕ) → SpellsV6 text n → Lacks 58 text → ⊥
-has_colon text n (inl h) lacks = one_part text h.groups (subst (λ parts. SpellGroups true parts h.groups) (parts_whole 58 text lacks) h.spelled) h.eight
-has_colon text n (inr h) lacks = lacks_mark 58 h.left (58 ∷ h.right) (subst (Lacks 58) h.parts lacks)
-
-six_not_four : (text : List ℕ) (n : ℕ) → SpellsV6 text n → v4_in text ≡ None
-six_not_four text n h = none_from (v4_in text) (λ m read. has_colon text n h (subst (Lacks 58) (sym (v4_in_some text m read).1) (dotted_lacks m)))
-
-pub ip_in_some : (text : List ℕ) (ip : Ip) → ip_in text ≡ Some ip → Spells text ip
-unfolding ip_in
-ip_in_some text ip h = four (v4_in text) refl h
-  where
-    six : (o : Option ℕ) → v6_in text ≡ o → option_map (λ n. V6 n) o ≡ Some ip → Spells text ip
-    six None e h = cc
-    six (Some n) e h = subst (Spells text) (same_Some (V6 n) ip h) (v6_in_some text n e)
-
-    four : (o : Option ℕ) → v4_in text ≡ o → option_map_or (λ n. Some (V4 n)) o (option_map (λ n. V6 n) (v6_in text)) ≡ Some ip → Spells text ip
-    four None e h = six (v6_in text) refl h
-    four (Some n) e h = subst (Spells text) (same_Some (V4 n) ip h) (v4_in_some text n e)
-
-pub ip_in-spelled : (text : List ℕ) (ip : Ip) → Spells text ip → ip_in text ≡ Some ip
-unfolding ip_in
-ip_in-spelled text (V4 n) h = ap (λ o. option_map_or (λ n. Some (V4 n)) o (option_map (λ n. V6 n) (v6_in text))) (ap v4_in h.1 ∙ v4_in-dotted n h.0)
-ip_in-spelled text (V6 n) h =
-    ap (λ o. option_map_or (λ n. Some (V4 n)) o (option_map (λ n. V6 n) (v6_in text))) (six_not_four text n h)
-    ∙ ap (option_map (λ n. V6 n)) (v6_in-spelled text n h)
+use Rattle.he_addr.proofs.Options.{bind_some, allowed}
+use Rattle.he_addr.proofs.PartLaws.{cut_some, cut_joined}
 
 pub source_in_some : (text : List ℕ) (ip : Ip) (len : ℕ) → source_in text ≡ Some (ip, len) → SpellsSource text ip len
 unfolding source_in

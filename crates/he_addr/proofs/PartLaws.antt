@@ -1,13 +1,12 @@
--- A text cut at its first mark, and at every one.
-use Rattle.std.proofs.Common.{◌≡◌, ℕ, ◌+◌, ◌<◌, Bool, true, false, cond, ltb, eqb, not, List, [], ◌∷◌, ◌++◌, Option, Some, None, length, get_or, take, drop, refl, sym, ◌∙◌, ap, subst, arith}
+-- A text cut at its first mark.
+use Rattle.std.proofs.Common.{◌≡◌, ℕ, ◌+◌, ◌<◌, Bool, true, false, cond, ltb, eqb, not, List, ◌∷◌, ◌++◌, Some, None, length, get_or, take, drop, refl, sym, ◌∙◌, ap, subst, arith}
 use Rattle.std.specs.List.{position_or_len, before_first, after_first}
 use Rattle.std.specs.Option.{option_map}
-use Rattle.std.proofs.lemmas.Bool.{lt-ltb, ltb-true, ltb-false, eq-eqb, eqb-true, cond-true, not-false}
+use Rattle.std.proofs.lemmas.Bool.{lt-ltb, ltb-true, eq-eqb, eqb-true, cond-true, not-false}
 use Rattle.std.proofs.lemmas.List.{take_at, drop_at, length-take, get_or-take, drop-drop, get_or_at, get_or_append_left, length-append}
 use Rattle.std.proofs.lemmas.List.Elements.{All-from_recursion, recursion_from_All}
 use Rattle.std.proofs.lemmas.List.Sums.{position_or_len_is, split_at_first, prefix_len_stops, fails_before_first}
-use Rattle.std.proofs.lemmas.List.Splits.{slice_split_at, slice_split_none}
-use Rattle.he_addr.specs.Reading.{cut_in, parts_at}
+use Rattle.he_addr.specs.Reading.{cut_in}
 use Rattle.he_addr.specs.Text.{Lacks}
 
 pub position_joined : (mark : ℕ) (front rest : List ℕ) → Lacks mark front → position_or_len (λ b. eqb b mark) (front ++ mark ∷ rest) ≡ length front
@@ -50,10 +49,6 @@ mapped_some : {A B : Type 0} (f : A → B) (b : Bool) (x : A) (y : B) → option
 mapped_some f true x y h = (refl, cc)
 mapped_some f false x y h = cc
 
-mapped_none : {A B : Type 0} (f : A → B) (b : Bool) (x : A) → option_map f (cond b (Some x) None) ≡ None → b ≡ false
-mapped_none f true x h = cc
-mapped_none f false x h = refl
-
 pub cut_some : (mark : ℕ) (text : List ℕ) (c : List ℕ × List ℕ) → cut_in mark text ≡ Some c → IsCut mark text c.0 c.1
 unfolding cut_in
 cut_some mark text c h =
@@ -61,36 +56,3 @@ cut_some mark text c h =
     let found = mapped_some (λ at. (take at text, drop (at + 1) text)) (ltb at (length text)) at c h in
     let P : List ℕ × List ℕ → Type 0 = λ c. IsCut mark text c.0 c.1 in
     subst P found.1 (position_found mark text (ltb-true at (length text) found.0))
-
--- a text without the mark is one part
-pub cut_none : (mark : ℕ) (text : List ℕ) → cut_in mark text ≡ None → Lacks mark text
-unfolding cut_in
-cut_none mark text h =
-    let at : ℕ = position_or_len (λ b. eqb b mark) text in
-    let past = ltb-false at (length text) (mapped_none (λ at. (take at text, drop (at + 1) text)) (ltb at (length text)) at h) in
-    recursion_from_All (λ b. eqb b mark ≡ false) text (λ k d below. fails_before_first (λ b. eqb b mark) text k d (omega arith))
-
-pub parts_joined : (mark : ℕ) (front rest : List ℕ) → Lacks mark front → parts_at mark (front ++ mark ∷ rest) ≡ front ∷ parts_at mark rest
-parts_joined mark front rest lacks = slice_split_at (λ b. eqb b mark) front mark rest (All-from_recursion (λ b. eqb b mark ≡ false) front lacks) (eq-eqb mark mark refl)
-
-pub parts_whole : (mark : ℕ) (text : List ℕ) → Lacks mark text → parts_at mark text ≡ text ∷ []
-parts_whole mark text lacks = slice_split_none (λ b. eqb b mark) text (All-from_recursion (λ b. eqb b mark ≡ false) text lacks)
-
-pub parts_cut : (mark : ℕ) (text : List ℕ) (c : List ℕ × List ℕ) → cut_in mark text ≡ Some c → parts_at mark text ≡ c.0 ∷ parts_at mark c.1
-parts_cut mark text c h =
-    let cut = cut_some mark text c h in
-    ap (parts_at mark) cut.joined ∙ parts_joined mark c.0 c.1 cut.lacks
-
-pub parts_uncut : (mark : ℕ) (text : List ℕ) → cut_in mark text ≡ None → parts_at mark text ≡ text ∷ []
-parts_uncut mark text h = parts_whole mark text (cut_none mark text h)
-
--- there is always a first part
-pub parts_some : (mark : ℕ) (text : List ℕ) → (first : List ℕ) × (rest : List (List ℕ)) × (parts_at mark text ≡ first ∷ rest)
-parts_some mark text = some (cut_in mark text) refl
-  where
-    some : (o : Option (List ℕ × List ℕ)) → cut_in mark text ≡ o → (first : List ℕ) × (rest : List (List ℕ)) × (parts_at mark text ≡ first ∷ rest)
-    some None h = (text, [], parts_uncut mark text h)
-    some (Some c) h = (c.0, parts_at mark c.1, parts_cut mark text c h)
-
-pub cut_shorter : (mark : ℕ) (text : List ℕ) (c : List ℕ × List ℕ) → cut_in mark text ≡ Some c → length c.1 < length text
-cut_shorter mark text c h = omega (arith, ap length (cut_some mark text c h).joined, length-append c.0 (mark ∷ c.1))

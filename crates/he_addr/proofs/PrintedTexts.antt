@@ -1,22 +1,24 @@
 -- What is printed for an address: it is the text that the definition asks for, it spells the address, and it is short.
-use Rattle.std.proofs.Common.{◌≡◌, inl, inr, ⊎_elim, ℕ, ◌+◌, ◌-◌, ◌*◌, ◌/◌, ◌%◌, ◌^◌, ◌<◌, ◌≤◌, Bool, true, false, cond, leb, List, [], ◌∷◌, ◌++◌, length, take, drop, replicate, map, decimal, refl, sym, ◌∙◌, ap, subst, arith}
-use Rattle.std.specs.Char.{digit_value}
+use Rattle.std.proofs.Common.{◌≡◌, inl, inr, ⊎_elim, ℕ, ◌+◌, ◌-◌, ◌*◌, ◌/◌, ◌%◌, ◌^◌, ◌<◌, ◌≤◌, Bool, true, false, cond, leb, ◌&&◌, List, [], ◌∷◌, ◌++◌, length, take, drop, replicate, decimal, refl, sym, ◌∙◌, ap, subst, arith, append-nil}
+use Rattle.std.specs.Int.{w32, w128, to_be_bytes, from_be_bytes}
 use Rattle.std.specs.Int.Digits.{number_from_digits}
-use Rattle.std.specs.List.{AllByRecursion}
-use Rattle.std.specs.Str.Parse.{AllDigits, IsNumeral, digits_value}
-use Rattle.std.proofs.lemmas.Bool.{leb-true, leb-false, le-leb, lt-leb, cond-true, cond-false, ne_eqb, cond_both}
+use Rattle.std.specs.List.{AllByRecursion, join_with_byte}
+use Rattle.std.specs.Net.Addr.{octets_of, ipv4_bits, ipv6_bits}
+use Rattle.std.specs.Net.Grammar.{IsDotted, IsGroup, IsGroupsAfter, IsGroups, IsColonHex}
+use Rattle.std.specs.declared.net.ip_addr.IpAddr.TheVariants as addresses
+use Rattle.std.proofs.lemmas.Bool.{leb-true, leb-false, le-leb, lt-leb, cond-true, cond-false, cond_both}
 use Rattle.std.proofs.lemmas.Fmt.{digits_is_IsNumeral, length-decimal-le}
 use Rattle.std.proofs.lemmas.List.{take-append-drop, drop-drop, length-append, length-replicate, append_assoc}
-use Rattle.std.proofs.lemmas.Nat.{shr-shr}
+use Rattle.std.proofs.lemmas.Nat.{shr-shr, from_be_bytes-to_be_bytes_4}
 use Rattle.he_addr.specs.declared.printing.Run.{Run}
 use Rattle.he_addr.specs.declared.ip.Ip.{Ip}
 use Rattle.he_addr.specs.declared.ip.Ip.TheVariants.{V4, V6}
 use Rattle.he_addr.specs.Ip.{InRange}
-use Rattle.he_addr.specs.Printed.{groups_of, hex, joined, IsZeroRun, shortened, IsPrintedV6, IsPrinted}
-use Rattle.he_addr.specs.Printing.{longest, printed_groups, printed_v6, printed}
-use Rattle.he_addr.specs.Text.{SpellsGroup, SpellGroups, SpellsSide, SpellsV6, Spells, dotted, parts_of, Lacks}
+use Rattle.he_addr.specs.Prefix.{PrefixBits, is_inside_mapped}
+use Rattle.he_addr.specs.Printed.{dotted, groups_of, hex, joined, IsZeroRun, shortened, IsPrintedV6, IsPrinted, IsPrintedSource, shown_as, IsPrintedPrefix}
+use Rattle.he_addr.specs.Printing.{longest, printed_groups, printed_v6, printed, source_text, prefix_text}
+use Rattle.he_addr.specs.Text.{Spells}
 use Rattle.he_addr.proofs.HexDigits.{length-hex}
-use Rattle.he_addr.proofs.PartLaws.{parts_joined, parts_whole}
 use Rattle.he_addr.proofs.Runs.{longest_first, IsFirstLongest}
 
 -- the function meets the definition
@@ -54,44 +56,50 @@ unfolding printed_v6
 IsPrinted_only (V4 n) text h = h
 IsPrinted_only (V6 n) text h = printed_only (groups_of n) text h
 
+-- a source and a prefix
+pub printed_source : (ip : Ip) (len : ℕ) → IsPrintedSource ip len (source_text ip len)
+printed_source ip len = (printed ip, printed-IsPrinted ip, refl)
+
+pub IsPrintedSource_only : (ip : Ip) (len : ℕ) (text : List ℕ) → IsPrintedSource ip len text → text ≡ source_text ip len
+IsPrintedSource_only ip len text (address, h, same) = same ∙ ap (λ a. a ++ 47 ∷ decimal len) (IsPrinted_only ip address h)
+
+source_form : (b : Bool) (x y : Ip × ℕ) → source_text (cond b x y).0 (cond b x y).1 ≡ cond b (source_text x.0 x.1) (source_text y.0 y.1)
+source_form true x y = refl
+source_form false x y = refl
+
+prefix_form : (is_dotted : Bool) (prefix : PrefixBits) → source_text (shown_as is_dotted prefix).0 (shown_as is_dotted prefix).1 ≡ prefix_text is_dotted prefix
+prefix_form is_dotted prefix = source_form (is_dotted && is_inside_mapped prefix) (V4 (prefix.bits % 2 ^ 32), prefix.len - 96) (V6 prefix.bits, prefix.len)
+
+pub printed_prefix : (is_dotted : Bool) (prefix : PrefixBits) → IsPrintedPrefix is_dotted prefix (prefix_text is_dotted prefix)
+printed_prefix is_dotted prefix =
+    let source = shown_as is_dotted prefix in
+    subst (IsPrintedSource source.0 source.1) (prefix_form is_dotted prefix) (printed_source source.0 source.1)
+
+pub IsPrintedPrefix_only : (is_dotted : Bool) (prefix : PrefixBits) (text : List ℕ) → IsPrintedPrefix is_dotted prefix text → text ≡ prefix_text is_dotted prefix
+IsPrintedPrefix_only is_dotted prefix text h =
+    let source = shown_as is_dotted prefix in
+    IsPrintedSource_only source.0 source.1 text h ∙ prefix_form is_dotted prefix
+
 -- groups of sixteen bits
 abbrev pub AreGroups : List ℕ → Type 0
 AreGroups groups = AllByRecursion (λ g. g < 65536) groups
 
-hex_numeral : (g : ℕ) → g < 65536 → IsNumeral 16 (hex g) × (digits_value 16 (hex g) ≡ g)
-hex_numeral g small = digits_is_IsNumeral 16 false (omega arith) (omega arith) g (omega arith)
+hex_group : (g : ℕ) → g < 65536 → IsGroup (hex g) g
+hex_group g small = (digits_is_IsNumeral 16 false (omega arith) (omega arith) g (omega arith), (length-hex g small).1)
 
-hex_spells : (g : ℕ) → g < 65536 → SpellsGroup (hex g) g
-hex_spells g small = let numeral = hex_numeral g small in record { numeral = numeral.0; few = (length-hex g small).1; value = sym numeral.1 }
+joined_after : (ipv4 : Bool) (lead groups : List ℕ) → AreGroups groups → 0 < length groups → IsGroupsAfter ipv4 lead (lead ++ joined groups) groups
+joined_after ipv4 lead [] all some = absurd (omega (arith, some))
+joined_after ipv4 lead (g ∷ []) all some = inl (hex g, [], sym (append-nil (lead ++ hex g)), hex_group g all.0, refl)
+joined_after ipv4 lead (g ∷ next ∷ gs) all some =
+    inl (hex g, 58 ∷ joined (next ∷ gs), sym (append_assoc lead (hex g) (58 ∷ joined (next ∷ gs))), hex_group g all.0, joined_after ipv4 (58 ∷ []) (next ∷ gs) all.1 (omega arith))
 
-digits_no_colon : (text : List ℕ) → AllDigits 16 text → Lacks 58 text
-digits_no_colon [] h = tt
-digits_no_colon (c ∷ cs) h = (ne_eqb c 58 (λ e. omega (arith, subst (λ b. digit_value b < 16) e h.0)), digits_no_colon cs h.1)
-
--- the parts of joined groups
-parts-joined : (g : ℕ) (gs : List ℕ) → AreGroups (g ∷ gs) → parts_of (joined (g ∷ gs)) ≡ map hex (g ∷ gs)
-parts-joined g [] all = parts_whole 58 (hex g) (digits_no_colon (hex g) (hex_numeral g all.0).0.1)
-parts-joined g (next ∷ gs) all =
-    parts_joined 58 (hex g) (joined (next ∷ gs)) (digits_no_colon (hex g) (hex_numeral g all.0).0.1) ∙ ap (λ parts. hex g ∷ parts) (parts-joined next gs all.1)
-
-hex_groups : (is_dotted : Bool) (g : ℕ) (gs : List ℕ) → AreGroups (g ∷ gs) → SpellGroups is_dotted (map hex (g ∷ gs)) (g ∷ gs)
-hex_groups is_dotted g [] all = inl (g, hex_spells g all.0, refl)
-hex_groups is_dotted g (next ∷ gs) all = (hex_spells g all.0, hex_groups is_dotted next gs all.1)
-
-joined_spells : (is_dotted : Bool) (g : ℕ) (gs : List ℕ) → AreGroups (g ∷ gs) → SpellGroups is_dotted (parts_of (joined (g ∷ gs))) (g ∷ gs)
-joined_spells is_dotted g gs all = subst (λ parts. SpellGroups is_dotted parts (g ∷ gs)) (sym (parts-joined g gs all)) (hex_groups is_dotted g gs all)
-
-side_from : (is_dotted : Bool) (text groups : List ℕ) → 0 < length text → SpellGroups is_dotted (parts_of text) groups → SpellsSide is_dotted text groups
-side_from is_dotted [] groups some h = absurd (omega arith)
-side_from is_dotted (b ∷ bs) groups some h = h
+joined_spells : (ipv4 : Bool) (groups : List ℕ) → AreGroups groups → IsGroups ipv4 (joined groups) groups
+joined_spells ipv4 [] all = refl
+joined_spells ipv4 (g ∷ gs) all = joined_after ipv4 [] (g ∷ gs) all (omega arith)
 
 joined_some : (g : ℕ) (gs : List ℕ) → g < 65536 → 0 < length (joined (g ∷ gs))
 joined_some g [] small = (length-hex g small).0
 joined_some g (next ∷ gs) small = omega (arith, length-append (hex g) (58 ∷ joined (next ∷ gs)))
-
-side_spells : (is_dotted : Bool) (groups : List ℕ) → AreGroups groups → SpellsSide is_dotted (joined groups) groups
-side_spells is_dotted [] all = refl
-side_spells is_dotted (g ∷ gs) all = side_from is_dotted (joined (g ∷ gs)) (g ∷ gs) (joined_some g gs all.0) (joined_spells is_dotted g gs all)
 
 -- an IPv6 number is that of its eight groups
 group_step : (n high low : ℕ) → n / 2 ^ high ≡ n / 2 ^ low / 65536 → n / 2 ^ high * 65536 + n / 2 ^ low % 65536 ≡ n / 2 ^ low
@@ -130,41 +138,55 @@ run_around groups start len run =
 length_around : (before after : List ℕ) (len : ℕ) → length (before ++ replicate len 0 ++ after) ≡ length before + len + length after
 length_around before after len = omega (arith, length-append (before ++ replicate len 0) after, length-append before (replicate len 0), length-replicate {A = ℕ} len 0)
 
-short_spells : (groups : List ℕ) (n start len : ℕ) → length groups ≡ 8 → AreGroups groups → number_from_digits 65536 groups ≡ n → 2 ≤ len → IsZeroRun groups start len → SpellsV6 (shortened groups start len) n
-short_spells groups n start len eight all is two run =
+short_spells : (groups : List ℕ) (start len : ℕ) → length groups ≡ 8 → AreGroups groups → 2 ≤ len → IsZeroRun groups start len → IsColonHex (shortened groups start len) groups
+short_spells groups start len eight all two run =
     let before : List ℕ = take start groups in
     let after : List ℕ = drop (start + len) groups in
     let whole : groups ≡ before ++ replicate len 0 ++ after = run_around groups start len run in
     let counted : length before + len + length after ≡ 8 = sym (length_around before after len) ∙ ap length (sym whole) ∙ eight in
-    let free : len ≡ 8 - (length before + length after) = omega arith in
+    let free : len ≡ 8 - length before - length after = omega arith in
     let parts : AreGroups (before ++ replicate len 0 ++ after) = subst AreGroups whole all in
     inr (record {
-      left = joined before;
-      right = joined after;
-      before = before;
-      after = after;
-      parts = refl;
-      spelled_before = side_spells false before (groups-append_left before (replicate len 0) (groups-append_left (before ++ replicate len 0) after parts));
-      spelled_after = side_spells true after (groups-append_right (before ++ replicate len 0) after parts);
+      head_text = joined before;
+      tail_text = joined after;
+      head = before;
+      tail = after;
+      spelled = sym (append_assoc (joined before) (58 ∷ 58 ∷ []) (joined after));
+      head_groups = joined_spells false before (groups-append_left before (replicate len 0) (groups-append_left (before ++ replicate len 0) after parts));
+      tail_groups = joined_spells true after (groups-append_right (before ++ replicate len 0) after parts);
       room = omega arith;
-      number = sym is ∙ ap (number_from_digits 65536) whole ∙ ap (λ k. number_from_digits 65536 (before ++ replicate k 0 ++ after)) free;
+      value = whole ∙ ap (λ k. before ++ replicate k 0 ++ after) free;
     })
 
-whole_spells : (groups : List ℕ) (n : ℕ) → length groups ≡ 8 → AreGroups groups → number_from_digits 65536 groups ≡ n → SpellsV6 (joined groups) n
-whole_spells [] n eight all is = absurd (omega (arith, eight))
-whole_spells (g ∷ gs) n eight all is = inl (record { groups = g ∷ gs; spelled = joined_spells true g gs all; eight = eight; number = sym is })
+groups_spell : (groups : List ℕ) → length groups ≡ 8 → AreGroups groups → IsColonHex (printed_groups groups (longest groups)) groups
+groups_spell groups eight all =
+    cond_both (leb 2 (longest groups).len) (shortened groups (longest groups).start (longest groups).len) (joined groups) (λ text. IsColonHex text groups)
+    (λ test. short_spells groups (longest groups).start (longest groups).len eight all (leb-true 2 (longest groups).len test) (longest_first groups).run_of)
+    (λ test. inl (joined_spells true groups all, eight))
 
-groups_spell : (groups : List ℕ) (n : ℕ) → length groups ≡ 8 → AreGroups groups → number_from_digits 65536 groups ≡ n → SpellsV6 (printed_groups groups (longest groups)) n
-groups_spell groups n eight all is =
-    cond_both (leb 2 (longest groups).len) (shortened groups (longest groups).start (longest groups).len) (joined groups) (λ text. SpellsV6 text n)
-    (λ test. short_spells groups n (longest groups).start (longest groups).len eight all is (leb-true 2 (longest groups).len test) (longest_first groups).run_of)
-    (λ test. whole_spells groups n eight all is)
+four_joined : (a b c d : List ℕ) → join_with_byte 46 (a ∷ b ∷ c ∷ d ∷ []) ≡ a ++ (46 ∷ []) ++ b ++ (46 ∷ []) ++ c ++ (46 ∷ []) ++ d
+four_joined a b c d = simp append_assoc
+
+dotted_spells : (n : ℕ) → IsDotted (dotted n) (to_be_bytes w32 n)
+dotted_spells n = record {
+  a = n / 16777216 % 256;
+  b = n / 65536 % 256;
+  c = n / 256 % 256;
+  d = n % 256;
+  fit = (omega arith, omega arith, omega arith, omega arith);
+  value = refl;
+  spelled = four_joined (decimal (n / 16777216 % 256)) (decimal (n / 65536 % 256)) (decimal (n / 256 % 256)) (decimal (n % 256));
+}
+
+number_8 : (a b c d e f g h : ℕ) → from_be_bytes w128 (octets_of (a ∷ b ∷ c ∷ d ∷ e ∷ f ∷ g ∷ h ∷ [])) ≡ number_from_digits 65536 (a ∷ b ∷ c ∷ d ∷ e ∷ f ∷ g ∷ h ∷ [])
+number_8 a b c d e f g h = omega arith
 
 -- what is printed spells the address
 pub printed_spells : (ip : Ip) → InRange ip → Spells (printed ip) ip
-unfolding printed_v6
-printed_spells (V4 n) small = (small, refl)
-printed_spells (V6 n) small = groups_spell (groups_of n) n refl (are_groups n) (groups_number n small)
+unfolding printed_v6 ipv4_bits ipv6_bits
+printed_spells (V4 n) small = (addresses.V4 (record { octets = to_be_bytes w32 n }), dotted_spells n, ap V4 (sym (from_be_bytes-to_be_bytes_4 n small)))
+printed_spells (V6 n) small =
+    (addresses.V6 (record { segments = groups_of n }), groups_spell (groups_of n) refl (are_groups n), ap V6 (sym (number_8 _ _ _ _ _ _ _ _ ∙ groups_number n small)))
 
 -- how long it is
 joined_short : (groups : List ℕ) → AreGroups groups → length (joined groups) ≤ 5 * length groups - 1

@@ -4,7 +4,8 @@ use Rattle.he_addr.specs.declared.ip.Ip.{Ip}
 use Rattle.he_addr.specs.Prefix.{PrefixBits}
 use Rattle.he_addr.specs.Reading.{number_in, ip_in, source_in, prefix_in}
 use Rattle.he_addr.specs.Text.{SpellsNumber, Spells, SpellsSource, SpellsPrefix}
-use Rattle.he_addr.proofs.AddressTexts.{ip_in_some, ip_in-spelled, source_in_some, source_in-spelled, prefix_in_some, prefix_in-spelled}
+use Rattle.he_addr.proofs.AddressTexts.{source_in_some, source_in-spelled, prefix_in_some, prefix_in-spelled}
+use Rattle.he_addr.proofs.NetTexts.{ip_in_some, ip_in-spelled}
 use Rattle.he_addr.proofs.Numbers.{numeral_in_some, numeral_in-spelled}
 
 pub read_number_spells : (text : List ℕ) (n : ℕ) → number_in text ≡ Some n → SpellsNumber text n

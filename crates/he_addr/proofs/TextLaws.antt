@@ -1,5 +1,5 @@
 -- The laws of the texts, for the crates above to cite.
-use Rattle.std.proofs.Common.{◌≡◌, ℕ, ◌+◌, ◌-◌, ◌*◌, ◌/◌, ◌%◌, ◌^◌, ◌<◌, ◌≤◌, Bool, true, leb, ◌&&◌, ◌∷◌, decimal, inl, refl, sym, ◌∙◌, ap, arith}
+use Rattle.std.proofs.Common.{◌≡◌, ℕ, ◌+◌, ◌-◌, ◌*◌, ◌/◌, ◌%◌, ◌^◌, ◌<◌, ◌≤◌, Bool, true, leb, ◌&&◌, List, [], ◌∷◌, ◌++◌, decimal, inl, refl, sym, ◌∙◌, ap, arith}
 use Rattle.std.proofs.lemmas.Bool.{and_parts, leb-true, eqb-true, cond_both}
 use Rattle.std.proofs.lemmas.Fmt.{length-decimal-le, decimal_nonempty}
 use Rattle.std.proofs.lemmas.List.{length-append}
@@ -8,16 +8,20 @@ use Rattle.he_addr.specs.declared.ip.Ip.{Ip}
 use Rattle.he_addr.specs.declared.ip.Ip.TheVariants.{V4, V6}
 use Rattle.he_addr.specs.Bits.{agrees}
 use Rattle.he_addr.specs.Ip.{InRange}
-use Rattle.he_addr.specs.Laws.{SpellsOneNumber, SpellsOneAddress, SpellsOneSource, SpellsOnePrefix, PrintsOneText, NumbersReadBack, AddressesReadBack, SourcesReadBack, PrefixesReadBack, NumbersAreTokens, AddressesAreTokens, SourcesAreTokens, PrefixesAreTokens}
+use Rattle.he_addr.specs.Laws.{SpellsOneNumber, SpellsOneAddress, SpellsOneSource, SpellsOnePrefix, PrintsOneText, PrintsOneSource, PrintsOnePrefix, NumbersReadBack, AddressesReadBack, SourcesReadBack, PrefixesReadBack, NumbersAreTokens, AddressesAreTokens, SourcesAreTokens, PrefixesAreTokens}
 use Rattle.he_addr.specs.Prefix.{PrefixBits, IsPrefix, width_of, is_inside_mapped}
 use Rattle.he_addr.specs.Printing.{printed, source_text, prefix_text}
 use Rattle.he_addr.specs.Reading.{number_in}
-use Rattle.he_addr.specs.Text.{SpellsSource, SpellsPrefix, IsToken}
+use Rattle.he_addr.specs.Text.{SpellsSource, SpellsPrefix, Lacks, IsToken}
 use Rattle.he_addr.proofs.AddressBytes.{address_bytes, bytes_lack, no_space, no_newline}
-use Rattle.he_addr.proofs.AddressTexts.{ip_in-spelled, source_in-spelled, prefix_in-spelled, lacks-append}
-use Rattle.he_addr.proofs.DottedTexts.{decimal_lacks}
-use Rattle.he_addr.proofs.Numbers.{numeral_in-spelled, decimal_spells}
-use Rattle.he_addr.proofs.PrintedTexts.{printed_spells, printed_short, printed_some, IsPrinted_only}
+use Rattle.he_addr.proofs.AddressTexts.{source_in-spelled, prefix_in-spelled}
+use Rattle.he_addr.proofs.NetTexts.{ip_in-spelled}
+use Rattle.he_addr.proofs.Numbers.{numeral_in-spelled, decimal_spells, decimal_lacks}
+use Rattle.he_addr.proofs.PrintedTexts.{printed_spells, printed_short, printed_some, IsPrinted_only, IsPrintedSource_only, IsPrintedPrefix_only}
+
+lacks-append : (mark : ℕ) (xs ys : List ℕ) → Lacks mark xs → Lacks mark ys → Lacks mark (xs ++ ys)
+lacks-append mark [] ys hx hy = hy
+lacks-append mark (x ∷ xs) ys hx hy = (hx.0, lacks-append mark xs ys hx.1 hy)
 
 pub one_number : SpellsOneNumber
 one_number text m n h k = h.value ∙ sym k.value
@@ -35,6 +39,12 @@ one_prefix text p q h k = same_Some p q (sym (prefix_in-spelled text p h) ∙ pr
 
 pub one_text : PrintsOneText
 one_text ip text h = IsPrinted_only ip text h
+
+pub one_source_text : PrintsOneSource
+one_source_text ip len text h = IsPrintedSource_only ip len text h
+
+pub one_prefix_text : PrintsOnePrefix
+one_prefix_text is_dotted prefix text h = IsPrintedPrefix_only is_dotted prefix text h
 
 pub numbers_read_back : NumbersReadBack
 unfolding number_in

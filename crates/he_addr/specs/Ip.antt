@@ -5,6 +5,7 @@ use Rattle.he_addr.specs.declared.ip.Family.TheVariants as families
 use Rattle.he_addr.specs.declared.ip.Ip.{Ip}
 use Rattle.he_addr.specs.declared.ip.Ip.TheVariants.{V4, V6}
 use Rattle.he_addr.specs.Bits.{agrees}
+use Rattle.he_addr.specs.Ranges.{link_local_scope, site_local_scope, global_scope}
 
 abbrev pub family_of : Ip → Family
 family_of (V4 n) = families.V4
@@ -42,15 +43,26 @@ is_link_local_v6 n = n == 1 || agrees 128 n (0xfe80 * 2 ^ 112) 10
 abbrev pub is_site_local_v6 : ℕ → Bool
 is_site_local_v6 n = agrees 128 n (0xfec0 * 2 ^ 112) 10
 
--- the scope (RFC 6724 section 3.1): 2 is link-local, 5 site-local, 14 global
+-- the scope (RFC 6724 section 3.1)
 abbrev pub scope_of : Ip → ℕ
-scope_of (V4 n) = if is_link_local_v4 n then 2 else 14
-scope_of (V6 n) = if is_link_local_v6 n then 2 else if is_site_local_v6 n then 5 else 14
+scope_of (V4 n) = if is_link_local_v4 n then link_local_scope else global_scope
+scope_of (V6 n) = if is_link_local_v6 n then link_local_scope else if is_site_local_v6 n then site_local_scope else global_scope
 
--- neither the unspecified address, nor multicast, nor an IPv6 address in ::ffff:0:0/96
+-- 224.0.0.0/4 (RFC 5771) and ff00::/8 (RFC 4291 section 2.7)
+abbrev pub is_multicast_v4 : ℕ → Bool
+is_multicast_v4 n = agrees 32 n 0xe000_0000 4
+
+abbrev pub is_multicast_v6 : ℕ → Bool
+is_multicast_v6 n = agrees 128 n (0xff00 * 2 ^ 112) 8
+
+-- ::ffff:0:0/96 (RFC 4291 section 2.5.5.2)
+abbrev pub is_mapped_v6 : ℕ → Bool
+is_mapped_v6 n = agrees 128 n (0xffff * 2 ^ 32) 96
+
+-- neither the unspecified address, nor multicast, nor an IPv6 address that stands for an IPv4 one
 abbrev pub is_usable : Ip → Bool
-is_usable (V4 n) = not (n == 0) && not (agrees 32 n 0xe000_0000 4)
-is_usable (V6 n) = not (n == 0) && not (agrees 128 n (0xff00 * 2 ^ 112) 8) && not (agrees 128 n (0xffff * 2 ^ 32) 96)
+is_usable (V4 n) = not (n == 0) && not (is_multicast_v4 n)
+is_usable (V6 n) = not (n == 0) && not (is_multicast_v6 n) && not (is_mapped_v6 n)
 
 -- an address that may be tried
 abbrev pub IsUsable : Ip → Type 0

@@ -3,8 +3,9 @@ use Rattle.std.specs.Prelude.{◌≡◌, ℕ, ◌^◌, ◌<◌, ◌≤◌, Bool,
 use Rattle.he_addr.specs.declared.ip.Ip.{Ip}
 use Rattle.he_addr.specs.Ip.{InRange}
 use Rattle.he_addr.specs.Prefix.{PrefixBits, IsPrefix, width_of}
-use Rattle.he_addr.specs.Printed.{IsPrinted}
+use Rattle.he_addr.specs.Printed.{IsPrinted, IsPrintedSource, IsPrintedPrefix}
 use Rattle.he_addr.specs.Printing.{printed, source_text, prefix_text}
+use Rattle.he_addr.specs.Ranges.{number_digits, address_text_len, prefix_text_len}
 use Rattle.he_addr.specs.Reading.{number_in, ip_in, source_in, prefix_in}
 use Rattle.he_addr.specs.Text.{SpellsNumber, Spells, SpellsSource, SpellsPrefix, IsToken}
 
@@ -21,13 +22,19 @@ SpellsOneSource = (text : List ℕ) (a b : Ip) (m n : ℕ) → SpellsSource text
 abbrev pub SpellsOnePrefix : Type 0
 SpellsOnePrefix = (text : List ℕ) (p q : PrefixBits) → SpellsPrefix text p → SpellsPrefix text q → p ≡ q
 
--- an address has one printed text
+-- an address, a source and a prefix have one printed text
 abbrev pub PrintsOneText : Type 0
 PrintsOneText = (ip : Ip) (text : List ℕ) → IsPrinted ip text → text ≡ printed ip
 
+abbrev pub PrintsOneSource : Type 0
+PrintsOneSource = (ip : Ip) (len : ℕ) (text : List ℕ) → IsPrintedSource ip len text → text ≡ source_text ip len
+
+abbrev pub PrintsOnePrefix : Type 0
+PrintsOnePrefix = (is_dotted : Bool) (prefix : PrefixBits) (text : List ℕ) → IsPrintedPrefix is_dotted prefix text → text ≡ prefix_text is_dotted prefix
+
 -- what is written spells what was written, and is read as it
 abbrev pub NumbersReadBack : Type 0
-NumbersReadBack = (n : ℕ) → n < 10 ^ 10 → SpellsNumber (decimal n) n × (number_in (decimal n) ≡ Some n)
+NumbersReadBack = (n : ℕ) → n < 10 ^ number_digits → SpellsNumber (decimal n) n × (number_in (decimal n) ≡ Some n)
 
 abbrev pub AddressesReadBack : Type 0
 AddressesReadBack = (ip : Ip) → InRange ip → Spells (printed ip) ip × (ip_in (printed ip) ≡ Some ip)
@@ -41,13 +48,13 @@ PrefixesReadBack = (is_dotted : Bool) (prefix : PrefixBits) → IsPrefix prefix.
 
 -- what is written can stand between spaces in a line
 abbrev pub NumbersAreTokens : Type 0
-NumbersAreTokens = (n : ℕ) → n < 10 ^ 10 → IsToken 10 (decimal n)
+NumbersAreTokens = (n : ℕ) → n < 10 ^ number_digits → IsToken number_digits (decimal n)
 
 abbrev pub AddressesAreTokens : Type 0
-AddressesAreTokens = (ip : Ip) → InRange ip → IsToken 39 (printed ip)
+AddressesAreTokens = (ip : Ip) → InRange ip → IsToken address_text_len (printed ip)
 
 abbrev pub SourcesAreTokens : Type 0
-SourcesAreTokens = (ip : Ip) (len : ℕ) → InRange ip → len ≤ width_of ip → IsToken 43 (source_text ip len)
+SourcesAreTokens = (ip : Ip) (len : ℕ) → InRange ip → len ≤ width_of ip → IsToken prefix_text_len (source_text ip len)
 
 abbrev pub PrefixesAreTokens : Type 0
-PrefixesAreTokens = (is_dotted : Bool) (prefix : PrefixBits) → IsPrefix prefix.bits prefix.len → IsToken 43 (prefix_text is_dotted prefix)
+PrefixesAreTokens = (is_dotted : Bool) (prefix : PrefixBits) → IsPrefix prefix.bits prefix.len → IsToken prefix_text_len (prefix_text is_dotted prefix)

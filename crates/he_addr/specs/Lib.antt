@@ -4,5 +4,6 @@ pub mod Laws
 pub mod Prefix
 pub mod Printed
 pub mod Printing
+pub mod Ranges
 pub mod Reading
 pub mod Text

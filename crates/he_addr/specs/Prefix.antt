@@ -1,9 +1,10 @@
 -- Prefixes: what one holds, which addresses lie in it, and how long a part two addresses have in common.
-use Rattle.std.specs.Prelude.{ℕ, ◌-◌, ◌*◌, ◌%◌, ◌^◌, ◌<◌, ◌≤◌, ◌≡◌, ◌&&◌, Bool, nat_le}
+use Rattle.std.specs.Prelude.{ℕ, ◌-◌, ◌%◌, ◌^◌, ◌<◌, ◌≤◌, ◌≡◌, ◌&&◌, Bool, nat_le}
 use Rattle.he_addr.specs.declared.ip.Ip.{Ip}
 use Rattle.he_addr.specs.declared.ip.Ip.TheVariants.{V4, V6}
 use Rattle.he_addr.specs.Bits.{agrees, greatest}
-use Rattle.he_addr.specs.Ip.{mapped_of}
+use Rattle.he_addr.specs.Ip.{mapped_of, is_mapped_v6}
+use Rattle.he_addr.specs.Ranges.{v4_bits, v6_bits, mapped_len}
 
 -- the first `len` bits of `bits`, an IPv6 number; an IPv4 prefix is the mapped one
 pub record PrefixBits : Type 0 where
@@ -12,7 +13,7 @@ pub record PrefixBits : Type 0 where
 
 -- bits past the length are zero
 pub record IsPrefix (bits len : ℕ) : Type 0 where
-  pub short : len ≤ 128
+  pub short : len ≤ v6_bits
   pub fits : bits < 2 ^ 128
   pub clear : bits % 2 ^ (128 - len) ≡ 0
 
@@ -22,7 +23,7 @@ contains prefix ip = agrees 128 (mapped_of ip) prefix.bits prefix.len
 
 -- inside ::ffff:0:0/96: the prefix of IPv4 addresses alone
 abbrev pub is_inside_mapped : PrefixBits → Bool
-is_inside_mapped prefix = nat_le 96 prefix.len && agrees 128 prefix.bits (0xffff * 2 ^ 32) 96
+is_inside_mapped prefix = nat_le mapped_len prefix.len && is_mapped_v6 prefix.bits
 
 -- the common prefix length of a source and a destination (RFC 6724 section 2.2): the greatest number of leading bits,
 -- at most the source's prefix length, that two addresses of one family have in common
@@ -33,5 +34,5 @@ common_of _ len _ = 0
 
 -- how many bits an address of its family has
 abbrev pub width_of : Ip → ℕ
-width_of (V4 n) = 32
-width_of (V6 n) = 128
+width_of (V4 n) = v4_bits
+width_of (V6 n) = v6_bits

@@ -1,10 +1,17 @@
--- The text that is printed for an address, stated without the work of finding it (RFC 5952 section 4).
-use Rattle.std.specs.Prelude.{◌≡◌, ◌⊎◌, ℕ, ◌+◌, ◌*◌, ◌/◌, ◌%◌, ◌^◌, ◌<◌, ◌≤◌, false, List, [], ◌∷◌, ◌++◌, map, take, drop, replicate}
+-- The text that is printed for an address, stated without the work of finding it (RFC 5952 section 4), and for a source and
+-- a prefix.
+use Rattle.std.specs.Prelude.{◌≡◌, ◌⊎◌, ℕ, ◌+◌, ◌-◌, ◌*◌, ◌/◌, ◌%◌, ◌^◌, ◌<◌, ◌≤◌, ◌&&◌, Bool, false, List, [], ◌∷◌, ◌++◌, map, take, drop, replicate, decimal, if◌then◌else◌}
 use Rattle.std.specs.Fmt.{digits}
+use Rattle.std.specs.Int.{w32, to_be_bytes}
 use Rattle.std.specs.List.{join_with_byte}
 use Rattle.he_addr.specs.declared.ip.Ip.{Ip}
 use Rattle.he_addr.specs.declared.ip.Ip.TheVariants.{V4, V6}
-use Rattle.he_addr.specs.Text.{dotted}
+use Rattle.he_addr.specs.Prefix.{PrefixBits, is_inside_mapped}
+use Rattle.he_addr.specs.Ranges.{mapped_len}
+
+-- the four bytes of an IPv4 number in decimal, the highest first, joined by dots
+abbrev pub dotted : ℕ → List ℕ
+dotted n = join_with_byte 46 (map decimal (to_be_bytes w32 n))
 
 -- the eight groups of sixteen bits of an IPv6 number, the highest first
 abbrev pub groups_of : ℕ → List ℕ
@@ -40,3 +47,15 @@ IsPrintedV6 groups text = (((start len : ℕ) → IsZeroRun groups start len →
 abbrev pub IsPrinted : Ip → List ℕ → Type 0
 IsPrinted (V4 n) text = text ≡ dotted n
 IsPrinted (V6 n) text = IsPrintedV6 (groups_of n) text
+
+-- the text that is printed for an address and a prefix length
+abbrev pub IsPrintedSource : Ip → ℕ → List ℕ → Type 0
+IsPrintedSource ip len text = (address : List ℕ) × IsPrinted ip address × (text ≡ address ++ 47 ∷ decimal len)
+
+-- the address and the length that are printed for a prefix: in IPv4 form if that is asked for and it is one of IPv4 addresses
+abbrev pub shown_as : Bool → PrefixBits → Ip × ℕ
+shown_as is_dotted prefix = if is_dotted && is_inside_mapped prefix then (V4 (prefix.bits % 2 ^ 32), prefix.len - mapped_len) else (V6 prefix.bits, prefix.len)
+
+-- the text that is printed for a prefix
+abbrev pub IsPrintedPrefix : Bool → PrefixBits → List ℕ → Type 0
+IsPrintedPrefix is_dotted prefix text = IsPrintedSource (shown_as is_dotted prefix).0 (shown_as is_dotted prefix).1 text

@@ -1,11 +1,10 @@
--- The printed texts as functions: what the writers append. What these texts are stands in `Printed`.
+-- Mirrors the code: the printed texts as functions, what the writers append. What these texts are stands in `Printed`.
 use Rattle.std.specs.Prelude.{ℕ, ◌+◌, ◌-◌, ◌%◌, ◌^◌, ◌==◌, ◌&&◌, Bool, List, [], ◌∷◌, ◌++◌, decimal, nat_le, if◌then◌else◌}
 use Rattle.he_addr.specs.declared.ip.Ip.{Ip}
 use Rattle.he_addr.specs.declared.ip.Ip.TheVariants.{V4, V6}
 use Rattle.he_addr.specs.declared.printing.Run.{Run}
 use Rattle.he_addr.specs.Prefix.{PrefixBits, is_inside_mapped}
-use Rattle.he_addr.specs.Printed.{groups_of, joined, shortened}
-use Rattle.he_addr.specs.Text.{dotted}
+use Rattle.he_addr.specs.Printed.{dotted, groups_of, joined, shortened}
 
 -- how many zero groups stand first
 abbrev pub zeros : List ℕ → ℕ

@@ -1,6 +1,6 @@
 // Numbers in the texts: one to ten decimal digits without leading zeros.
 
-ghost use Rattle.std.specs.Prelude.{◌≡◌, ℕ, ◌≤◌, ◌⊎◌, ◌++◌, IfSome, IfNone, OnOk, OnErr, decimal};
+ghost use Rattle.std.specs.Prelude.{◌≡◌, ℕ, ◌≤◌, ◌++◌, IfSome, IfNone, OnOk, OnErr, decimal};
 ghost use Rattle.he_addr.specs.Reading.{digits_in, numeral_in, number_in};
 ghost use Rattle.he_addr.specs.Text.{SpellsNumber};
 
@@ -11,24 +11,21 @@ use std::alloc::Allocator;
 /// The most digits of a number in the texts.
 pub const NUMBER_DIGITS: usize = 10;
 
-pub(crate) const DECIMAL: u32 = 10;
+const DECIMAL: u32 = 10;
 
-pub(crate) const HEXADECIMAL: u32 = 16;
-
-// The number that one to `most` digits write.
+// The number that one to `most` decimal digits write.
 #[tactic(auto, unfolding(crate::specs::Reading::digits_in))]
-pub(crate) fn read_digits(text: &[u8], radix: u32, most: usize) -> Option<u64>
-    requires radix { (radix ≡ DECIMAL) ⊎ (radix ≡ HEXADECIMAL) }
-    requires most { most ≤ NUMBER_DIGITS }
-    ensures { result ≡ digits_in radix most text.now }
+fn read_digits(text: &[u8], most: usize) -> Option<u64>
+    requires { most ≤ NUMBER_DIGITS }
+    ensures { result ≡ digits_in most text.now }
 {
     if text.is_empty() || text.len() > most {
         return None;
     }
     let mut value = 0;
     for byte in text {
-        let digit = char::from(*byte).to_digit(radix)?;
-        value = value * radix as u64 + digit as u64;
+        let digit = char::from(*byte).to_digit(DECIMAL)?;
+        value = value * DECIMAL as u64 + digit as u64;
     }
     Some(value)
 }
@@ -42,7 +39,7 @@ pub(crate) fn read_numeral(text: &[u8], most: usize) -> Option<u64>
     if text.len() > 1 && text[0] == b'0' {
         return None;
     }
-    read_digits(text, DECIMAL, most)
+    read_digits(text, most)
 }
 
 /// The number that a text of one to ten decimal digits without leading zeros writes (`0` itself is one). None for every

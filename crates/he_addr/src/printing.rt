@@ -3,9 +3,8 @@
 ghost use Rattle.std.specs.Prelude.{◌≡◌, ◌+◌, ◌-◌, ◌*◌, ◌/◌, ◌%◌, ◌^◌, ◌<◌, ◌≤◌, ◌++◌, length, false, [], decimal};
 ghost use Rattle.std.specs.Fmt.{digit_glyph};
 ghost use Rattle.arrayvec.specs.ArrayVec.{array_vec_len};
-ghost use Rattle.he_addr.specs.Printed.{groups_of, hex, joined};
+ghost use Rattle.he_addr.specs.Printed.{dotted, groups_of, hex, joined};
 ghost use Rattle.he_addr.specs.Printing.{longest, printed, printed_v6, source_text};
-ghost use Rattle.he_addr.specs.Text.{dotted};
 
 use crate::ip::Ip;
 use arrayvec::ArrayVec;
@@ -19,20 +18,20 @@ pub const PREFIX_LEN: usize = 43;
 
 pub(crate) type Text = ArrayVec<u8, PREFIX_LEN>;
 
-pub(crate) const COLON: u8 = b':';
+const COLON: u8 = b':';
 
-pub(crate) const DOT: u8 = b'.';
+const DOT: u8 = b'.';
 
 pub(crate) const SLASH: u8 = b'/';
 
 // The groups of an IPv6 address.
-pub(crate) const GROUPS: usize = 8;
+const GROUPS: usize = 8;
 
 // The most bytes that a group takes in a text, with the colon before it.
 const GROUP_LEN: usize = 5;
 
 // The most digits of a number up to 255.
-pub(crate) const BYTE_DIGITS: usize = 3;
+const BYTE_DIGITS: usize = 3;
 
 // Zero groups that stand side by side.
 #[derive(Clone, Copy)]

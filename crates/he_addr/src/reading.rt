@@ -7,33 +7,29 @@ ghost use Rattle.he_addr.specs.Reading.{ip_in, source_in, prefix_in};
 ghost use Rattle.he_addr.specs.Text.{Spells, SpellsSource, SpellsPrefix};
 
 use crate::decimal::read_numeral;
-use crate::dotted::read_v4;
-use crate::groups::read_v6;
 use crate::ip::Ip;
 use crate::parts::cut;
 use crate::prefix::{MAPPED_LEN, Prefix, V4_BITS, V6_BITS};
-use crate::printing::{BYTE_DIGITS, SLASH};
+use crate::printing::SLASH;
+use std::net::IpAddr;
 
-#[tactic(auto, unfolding(crate::specs::Reading::ip_in))]
-fn ip_of(text: &[u8]) -> Option<Ip>
-    ensures value { result ≡ ip_in text.now }
-    ensures range { IfSome result InRange }
-{
-    match read_v4(text) {
-        Some(number) => Some(Ip::V4(number)),
-        None => Some(Ip::V6(read_v6(text)?)),
-    }
-}
+/// The most digits of a prefix length in the texts.
+pub const LENGTH_DIGITS: usize = 3;
 
 /// The address that a text spells; None for every other text. An IPv4 text is four decimal numbers up to 255 without leading
 /// zeros, joined by dots; an IPv6 text is one of RFC 4291 section 2.2, without a zone index.
+#[tactic(auto, using(crate::proofs::NetTexts::ip_in_text, crate::proofs::NetTexts::ip_in_no_text))]
 pub fn read_ip(text: &[u8]) -> Option<Ip>
     ensures value { result ≡ ip_in text.now }
     ensures found { IfSome result (λ ip. Spells text.now ip) }
     ensures none { IfNone result ((ip : Ip) → Spells text.now ip → ⊥) }
     ensures range { IfSome result InRange }
 {
-    ip_of(text)
+    match IpAddr::parse_ascii(text) {
+        Ok(IpAddr::V4(address)) => Some(Ip::V4(address.to_bits())),
+        Ok(IpAddr::V6(address)) => Some(Ip::V6(address.to_bits())),
+        Err(_) => None,
+    }
 }
 
 // The bits of an address of this family.
@@ -47,13 +43,13 @@ fn width(ip: Ip) -> u8
 }
 
 #[tactic(auto, unfolding(crate::specs::Reading::source_in))]
-fn source_of(text: &[u8]) -> Option<(Ip, u8)>
+fn parse_source(text: &[u8]) -> Option<(Ip, u8)>
     ensures value { result ≡ source_in text.now }
     ensures within { IfSome result (λ source. source.1 ≤ width_of source.0) }
 {
     let (address, digits) = cut(text, SLASH)?;
-    let ip = ip_of(address)?;
-    let len = read_numeral(digits, BYTE_DIGITS)?;
+    let ip = read_ip(address)?;
+    let len = read_numeral(digits, LENGTH_DIGITS)?;
     if len > u64::from(width(ip)) {
         return None;
     }
@@ -68,14 +64,14 @@ pub fn read_source(text: &[u8]) -> Option<(Ip, u8)>
     ensures none { IfNone result ((ip : Ip) (len : ℕ) → SpellsSource text.now ip len → ⊥) }
     ensures within { IfSome result (λ source. source.1 ≤ width_of source.0) }
 {
-    source_of(text)
+    parse_source(text)
 }
 
 #[tactic(auto, unfolding(crate::specs::Reading::prefix_in))]
-fn prefix_of(text: &[u8]) -> Option<Prefix>
+fn parse_prefix(text: &[u8]) -> Option<Prefix>
     ensures { result ≡ prefix_in text.now }
 {
-    let (ip, len) = source_of(text)?;
+    let (ip, len) = parse_source(text)?;
     match ip {
         Ip::V4(_) => Prefix::try_new(ip.mapped(), MAPPED_LEN + len),
         Ip::V6(number) => Prefix::try_new(number, len),
@@ -89,5 +85,5 @@ pub fn read_prefix(text: &[u8]) -> Option<Prefix>
     ensures found { IfSome result (λ prefix. SpellsPrefix text.now prefix) }
     ensures none { IfNone result ((prefix : PrefixBits) → SpellsPrefix text.now prefix → ⊥) }
 {
-    prefix_of(text)
+    parse_prefix(text)
 }

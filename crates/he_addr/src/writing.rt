@@ -2,7 +2,7 @@
 
 ghost use Rattle.std.specs.Prelude.{◌≡◌, ◌++◌, OnOk, OnErr};
 ghost use Rattle.he_addr.specs.Prefix.{width_of};
-ghost use Rattle.he_addr.specs.Printed.{IsPrinted};
+ghost use Rattle.he_addr.specs.Printed.{IsPrinted, IsPrintedSource, IsPrintedPrefix};
 ghost use Rattle.he_addr.specs.Printing.{printed, source_text, prefix_text};
 
 use crate::ip::Ip;
@@ -32,6 +32,7 @@ pub fn write_source<A: Allocator + Copy>(
     out: &mut Vec<u8, A>,
 ) -> Result<(), Memory>
     ensures ok { OnOk result (out.new.items ≡ out.old.items ++ source_text ip len) }
+    ensures text { IsPrintedSource ip len (source_text ip len) }
     ensures err { OnErr result (out.new.items ≡ out.old.items) }
 {
     let mut text = ArrayVec::new();
@@ -48,6 +49,7 @@ pub fn write_prefix<A: Allocator + Copy>(
     out: &mut Vec<u8, A>,
 ) -> Result<(), Memory>
     ensures ok { OnOk result (out.new.items ≡ out.old.items ++ prefix_text dotted prefix) }
+    ensures text { IsPrintedPrefix dotted prefix (prefix_text dotted prefix) }
     ensures err { OnErr result (out.new.items ≡ out.old.items) }
 {
     if dotted && prefix.is_v4() {

@@ -3,7 +3,7 @@ ghost use Rattle.std.specs.Prelude.{◌≡◌, ◌<◌, ◌≤◌, ◌⊎◌, �
 ghost use Rattle.he_board.specs.Balance.{Balanced};
 ghost use Rattle.he_board.specs.Lawful.{Lawful};
 ghost use Rattle.he_board.specs.Notes.{key_of, least_of, winner_of};
-ghost use Rattle.he_board.specs.declared.limits.TheConstants.{LAST_TICK, NO_OFFER, PLACES};
+ghost use Rattle.he_board.specs.declared.limits.TheConstants.{JOBS, LAST_TICK, NO_OFFER, PARTS, PLACES, RACES};
 ghost use Rattle.he_board.specs.declared.view.View.{View};
 
 /// The rule of a board's table, by sums and minima, holds exactly of the lawful states. The table keeps its rule from
@@ -26,4 +26,15 @@ pub fn keys_read_back()
 /// Keys are ordered by tick, and at one tick by place.
 pub fn keys_are_ordered()
     ensures { (tick place other_tick other_place : ℕ) → place < PLACES → other_place < PLACES → ((key_of tick place < key_of other_tick other_place) ↔ ((tick < other_tick) ⊎ (tick ≡ other_tick) × (place < other_place))) }
+{}
+
+/// The limits of a board, as numbers: 131,072 jobs, 1,024 races, 128 places, 1,048,576 parts and ticks up to 7,200,000
+/// (milliseconds). What a winner word holds while nothing was offered is 2^64 - 1.
+pub fn limits_as_numbers()
+    ensures jobs { JOBS ≡ 131072 }
+    ensures races { RACES ≡ 1024 }
+    ensures places { PLACES ≡ 128 }
+    ensures parts { PARTS ≡ 1048576 }
+    ensures last_tick { LAST_TICK ≡ 7200000 }
+    ensures no_offer { NO_OFFER ≡ 18446744073709551615 }
 {}

@@ -3,7 +3,8 @@
 //!
 //! A board has jobs and races, each by a number from 0 on. A job is taken once. A race has a winner word, the least key
 //! that was offered to it, and a key is a tick (milliseconds) and a place: of two offers the one at the lower tick
-//! wins, and at one tick the one at the lower place. The limits of all numbers stand in `limits.rt`.
+//! wins, and at one tick the one at the lower place. The limits of all numbers stand in `limits.rt`, and
+//! `limits_as_numbers` says which they are.
 //!
 //! Who steps on the board holds a `Pass`. A pass has no lifetime and can move to another thread. It has parts of the
 //! board's 1,048,576, and a fork cuts it in two. What a pass has *noted* exists for proofs alone, and takes no memory:
@@ -61,7 +62,9 @@ mod view;
 pub use board::Board;
 pub use fault::BoardFault;
 pub use keys::{key, tick_and_place};
-pub use laws::{board_is_lawful, keys_are_ordered, keys_read_back, least_is_least};
+pub use laws::{
+    board_is_lawful, keys_are_ordered, keys_read_back, least_is_least, limits_as_numbers,
+};
 pub use limits::{JOBS, LAST_TICK, NO_OFFER, PARTS, PLACES, RACES};
 pub use pass::Pass;
 pub use view::{Layout, View};

@@ -10,13 +10,13 @@ abbrev covers : ℕ × ℕ → ℕ → Bool
 covers p x = nat_le p.0 x && nat_lt x p.1
 
 -- what `are_pauses low (p ∷ pauses)` says
-record IsFirst (low : ℕ) (p : ℕ × ℕ) (pauses : List (ℕ × ℕ)) : Type 0 where
-  after : low ≤ p.0
-  some : p.0 < p.1
-  most : p.1 ≤ MAX_PAUSE_END
-  rest : are_pauses p.1 pauses ≡ true
+pub record IsFirst (low : ℕ) (p : ℕ × ℕ) (pauses : List (ℕ × ℕ)) : Type 0 where
+  pub after : low ≤ p.0
+  pub some : p.0 < p.1
+  pub most : p.1 ≤ MAX_PAUSE_END
+  pub rest : are_pauses p.1 pauses ≡ true
 
-first : (low : ℕ) (p : ℕ × ℕ) (pauses : List (ℕ × ℕ)) → are_pauses low (p ∷ pauses) ≡ true → IsFirst low p pauses
+pub first : (low : ℕ) (p : ℕ × ℕ) (pauses : List (ℕ × ℕ)) → are_pauses low (p ∷ pauses) ≡ true → IsFirst low p pauses
 first low p pauses are = record {
   after = le_from low p.0 (and_left _ _ (and_left _ _ (and_left _ _ are)));
   some = lt_from p.0 p.1 (and_right _ _ (and_left _ _ (and_left _ _ are)));

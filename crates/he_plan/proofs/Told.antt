@@ -1,10 +1,11 @@
 -- The transcript of told fates is that of the race's own.
-use Rattle.std.proofs.Common.{◌≡◌, ℕ, zero, suc, ◌≤◌, ◌<◌, ◌+◌, ◌++◌, Bool, true, false, List, [], ◌∷◌, if◌then◌else◌, length, drop, get_or, map, filter, Option, Some, None, nat_lt, refl, sym, ◌∙◌, ap, arith, inl, inr, subst, append_assoc, add-one, drop-cons}
+use Rattle.std.proofs.Common.{◌≡◌, ℕ, zero, suc, ◌≤◌, ◌<◌, ◌+◌, ◌++◌, Bool, true, false, List, [], ◌∷◌, if◌then◌else◌, length, drop, get_or, map, filter, Option, Some, None, IfNone, nat_lt, refl, sym, ◌∙◌, ap, arith, inl, inr, subst, append_assoc, add-one, drop-cons}
 use Rattle.std.specs.List.{AllZip, slice_get}
 use Rattle.he_plan.specs.declared.attempts.Attempt.{Attempt}
 use Rattle.he_plan.specs.declared.finish.Fate.{Fate}
 use Rattle.he_plan.specs.declared.finish.Fate.TheVariants.{Succeeded}
 use Rattle.he_plan.specs.declared.transcript.Line.{Line}
+use Rattle.he_plan.specs.Attempts.{AreAttempts}
 use Rattle.he_plan.specs.Finish.{fate_of, IsSuccess, ComesFirst, IsWinner}
 use Rattle.he_plan.specs.Planning.{told_line, told_one, told_lines}
 use Rattle.he_plan.specs.Race.{Race}
@@ -126,3 +127,7 @@ told-is race r attempts told winner a = record {
   lines = told_lines-own race winner (IsToldFate race told) attempts told (told_own race told winner a.wins) a.fates;
   result = result_own race attempts told winner a.fates a.wins;
 }
+
+pub told-all : (race : Race) (attempts : List Attempt) (told : List Fate) (winner : Option (ℕ × ℕ)) → AreTold race attempts told winner → IfNone winner (AreAttempts race attempts)
+told-all race attempts told None a = a.are
+told-all race attempts told (Some w) a = tt

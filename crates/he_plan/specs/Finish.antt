@@ -4,7 +4,7 @@ use Rattle.he_addr.specs.Ip.{same_ip}
 use Rattle.he_addr.specs.declared.ip.Ip.{Ip}
 use Rattle.he_plan.specs.declared.attempts.Attempt.{Attempt}
 use Rattle.he_plan.specs.declared.finish.Fate.{Fate}
-use Rattle.he_plan.specs.declared.finish.Fate.TheVariants.{Succeeded, Failed, Running}
+use Rattle.he_plan.specs.declared.finish.Fate.TheVariants.{Succeeded, Failed, Running, Skipped}
 use Rattle.he_plan.specs.declared.outcome.Outcome.{Outcome}
 use Rattle.he_plan.specs.declared.outcome.Outcome.TheVariants as outcomes
 use Rattle.he_plan.specs.Race.{Race}
@@ -31,6 +31,22 @@ fate_by race start (Some (outcomes.Fail duration)) =
 
 abbrev pub fate_of : Race → Attempt → Fate
 fate_of race x = fate_by race x.tick (outcome_of race x.ip)
+
+-- a finish comes after the start, at or before the limit; an attempt of a race is not skipped
+abbrev pub IsInTime : Race → Attempt → Fate → Type 0
+IsInTime race x (Succeeded finish) = (x.tick < finish) × (finish ≤ race.settings.limit)
+IsInTime race x (Failed finish) = (x.tick < finish) × (finish ≤ race.settings.limit)
+IsInTime race x Running = Unit {0}
+IsInTime race x Skipped = ⊥
+
+-- what is known of it at the tick: an attempt that finishes later still runs
+abbrev pub known_by : ℕ → Fate → Fate
+known_by tick (Succeeded finish) = if nat_le finish tick then Succeeded finish else Running
+known_by tick (Failed finish) = if nat_le finish tick then Failed finish else Running
+known_by tick _ = Running
+
+abbrev pub known_at : Race → ℕ → Attempt → Fate
+known_at race tick x = known_by tick (fate_of race x)
 
 -- a success's finish and place
 abbrev pub IsSuccess : List Fate → ℕ × ℕ → Type 0

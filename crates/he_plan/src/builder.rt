@@ -59,7 +59,8 @@ impl<A: Allocator> Model for TimelineBuilder<A> {
 impl<A: Allocator + Copy> TimelineBuilder<A> {
     /// The race with these settings, this policy and this host in which nothing happens. It takes no memory.
     pub fn new(alloc: A, settings: Settings, policy: Policy<A>, host: Host<A>) -> TimelineBuilder<A>
-        ensures { result ≡ empty_race settings policy host }
+        ensures value { result ≡ empty_race settings policy host }
+        ensures race { IsRace result }
     {
         TimelineBuilder {
             alloc,
@@ -69,7 +70,8 @@ impl<A: Allocator + Copy> TimelineBuilder<A> {
 
     /// Whether the address stands in one of the answers, usable or not, so that it may have an outcome.
     pub fn stands(&self, ip: Ip) -> bool
-        ensures { result ≡ stands self.now ip }
+        ensures value { result ≡ stands self.now ip }
+        ensures race { IsRace self.now }
     {
         self.timeline.stands(ip)
     }
@@ -135,7 +137,8 @@ impl<A: Allocator + Copy> TimelineBuilder<A> {
 
     /// The timeline of what was collected.
     pub fn finish(self) -> Timeline<A>
-        ensures { result ≡ self }
+        ensures value { result ≡ self }
+        ensures race { IsRace result }
     {
         let TimelineBuilder { alloc: _, timeline } = self;
         timeline

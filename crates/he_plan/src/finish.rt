@@ -2,7 +2,8 @@
 
 ghost use Rattle.std.specs.Prelude.{◌≡◌};
 ghost use Rattle.he_plan.specs.Planning.{next_winner};
-ghost use Rattle.he_plan.specs.Finish.{fate_of, IsWinner};
+ghost use Rattle.he_plan.specs.Finish.{fate_of, IsInTime, IsWinner};
+ghost use Rattle.he_plan.specs.Timeline.{IsRace};
 
 use crate::attempts::Attempt;
 use crate::outcome::Outcome;
@@ -20,9 +21,18 @@ pub enum Fate {
 }
 
 impl<A: Allocator> Timeline<A> {
-    /// What becomes of the attempt by the limit.
+    /// What becomes of the attempt by the limit: a finish is a tick after its start, at or before the limit.
     pub fn fate(&self, attempt: &Attempt) -> Fate
-        ensures { result ≡ fate_of self.now attempt.now }
+        ensures value { result ≡ fate_of self.now attempt.now }
+        ensures range { IsInTime self.now attempt.now result }
+        ensures race { IsRace self.now }
+    {
+        self.fate_by_limit(attempt)
+    }
+
+    fn fate_by_limit(&self, attempt: &Attempt) -> Fate
+        ensures value { result ≡ fate_of self.now attempt.now }
+        ensures race { IsRace self.now }
     {
         let limit = self.settings().limit();
         let Some(outcome) = self.outcome(attempt.ip) else {

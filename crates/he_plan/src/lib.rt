@@ -26,8 +26,10 @@
 //! Tested only: that a call succeeds where memory is granted.
 #![tactic(auto)]
 
+pub mod agreement;
 pub mod attempts;
 pub mod builder;
+pub mod due;
 mod fates;
 pub mod finish;
 pub mod interlacing;
@@ -50,7 +52,6 @@ pub use outcome::Outcome;
 pub use planning::plan;
 pub use settings::{Range, Settings};
 pub use timeline::Timeline;
-pub use transcript::{Line, Mark, Outcome3, Transcript, transcript_of, transcript_of_fates};
-
-#[cfg(test)]
-mod tests;
+pub use transcript::{
+    Line, Mark, Outcome3, Transcript, transcript_at_stop, transcript_of, transcript_of_fates,
+};

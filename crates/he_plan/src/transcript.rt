@@ -1,19 +1,19 @@
 // The transcript of a race.
 
-ghost use Rattle.std.specs.Prelude.{◌≡◌, ◌&&◌, ◌||◌, ◌++◌, not, length, Some, IfOk, IsTrue, OnOk};
+ghost use Rattle.std.specs.Prelude.{◌≡◌, ◌&&◌, ◌||◌, ◌++◌, not, length, Some, IfNone, IfOk, IsTrue, OnOk};
 ghost use Rattle.std.specs.List.{list_all};
 ghost use Rattle.he_addr.specs.Ip.{is_usable};
 ghost use Rattle.he_plan.specs.Attempts.{AreAttempts, is_tried, last_of};
 ghost use Rattle.he_plan.specs.Planning.{told_lines, told_one, has_room};
 ghost use Rattle.he_plan.specs.Timeline.{IsRace};
-ghost use Rattle.he_plan.specs.Transcript.{IsTranscript, AreTold, stop_of, is_place, failed_mark, mark_at, result_of, without_winner, is_failed, is_tried_out, last_failure};
+ghost use Rattle.he_plan.specs.Transcript.{IsTranscript, AreKnown, AreTold, stop_of, is_place, failed_mark, mark_at, result_of, without_winner, is_failed, is_tried_out, last_failure};
 
 use crate::attempts::{Attempt, Plan};
 use crate::fates::fates_of;
 use crate::finish::Fate;
 use crate::planning::plan;
 use crate::starts::is_tried;
-use crate::timeline::Timeline;
+use crate::timeline::{Timeline, are_addresses_in_range};
 use he_addr::{Family, Ip, Memory};
 use std::alloc::{Allocator, Global};
 use std::marker::Model;
@@ -102,6 +102,27 @@ pub fn transcript_of_fates<A: Allocator, B: Allocator, C: Allocator>(
     let stop = stop(timeline, winner);
     let ending = ending(timeline, attempts, fates, winner);
     let lines = told_lines(alloc, stop, winner, attempts, fates)?;
+    Ok(Transcript::new(lines, ending))
+}
+
+/// The transcript of the timeline's race, from the attempts that it makes up to its stop, by place, what is known of each of
+/// them there, and the winner of these fates. The stop is the winner's finish, or the limit; an attempt that has not
+/// finished by then is known as Running.
+pub fn transcript_at_stop<A: Allocator, B: Allocator>(
+    alloc: A,
+    timeline: &Timeline<B>,
+    attempts: &[Attempt],
+    known: &[Fate],
+    winner: Option<(u64, usize)>,
+) -> Result<Transcript<A>, Memory>
+    requires { AreKnown timeline.now attempts.now known.now winner }
+    ensures transcript { IfOk result (IsTranscript timeline.now) }
+    ensures ending { IfOk result (λ t. t.result ≡ result_of timeline.now attempts.now known.now winner) }
+{
+    are_addresses_in_range(timeline);
+    let stop = stop(timeline, winner);
+    let ending = ending(timeline, attempts, known, winner);
+    let lines = told_lines(alloc, stop, winner, attempts, known)?;
     Ok(Transcript::new(lines, ending))
 }
 
@@ -200,7 +221,7 @@ fn ending<A: Allocator>(
     fates: &[Fate],
     winner: Option<(u64, usize)>,
 ) -> Outcome3
-    requires { AreAttempts timeline.now attempts.now }
+    requires { IfNone winner (AreAttempts timeline.now attempts.now) }
     ensures { result ≡ result_of timeline.now attempts.now fates.now winner }
 {
     match winner {

@@ -3,10 +3,7 @@ use Rattle.std.proofs.Common.{◌≡◌, ℕ, ◌+◌, Bool, true, false, not, L
 use Rattle.std.specs.Prelude.{Option, None, Some, option_map, is_none}
 use Rattle.std.specs.List.{list_all, position_from}
 use Rattle.std.proofs.lemmas.Bool.{cases_Bool, false≢true}
-use Rattle.he_select.specs.declared.host.Source.{Source}
-use Rattle.he_select.specs.declared.host.Route.{Route}
-use Rattle.he_select.specs.Hosts.{host_causes, host_fault, is_sound_source}
-use Rattle.he_select.specs.Rules.{cause_if, first_cause}
+use Rattle.he_select.specs.Refusals.{cause_if, first_cause}
 
 abbrev pub NoneStands : {F : Type 0} → List (Option F) → Type 0
 NoneStands [] = Unit {0}
@@ -25,15 +22,54 @@ pub not_caused : {F : Type 0} (holds : Bool) (cause : F) → IsTrue (is_none (ca
 not_caused false cause h = refl
 not_caused true cause h = absurd (false≢true h)
 
-all_from_none : {X : Type 0} (p : X → Bool) (xs : List X) (place : ℕ) → IsTrue (is_none (position_from (λ x. not (p x)) place xs)) → IsTrue (list_all p xs)
+pub none_is : {X : Type 0} (o : Option X) → IsTrue (is_none o) → o ≡ None
+none_is None h = refl
+none_is (Some x) h = absurd (false≢true h)
+
+pub cause_none : {F : Type 0} (holds : Bool) (cause : F) → cause_if holds cause ≡ None → holds ≡ false
+cause_none false cause e = refl
+cause_none true cause e = cc
+
+pub cause_some : {F : Type 0} (holds : Bool) (cause other : F) → cause_if holds cause ≡ Some other → (holds ≡ true) × (cause ≡ other)
+cause_some true cause other e = (refl, cc)
+cause_some false cause other e = cc
+
+pub map_none : {X Y : Type 0} (f : X → Y) (o : Option X) → option_map f o ≡ None → o ≡ None
+map_none f None e = refl
+map_none f (Some x) e = cc
+
+pub map_some : {X Y : Type 0} (f : X → Y) (o : Option X) (y : Y) → option_map f o ≡ Some y → (x : X) × (o ≡ Some x) × (f x ≡ y)
+map_some f None y e = cc
+map_some f (Some x) y e = (x, refl, cc)
+
+module _ {F : Type 0} where
+  -- of five causes there is none ..
+  pub none_of_five : (a b c d e : Option F) → a ≡ None → b ≡ None → c ≡ None → d ≡ None → e ≡ None → first_cause (a ∷ b ∷ c ∷ d ∷ e ∷ []) ≡ None
+  none_of_five None None None None None p q r s t = refl
+  none_of_five (Some x) b c d e p q r s t = cc
+  none_of_five None (Some x) c d e p q r s t = cc
+  none_of_five None None (Some x) d e p q r s t = cc
+  none_of_five None None None (Some x) e p q r s t = cc
+  none_of_five None None None None (Some x) p q r s t = cc
+
+  -- .. or a first one, and none before it
+  pub first_of_five : (a b c d e : Option F) (fault : F) (P : Type 0) → first_cause (a ∷ b ∷ c ∷ d ∷ e ∷ []) ≡ Some fault
+      → (a ≡ Some fault → P)
+      → (a ≡ None → b ≡ Some fault → P)
+      → (a ≡ None → b ≡ None → c ≡ Some fault → P)
+      → (a ≡ None → b ≡ None → c ≡ None → d ≡ Some fault → P)
+      → (a ≡ None → b ≡ None → c ≡ None → d ≡ None → e ≡ Some fault → P) → P
+  first_of_five (Some x) b c d e fault P h p q r s t = p h
+  first_of_five None (Some x) c d e fault P h p q r s t = q refl h
+  first_of_five None None (Some x) d e fault P h p q r s t = r refl refl h
+  first_of_five None None None (Some x) e fault P h p q r s t = s refl refl refl h
+  first_of_five None None None None (Some x) fault P h p q r s t = t refl refl refl refl h
+  first_of_five None None None None None fault P h p q r s t = cc
+
+pub all_from_none : {X : Type 0} (p : X → Bool) (xs : List X) (place : ℕ) → IsTrue (is_none (position_from (λ x. not (p x)) place xs)) → IsTrue (list_all p xs)
 all_from_none p [] place h = refl
 all_from_none p (x ∷ xs) place h =
     elim (cases_Bool (p x)) [
       | inl here ↦ rw here (all_from_none p xs (place + 1) (rw here at h))
       | inr gone ↦ absurd (false≢true (rw gone at h))
     ]
-
--- each source of a host is sound
-pub all_sound : (sources : List Source) (routes : List Route) → IsTrue (is_none (host_fault sources routes)) → IsTrue (list_all is_sound_source sources)
-unfolding host_fault
-all_sound sources routes h = all_from_none is_sound_source sources 0 (unmapped _ _ (none_stands (host_causes sources routes) h).1.1.1.0)

@@ -13,7 +13,7 @@ use Rattle.he_select.specs.declared.ranking.Key.{Key}
 use Rattle.he_select.specs.declared.ranking.Ranked.{Ranked}
 use Rattle.he_select.specs.declared.selection.Candidate.{Candidate}
 use Rattle.he_select.specs.DestinationKeys.{attributes_of, chosen_by, key_by, key_of, ranked_by, ranked_of}
-use Rattle.he_select.specs.Hosts.{is_sound_source}
+use Rattle.he_select.specs.HostFaults.{is_sound_source}
 use Rattle.he_select.specs.Keys.{admits, candidate_of, comes_before, destination_of, labelled_of, source_key}
 use Rattle.he_select.specs.Preference.{Member}
 use Rattle.he_select.specs.Selection.{World, route_of, source_of}

@@ -17,7 +17,9 @@ use Rattle.he_addr.specs.Ip.{IsUsable, is_usable}
 use Rattle.he_addr.specs.Prefix.{PrefixBits, contains, is_inside_mapped}
 use Rattle.he_select.specs.declared.policy.Row.{Row}
 use Rattle.he_select.specs.Rules.{best_by}
-use Rattle.he_select.specs.Tables.{IsAdmitted, any_address, any_v4_address, has_row, is_longer_row, precedence_of, row_of, same_prefix, shared_from, shares_precedence, table_causes, table_fault}
+use Rattle.he_select.specs.TableFaults.{has_row, shared_from, table_causes, table_fault}
+use Rattle.he_select.specs.Tables.{IsAdmitted, any_address, any_v4_address, is_longer_row, precedence_of, row_of, same_prefix, shares_precedence}
+use Rattle.he_select.proofs.Admitted.{no_fault}
 use Rattle.he_select.proofs.Causes.{none_stands, not_caused, unmapped}
 use Rattle.he_select.proofs.Counting.{Each}
 use Rattle.he_select.proofs.Keyed.{PartsFamilies}
@@ -190,7 +192,7 @@ outside row n usable e =
 crossed : (rows : List Row) → IsAdmitted rows → (m n : ℕ) → IsUsable (V4 m) → IsUsable (V6 n) → precedence_of rows (V4 m) ≡ precedence_of rows (V6 n) → ⊥
 unfolding table_fault precedence_of
 crossed rows admitted m n um un even =
-    let stands = none_stands (table_causes rows) admitted in
+    let stands = none_stands (table_causes rows) (no_fault rows admitted) in
     let default : has_row rows any_address ≡ true = not-false _ (not_caused _ _ stands.1.1.0) in
     let mapped : has_row rows any_v4_address ≡ true = not-false _ (not_caused _ _ stands.1.1.1.0) in
     let none = none_shares rows 0 (unmapped _ _ stands.1.1.1.1.0) in

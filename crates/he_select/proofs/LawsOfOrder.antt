@@ -21,7 +21,9 @@ use Rattle.he_select.specs.DestinationKeys.{key_cmp, key_of}
 use Rattle.he_select.specs.Laws.{EveryAddressHasRow, PreferenceIsByKeys, PreferenceIsStrictTotalOrder, ReachableWhereCandidates}
 use Rattle.he_select.specs.Rules.{best_by}
 use Rattle.he_select.specs.Selection.{World, candidates, is_better, is_candidate, route_of, source_of}
-use Rattle.he_select.specs.Tables.{any_address, has_row, table_causes, table_fault}
+use Rattle.he_select.specs.TableFaults.{has_row, table_causes, table_fault}
+use Rattle.he_select.specs.Tables.{any_address}
+use Rattle.he_select.proofs.Admitted.{no_fault}
 use Rattle.he_select.proofs.Causes.{none_stands, not_caused}
 use Rattle.std.proofs.lemmas.Bool.{not-false}
 use Rattle.he_select.proofs.Families.{best_is, parts_families, row_at, v6_starts}
@@ -88,6 +90,6 @@ starts_anything (V6 n) small = v6_starts n small
 pub row_law : EveryAddressHasRow
 unfolding table_fault
 row_law rows admitted ip small =
-    let default : has_row rows any_address ≡ true = not-false _ (not_caused _ _ (none_stands (table_causes rows) admitted).1.1.0) in
+    let default : has_row rows any_address ≡ true = not-false _ (not_caused _ _ (none_stands (table_causes rows) (no_fault rows admitted)).1.1.0) in
     let row = row_at rows ip any_address default (starts_anything ip small) in
     ap is_some row.1

@@ -4,7 +4,7 @@ use Rattle.std.specs.List.{list_any}
 use Rattle.std.specs.Option.{option_or}
 use Rattle.std.proofs.lemmas.Bool.{cases_Bool}
 use Rattle.he_select.specs.Laws.{RepeatsByOneMore}
-use Rattle.he_select.specs.Rules.{cause_if, first_repeat, repeat_from}
+use Rattle.he_select.specs.Refusals.{cause_if, first_repeat, repeat_from}
 
 one_more : {X : Type 0} (same : X → X → Bool) (xs before : List X) (place : ℕ) (x : X)
     → repeat_from same before place (xs ++ x ∷ []) ≡ option_or (repeat_from same before place xs) (cause_if (list_any (same x) (before ++ xs)) (place + length xs))

@@ -1,16 +1,11 @@
--- A host's sources and routes, and which lists of them are admitted.
-use Rattle.std.specs.Prelude.{◌==◌, ◌&&◌, ◌||◌, Bool, not, nat_lt, nat_le, List, [], ◌∷◌, length, Option, option_map, is_none, IsTrue, Result, Ok, Err}
-use Rattle.std.specs.List.{position_from}
-use Rattle.std.specs.Option.{option_map_or}
+-- A host's sources and routes, and which lists of them are a host's.
+use Rattle.std.specs.Prelude.{◌≤◌, ◌≢◌, Bool, List, length, All, AllPairs, IsTrue}
 use Rattle.he_addr.specs.Ip.{is_usable, same_ip}
 use Rattle.he_addr.specs.Prefix.{width_of}
-use Rattle.he_select.specs.declared.limits.TheConstants.{SOURCES, ROUTES}
 use Rattle.he_select.specs.declared.host.Source.{Source}
 use Rattle.he_select.specs.declared.host.Route.{Route}
-use Rattle.he_select.specs.declared.host.HostFault.{HostFault}
-use Rattle.he_select.specs.declared.host.HostFault.TheVariants as faults
-use Rattle.he_select.specs.Rules.{first_repeat, cause_if, first_cause}
 use Rattle.he_select.specs.Tables.{same_prefix}
+use Rattle.he_select.specs.Ranges.{least_interface, most_routes, most_sources}
 
 -- what a host has
 pub record Interfaces : Type 0 where
@@ -24,30 +19,27 @@ abbrev pub same_route : Route → Route → Bool
 same_route a b = same_prefix a.prefix b.prefix
 
 -- a usable address, a prefix no longer than it, and an interface, which are numbered from 1
-abbrev pub is_sound_source : Source → Bool
-is_sound_source source = is_usable source.ip && nat_le source.plen (width_of source.ip) && not (source.interface == 0)
+pub record IsSoundSource (source : Source) : Type 0 where
+  pub usable : IsTrue (is_usable source.ip)
+  pub plen : source.plen ≤ width_of source.ip
+  pub interface : least_interface ≤ source.interface
 
-abbrev pub is_sound_route : Route → Bool
-is_sound_route route = not (route.interface == 0)
+abbrev pub IsSoundRoute : Route → Type 0
+IsSoundRoute route = least_interface ≤ route.interface
 
--- why lists are refused, in their order
-abbrev pub host_causes : List Source → List Route → List (Option HostFault)
-host_causes sources routes =
-    cause_if (nat_lt SOURCES (length sources) || nat_lt ROUTES (length routes)) faults.TooMany
-    ∷ option_map faults.RepeatedSource (first_repeat same_source sources)
-    ∷ option_map faults.RepeatedRoute (first_repeat same_route routes)
-    ∷ option_map faults.BadSource (position_from (λ source. not (is_sound_source source)) 0 sources)
-    ∷ option_map faults.BadRoute (position_from (λ route. not (is_sound_route route)) 0 routes)
-    ∷ []
+abbrev pub HasHostSize : Interfaces → Type 0
+HasHostSize host = (length host.sources ≤ most_sources) × (length host.routes ≤ most_routes)
 
--- why there is no host of these lists: the first cause
-unfoldable pub host_fault : List Source → List Route → Option HostFault
-host_fault sources routes = first_cause (host_causes sources routes)
+abbrev pub AddressesDiffer : Interfaces → Type 0
+AddressesDiffer host = AllPairs (λ a b. a.ip ≢ b.ip) host.sources
 
--- a host's lists: no cause to refuse them
-abbrev pub IsHost : Interfaces → Type 0
-IsHost host = IsTrue (is_none (host_fault host.sources host.routes))
+abbrev pub RoutesDiffer : Interfaces → Type 0
+RoutesDiffer host = AllPairs (λ a b. a.prefix ≢ b.prefix) host.routes
 
--- the host of these lists, or why there is none
-abbrev pub host_of : List Source → List Route → Result Interfaces HostFault
-host_of sources routes = option_map_or Err (host_fault sources routes) (Ok (record { sources = sources; routes = routes }))
+-- lists are a host's: at most 64 sources and 64 routes, addresses and prefixes pairwise different, and each member sound
+pub record IsHost (host : Interfaces) : Type 0 where
+  pub size : HasHostSize host
+  pub different_sources : AddressesDiffer host
+  pub different_routes : RoutesDiffer host
+  pub sound_sources : All IsSoundSource host.sources
+  pub sound_routes : All IsSoundRoute host.routes

@@ -5,13 +5,21 @@ use Rattle.he_addr.specs.declared.ip.Ip.{Ip}
 use Rattle.he_addr.specs.Ip.{InRange, IsUsable}
 use Rattle.he_select.specs.DestinationKeys.{key_cmp, key_of}
 use Rattle.he_select.specs.Preference.{IsOrder, Member, order_of, prefers}
-use Rattle.he_select.specs.Rules.{cause_if, first_repeat}
+use Rattle.he_select.specs.Refusals.{cause_if, first_repeat}
 use Rattle.std.specs.List.{list_any}
 use Rattle.std.specs.Option.{option_or}
-use Rattle.std.specs.Prelude.{[], ◌∷◌, ◌++◌}
+use Rattle.std.specs.Prelude.{◌+◌, [], ◌∷◌, ◌++◌, None, Some}
 use Rattle.he_select.specs.Selection.{World, candidates, is_reachable}
 use Rattle.he_select.specs.Tables.{IsAdmitted, row_of}
 use Rattle.he_select.specs.declared.policy.Row.{Row}
+use Rattle.he_select.specs.declared.policy.PolicyFault.{PolicyFault}
+use Rattle.he_select.specs.declared.host.HostFault.{HostFault}
+use Rattle.he_select.specs.declared.limits.TheConstants.{ROWS, SOURCES, ROUTES, NO_INTERFACE}
+use Rattle.he_select.specs.Faults.{IsTableFault, IsHostFault}
+use Rattle.he_select.specs.HostFaults.{host_fault}
+use Rattle.he_select.specs.Hosts.{Interfaces, IsHost}
+use Rattle.he_select.specs.Ranges.{least_interface, most_routes, most_rows, most_sources}
+use Rattle.he_select.specs.TableFaults.{table_fault}
 
 -- of members of which P holds none is before itself, what is before one that is before a third is before the third, and
 -- of two at different places one is before the other
@@ -52,3 +60,22 @@ EveryAddressHasRow = (rows : List Row) → IsAdmitted rows → (ip : Ip) → InR
 abbrev pub RepeatsByOneMore : {X : Type 0} → (X → X → Bool) → Type 0
 RepeatsByOneMore {X} same =
     (xs : List X) (x : X) → first_repeat same (xs ++ x ∷ []) ≡ option_or (first_repeat same xs) (cause_if (list_any (same x) xs) (length xs))
+
+-- rows are a table exactly where the search for what is wrong finds nothing ..
+abbrev pub AdmittedWhereNoFault : Type 0
+AdmittedWhereNoFault = (rows : List Row) → IsAdmitted rows ↔ (table_fault rows ≡ None)
+
+-- .. and what it finds is the first cause in the order of the checks, with the least places
+abbrev pub TableFaultsAreFirst : Type 0
+TableFaultsAreFirst = (rows : List Row) (fault : PolicyFault) → table_fault rows ≡ Some fault → IsTableFault rows fault
+
+-- so it is with a host's lists
+abbrev pub HostWhereNoFault : Type 0
+HostWhereNoFault = (host : Interfaces) → IsHost host ↔ (host_fault host.sources host.routes ≡ None)
+
+abbrev pub HostFaultsAreFirst : Type 0
+HostFaultsAreFirst = (host : Interfaces) (fault : HostFault) → host_fault host.sources host.routes ≡ Some fault → IsHostFault host fault
+
+-- the limits of the code are the numbers of Ranges
+abbrev pub LimitsAreStated : Type 0
+LimitsAreStated = (ROWS ≡ most_rows) × (SOURCES ≡ most_sources) × (ROUTES ≡ most_routes) × (NO_INTERFACE + 1 ≡ least_interface)

@@ -1,10 +1,17 @@
 pub mod DestinationKeys
+pub mod Equality
+pub mod Faults
+pub mod HostFaults
 pub mod Hosts
 pub mod Keys
 pub mod Laws
+pub mod Places
 pub mod Preference
+pub mod Ranges
+pub mod Refusals
 pub mod Rules
 pub mod Selection
 pub mod Standard
+pub mod TableFaults
 pub mod Tables
 pub mod Walking

@@ -1,7 +1,6 @@
--- Rules of preference between two things, the first that decides, the best of a list, and the first cause of refusal.
-use Rattle.std.specs.Prelude.{ℕ, ◌+◌, Bool, not, cond, ◌&&◌, List, [], ◌∷◌, ◌++◌, Option, None, Some, find}
+-- Rules of preference between two things, the first that decides, and the best of a list.
+use Rattle.std.specs.Prelude.{ℕ, Bool, not, cond, ◌&&◌, List, [], ◌∷◌, Option, find}
 use Rattle.std.specs.List.{list_any}
-use Rattle.std.specs.Option.{option_or}
 use Rattle.std.specs.declared.cmp.Ordering.{Ordering}
 use Rattle.std.specs.declared.cmp.Ordering.TheVariants.{Equal}
 use Rattle.std.specs.Ordering.{nat_cmp, bool_cmp, ordering_then}
@@ -34,23 +33,3 @@ first_of (rule ∷ rules) a b = ordering_then (rule a b) (first_of rules a b)
 -- the first member of the list than which no member is better
 abbrev pub best_by : {X : Type 0} → (X → X → Bool) → List X → Option X
 best_by better xs = find (λ x. not (list_any (λ y. better y x) xs)) xs
-
--- the first member, counted from `place`, that is the same as one of those before it; `before` are the members before
--- `place`
-abbrev pub repeat_from : {X : Type 0} → (X → X → Bool) → List X → ℕ → List X → Option ℕ
-repeat_from same before place [] = None
-repeat_from same before place (x ∷ xs) =
-    cond (list_any (same x) before) (Some place) (repeat_from same (before ++ x ∷ []) (place + 1) xs)
-
--- the least place at which a member is the same as an earlier one
-abbrev pub first_repeat : {X : Type 0} → (X → X → Bool) → List X → Option ℕ
-first_repeat same xs = repeat_from same [] 0 xs
-
--- the cause, where the test holds
-abbrev pub cause_if : {F : Type 0} → Bool → F → Option F
-cause_if holds cause = cond holds (Some cause) None
-
--- the first cause that there is
-abbrev pub first_cause : {F : Type 0} → List (Option F) → Option F
-first_cause [] = None
-first_cause (cause ∷ causes) = option_or cause (first_cause causes)

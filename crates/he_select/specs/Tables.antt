@@ -1,15 +1,12 @@
--- Policy tables (RFC 6724 section 2.1): the row of an address, the tables that are admitted, and the standard one.
-use Rattle.std.specs.Prelude.{ℕ, ◌+◌, ◌*◌, ◌^◌, ◌==◌, ◌&&◌, ◌||◌, Bool, not, nat_lt, List, [], ◌∷◌, length, filter, Option, None, option_map, is_none, IsTrue, Result, Ok, Err}
+-- Policy tables (RFC 6724 section 2.1): the row of an address, and which rows are a table.
+use Rattle.std.specs.Prelude.{ℕ, ◌*◌, ◌^◌, ◌≤◌, ◌≡◌, ◌≢◌, ◌==◌, ◌&&◌, Bool, not, nat_lt, List, length, filter, Option, All, Any, AllPairs, IsTrue, IsFalse}
 use Rattle.std.specs.Bool.{beq}
-use Rattle.std.specs.List.{list_any, position_from}
-use Rattle.std.specs.Option.{option_or, option_map_or}
+use Rattle.std.specs.Option.{option_map_or}
 use Rattle.he_addr.specs.declared.ip.Ip.{Ip}
 use Rattle.he_addr.specs.Prefix.{PrefixBits, contains, is_inside_mapped}
-use Rattle.he_select.specs.declared.limits.TheConstants.{ROWS}
 use Rattle.he_select.specs.declared.policy.Row.{Row}
-use Rattle.he_select.specs.declared.policy.PolicyFault.{PolicyFault}
-use Rattle.he_select.specs.declared.policy.PolicyFault.TheVariants as faults
-use Rattle.he_select.specs.Rules.{best_by, first_repeat, cause_if, first_cause}
+use Rattle.he_select.specs.Ranges.{most_rows}
+use Rattle.he_select.specs.Rules.{best_by}
 
 -- of two rows that contain an address the one with the longer prefix says more
 abbrev pub is_longer_row : Row → Row → Bool
@@ -33,6 +30,10 @@ same_prefix a b = a.bits == b.bits && a.len == b.len
 abbrev pub same_row : Row → Row → Bool
 same_row a b = same_prefix a.prefix b.prefix
 
+-- one row inside ::ffff:0:0/96 and one outside it with the same precedence
+abbrev pub shares_precedence : Row → Row → Bool
+shares_precedence a b = a.precedence == b.precedence && not (beq (is_inside_mapped a.prefix) (is_inside_mapped b.prefix))
+
 -- ::/0, which every address begins with
 abbrev pub any_address : PrefixBits
 any_address = record { bits = 0; len = 0 }
@@ -41,38 +42,30 @@ any_address = record { bits = 0; len = 0 }
 abbrev pub any_v4_address : PrefixBits
 any_v4_address = record { bits = 65535 * 2 ^ 32; len = 96 }
 
-abbrev pub has_row : List Row → PrefixBits → Bool
-has_row rows prefix = list_any (λ row. same_prefix row.prefix prefix) rows
+abbrev pub HasTableSize : List Row → Type 0
+HasTableSize rows = (1 ≤ length rows) × (length rows ≤ most_rows)
 
--- one row inside ::ffff:0:0/96 and one outside it with the same precedence: then rules 6, 9 and 10 could prefer three
--- addresses of two families in a circle
-abbrev pub shares_precedence : Row → Row → Bool
-shares_precedence a b = a.precedence == b.precedence && not (beq (is_inside_mapped a.prefix) (is_inside_mapped b.prefix))
+abbrev pub PrefixesDiffer : List Row → Type 0
+PrefixesDiffer rows = AllPairs (λ a b. a.prefix ≢ b.prefix) rows
 
--- the first row, counted from `place`, that shares its precedence with a later one, and the first such later one
-abbrev pub shared_from : ℕ → List Row → Option (ℕ × ℕ)
-shared_from place [] = None
-shared_from place (row ∷ rows) =
-    option_or (option_map (λ later. (place, later)) (position_from (shares_precedence row) (place + 1) rows)) (shared_from (place + 1) rows)
+-- the prefix stands in a row
+abbrev pub HasPrefix : List Row → PrefixBits → Type 0
+HasPrefix rows prefix = Any (λ row. row.prefix ≡ prefix) rows
 
--- why rows are refused, in their order
-abbrev pub table_causes : List Row → List (Option PolicyFault)
-table_causes rows =
-    cause_if (length rows == 0 || nat_lt ROWS (length rows)) faults.Size
-    ∷ option_map faults.Repeated (first_repeat same_row rows)
-    ∷ cause_if (not (has_row rows any_address)) faults.NoDefault
-    ∷ cause_if (not (has_row rows any_v4_address)) faults.NoMapped
-    ∷ option_map (λ pair. faults.SharedPrecedence pair.0 pair.1) (shared_from 0 rows)
-    ∷ []
+-- not one precedence inside ::ffff:0:0/96 and outside it
+abbrev pub PrecedencesApart : Row → Row → Type 0
+PrecedencesApart a b = IsTrue (is_inside_mapped a.prefix) → IsFalse (is_inside_mapped b.prefix) → a.precedence ≢ b.precedence
 
--- why there is no table of these rows: the first cause
-unfoldable pub table_fault : List Row → Option PolicyFault
-table_fault rows = first_cause (table_causes rows)
+-- where a precedence stood both inside and outside ::ffff:0:0/96, rules 6, 9 and 10 could prefer three addresses of two
+-- families in a circle
+abbrev pub PrecedencesDiffer : List Row → Type 0
+PrecedencesDiffer rows = All (λ a. All (PrecedencesApart a) rows) rows
 
--- an admitted table: no cause to refuse it
-abbrev pub IsAdmitted : List Row → Type 0
-IsAdmitted rows = IsTrue (is_none (table_fault rows))
-
--- the table of these rows, or why there is none
-abbrev pub table_of : List Row → Result (List Row) PolicyFault
-table_of rows = option_map_or Err (table_fault rows) (Ok rows)
+-- rows are a policy table: 1 to 64, their prefixes pairwise different, ::/0 and ::ffff:0:0/96 among them, and no precedence
+-- both inside and outside ::ffff:0:0/96
+pub record IsAdmitted (rows : List Row) : Type 0 where
+  pub size : HasTableSize rows
+  pub different : PrefixesDiffer rows
+  pub default : HasPrefix rows any_address
+  pub mapped : HasPrefix rows any_v4_address
+  pub parted : PrecedencesDiffer rows

@@ -2,7 +2,7 @@
 
 ghost use Rattle.std.specs.Prelude.{◌≡◌, ℕ, Bool, ◌≤◌, length, take};
 ghost use Rattle.std.specs.List.{list_any};
-ghost use Rattle.he_select.specs.Rules.{first_repeat};
+ghost use Rattle.he_select.specs.Refusals.{first_repeat};
 
 /// What may stand only once in a list.
 pub(crate) trait Distinct {

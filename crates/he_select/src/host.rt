@@ -3,7 +3,9 @@
 ghost use Rattle.std.specs.Prelude.{◌≡◌, not, option_map, IsTrue, IfOk, IfErr, IsOk, IsOkUnless};
 ghost use Rattle.he_addr.specs.Prefix.{width_of};
 ghost use Rattle.std.specs.List.{list_all, list_any, position_from};
-ghost use Rattle.he_select.specs.Hosts.{same_source, same_route, is_sound_source, is_sound_route, host_fault, host_of, IsHost};
+ghost use Rattle.he_select.specs.Equality.{equal_hosts};
+ghost use Rattle.he_select.specs.HostFaults.{is_sound_source, is_sound_route, host_fault, host_of};
+ghost use Rattle.he_select.specs.Hosts.{same_source, same_route, IsHost};
 ghost use Rattle.he_select.specs.Selection.{source_of, world_of};
 
 use crate::distinct::{Distinct, first_repeated, stands_in};
@@ -135,7 +137,7 @@ impl Distinct for Route {
 
 impl HostFault {
     /// Why the lists are no host, the first cause in the order of the variants; `None` for a host's lists. Never `Memory`.
-    #[tactic(auto, unfolding(crate::specs::Hosts::host_fault))]
+    #[tactic(auto, unfolding(crate::specs::HostFaults::host_fault))]
     pub fn find(sources: &[Source], routes: &[Route]) -> Option<HostFault>
         ensures { result ≡ host_fault sources.now routes.now }
     {
@@ -197,7 +199,7 @@ impl<A: Allocator> Model for Host<A> {
 }
 
 impl<A: Allocator> PartialEq for Host<A> {
-    ghost use Rattle.std.specs.Prelude.{◌&&◌};
+    ghost use Rattle.std.specs.Prelude.{◌≡◌, ◌&&◌, ◌↔◌, IsTrue};
     ghost use Rattle.std.specs.Cmp.{and_per, on_per};
     ghost use Rattle.std.specs.Cmp.Lexicographic.{pointwise, lists_per};
     ghost use Rattle.he_select.specs.Hosts.{Interfaces};
@@ -208,8 +210,12 @@ impl<A: Allocator> PartialEq for Host<A> {
 
     ghost laws = { and_per (on_per (λ (h : Interfaces). h.sources) (lists_per of_sources.laws-law)) (on_per (λ (h : Interfaces). h.routes) (lists_per of_routes.laws-law)) };
 
-    fn eq(&self, other: &Host<A>) -> bool {
-        self.sources == other.sources && self.routes == other.routes
+    /// Whether both hosts have the same sources and the same routes, each list in its order.
+    fn eq(&self, other: &Host<A>) -> bool
+        ensures value { result ≡ (pointwise ⟦<Source as PartialEq>⟧.eq self.now.sources other.now.sources && pointwise ⟦<Route as PartialEq>⟧.eq self.now.routes other.now.routes) }
+        ensures lists { IsTrue result ↔ (self.now ≡ other.now) }
+    {
+        self.has_lists_of(other)
     }
 }
 
@@ -244,6 +250,12 @@ impl<A: Allocator + Copy> Host<A> {
 }
 
 impl<A: Allocator> Host<A> {
+    fn has_lists_of(&self, other: &Host<A>) -> bool
+        ensures { result ≡ equal_hosts self.now other.now }
+    {
+        self.sources == other.sources && self.routes == other.routes
+    }
+
     /// The sources, in the order in which they were given.
     pub fn sources(&self) -> &[Source]
         ensures sources { result.now ≡ self.now.sources }
@@ -262,7 +274,7 @@ impl<A: Allocator> Host<A> {
 
     /// The source that the host uses for a destination (RFC 6724 section 5): of the candidates the best by the source rules;
     /// `None` where the destination has no route or no candidate.
-    #[tactic(auto, using(crate::proofs::Causes::all_sound))]
+    #[tactic(auto, using(crate::proofs::Hosted::all_sound))]
     pub fn source<B: Allocator>(&self, policy: &Policy<B>, ip: Ip) -> Option<Ip>
         ensures { result ≡ option_map (λ source. source.ip) (source_of (world_of policy.now self.now) ip) }
     {

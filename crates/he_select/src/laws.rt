@@ -1,6 +1,6 @@
 // Laws of the definitions. Each is the contract of a function that does nothing.
 
-ghost use Rattle.he_select.specs.Laws.{EachListHasOneOrder, EveryAddressHasRow, PreferenceIsByKeys, PreferenceIsStrictTotalOrder, ReachableWhereCandidates, RepeatsByOneMore};
+ghost use Rattle.he_select.specs.Laws.{AdmittedWhereNoFault, EachListHasOneOrder, EveryAddressHasRow, HostFaultsAreFirst, HostWhereNoFault, LimitsAreStated, PreferenceIsByKeys, PreferenceIsStrictTotalOrder, ReachableWhereCandidates, RepeatsByOneMore, TableFaultsAreFirst};
 ghost use Rattle.he_select.specs.Hosts.{same_route, same_source};
 ghost use Rattle.he_select.specs.Tables.{same_row};
 
@@ -32,4 +32,23 @@ pub fn repeats_by_one_more()
     ensures rows { RepeatsByOneMore same_row }
     ensures sources { RepeatsByOneMore same_source }
     ensures routes { RepeatsByOneMore same_route }
+{}
+
+/// Rows are a policy table exactly where [`crate::PolicyFault::find`] finds no fault, and the fault that it finds is the first
+/// cause in the order of the variants, its places the least ones.
+pub fn tables_have_no_fault()
+    ensures admitted { AdmittedWhereNoFault }
+    ensures first { TableFaultsAreFirst }
+{}
+
+/// Lists are a host's exactly where [`crate::HostFault::find`] finds no fault, and the fault that it finds is the first cause
+/// in the order of the variants, its place the least one.
+pub fn hosts_have_no_fault()
+    ensures host { HostWhereNoFault }
+    ensures first { HostFaultsAreFirst }
+{}
+
+/// The limits of the code are those that the definitions state.
+pub fn limits_are_stated()
+    ensures { LimitsAreStated }
 {}

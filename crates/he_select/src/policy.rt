@@ -2,7 +2,9 @@
 
 ghost use Rattle.std.specs.Prelude.{◌≡◌, ℕ, ◌+◌, ◌≤◌, drop, length, IfOk, IfErr, IsOk, IsOkUnless};
 ghost use Rattle.std.specs.List.{list_any, position_from};
-ghost use Rattle.he_select.specs.Tables.{precedence_of, label_of, same_row, has_row, any_address, any_v4_address, shares_precedence, shared_from, table_fault, table_of, IsAdmitted};
+ghost use Rattle.he_select.specs.Equality.{equal_tables};
+ghost use Rattle.he_select.specs.TableFaults.{has_row, shared_from, table_fault, table_of};
+ghost use Rattle.he_select.specs.Tables.{precedence_of, label_of, same_row, any_address, any_v4_address, shares_precedence, IsAdmitted};
 ghost use Rattle.he_addr.specs.Prefix.{IsPrefix};
 ghost use Rattle.he_select.specs.Standard.{standard_rows};
 
@@ -82,7 +84,7 @@ pub enum PolicyFault {
 impl PolicyFault {
     /// Why the rows are no policy table, the first cause in the order of the variants; `None` for an admitted table. Never
     /// `Memory`.
-    #[tactic(auto, unfolding(crate::specs::Tables::table_fault))]
+    #[tactic(auto, unfolding(crate::specs::TableFaults::table_fault))]
     pub fn find(rows: &[Row]) -> Option<PolicyFault>
         ensures { result ≡ table_fault rows.now }
     {
@@ -198,6 +200,7 @@ impl<A: Allocator> Model for Policy<A> {
 }
 
 impl<A: Allocator> PartialEq for Policy<A> {
+    ghost use Rattle.std.specs.Prelude.{◌≡◌, ◌↔◌, IsTrue};
     ghost use Rattle.std.specs.Cmp.Lexicographic.{pointwise, lists_per};
     ghost use Rattle.he_select.specs.contracts.policy.RowPartialEq.TheImpl.Laws as rows;
 
@@ -205,8 +208,12 @@ impl<A: Allocator> PartialEq for Policy<A> {
 
     ghost laws = { lists_per rows.laws-law };
 
-    fn eq(&self, other: &Policy<A>) -> bool {
-        self.rows == other.rows
+    /// Whether both tables have the same rows in the same order.
+    fn eq(&self, other: &Policy<A>) -> bool
+        ensures value { result ≡ pointwise ⟦<Row as PartialEq>⟧.eq self.now other.now }
+        ensures rows { IsTrue result ↔ (self.now ≡ other.now) }
+    {
+        self.has_rows_of(other)
     }
 }
 
@@ -219,7 +226,6 @@ impl<A: Allocator> Eq for Policy<A> {
 
 impl<A: Allocator + Copy> Policy<A> {
     /// The standard table (RFC 6724 section 2.1).
-    #[tactic(auto, using(crate::proofs::Standards::standard_admits))]
     pub fn standard(alloc: A) -> Result<Policy<A>, Memory>
         ensures { IfOk result (λ policy. policy ≡ standard_rows) }
     {
@@ -246,6 +252,12 @@ impl<A: Allocator + Copy> Policy<A> {
 }
 
 impl<A: Allocator> Policy<A> {
+    fn has_rows_of(&self, other: &Policy<A>) -> bool
+        ensures { result ≡ equal_tables self.now other.now }
+    {
+        self.rows == other.rows
+    }
+
     /// The rows, in the order in which they were given.
     pub fn rows(&self) -> &[Row]
         ensures rows { result.now ≡ self.now }

@@ -4,7 +4,7 @@ ghost use Rattle.std.specs.Prelude.{◌≡◌, Option, IsTrue};
 ghost use Rattle.std.specs.List.{list_all};
 ghost use Rattle.he_addr.specs.Ip.{InRange};
 ghost use Rattle.he_select.specs.DestinationKeys.{attributes_of, chosen_by, key_by, key_cmp, ranked_by};
-ghost use Rattle.he_select.specs.Hosts.{is_sound_source};
+ghost use Rattle.he_select.specs.HostFaults.{is_sound_source};
 
 use crate::host::Route;
 use crate::lookup::{find_route, find_row};

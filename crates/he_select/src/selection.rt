@@ -3,7 +3,7 @@
 ghost use Rattle.std.specs.Prelude.{◌≡◌, Some, None, map, IsTrue};
 ghost use Rattle.std.specs.List.{list_all};
 ghost use Rattle.he_addr.specs.Ip.{family_of};
-ghost use Rattle.he_select.specs.Hosts.{is_sound_source};
+ghost use Rattle.he_select.specs.HostFaults.{is_sound_source};
 ghost use Rattle.he_select.specs.Keys.{source_key, source_key_cmp, candidate_of, destination_of, labelled_of, admits, comes_before};
 ghost use Rattle.he_select.specs.Walking.{keep_better, keep_fitting, walk_fitting};
 

@@ -4,7 +4,7 @@ ghost use Rattle.std.specs.Prelude.{◌≡◌, map, All, IsPermutation, IsSorted
 ghost use Rattle.std.specs.List.{list_all};
 ghost use Rattle.he_addr.specs.Ip.{InRange, is_usable};
 ghost use Rattle.he_select.specs.DestinationKeys.{key_cmp, ranked_by};
-ghost use Rattle.he_select.specs.Hosts.{is_sound_source};
+ghost use Rattle.he_select.specs.HostFaults.{is_sound_source};
 ghost use Rattle.he_select.specs.Keys.{labelled_of};
 ghost use Rattle.he_select.specs.Preference.{IsOrder, members_from, order_of};
 ghost use Rattle.he_select.specs.Selection.{world_of};
@@ -19,7 +19,7 @@ use std::alloc::{AllocError, Allocator};
 
 /// The addresses in the order in which they are to be tried (RFC 6724 section 6): each stands at the place that equals the
 /// number of addresses preferred to it. Each address is usable.
-#[tactic(auto, using(crate::proofs::Causes::all_sound))]
+#[tactic(auto, using(crate::proofs::Hosted::all_sound))]
 pub fn order<A: Allocator + Copy, P: Allocator, H: Allocator>(
     alloc: A,
     policy: &Policy<P>,

@@ -1,10 +1,42 @@
--- What one read of an input gives.
-use Rattle.std.specs.Prelude.{ℕ, ◌≤◌, List, length, take, Option, None, Some, Result, Ok, Err}
-use Rattle.std.specs.Io.KnownBytes.{Consumes, IsAtEnd, Keeps}
+-- How the reading of an input ends.
+use Rattle.std.specs.Prelude.{◌≡◌, ◌⊎◌, ℕ, ⊤, Bool, true, false, List, Option, Result, Ok, Err}
+use Rattle.std.specs.Bool.{OnFalse}
+use Rattle.std.specs.Io.KnownBytes.{Consumes, IsAtEnd}
+use Rattle.he_stream.specs.declared.answer.Taken.{Taken}
+use Rattle.he_stream.specs.declared.answer.Taken.TheVariants as taken
+use Rattle.he_stream.specs.declared.fault.ReadFault.{ReadFault}
+use Rattle.he_stream.specs.declared.fault.ReadFault.TheVariants as faults
+use Rattle.he_stream.specs.Limits.{most_reads}
+use Rattle.he_stream.specs.Runs.{EndsWith, RunsOut, Stops}
+use Rattle.he_stream.specs.Steps.{Takes}
 
--- the bytes at the front of the room are those that the reader lost; it lost none at the end, where
--- nothing is left, and none after a fault
-abbrev pub Reads : {E : Type 0} → Option (List ℕ) → Option (List ℕ) → List ℕ → Result (Option ℕ) E → Type 0
-Reads before after room (Ok (Some count)) = (count ≤ length room) × Consumes before after (take count room)
-Reads before after room (Ok None) = Keeps before after × IsAtEnd after
-Reads before after room (Err fault) = Keeps before after
+-- an answer after which another step is made
+abbrev pub TakesOn : Taken → Type 0
+TakesOn (taken.Bytes count) = ⊤
+TakesOn taken.Interrupted = ⊤
+TakesOn taken.End = ⊥
+TakesOn taken.Failed = ⊥
+
+-- `Ok` only at the end, `Failed` only where a step failed, `Bound` only after so many steps
+abbrev pub ReadsTo : {S : Type 0} → (S → Taken → S → Type 0) → S → S → Result (Unit {0}) ReadFault → Type 0
+ReadsTo takes first last (Ok done) = EndsWith takes TakesOn most_reads taken.End first last
+ReadsTo takes first last (Err faults.Failed) = EndsWith takes TakesOn most_reads taken.Failed first last
+ReadsTo takes first last (Err faults.Bound) = RunsOut takes TakesOn most_reads first last
+ReadsTo takes first last (Err faults.Memory) = Stops takes TakesOn most_reads first last
+
+-- one step, or a growth that was refused before it
+abbrev pub TakesPiece : {S : Type 0} → (S → Option (List ℕ)) → (S → Taken → S → Type 0) → S → S → List ℕ → Result Taken ReadFault → Type 0
+TakesPiece remaining takes first last room (Ok taken) = Takes (remaining first) (remaining last) taken room × takes first taken last
+TakesPiece remaining takes first last room (Err fault) = (first ≡ last) × (fault ≡ faults.Memory)
+
+-- the input ended, or it broke off: a step failed, or the bound of steps was reached
+abbrev pub EndsBroken : {S : Type 0} → (S → Taken → S → Type 0) → S → S → Bool → Type 0
+EndsBroken takes first last false = EndsWith takes TakesOn most_reads taken.End first last
+EndsBroken takes first last true =
+    EndsWith takes TakesOn most_reads taken.Failed first last ⊎ RunsOut takes TakesOn most_reads first last
+
+-- the input gave these bytes, and then ended or broke off
+pub record Gives {S : Type 0} (remaining : S → Option (List ℕ)) (takes : S → Taken → S → Type 0) (first last : S) (bytes : List ℕ) (is_broken : Bool) : Type 0 where
+  pub taken : Consumes (remaining first) (remaining last) bytes
+  pub whole : OnFalse is_broken (IsAtEnd (remaining last))
+  pub told : EndsBroken takes first last is_broken

@@ -1,2 +1,6 @@
 pub mod Input
+pub mod Limits
+pub mod Marks
 pub mod Output
+pub mod Runs
+pub mod Steps

@@ -1,5 +1,5 @@
 //! Why an input could not be read or an output not be written.
-ghost use Rattle.he_stream.specs.declared.fault.InputFault.TheVariants.{Memory};
+ghost use Rattle.he_stream.specs.declared.fault.ReadFault.TheVariants.{Memory};
 ghost use Rattle.std.specs.Prelude.{◌≡◌};
 
 use std::alloc::AllocError;
@@ -7,20 +7,23 @@ use thiserror::Error;
 
 /// Why an input could not be read whole.
 #[derive(Clone, Copy, Debug, PartialEq, Eq, Error)]
-pub enum InputFault {
-    /// A read failed, or the bound of reads was reached.
+pub enum ReadFault {
+    /// A step failed.
     #[error("cannot read the input")]
-    Read,
+    Failed,
+    /// The bound of steps was reached.
+    #[error("cannot read the input")]
+    Bound,
     /// An allocation was refused.
     #[error("out of memory")]
     Memory,
 }
 
-impl From<AllocError> for InputFault {
+impl From<AllocError> for ReadFault {
     ghost from_gives = { λ _ fault. fault ≡ Memory };
 
-    fn from(_error: AllocError) -> InputFault {
-        InputFault::Memory
+    fn from(_error: AllocError) -> ReadFault {
+        ReadFault::Memory
     }
 }
 

@@ -2,112 +2,105 @@
 ghost use Rattle.std.specs.Prelude.{◌≡◌, ◌<◌, ◌≤◌, OnErr, OnOk, length, take, drop, vec_len};
 ghost use Rattle.std.specs.Io.{StartsWith, appended_bytes};
 ghost use Rattle.std.specs.Io.KnownBytes.{Consumes, IsAtEnd};
-ghost use Rattle.he_stream.specs.Input.{Reads};
+ghost use Rattle.he_stream.specs.Input.{ReadsTo, TakesPiece};
 
-use crate::fault::InputFault;
+use crate::answer::Taken;
+use crate::fault::ReadFault;
 use crate::limits::{MOST_READS, READ_SIZE};
+use crate::stream::InputStream;
 use std::alloc::Allocator;
-use std::io::{ErrorKind, Read};
 
-/// Reads the reader to its end and appends what it gives to `bytes`.
+/// Reads the input to its end and appends what it gives to `bytes`.
 ///
-/// After a fault `bytes` has gained what was read before it: no byte that was taken from the reader
+/// After a fault `bytes` has gained what was read before it: no byte that was taken from the input
 /// is lost, after `Memory` too.
 ///
 /// # Errors
 ///
-/// - `Read` where a read failed, or where 4,294,967,296 reads did not reach the end. A read that
-///   answers `Interrupted` is tried again, and counts.
+/// - `Failed` where a step failed.
+/// - `Bound` where 4,294,967,296 steps did not reach the end. A step that was interrupted is tried again, and counts.
 /// - `Memory` where an allocation was refused.
-pub fn read_input<R: Read, A: Allocator>(
-    reader: &mut R,
+pub fn read_input<S: InputStream, A: Allocator>(
+    input: &mut S,
     bytes: &mut Vec<u8, A>,
-) -> Result<(), InputFault>
-    // What stood in the vector stays, and what came after it was taken from the reader.
+) -> Result<(), ReadFault>
+    // What stood in the vector stays, and what came after it was taken from the input.
     ensures stays { StartsWith bytes.new.items bytes.old.items }
-    ensures taken { Consumes (R.remaining reader.old) (R.remaining reader.new)
+    ensures taken { Consumes (S.remaining input.old) (S.remaining input.new)
         (appended_bytes bytes.old.items bytes.new.items) }
-    ensures whole { OnOk result (IsAtEnd (R.remaining reader.new)) }
+    ensures whole { OnOk result (IsAtEnd (S.remaining input.new)) }
+
+    // Which steps were made of the input, and which of them was the last.
+    ensures told { ReadsTo S.takes input.old input.new result }
 {
-    let (filled, result) = fill(reader, bytes);
+    let (filled, result) = fill(input, bytes);
     bytes.truncate(filled);
     result
 }
 
 // Reads to the end in place, and returns how many bytes of the vector are filled. What stands after
-// them is room for the next read.
-fn fill<R: Read, A: Allocator>(
-    reader: &mut R,
+// them is room for the next step.
+fn fill<S: InputStream, A: Allocator>(
+    input: &mut S,
     bytes: &mut Vec<u8, A>,
-) -> (usize, Result<(), InputFault>)
+) -> (usize, Result<(), ReadFault>)
     ensures within { result.0 ≤ vec_len bytes.new }
     ensures stays { StartsWith (take result.0 bytes.new.items) bytes.old.items }
-    ensures taken { Consumes (R.remaining reader.old) (R.remaining reader.new)
+    ensures taken { Consumes (S.remaining input.old) (S.remaining input.new)
         (appended_bytes bytes.old.items (take result.0 bytes.new.items)) }
-    ensures whole { OnOk result.1 (IsAtEnd (R.remaining reader.new)) }
+    ensures whole { OnOk result.1 (IsAtEnd (S.remaining input.new)) }
+    ensures told { ReadsTo S.takes input.old input.new result.1 }
 {
     let mut filled = bytes.len();
-    for _ in 0..MOST_READS {
-        match read_piece(reader, bytes, filled) {
-            Ok(Some(count)) => filled += count,
-            Ok(None) => return (filled, Ok(())),
+    for _steps in 0..MOST_READS {
+        let taken = match take_piece(input, bytes, filled) {
+            Ok(taken) => taken,
             Err(fault) => return (filled, Err(fault)),
+        };
+        match taken {
+            Taken::Bytes(count) => filled += count,
+            Taken::Interrupted => {}
+            Taken::End => return (filled, Ok(())),
+            Taken::Failed => return (filled, Err(ReadFault::Failed)),
         }
     }
-    (filled, Err(InputFault::Read))
+    (filled, Err(ReadFault::Bound))
 }
 
-// One read into the vector after `filled`. Room is made first, so that a refused allocation loses
+// One step into the vector after `filled`. Room is made first, so that a refused allocation loses
 // no byte.
-fn read_piece<R: Read, A: Allocator>(
-    reader: &mut R,
+fn take_piece<S: InputStream, A: Allocator>(
+    input: &mut S,
     bytes: &mut Vec<u8, A>,
     filled: usize,
-) -> Result<Option<usize>, InputFault>
+) -> Result<Taken, ReadFault>
     requires { filled ≤ vec_len bytes.old }
     ensures within { filled ≤ vec_len bytes.new }
+    ensures more { OnOk result (filled < vec_len bytes.new) }
     ensures front { take filled bytes.new.items ≡ take filled bytes.old.items }
-    ensures piece { Reads (R.remaining reader.old) (R.remaining reader.new)
-        (drop filled bytes.new.items) result }
+    ensures step { TakesPiece S.remaining S.takes input.old input.new (drop filled bytes.new.items) result }
 {
     make_room(bytes, filled)?;
-    read_at(reader, bytes.as_mut_slice(), filled)
+    Ok(take_at(input, bytes.as_mut_slice(), filled))
 }
 
-// One read into the slice from `at` on.
-fn read_at<R: Read>(
-    reader: &mut R,
-    bytes: &mut [u8],
-    at: usize,
-) -> Result<Option<usize>, InputFault>
+// One step into the slice from `at` on.
+fn take_at<S: InputStream>(input: &mut S, bytes: &mut [u8], at: usize) -> Taken
     requires { at < length bytes.old }
+    ensures same { length bytes.new ≡ length bytes.old }
     ensures front { take at bytes.new ≡ take at bytes.old }
-    ensures piece { Reads (R.remaining reader.old) (R.remaining reader.new)
-        (drop at bytes.new) result }
+    ensures step { TakesPiece S.remaining S.takes input.old input.new (drop at bytes.new) (Ok result) }
 {
-    read_once(reader, &mut bytes[at..])
+    input.take(&mut bytes[at..])
 }
 
-// One read: how many bytes it gave, or `None` at the end. A read that was interrupted gave none yet.
-fn read_once<R: Read>(reader: &mut R, room: &mut [u8]) -> Result<Option<usize>, InputFault>
-    requires { 0 < length room.old }
-    ensures { Reads (R.remaining reader.old) (R.remaining reader.new) room.new result }
-{
-    match reader.read(room) {
-        Ok(0) => Ok(None),
-        Ok(count) => Ok(Some(count)),
-        Err(error) if error.kind() == ErrorKind::Interrupted => Ok(Some(0)),
-        Err(_) => Err(InputFault::Read),
-    }
-}
-
-// Makes the vector longer than `filled`, by zeros. Room that an earlier read left stays as it is.
-fn make_room<A: Allocator>(bytes: &mut Vec<u8, A>, filled: usize) -> Result<(), InputFault>
+// Makes the vector longer than `filled`, by zeros. Room that an earlier step left stays as it is.
+fn make_room<A: Allocator>(bytes: &mut Vec<u8, A>, filled: usize) -> Result<(), ReadFault>
     requires { filled ≤ vec_len bytes.old }
     ensures within { filled ≤ vec_len bytes.new }
     ensures front { take filled bytes.new.items ≡ take filled bytes.old.items }
     ensures room { OnOk result (filled < vec_len bytes.new) }
-    ensures memory { OnErr result (result ≡ Err InputFault.Memory) }
+    ensures memory { OnErr result (result ≡ Err ReadFault.Memory) }
 {
     if bytes.len() == filled {
         bytes.reserve(READ_SIZE)?;

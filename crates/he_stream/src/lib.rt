@@ -1,24 +1,32 @@
-//! Reading an input whole and writing an output, over any reader and any writer.
+//! Reading an input whole and writing an output, step by step, over any reader and any writer.
 //!
-//! Each call returns: it makes a bounded number of reads or writes. A read, write or flush that
-//! answers `Interrupted` is tried again and counts towards that bound.
+//! [`FromReader`] makes an [`InputStream`] of any reader and [`ToWriter`] an [`OutputStream`] of any writer. A step of
+//! these tells what was given or taken, the end, an interruption, or that it failed. Each call returns: it makes a bounded
+//! number of steps. A step that was interrupted is tried again and counts towards that bound.
 //!
-//! Proved for every reader that tells the bytes that it has left, and every writer that tells the
-//! bytes that it holds: what a call added to the vector is what it took from the reader, also after
-//! a fault; at `Ok` the reader is at its end. What a call wrote is the text at `Ok`, and a first
-//! part of it after a fault. A flush writes nothing of its own.
+//! Proved for every such stream: a fault is answered only after a step that failed, a step that took no byte, or at the
+//! bound of steps, and `Ok` only at the input's end, after the whole text, or after a flush that was done (`specs/Runs`,
+//! `specs/Input`, `specs/Output`). Where a stream tells the bytes that it has left, or holds: what a call added to the vector
+//! is what it took from the input, also after a fault; at `Ok` the input is at its end. What a call wrote is the text at
+//! `Ok`, and a first part of it after a fault. A flush writes nothing of its own.
 //!
-//! Only tested: that a fault is answered only where a read, a write or a flush failed.
+//! Only tested: that a step of [`FromReader`] and [`ToWriter`] answers what the reader or writer answered.
 #![tactic(auto)]
 
+pub mod answer;
 pub mod fault;
 pub mod input;
+pub mod laws;
 pub mod limits;
 pub mod output;
+pub mod reader;
+pub mod stream;
+pub mod writer;
 
-pub use fault::{InputFault, WriteFault};
+pub use answer::{Flushed, Put, Taken};
+pub use fault::{ReadFault, WriteFault};
 pub use input::read_input;
-pub use output::{finish_output, write_output};
-
-#[cfg(test)]
-mod tests;
+pub use output::{finish_output, write_output, write_whole};
+pub use reader::FromReader;
+pub use stream::{InputStream, OutputStream};
+pub use writer::ToWriter;

@@ -1,33 +1,38 @@
 //! Writing an output.
 ghost use Rattle.std.specs.Prelude.{OnErr, OnOk};
 ghost use Rattle.std.specs.Io.KnownBytes.{Appends, Keeps};
-ghost use Rattle.he_stream.specs.Output.{AppendsPart};
+ghost use Rattle.he_stream.specs.Output.{AppendsPart, PutsAll, FailsToPut, Flushes, PutsWhole, PutsPart};
 
+use crate::answer::{Flushed, Put};
 use crate::fault::WriteFault;
 use crate::limits::MOST_WRITES;
-use std::io::{ErrorKind, Write};
+use crate::stream::OutputStream;
 
 /// Writes all of `text`. Nothing is flushed.
 ///
 /// # Errors
 ///
-/// `WriteFault` where a write failed or took no byte, or where 4,294,967,296 writes did not take all.
-/// A write that answers `Interrupted` is tried again, and counts. A first part of the text may then
+/// `WriteFault` where a step failed or took no byte, or where 4,294,967,296 steps did not take all.
+/// A step that was interrupted is tried again, and counts. A first part of the text may then
 /// have been written.
-pub fn write_output<W: Write>(writer: &mut W, text: &[u8]) -> Result<(), WriteFault>
-    ensures ok { OnOk result (Appends (W.contents writer.old) (W.contents writer.new) text.now) }
-    ensures err { OnErr result (AppendsPart (W.contents writer.old) (W.contents writer.new) text.now) }
+pub fn write_output<S: OutputStream>(output: &mut S, text: &[u8]) -> Result<(), WriteFault>
+    ensures ok { OnOk result (Appends (S.contents output.old) (S.contents output.new) text.now) }
+    ensures err { OnErr result (AppendsPart (S.contents output.old) (S.contents output.new) text.now) }
+
+    // Which steps were made of the output, and which of them was the last.
+    ensures done { OnOk result (PutsAll S.puts output.old output.new) }
+    ensures fault { OnErr result (FailsToPut S.puts output.old output.new) }
 {
     let mut rest = text;
-    for _ in 0..MOST_WRITES {
+    for _steps in 0..MOST_WRITES {
         if rest.is_empty() {
             return Ok(());
         }
-        match writer.write(rest) {
-            Ok(0) => return Err(WriteFault),
-            Ok(count) => rest = &rest[count..],
-            Err(error) if error.kind() == ErrorKind::Interrupted => {}
-            Err(_) => return Err(WriteFault),
+        match output.put(rest) {
+            Put::Bytes(count) => rest = &rest[count..],
+            Put::Interrupted => {}
+            Put::Full => return Err(WriteFault),
+            Put::Failed => return Err(WriteFault),
         }
     }
     if rest.is_empty() {
@@ -37,20 +42,36 @@ pub fn write_output<W: Write>(writer: &mut W, text: &[u8]) -> Result<(), WriteFa
     }
 }
 
-/// Flushes the writer. What it holds stays.
+/// Writes all of `text` and flushes the output.
 ///
 /// # Errors
 ///
-/// `WriteFault` where the flush failed. A flush that answers `Interrupted` is tried again, at most
-/// 4,294,967,296 times.
-pub fn finish_output<W: Write>(writer: &mut W) -> Result<(), WriteFault>
-    ensures { Keeps (W.contents writer.old) (W.contents writer.new) }
+/// `WriteFault` as in `write_output` and `finish_output`.
+pub fn write_whole<S: OutputStream>(output: &mut S, text: &[u8]) -> Result<(), WriteFault>
+    ensures ok { OnOk result (PutsWhole S.contents S.puts S.flushes output.old output.new text.now) }
+    ensures err { OnErr result (PutsPart S.contents S.puts S.flushes output.old output.new text.now) }
 {
-    for _ in 0..MOST_WRITES {
-        match writer.flush() {
-            Ok(()) => return Ok(()),
-            Err(error) if error.kind() == ErrorKind::Interrupted => {}
-            Err(_) => return Err(WriteFault),
+    write_output(output, text)?;
+    finish_output(output)
+}
+
+/// Flushes the output. What it holds stays.
+///
+/// # Errors
+///
+/// `WriteFault` where the flush failed. A flush that was interrupted is tried again, at most
+/// 4,294,967,296 times.
+pub fn finish_output<S: OutputStream>(output: &mut S) -> Result<(), WriteFault>
+    ensures bytes { Keeps (S.contents output.old) (S.contents output.new) }
+
+    // Which flushes were made of the output, and which of them was the last.
+    ensures told { Flushes S.flushes output.old output.new result }
+{
+    for _steps in 0..MOST_WRITES {
+        match output.flush() {
+            Flushed::Done => return Ok(()),
+            Flushed::Interrupted => {}
+            Flushed::Failed => return Err(WriteFault),
         }
     }
     Err(WriteFault)

@@ -9,7 +9,8 @@ use Rattle.std.proofs.lemmas.Bool.{le-leb, le-ltb, and_from, and_parts}
 use Rattle.he_addr.specs.declared.ip.Family.{Family}
 use Rattle.he_addr.specs.declared.ip.Ip.{Ip}
 use Rattle.he_addr.specs.Ip.{is_usable}
-use Rattle.he_addr.specs.Reading.{ip_in, prefix_in, source_in, v4_in, cut_in, v6_in, whole_in, side_in, groups_after, last_after, group_in, digits_in, next_after}
+use Rattle.std.specs.Net.Reader.{read_ipv4, read_octet, read_number, read_ipv6, read_segments, read_segment}
+use Rattle.he_addr.specs.Reading.{ip_in, prefix_in, source_in, v4_in, v6_in}
 use Rattle.he_plan.specs.declared.limits.TheConstants.{MAX_TICK, MIN_DURATION, MAX_DURATION, MAX_PAUSE_END, MAX_ADDRESSES}
 use Rattle.he_plan.specs.declared.outcome.Outcome.{Outcome}
 use Rattle.he_plan.specs.declared.outcome.Outcome.TheVariants as outcomes
@@ -136,7 +137,7 @@ addresses_read family (token ∷ tokens) (ip ∷ ips) h of_family =
 
 -- `none` is no address
 none_is_no_address : ip_in (codes "none") ≡ None
-unfolding ip_in v4_in cut_in v6_in whole_in side_in groups_after last_after group_in digits_in next_after
+unfolding ip_in v4_in v6_in read_ipv4 read_octet read_number read_ipv6 read_segments read_segment
 none_is_no_address = refl
 
 listed_as_addresses : (family : Family) (tokens : List (List ℕ)) (ips : List Ip) → AllZip (λ token ip. ip_in token ≡ Some ip) tokens ips → are_of family ips ≡ true

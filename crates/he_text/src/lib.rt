@@ -34,6 +34,3 @@ pub use orders::write_order;
 pub use reading::read_race;
 pub use timelines::write_timeline;
 pub use transcripts::write_transcript;
-
-#[cfg(test)]
-mod tests;

@@ -1,5 +1,2 @@
 pub mod Command
-pub mod Output
 pub mod Run
-pub mod Steps
-pub mod Stream

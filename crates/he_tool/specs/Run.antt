@@ -1,18 +1,48 @@
 -- What a run of the program has done, by its exit status.
-use Rattle.std.specs.Prelude.{◌≡◌, ℕ, List, Option, Result, Ok, Err}
-use Rattle.he_tool.specs.Stream.{Replays, Orders}
-use Rattle.he_tool.specs.declared.fault.ReplayFault.{ReplayFault}
-use Rattle.he_tool.specs.declared.run.TheConstants.{DONE, FAULT}
+use Rattle.std.specs.Prelude.{◌≡◌, ◌≢◌, ◌⊎◌, ℕ, Bool, List, Result, Ok, Err}
+use Rattle.clap.specs.Values.{kind_of}
+use Rattle.clap.specs.declared.error.Error.{Error}
+use Rattle.clap.specs.declared.error.kind.ErrorKind.{ErrorKind}
+use Rattle.clap.specs.declared.error.kind.ErrorKind.TheVariants as kinds
+use Rattle.he_replay.specs.Stream.{Replays, Orders}
+use Rattle.he_replay.specs.declared.fault.ReplayFault.{ReplayFault}
+use Rattle.he_tool.specs.declared.command.Action.{Action}
+use Rattle.he_tool.specs.declared.command.Action.TheVariants.{Replay, Order}
+use Rattle.he_tool.specs.declared.run.TheConstants.{DONE, FAULT, USAGE}
 
 -- the status that tells how a command ended
 abbrev pub status_of : Result (Unit {0}) ReplayFault → ℕ
 status_of (Ok done) = DONE
 status_of (Err fault) = FAULT
 
--- a replay was run, and the status tells how it ended
-abbrev pub HasReplayed : Option (List ℕ) → Option (List ℕ) → Option (List ℕ) → Option (List ℕ) → ℕ → Type 0
-HasReplayed before after old new status = (result : Result (Unit {0}) ReplayFault) × Replays before after old new result × (status ≡ status_of result)
+-- what each action does. Given: what the input gave, and whether it broke off after that; Whole and Part: the text of which
+-- all was put into the output and then flushed, or a first part until that failed; Kept: nothing was put into the output
+abbrev pub RunsAction : Action → (List ℕ → Bool → Type 0) → (List ℕ → Type 0) → (List ℕ → Type 0) → Type 0 → Result (Unit {0}) ReplayFault → Type 0
+RunsAction (Replay workers) Given Whole Part Kept result = Replays Given Whole Part Kept result
+RunsAction Order Given Whole Part Kept result = Orders Given Whole Part Kept result
 
--- orders were written, and the status tells how that ended
-abbrev pub HasOrdered : Option (List ℕ) → Option (List ℕ) → Option (List ℕ) → Option (List ℕ) → ℕ → Type 0
-HasOrdered before after old new status = (result : Result (Unit {0}) ReplayFault) × Orders before after old new result × (status ≡ status_of result)
+-- help or the version was asked for
+abbrev pub IsHelp : ErrorKind → Type 0
+IsHelp kind = (kind ≡ kinds.DisplayHelp) ⊎ (kind ≡ kinds.DisplayVersion)
+
+-- the line is wrong, and not refused for want of memory
+abbrev pub IsUsage : ErrorKind → Type 0
+IsUsage kind = (kind ≢ kinds.DisplayHelp) × (kind ≢ kinds.DisplayVersion) × (kind ≢ kinds.OutOfMemory)
+
+-- a text was put into the output, or a first part of one until that failed, or none for want of memory
+abbrev pub Shows : (List ℕ → Type 0) → (List ℕ → Type 0) → Type 0 → ℕ → Type 0
+Shows Whole Part Kept status =
+    ((status ≡ DONE) × (text : List ℕ) × Whole text)
+    ⊎ ((status ≡ FAULT) × (((text : List ℕ) × Part text) ⊎ Kept))
+
+-- what comes of a line that asks for no action
+pub record AnswersLine (kind : ErrorKind) (Whole Part : List ℕ → Type 0) (Kept : Type 0) (status : ℕ) : Type 0 where
+  pub memory : kind ≡ kinds.OutOfMemory → (status ≡ FAULT) × Kept
+  pub help : IsHelp kind → Shows Whole Part Kept status
+  pub usage : IsUsage kind → (status ≡ USAGE) × Kept
+
+-- what comes of a line: its action was run, and the status tells how that ended; or there is none, and the input is Unread
+abbrev pub RunsLine : Result Action Error → (List ℕ → Bool → Type 0) → Type 0 → (List ℕ → Type 0) → (List ℕ → Type 0) → Type 0 → ℕ → Type 0
+RunsLine (Ok action) Given Unread Whole Part Kept status =
+    (result : Result (Unit {0}) ReplayFault) × RunsAction action Given Whole Part Kept result × (status ≡ status_of result)
+RunsLine (Err error) Given Unread Whole Part Kept status = Unread × AnswersLine (kind_of error) Whole Part Kept status

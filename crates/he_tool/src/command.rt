@@ -2,8 +2,9 @@
 ghost use Rattle.std.specs.Prelude.{◌≤◌, IfOk};
 ghost use Rattle.he_tool.specs.Command.{HasWorkers};
 
-use crate::limits::{DEFAULT_WORKERS, DEFAULT_WORKERS_TEXT, LEAST_WORKERS, MOST_WORKERS};
+use crate::limits::{DEFAULT_WORKERS, DEFAULT_WORKERS_TEXT};
 use clap::{Arg, ArgMatches, Command, Error, value_parser};
+use he_replay::limits::{LEAST_WORKERS, MOST_WORKERS};
 use std::alloc::{AllocError, Global};
 
 /// What the command line asks for.

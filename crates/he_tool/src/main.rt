@@ -4,29 +4,20 @@
 //! the order of its addresses. `run_words` does all of it over a reader and two writers, so that tests can take their
 //! place; `main` calls it.
 //!
-//! Proved, for every reader that tells the bytes that it has left and every writer that tells those that it holds
-//! (`replay` and `orders`, by `specs/Stream` and `specs/Output`): after success and after a fault of the text, what was
-//! written is the transcripts, or the orders, of the races up to the first fault, the line of a fault counted over the
-//! whole input; after a read that failed, of the races before it; after a write that failed, a first part of that; after
-//! want of memory, nothing. The status tells which of these it was (`run_words`).
+//! Proved (`run_words`): the input was replayed, or its orders were written, by `he_replay`, and the status tells how that
+//! ended; a line that is refused leaves the input and the output alone.
 //!
-//! Only tested: that a fault of the reader or writer is told only where one failed, that the writer is flushed, what
-//! help, usage and faults say, which command lines are refused, and which of the two commands runs.
+//! Only tested: what help, usage and faults say, which command lines are refused, and which of the two commands runs.
 #![tactic(auto)]
 
 mod command;
-mod content;
-mod fault;
 mod limits;
-mod orders;
-mod output;
-mod replay;
 mod run;
-mod stream;
 #[cfg(test)]
 mod tests;
 
-use fault::ReplayFault;
+use he_replay::ReplayFault;
+use he_stream::{FromReader, ToWriter};
 use run::{report, report_not_text, run_words};
 use std::process::ExitCode;
 use std::{env, io};
@@ -38,7 +29,7 @@ fn main(rt: HostRuntime) -> ExitCode {
 // Runs the command line that the program was started with, and answers the exit status.
 fn run_program(rt: &HostRuntime) -> u8 {
     match words_of(rt) {
-        Ok(words) => run_line(rt, words.as_slice()),
+        Ok(words) => run_texts(rt, words.as_slice()),
         Err(error) if error.kind() == io::ErrorKind::OutOfMemory => report(
             ReplayFault::Memory,
             &mut rt.stderr(),
@@ -52,7 +43,7 @@ fn words_of(rt: &HostRuntime) -> io::Result<Vec<String>> {
     Ok(env::args(rt)?.collect(rt.alloc())?)
 }
 
-fn run_line(rt: &HostRuntime, words: &[String]) -> u8 {
+fn run_texts(rt: &HostRuntime, words: &[String]) -> u8 {
     let texts = words
         .iter()
         .map(|word| word.as_str())
@@ -62,8 +53,8 @@ fn run_line(rt: &HostRuntime, words: &[String]) -> u8 {
             rt,
             rt.alloc(),
             texts.as_slice(),
-            &mut rt.stdin(),
-            &mut rt.stdout(),
+            &mut FromReader::new(rt.stdin()),
+            &mut ToWriter::new(rt.stdout()),
             &mut rt.stderr(),
         ),
         Err(_) => report(ReplayFault::Memory, &mut rt.stderr()),

@@ -1,16 +1,18 @@
-//! A whole run of the program over a reader and two writers.
-ghost use Rattle.std.specs.Prelude.{◌≡◌, ◌⊎◌};
-ghost use Rattle.he_tool.specs.Run.{HasReplayed, HasOrdered};
+//! A whole run of the program over an input, an output and a writer of faults.
+ghost use Rattle.std.specs.Prelude.{◌≡◌, IfOk, Result};
+ghost use Rattle.clap.specs.Values.{kind_of};
+ghost use Rattle.he_stream.specs.Input.{Gives};
+ghost use Rattle.he_stream.specs.Output.{PutsPart, PutsWhole};
+ghost use Rattle.he_tool.specs.Command.{HasWorkers};
+ghost use Rattle.he_tool.specs.Run.{AnswersLine, RunsAction, RunsLine, Shows, status_of};
 
 use crate::command::{Action, read_words};
-use crate::fault::ReplayFault;
-use crate::orders::orders;
-use crate::replay::replay;
 use clap::Error;
 use clap::error::ErrorKind;
-use he_stream::{WriteFault, finish_output};
+use he_replay::{ReplayFault, orders, replay};
+use he_stream::{InputStream, OutputStream, write_whole};
 use std::alloc::Global;
-use std::io::{Read, Write};
+use std::io::Write;
 
 /// The exit status when all was done.
 pub const DONE: u8 = 0;
@@ -22,46 +24,96 @@ pub const FAULT: u8 = 1;
 pub const USAGE: u8 = 2;
 
 /// Runs the command line `words`, of which the first is the program's name, and answers the exit
-/// status. The input is `reader`; output and help that was asked for go to `writer`; what is wrong
-/// goes to `faults`. What cannot be written to `faults` leaves the status as it is.
-pub fn run_words<'a, T, R: Read, W: Write, F: Write>(
+/// status. Output and help that was asked for go to `output`; what is wrong goes to `faults`. What
+/// cannot be written to `faults` leaves the status as it is.
+pub fn run_words<'a, T, I: InputStream, O: OutputStream, F: Write>(
     rt: &T,
     alloc: Global,
     words: &'a [&'a str],
-    reader: &mut R,
-    writer: &mut W,
+    input: &mut I,
+    output: &mut O,
     faults: &mut F,
 ) -> u8
-    ensures status { (result ≡ DONE) ⊎ (result ≡ FAULT) ⊎ (result ≡ USAGE) }
-
-    // A line that is refused leaves the input and the output alone.
-    ensures refused { result ≡ USAGE → (reader.new ≡ reader.old) × (writer.new ≡ writer.old) }
-
-    // Otherwise the input was replayed, or its orders were written, or it was left alone: for help, or for want of memory.
-    ensures ran { (reader.new ≡ reader.old)
-        ⊎ (HasReplayed (R.remaining reader.old) (R.remaining reader.new)
-        (W.contents writer.old) (W.contents writer.new) result
-        ⊎ HasOrdered (R.remaining reader.old) (R.remaining reader.new)
-        (W.contents writer.old) (W.contents writer.new) result) }
+    ensures { (line : Result Action Error) × IfOk line HasWorkers
+        × RunsLine line (Gives I.remaining I.takes input.old input.new) (input.new ≡ input.old)
+        (PutsWhole O.contents O.puts O.flushes output.old output.new)
+        (PutsPart O.contents O.puts O.flushes output.old output.new) (output.new ≡ output.old) result }
 {
-    let result = match read_words(alloc, words) {
-        Ok(Action::Replay { workers }) => replay(rt, alloc, reader, writer, workers),
-        Ok(Action::Order) => orders(alloc, reader, writer),
-        Err(error) if error.kind() == ErrorKind::OutOfMemory => Err(ReplayFault::Memory),
-        Err(error) if error.use_stderr() => return refuse(&error, faults),
-        Err(error) => write_help(&error, writer),
-    };
-    match result {
-        Ok(()) => DONE,
-        Err(fault) => report(fault, faults),
+    run_line(rt, alloc, read_words(alloc, words), input, output, faults)
+}
+
+/// Runs what a command line asks for, and answers the exit status.
+pub fn run_line<T, I: InputStream, O: OutputStream, F: Write>(
+    rt: &T,
+    alloc: Global,
+    line: Result<Action, Error>,
+    input: &mut I,
+    output: &mut O,
+    faults: &mut F,
+) -> u8
+    requires { IfOk line HasWorkers }
+    ensures { RunsLine line (Gives I.remaining I.takes input.old input.new) (input.new ≡ input.old)
+        (PutsWhole O.contents O.puts O.flushes output.old output.new)
+        (PutsPart O.contents O.puts O.flushes output.old output.new) (output.new ≡ output.old) result }
+{
+    match line {
+        Ok(action) => report_end(run_action(rt, alloc, action, input, output), faults),
+        Err(error) => answer_line(alloc, &error, output, faults),
+    }
+}
+
+// Runs an action.
+fn run_action<T, I: InputStream, O: OutputStream>(
+    rt: &T,
+    alloc: Global,
+    action: Action,
+    input: &mut I,
+    output: &mut O,
+) -> Result<(), ReplayFault>
+    requires { HasWorkers action }
+    ensures { RunsAction action (Gives I.remaining I.takes input.old input.new)
+        (PutsWhole O.contents O.puts O.flushes output.old output.new)
+        (PutsPart O.contents O.puts O.flushes output.old output.new) (output.new ≡ output.old) result }
+{
+    match action {
+        Action::Replay { workers } => replay(rt, alloc, input, output, workers),
+        Action::Order => orders(alloc, input, output),
+    }
+}
+
+// Answers a line that asks for no action.
+fn answer_line<O: OutputStream, F: Write>(
+    alloc: Global,
+    error: &Error,
+    output: &mut O,
+    faults: &mut F,
+) -> u8
+    ensures { AnswersLine (kind_of error.now) (PutsWhole O.contents O.puts O.flushes output.old output.new)
+        (PutsPart O.contents O.puts O.flushes output.old output.new) (output.new ≡ output.old) result }
+{
+    if error.kind() == ErrorKind::OutOfMemory {
+        report(ReplayFault::Memory, faults)
+    } else if error.use_stderr() {
+        refuse(error, faults)
+    } else {
+        report_end(write_help(alloc, error, output), faults)
     }
 }
 
 // Writes the help or the version that was asked for.
-fn write_help<W: Write>(error: &Error, writer: &mut W) -> Result<(), ReplayFault> {
-    write!(writer, "{error}").map_err(|_| ReplayFault::Write)?;
-    finish_output(writer)?;
-    Ok(())
+fn write_help<O: OutputStream>(
+    alloc: Global,
+    error: &Error,
+    output: &mut O,
+) -> Result<(), ReplayFault>
+    ensures { Shows (PutsWhole O.contents O.puts O.flushes output.old output.new)
+        (PutsPart O.contents O.puts O.flushes output.old output.new) (output.new ≡ output.old) (status_of result) }
+{
+    let text = format!(in alloc; "{error}").map_err(|_| ReplayFault::Memory)?;
+    match write_whole(output, text.as_bytes()) {
+        Ok(()) => Ok(()),
+        Err(_) => Err(ReplayFault::Write),
+    }
 }
 
 // Says why the command line is refused.
@@ -70,6 +122,16 @@ fn refuse<F: Write>(error: &Error, faults: &mut F) -> u8
 {
     let _ = write!(faults, "{error}");
     USAGE
+}
+
+// Says how a command ended, and answers the exit status.
+fn report_end<F: Write>(end: Result<(), ReplayFault>, faults: &mut F) -> u8
+    ensures { result ≡ status_of end }
+{
+    match end {
+        Ok(()) => DONE,
+        Err(fault) => report(fault, faults),
+    }
 }
 
 /// Writes the line of a fault, and answers the exit status.

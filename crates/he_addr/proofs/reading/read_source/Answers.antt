@@ -7,8 +7,8 @@ use Rattle.he_addr.proofs.reading.read_source.Goals as goal
 
 pub returns-clause-found : goal.returns-clause-found
 returns-clause-found c =
-    if_some c.source_of.result (λ source. SpellsSource c.args.text.now source.0 source.1) (λ source h. source_in_some c.args.text.now source.0 source.1 (sym c.source_of.ensures.value ∙ h))
+    if_some c.parse_source.result (λ source. SpellsSource c.args.text.now source.0 source.1) (λ source h. source_in_some c.args.text.now source.0 source.1 (sym c.parse_source.ensures.value ∙ h))
 
 pub returns-clause-none : goal.returns-clause-none
 returns-clause-none c =
-    if_none c.source_of.result _ (λ h ip len spelled. none-some (ip, len) (sym h ∙ c.source_of.ensures.value ∙ source_in-spelled c.args.text.now ip len spelled))
+    if_none c.parse_source.result _ (λ h ip len spelled. none-some (ip, len) (sym h ∙ c.parse_source.ensures.value ∙ source_in-spelled c.args.text.now ip len spelled))

@@ -1,5 +1,5 @@
 use Rattle.std.proofs.Common.{◌∙◌, ap, length}
-use Rattle.he_plan.proofs.Told.{told-is, length-told}
+use Rattle.he_plan.proofs.Told.{told-all, told-is, length-told}
 use Rattle.he_plan.proofs.transcript.transcript_of_fates.Goals as goal
 
 pub told_lines-requires : goal.told_lines-requires
@@ -9,3 +9,6 @@ pub returns : goal.returns
 returns g c =
     rw (c.new.ensures, c.in_ok-lines.ensures, c.stop-stop.ensures.value, c.ending-ending.ensures, c.attempts-attempts.ensures)
     (told-is c.args.timeline.now c.stop-stop.ensures.race c.args.plan.now c.args.fates.now c.args.winner c.requires)
+
+pub ending-ending-requires : goal.ending-ending-requires
+ending-ending-requires g c = rw c.attempts-attempts.ensures (told-all c.args.timeline.now c.args.plan.now c.args.fates.now c.args.winner c.requires)

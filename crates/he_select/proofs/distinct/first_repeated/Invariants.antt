@@ -1,5 +1,5 @@
 use Rattle.std.proofs.Common.{◌≡◌, drop, take}
-use Rattle.he_select.specs.Rules.{first_repeat, repeat_from}
+use Rattle.he_select.specs.Refusals.{first_repeat, repeat_from}
 use Rattle.he_select.proofs.distinct.first_repeated.Given as goal
 
 abbrev pub invariant-loop-i : goal.invariant-loop-i

@@ -1,6 +1,6 @@
 use Rattle.std.proofs.Common.{◌≡◌, drop, not}
 use Rattle.std.specs.List.{position_from}
-use Rattle.he_select.specs.Hosts.{is_sound_route}
+use Rattle.he_select.specs.HostFaults.{is_sound_route}
 use Rattle.he_select.proofs.host.first_unsound_route.Given as goal
 
 abbrev pub invariant-loop-i : goal.invariant-loop-i

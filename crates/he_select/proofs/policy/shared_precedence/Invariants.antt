@@ -1,5 +1,5 @@
 use Rattle.std.proofs.Common.{◌≡◌, drop}
-use Rattle.he_select.specs.Tables.{shared_from}
+use Rattle.he_select.specs.TableFaults.{shared_from}
 use Rattle.he_select.proofs.policy.shared_precedence.Given as goal
 
 abbrev pub invariant-loop-i : goal.invariant-loop-i

@@ -8,7 +8,7 @@ use Rattle.he_addr.specs.Ip.{IsUsable}
 use Rattle.he_select.specs.declared.ranking.Ranked.{Ranked}
 use Rattle.he_select.specs.declared.selection.Labelled.{Labelled}
 use Rattle.he_select.specs.DestinationKeys.{key_cmp, ranked_by, ranked_of}
-use Rattle.he_select.specs.Hosts.{is_sound_source}
+use Rattle.he_select.specs.HostFaults.{is_sound_source}
 use Rattle.he_select.specs.Keys.{labelled_of}
 use Rattle.he_select.specs.Preference.{IsOrder, members_from, order_of}
 use Rattle.he_select.specs.Selection.{World}

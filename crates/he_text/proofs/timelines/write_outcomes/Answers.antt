@@ -14,7 +14,7 @@ one_more : (done : List (Ip × Outcome)) (told : Ip × Outcome) → flat_map out
 one_more done told = flat_map-append outcome_text done (told ∷ []) ∙ ap (λ (text : List ℕ). flat_map outcome_text done ++ text) (append-nil (outcome_text told))
 
 pub loop-ip-init : goal.loop-ip-init
-loop-ip-init g c = ([], (sym (append-nil c.args.out.now.items), c.into_iter-ip-iterator.ensures.into_iter_gives ∙ c.iter-ip-items.ensures.rest ∙ c.outcomes.ensures))
+loop-ip-init g c = ([], (sym (append-nil c.args.out.now.items), c.into_iter-ip-iterator.ensures.into_iter_gives ∙ c.iter-ip-items.ensures.rest ∙ c.outcomes.ensures.value))
 
 pub loop-ip-preserved : goal.loop-ip-preserved
 loop-ip-preserved g c =

@@ -1,0 +1,113 @@
+//! One example.
+
+use he_replay::{ReplayFault, orders, replay};
+use std::alloc::AllocError;
+use std::{fs, io};
+use stream_fakes::{FakeReader, FakeWriter};
+
+// How many bytes a read gives at most.
+const STEPS: [usize; 3] = [1, 7, usize::MAX];
+
+const WORKERS: [u16; 3] = [1, 2, 7];
+
+/// How many runs there were, and how many of them came out otherwise than their files say.
+#[derive(Clone, Copy)]
+pub struct Counts {
+    pub ran: u64,
+    pub differ: u64,
+}
+
+impl Counts {
+    // Counts a run, and tells of it where it differs.
+    fn count(&mut self, rt: &HostRuntime, name: &str, what: &str, is_same: bool) -> io::Result<()> {
+        self.ran = self.ran.saturating_add(1);
+        if !is_same {
+            self.differ = self.differ.saturating_add(1);
+            println!(rt; "{name}: {what} differs")?;
+        }
+        Ok(())
+    }
+}
+
+/// Runs the example of this name, and counts its runs.
+///
+/// # Errors
+///
+/// A file of the example that cannot be read, a line that cannot be written, and want of memory.
+pub fn run_example(rt: &HostRuntime, name: &str, counts: &mut Counts) -> io::Result<()> {
+    let text = read_beside(rt, name, "timeline")?.unwrap_or(Vec::new(rt.alloc()));
+    let fault = read_beside(rt, name, "fault")?.unwrap_or(Vec::new(rt.alloc()));
+    let transcript = read_beside(rt, name, "transcript")?;
+    let order = read_beside(rt, name, "order")?;
+    if transcript.is_none() && order.is_none() {
+        counts.count(rt, name, "no transcript and no order: it", false)?;
+    }
+    if let Some(transcript) = transcript {
+        run_replay(rt, name, &text, &transcript, &fault, counts)?;
+    }
+    if let Some(order) = order {
+        run_orders(rt, name, &text, &order, &fault, counts)?;
+    }
+    Ok(())
+}
+
+fn run_replay(
+    rt: &HostRuntime,
+    name: &str,
+    text: &[u8],
+    wanted: &[u8],
+    fault: &[u8],
+    counts: &mut Counts,
+) -> io::Result<()> {
+    for step in STEPS {
+        for workers in WORKERS {
+            let mut reader = FakeReader::new(text, step);
+            let mut writer = FakeWriter::new(rt.alloc());
+            let ended = replay(rt, rt.alloc(), &mut reader, &mut writer, workers);
+            let is_same = writer.held() == wanted && tells(rt, ended, fault)?;
+            counts.count(rt, name, "replay", is_same)?;
+        }
+    }
+    Ok(())
+}
+
+fn run_orders(
+    rt: &HostRuntime,
+    name: &str,
+    text: &[u8],
+    wanted: &[u8],
+    fault: &[u8],
+    counts: &mut Counts,
+) -> io::Result<()> {
+    for step in STEPS {
+        let mut reader = FakeReader::new(text, step);
+        let mut writer = FakeWriter::new(rt.alloc());
+        let ended = orders(rt.alloc(), &mut reader, &mut writer);
+        let is_same = writer.held() == wanted && tells(rt, ended, fault)?;
+        counts.count(rt, name, "order", is_same)?;
+    }
+    Ok(())
+}
+
+// The bytes of a file beside the example, where it is there.
+fn read_beside(rt: &HostRuntime, name: &str, ending: &str) -> io::Result<Option<Vec<u8>>> {
+    let path = format!(in rt.alloc(); "{name}.{ending}")?;
+    match fs::read(rt, path.as_str()) {
+        Ok(bytes) => Ok(Some(bytes)),
+        Err(error) if error.kind() == io::ErrorKind::NotFound => Ok(None),
+        Err(error) => Err(error),
+    }
+}
+
+// Whether this line is printed for how a run ended; no line for one that ended well.
+fn tells(
+    rt: &HostRuntime,
+    ended: Result<(), ReplayFault>,
+    line: &[u8],
+) -> Result<bool, AllocError> {
+    let told = match ended {
+        Ok(()) => String::new(rt.alloc()),
+        Err(fault) => format!(in rt.alloc(); "he: {fault}\n")?,
+    };
+    Ok(told.as_bytes() == line)
+}

@@ -1,0 +1,36 @@
+//! Runs the worked examples of the folder in which it is started, and tells which of them come out otherwise.
+//!
+//! An example is a text of timelines, `NAME.timeline`. Beside it stand what `replay` writes for it, `NAME.transcript`,
+//! what `orders` writes, `NAME.order`, or both. `NAME.fault` is there where the text is faulty: the line that the
+//! program prints after either of the two. Each example is run in pieces of 1 byte, of 7 bytes and whole, and
+//! `replay` with 1, 2 and 7 workers. A line names each run that differs, and the last line says how many there were.
+//! Nothing is proved of this program but that it is safe and ends.
+#![tactic(auto)]
+
+mod example;
+
+use example::{Counts, run_example};
+use std::{fs, io};
+
+fn main(rt: HostRuntime) -> io::Result<()> {
+    let mut counts = Counts { ran: 0, differ: 0 };
+    let names = names(&rt)?;
+    for name in names.as_slice() {
+        run_example(&rt, name.as_str(), &mut counts)?;
+    }
+    let examples = names.len();
+    let Counts { ran, differ } = counts;
+    println!(rt; "{examples} examples: {ran} runs, {differ} differ")
+}
+
+// The names of the examples, in order.
+fn names(rt: &HostRuntime) -> io::Result<Vec<String>> {
+    let mut names = Vec::new(rt.alloc());
+    for entry in fs::read_dir(rt, ".")? {
+        if let Some(name) = entry?.file_name().strip_suffix(".timeline") {
+            names.push(name.to_string(rt.alloc())?)?;
+        }
+    }
+    names.sort()?;
+    Ok(names)
+}

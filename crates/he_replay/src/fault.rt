@@ -1,0 +1,41 @@
+//! Why a replay stopped.
+ghost use Rattle.std.specs.Prelude.{◌≡◌};
+ghost use Rattle.he_replay.specs.declared.fault.ReplayFault.TheVariants.{Memory, Write};
+
+use he_stream::WriteFault;
+use he_text::TextFault;
+use std::alloc::AllocError;
+use thiserror::Error;
+
+/// Why a replay stopped.
+#[derive(Clone, Copy, Debug, PartialEq, Eq, Error)]
+pub enum ReplayFault {
+    /// The input is no timeline text.
+    #[error(transparent)]
+    Text(TextFault),
+    /// A read failed, or the bound of reads was reached.
+    #[error("cannot read the input")]
+    Read,
+    /// A write or the flush failed.
+    #[error("cannot write the output")]
+    Write,
+    /// An allocation was refused.
+    #[error("out of memory")]
+    Memory,
+}
+
+impl From<AllocError> for ReplayFault {
+    ghost from_gives = { λ _ fault. fault ≡ Memory };
+
+    fn from(_error: AllocError) -> ReplayFault {
+        ReplayFault::Memory
+    }
+}
+
+impl From<WriteFault> for ReplayFault {
+    ghost from_gives = { λ _ fault. fault ≡ Write };
+
+    fn from(_fault: WriteFault) -> ReplayFault {
+        ReplayFault::Write
+    }
+}

@@ -1,0 +1,10 @@
+//! The limits of a replay.
+
+/// The fewest workers.
+pub const LEAST_WORKERS: u16 = 1;
+
+/// The most workers.
+pub const MOST_WORKERS: u16 = 64;
+
+/// The most races of a text.
+pub const MOST_RACES: usize = 1_024;

@@ -1,0 +1,41 @@
+//! Replaying the timelines of a reader to a writer.
+ghost use Rattle.std.specs.Prelude.{◌≡◌, ◌≤◌};
+ghost use Rattle.he_stream.specs.Input.{Gives};
+ghost use Rattle.he_stream.specs.Output.{PutsPart, PutsWhole};
+ghost use Rattle.he_replay.specs.Stream.{Replays};
+
+use crate::content::Content;
+use crate::fault::ReplayFault;
+use crate::limits::{LEAST_WORKERS, MOST_WORKERS};
+use crate::stream::stream;
+use he_stream::{InputStream, OutputStream};
+use std::alloc::Allocator;
+
+/// Reads timelines to the end of the reader and writes their transcripts, with so many workers.
+///
+/// After `Text` and `Read` all that the input before the fault asks for was written, after `Write` a
+/// first part of it, after `Memory` nothing. The writer is flushed at the end, after `Text` and
+/// `Read` too.
+///
+/// # Errors
+///
+/// - `Text` where the input is no timeline text.
+/// - `Read` where a read failed before a fault of the text was found, or the bound of reads was
+///   reached.
+/// - `Write` where a write or the flush failed, whatever the input was.
+/// - `Memory` where an allocation was refused.
+pub fn replay<T, A: Allocator + Copy, I: InputStream, O: OutputStream>(
+    rt: &T,
+    alloc: A,
+    input: &mut I,
+    output: &mut O,
+    workers: u16,
+) -> Result<(), ReplayFault>
+    requires some { LEAST_WORKERS ≤ workers }
+    requires few { workers ≤ MOST_WORKERS }
+    ensures { Replays (Gives I.remaining I.takes input.old input.new)
+        (PutsWhole O.contents O.puts O.flushes output.old output.new)
+        (PutsPart O.contents O.puts O.flushes output.old output.new) (output.new ≡ output.old) result }
+{
+    stream(alloc, input, output, Content::Transcript)
+}

@@ -1,0 +1,239 @@
+// Replays and orders of texts that break off, over readers and writers that fail.
+
+use he_replay::{ReplayFault, orders, replay};
+use he_select::PolicyFault;
+use he_stream::{FromReader, ToWriter};
+use he_text::{TextFault, TextKind};
+use std::alloc::{AllocError, Allocator, Global};
+use std::test::Fail;
+use stream_fakes::{FakeReader, FakeWriter};
+
+pub const TEXT: &[u8] = b"race 1
+source 2001:db8::2/64 1
+source 192.0.2.2/24 1
+route ::/0 1
+route 0.0.0.0/0 1
+aaaa 20 2001:db8:1::1
+a 25 198.51.100.1
+connect 2001:db8:1::1 ok 35
+end
+";
+
+pub const TRANSCRIPT: &[u8] = b"attempt 0 20 2001:db8:1::1 won 55\nwon 0 55\n";
+
+pub const ORDER: &[u8] = b"0 2001:db8:1::1 from 2001:db8::2\n1 198.51.100.1 from 192.0.2.2\nend\n";
+
+// Which call is made.
+#[derive(Clone, Copy)]
+pub enum Call {
+    Replay,
+    Orders,
+}
+
+impl Call {
+    // What is written for the text above.
+    pub fn output(self) -> &'static [u8] {
+        match self {
+            Call::Replay => TRANSCRIPT,
+            Call::Orders => ORDER,
+        }
+    }
+
+    pub fn run<T, A: Allocator + Copy>(
+        self,
+        rt: &T,
+        alloc: A,
+        input: &mut FromReader<FakeReader<'_>>,
+        output: &mut ToWriter<FakeWriter>,
+    ) -> Result<(), ReplayFault> {
+        match self {
+            Call::Replay => replay(rt, alloc, input, output, 4),
+            Call::Orders => orders(alloc, input, output),
+        }
+    }
+}
+
+// Whether the call over the reader and the writer answers this, has written this, and has flushed so often.
+fn is_right<T>(
+    rt: &T,
+    alloc: Global,
+    call: Call,
+    reader: FakeReader<'_>,
+    writer: FakeWriter,
+    wanted: (Result<(), ReplayFault>, &[u8], u64),
+) -> bool {
+    let mut input = FromReader::new(reader);
+    let mut output = ToWriter::new(writer);
+    let result = call.run(rt, alloc, &mut input, &mut output);
+    let writer = output.writer();
+    result == wanted.0 && writer.held() == wanted.1 && writer.flushes() == wanted.2
+}
+
+fn fault(line: u64, kind: TextKind) -> Result<(), ReplayFault> {
+    Err(ReplayFault::Text(TextFault { line, kind }))
+}
+
+// How many first parts of the text, the empty one and the whole left out, are unfinished where the input ends behind them, and
+// a failed read where it breaks there. Nothing is written of them.
+fn right_cuts<T>(rt: &T, alloc: Global, call: Call) -> usize {
+    let mut right: usize = 0;
+    for count in 1..TEXT.len() {
+        let cut = &TEXT[..count];
+        let ends = cut.iter().filter(|byte| **byte == b'\n').count() as u64;
+        let unfinished = fault(ends.saturating_add(1), TextKind::Unfinished);
+        let whole = FakeReader::new(cut, 7);
+        let broken = FakeReader::new(cut, 7).broken();
+        if !is_right(
+            rt,
+            alloc,
+            call,
+            whole,
+            FakeWriter::new(alloc),
+            (unfinished, b"", 1),
+        ) || !is_right(
+            rt,
+            alloc,
+            call,
+            broken,
+            FakeWriter::new(alloc),
+            (Err(ReplayFault::Read), b"", 1),
+        ) {
+            return right;
+        }
+        right = right.saturating_add(1);
+    }
+    right
+}
+
+// How many bytes the writer may take, fewer than all, so that exactly these are written.
+fn right_rooms<T>(rt: &T, alloc: Global, call: Call) -> usize {
+    let wanted = call.output();
+    let mut right: usize = 0;
+    for room in 0..wanted.len() {
+        let failing = FakeWriter::new(alloc).with_room(room);
+        let full = FakeWriter::new(alloc).with_room(room).taking_none();
+        let write = Err(ReplayFault::Write);
+        if !is_right(
+            rt,
+            alloc,
+            call,
+            FakeReader::new(TEXT, 64),
+            failing,
+            (write, &wanted[..room], 0),
+        ) || !is_right(
+            rt,
+            alloc,
+            call,
+            FakeReader::new(TEXT, 64),
+            full,
+            (write, &wanted[..room], 0),
+        ) {
+            return right;
+        }
+        right = right.saturating_add(1);
+    }
+    right
+}
+
+// The texts behind which the reader breaks, whether the text above stands before them, and what is answered.
+static BROKEN: [(bool, &[u8], Result<(), ReplayFault>); 6] = [
+    (false, b"", Err(ReplayFault::Read)),
+    (true, b"", Err(ReplayFault::Read)),
+    (false, b"race 1\n", Err(ReplayFault::Read)),
+    (
+        false,
+        b"race 1\npolicy ::ffff:0:0/96 35 4\na 010 none\n",
+        Err(ReplayFault::Text(TextFault {
+            line: 2,
+            kind: TextKind::Policy(PolicyFault::NoDefault),
+        })),
+    ),
+    (
+        true,
+        b"race 3\n",
+        Err(ReplayFault::Text(TextFault {
+            line: 10,
+            kind: TextKind::Header,
+        })),
+    ),
+    (
+        true,
+        b"race 1\na 010 none\n",
+        Err(ReplayFault::Text(TextFault {
+            line: 11,
+            kind: TextKind::Number,
+        })),
+    ),
+];
+
+// How many of these end as they must, and have the output of the text where it stands before them.
+fn right_breaks<T>(rt: &T, alloc: Global, call: Call) -> Result<usize, AllocError> {
+    let mut right: usize = 0;
+    for (is_behind, more, answer) in &BROKEN {
+        let mut text = Vec::new(alloc);
+        let mut wanted = b"".as_slice();
+        if *is_behind {
+            text.extend_from_slice(TEXT)?;
+            wanted = call.output();
+        }
+        text.extend_from_slice(more)?;
+        let reader = FakeReader::new(&text, 5).broken();
+        let writer = FakeWriter::new(alloc);
+        if !is_right(rt, alloc, call, reader, writer, (*answer, wanted, 1)) {
+            return Ok(right);
+        }
+        right = right.saturating_add(1);
+    }
+    Ok(right)
+}
+
+// A flush that fails, behind a whole output and behind the output before a fault; and a text in pieces, with interruptions.
+fn right_ends<T>(rt: &T, alloc: Global, call: Call) -> bool {
+    let wanted = call.output();
+    let failing = FakeWriter::new(alloc).failing_flush();
+    let failing_too = FakeWriter::new(alloc).failing_flush();
+    let slow = FakeWriter::new(alloc).with_step(3).interrupted_at(2);
+    let pieces = FakeReader::new(TEXT, 1).interrupted_at(9);
+    let write = Err(ReplayFault::Write);
+    is_right(
+        rt,
+        alloc,
+        call,
+        FakeReader::new(TEXT, 64),
+        failing,
+        (write, wanted, 0),
+    ) && is_right(
+        rt,
+        alloc,
+        call,
+        FakeReader::new(b"race 1\nend", 64),
+        failing_too,
+        (write, b"", 0),
+    ) && is_right(rt, alloc, call, pieces, slow, (Ok(()), wanted, 1))
+        && is_right(
+            rt,
+            alloc,
+            call,
+            FakeReader::new(b"", 1),
+            FakeWriter::new(alloc),
+            (Ok(()), b"", 1),
+        )
+}
+
+#[test]
+fn hostile_streams_are_told(rt: HostRuntime) -> Result<(), Fail> {
+    let alloc = rt.alloc();
+    for call in [Call::Replay, Call::Orders] {
+        let right = (
+            right_cuts(&rt, alloc, call),
+            right_rooms(&rt, alloc, call),
+            right_breaks(&rt, alloc, call)?,
+            right_ends(&rt, alloc, call),
+        );
+        assert_eq!(rt;
+            right,
+            (TEXT.len() - 1, call.output().len(), BROKEN.len(), true)
+        );
+    }
+    Ok(())
+}

@@ -1,0 +1,9 @@
+-- How many steps one call makes at most.
+use Rattle.std.specs.Prelude.{ℕ}
+
+abbrev pub most_reads : ℕ
+most_reads = 4294967296
+
+-- of steps that put bytes in, and of tries of one flush
+abbrev pub most_writes : ℕ
+most_writes = 4294967296
