@@ -1,6 +1,7 @@
 //! One example.
 
 use he_replay::{ReplayFault, orders, replay};
+use he_stream::{FromReader, ToWriter};
 use std::alloc::AllocError;
 use std::{fs, io};
 use stream_fakes::{FakeReader, FakeWriter};
@@ -61,10 +62,10 @@ fn run_replay(
 ) -> io::Result<()> {
     for step in STEPS {
         for workers in WORKERS {
-            let mut reader = FakeReader::new(text, step);
-            let mut writer = FakeWriter::new(rt.alloc());
-            let ended = replay(rt, rt.alloc(), &mut reader, &mut writer, workers);
-            let is_same = writer.held() == wanted && tells(rt, ended, fault)?;
+            let mut input = FromReader::new(FakeReader::new(text, step));
+            let mut output = ToWriter::new(FakeWriter::new(rt.alloc()));
+            let ended = replay(rt, rt.alloc(), &mut input, &mut output, workers);
+            let is_same = output.writer().held() == wanted && tells(rt, ended, fault)?;
             counts.count(rt, name, "replay", is_same)?;
         }
     }
@@ -80,10 +81,10 @@ fn run_orders(
     counts: &mut Counts,
 ) -> io::Result<()> {
     for step in STEPS {
-        let mut reader = FakeReader::new(text, step);
-        let mut writer = FakeWriter::new(rt.alloc());
-        let ended = orders(rt.alloc(), &mut reader, &mut writer);
-        let is_same = writer.held() == wanted && tells(rt, ended, fault)?;
+        let mut input = FromReader::new(FakeReader::new(text, step));
+        let mut output = ToWriter::new(FakeWriter::new(rt.alloc()));
+        let ended = orders(rt.alloc(), &mut input, &mut output);
+        let is_same = output.writer().held() == wanted && tells(rt, ended, fault)?;
         counts.count(rt, name, "order", is_same)?;
     }
     Ok(())
