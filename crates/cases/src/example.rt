@@ -24,7 +24,7 @@ impl Counts {
         self.ran = self.ran.saturating_add(1);
         if !is_same {
             self.differ = self.differ.saturating_add(1);
-            println!(rt; "{name}: {what} differs")?;
+            println!(rt; "{name}: {what}")?;
         }
         Ok(())
     }
@@ -41,7 +41,12 @@ pub fn run_example(rt: &HostRuntime, name: &str, counts: &mut Counts) -> io::Res
     let transcript = read_beside(rt, name, "transcript")?;
     let order = read_beside(rt, name, "order")?;
     if transcript.is_none() && order.is_none() {
-        counts.count(rt, name, "no transcript and no order: it", false)?;
+        counts.count(
+            rt,
+            name,
+            "no transcript and no order stand beside it",
+            false,
+        )?;
     }
     if let Some(transcript) = transcript {
         run_replay(rt, name, &text, &transcript, &fault, counts)?;
@@ -66,7 +71,7 @@ fn run_replay(
             let mut output = ToWriter::new(FakeWriter::new(rt.alloc()));
             let ended = replay(rt, rt.alloc(), &mut input, &mut output, workers);
             let is_same = output.writer().held() == wanted && tells(rt, ended, fault)?;
-            counts.count(rt, name, "replay", is_same)?;
+            counts.count(rt, name, "the transcript differs", is_same)?;
         }
     }
     Ok(())
@@ -85,7 +90,7 @@ fn run_orders(
         let mut output = ToWriter::new(FakeWriter::new(rt.alloc()));
         let ended = orders(rt.alloc(), &mut input, &mut output);
         let is_same = output.writer().held() == wanted && tells(rt, ended, fault)?;
-        counts.count(rt, name, "order", is_same)?;
+        counts.count(rt, name, "the order differs", is_same)?;
     }
     Ok(())
 }
