@@ -17,7 +17,7 @@ returns g c =
     c.write_line.result
     (order_written race c.policy-policy.result.now c.host-host.result.now c.deref.result.now c.deref-2.result.now
     c.args.out.now.items c.write_places.new.out.items
-    c.policy-policy.ensures c.host-host.ensures
+    c.policy-policy.ensures.value c.host-host.ensures.value
     (c.deref.ensures.value ∙ c.in_ok-usable.ensures.addresses)
     (c.deref-2.ensures.value ∙ c.in_ok-sorted.ensures.value)
     c.in_ok-write_places.ensures)

@@ -27,7 +27,7 @@ returns-then-is_end-clause-read g c =
     ∙ body_ends c.loop-race.lines.number c.loop-race.order c.in_ok-word.next c.loop-race.race c.take_told.new.race c.in_ok-word.word (lines_left c.loop-race.lines) (lines_of c.in_ok-line.rest.now) c.in_ok-line.line.now
     c.in_ok-line.ensures.parts c.in_ok-line.ensures.whole c.in_ok-word.ensures (search rules) in
     read
-    ∙ ap (λ (told : Race). Ok (told, lines_of c.in_ok-line.rest.now)) (sym c.finish.ensures)
+    ∙ ap (λ (told : Race). Ok (told, lines_of c.in_ok-line.rest.now)) (sym c.finish.ensures.value)
     ∙ ap (λ (rest : Bor (List ℕ)). Ok (c.finish.result, lines_of rest.now)) (sym c.pass.ensures.rest)
 
 pub loop-race-preserved : goal.loop-race-preserved
