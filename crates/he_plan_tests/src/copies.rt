@@ -3,7 +3,7 @@
 use crate::homes::{Home, V4_A, V6_A, V6_B, builder};
 use he_addr::{Family, Ip};
 use he_plan::limits::{MAX_ADDRESSES, MAX_PAUSES};
-use he_plan::{Outcome, Settings, Timeline};
+use he_plan::{BuildFault, Outcome, Settings, Timeline, TimelineBuilder};
 use he_select::{Host, Policy};
 use std::alloc::Global;
 use std::test::Fail;
@@ -65,20 +65,31 @@ fn addresses(alloc: Global, family: Family) -> Result<Vec<Ip>, Fail> {
     Ok(ips)
 }
 
-// A timeline at full size: answers with the most addresses, an outcome of each, and the most pauses.
-fn full(alloc: Global) -> Result<Timeline, Fail> {
-    let settings = Settings::new(40, 300, 2, 20_000)?;
-    let mut builder = builder(alloc, settings, Home::Usual)?;
-    for family in [Family::V6, Family::V4] {
-        let ips = addresses(alloc, family)?;
-        builder.answer(family, 20, &ips)?;
-        for ip in &ips {
-            builder.outcome(*ip, Outcome::Fail(7))?;
-        }
+// The family's answer with the most addresses, and an outcome of each.
+fn answer(alloc: Global, builder: &mut TimelineBuilder, family: Family) -> Result<(), Fail> {
+    let ips = addresses(alloc, family)?;
+    builder.answer(family, 20, &ips)?;
+    for ip in &ips {
+        builder.outcome(*ip, Outcome::Fail(7))?;
     }
+    Ok(())
+}
+
+// The most pauses.
+fn pause(builder: &mut TimelineBuilder) -> Result<(), BuildFault> {
     for number in 0..MAX_PAUSES as u64 {
         builder.pause(100 + 20 * number, 110 + 20 * number)?;
     }
+    Ok(())
+}
+
+// A timeline at full size.
+fn full(alloc: Global) -> Result<Timeline, Fail> {
+    let settings = Settings::new(40, 300, 2, 20_000)?;
+    let mut builder = builder(alloc, settings, Home::Usual)?;
+    answer(alloc, &mut builder, Family::V6)?;
+    answer(alloc, &mut builder, Family::V4)?;
+    pause(&mut builder)?;
     Ok(builder.finish())
 }
 

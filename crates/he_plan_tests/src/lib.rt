@@ -1,5 +1,5 @@
-//! Tests of `he_plan` that no file of races can hold: what each call of a builder answers, copies, lists worked out by
-//! hand, want of memory, and a second, plain computation of plans.
+//! Tests of `he_plan` that no file of races can hold: what each call of a builder answers, copies, interlaced lists,
+//! want of memory, and a second, plain computation of plans.
 #![tactic(auto)]
 
 #[cfg(test)]

@@ -1,11 +1,10 @@
-// Lists worked out by hand: interlaced ones, from the keys (in the family of the first address the member `i` has the
-// key `2 * max(0, i - count + 1)`, in the other one `j` has the key `2 * j + 1`), and a plan.
+// Interlaced lists, worked out by hand from the keys: in the family of the first address the member `i` has the key
+// `2 * max(0, i - count + 1)`, in the other one `j` has the key `2 * j + 1`.
 
-use crate::homes::{Home, V4_A, V4_B, V6_A, V6_B, V6_C, builder};
-use he_addr::{Family, Ip};
-use he_plan::{Attempt, Outcome, Settings, interlace, plan};
+use crate::homes::{V4_A, V4_B, V6_A, V6_B, V6_C};
+use he_addr::Ip;
+use he_plan::interlace;
 use std::alloc::Global;
-use std::test::Fail;
 
 // The addresses, the count and the interlaced list.
 static INTERLACED: [(&[Ip], u64, &[Ip]); 9] = [
@@ -59,22 +58,4 @@ fn interlaced_lists(rt: HostRuntime) {
     for (given, count, wanted) in &INTERLACED {
         assert!(rt; interlaces(rt.alloc(), given, *count, wanted));
     }
-}
-
-const fn attempt(place: usize, tick: u64, ip: Ip) -> Attempt {
-    Attempt { place, tick, ip }
-}
-
-// A success is taken as still running, so the next attempt stands in the plan.
-#[test]
-fn successes_still_run(rt: HostRuntime) -> Result<(), Fail> {
-    let settings = Settings::new(50, 250, 1, 30_000)?;
-    let mut builder = builder(rt.alloc(), settings, Home::Usual)?;
-    builder.answer(Family::V6, 20, &[V6_A])?;
-    builder.answer(Family::V4, 25, &[V4_A])?;
-    builder.outcome(V6_A, Outcome::Ok(35))?;
-    let plan = plan(rt.alloc(), &builder.finish())?;
-    let wanted = [attempt(0, 20, V6_A), attempt(1, 270, V4_A)];
-    assert_eq!(rt; plan.attempts(), wanted.as_slice());
-    Ok(())
 }

@@ -101,20 +101,31 @@ fn is_well<A: Allocator + Copy>(
     Ok(is_told(alloc, &timeline, transcript)?)
 }
 
+fn is_well_at<'h>(
+    heap: &'h Refusing,
+    nth: u64,
+    wanted: &Timeline<&'h Refusing>,
+    transcript: &Transcript<&'h Refusing>,
+) -> Result<bool, Fail> {
+    heap.refuse(0);
+    let builder = begun(heap)?;
+    heap.refuse(nth);
+    is_well(heap, builder, wanted, transcript)
+}
+
 // How many growths were refused one after the other, with all well each time.
-fn refused_in_turn(heap: &Refusing) -> Result<u64, Fail> {
-    let wanted = built(begun(heap)?)?;
-    let transcript = transcript_of(heap, &wanted)?;
+fn refused_in_turn<'h>(
+    heap: &'h Refusing,
+    wanted: &Timeline<&'h Refusing>,
+    transcript: &Transcript<&'h Refusing>,
+) -> Result<u64, Fail> {
     for nth in 1..=MOST_RUNS {
-        let builder = begun(heap)?;
-        heap.refuse(nth);
-        if !is_well(heap, builder, &wanted, &transcript)? {
+        if !is_well_at(heap, nth, wanted, transcript)? {
             return Ok(0);
         }
         if !heap.has_refused() {
             return Ok(nth - 1);
         }
-        heap.refuse(0);
     }
     Ok(0)
 }
@@ -122,7 +133,9 @@ fn refused_in_turn(heap: &Refusing) -> Result<u64, Fail> {
 #[test]
 fn refused_growths(rt: HostRuntime) -> Result<(), Fail> {
     let heap = Refusing::new(rt.alloc());
-    let refused = refused_in_turn(&heap)?;
+    let wanted = built(begun(&heap)?)?;
+    let transcript = transcript_of(&heap, &wanted)?;
+    let refused = refused_in_turn(&heap, &wanted, &transcript)?;
     assert!(rt; refused > 0);
     Ok(())
 }
