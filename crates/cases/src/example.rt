@@ -1,6 +1,7 @@
 //! One example.
 
 use he_replay::{ReplayFault, orders, replay};
+use he_stream::{FromReader, ToWriter};
 use std::alloc::AllocError;
 use std::{fs, io};
 use stream_fakes::{FakeReader, FakeWriter};
@@ -23,7 +24,7 @@ impl Counts {
         self.ran = self.ran.saturating_add(1);
         if !is_same {
             self.differ = self.differ.saturating_add(1);
-            println!(rt; "{name}: {what} differs")?;
+            println!(rt; "{name}: {what}")?;
         }
         Ok(())
     }
@@ -40,7 +41,12 @@ pub fn run_example(rt: &HostRuntime, name: &str, counts: &mut Counts) -> io::Res
     let transcript = read_beside(rt, name, "transcript")?;
     let order = read_beside(rt, name, "order")?;
     if transcript.is_none() && order.is_none() {
-        counts.count(rt, name, "no transcript and no order: it", false)?;
+        counts.count(
+            rt,
+            name,
+            "no transcript and no order stand beside it",
+            false,
+        )?;
     }
     if let Some(transcript) = transcript {
         run_replay(rt, name, &text, &transcript, &fault, counts)?;
@@ -61,11 +67,11 @@ fn run_replay(
 ) -> io::Result<()> {
     for step in STEPS {
         for workers in WORKERS {
-            let mut reader = FakeReader::new(text, step);
-            let mut writer = FakeWriter::new(rt.alloc());
-            let ended = replay(rt, rt.alloc(), &mut reader, &mut writer, workers);
-            let is_same = writer.held() == wanted && tells(rt, ended, fault)?;
-            counts.count(rt, name, "replay", is_same)?;
+            let mut input = FromReader::new(FakeReader::new(text, step));
+            let mut output = ToWriter::new(FakeWriter::new(rt.alloc()));
+            let ended = replay(rt, rt.alloc(), &mut input, &mut output, workers);
+            let is_same = output.writer().held() == wanted && tells(rt, ended, fault)?;
+            counts.count(rt, name, "the transcript differs", is_same)?;
         }
     }
     Ok(())
@@ -80,11 +86,11 @@ fn run_orders(
     counts: &mut Counts,
 ) -> io::Result<()> {
     for step in STEPS {
-        let mut reader = FakeReader::new(text, step);
-        let mut writer = FakeWriter::new(rt.alloc());
-        let ended = orders(rt.alloc(), &mut reader, &mut writer);
-        let is_same = writer.held() == wanted && tells(rt, ended, fault)?;
-        counts.count(rt, name, "order", is_same)?;
+        let mut input = FromReader::new(FakeReader::new(text, step));
+        let mut output = ToWriter::new(FakeWriter::new(rt.alloc()));
+        let ended = orders(rt.alloc(), &mut input, &mut output);
+        let is_same = output.writer().held() == wanted && tells(rt, ended, fault)?;
+        counts.count(rt, name, "the order differs", is_same)?;
     }
     Ok(())
 }

@@ -14,7 +14,7 @@ use Rattle.he_addr.specs.declared.ip.Ip.{Ip}
 use Rattle.he_addr.specs.declared.ip.Ip.TheVariants.{V4, V6}
 use Rattle.he_plan.specs.Attempts.{order}
 use Rattle.he_plan.specs.Interlacing.{alternate, interlace_by, interlace}
-use Rattle.he_plan.specs.Planning.{part_of, parts_of, order_of}
+use Rattle.he_plan.specs.Planning.{part_of, parts_of, interlaced_list}
 use Rattle.he_plan.specs.Race.{Race, Reply, has_ip}
 use Rattle.he_plan.specs.Timeline.{IsRace, is_of, are_of, are_distinct, is_answer}
 use Rattle.he_plan.proofs.Bools.{and_left, and_right, or_left_none, or_right_none}
@@ -83,7 +83,7 @@ count-interlace p [] count = refl
 count-interlace p (first ∷ ips) count = count-interlace_by p (family_of first) (first ∷ ips) count
 
 -- what the order of the addresses keeps, by the members alone
-pub count-order : (p : Ip → Bool) (race : Race) (v6 v4 : Bool) → IsPermutation (parts_of race v6 v4) (order race (parts_of race v6 v4)) → count_by p (order_of race v6 v4) ≡ count_by p (parts_of race v6 v4)
+pub count-order : (p : Ip → Bool) (race : Race) (v6 v4 : Bool) → IsPermutation (parts_of race v6 v4) (order race (parts_of race v6 v4)) → count_by p (interlaced_list race v6 v4) ≡ count_by p (parts_of race v6 v4)
 count-order p race v6 v4 members =
     count-interlace p (order race (parts_of race v6 v4)) race.settings.count
     ∙ sum_by-IsPermutation (λ (x : Ip). cond (p x) 1 0) (parts_of race v6 v4) (order race (parts_of race v6 v4)) members
@@ -121,15 +121,15 @@ none_of family p (x ∷ ips) not h =
 answer_of : (family : Family) (reply : Reply) → is_answer family (Some reply) ≡ true → are_of family reply.addresses ≡ true
 answer_of family reply h = and_right _ _ (and_left _ _ h)
 
-pub part_none : (family : Family) (p : Ip → Bool) (counts : Bool) (reply : Option Reply) → ((ip : Ip) → is_of family ip ≡ true → p ip ≡ false) → is_answer family reply ≡ true → count_by p (part_of counts reply) ≡ 0
-part_none family p counts None not h = refl
+pub part_none : (family : Family) (p : Ip → Bool) (included : Bool) (reply : Option Reply) → ((ip : Ip) → is_of family ip ≡ true → p ip ≡ false) → is_answer family reply ≡ true → count_by p (part_of included reply) ≡ 0
+part_none family p included None not h = refl
 part_none family p true (Some reply) not h =
     let none : count_by p reply.addresses ≡ 0 = count_none p reply.addresses (none_of family p reply.addresses not (answer_of family reply h)) in
     omega (arith, count-filter p is_usable reply.addresses)
 part_none family p false (Some reply) not h = refl
 
-part_once : (family : Family) (counts : Bool) (reply : Option Reply) (ip : Ip) → is_answer family reply ≡ true → count_by (same_ip ip) (part_of counts reply) ≤ 1
-part_once family counts None ip h = omega arith
+part_once : (family : Family) (included : Bool) (reply : Option Reply) (ip : Ip) → is_answer family reply ≡ true → count_by (same_ip ip) (part_of included reply) ≤ 1
+part_once family included None ip h = omega arith
 part_once family true (Some reply) ip h =
     omega (arith, count-filter (same_ip ip) is_usable reply.addresses, distinct_once reply.addresses (and_right _ _ h) ip)
 part_once family false (Some reply) ip h = omega arith
@@ -148,7 +148,7 @@ parts_once race r v6 v4 (V4 n) =
 parts_once race r v6 v4 (V6 n) =
     omega (arith, count-append (same_ip (V6 n)) (part_of v6 race.aaaa) (part_of v4 race.a), part_none families.V4 (same_ip (V6 n)) v4 race.a (not_v6 n) r.a, part_once families.V6 v6 race.aaaa (V6 n) r.aaaa)
 
-pub order_once : (race : Race) → IsRace race → (v6 v4 : Bool) → IsPermutation (parts_of race v6 v4) (order race (parts_of race v6 v4)) → (ip : Ip) → count_by (same_ip ip) (order_of race v6 v4) ≤ 1
+pub order_once : (race : Race) → IsRace race → (v6 v4 : Bool) → IsPermutation (parts_of race v6 v4) (order race (parts_of race v6 v4)) → (ip : Ip) → count_by (same_ip ip) (interlaced_list race v6 v4) ≤ 1
 order_once race r v6 v4 members ip = omega (arith, count-order (same_ip ip) race v6 v4 members, parts_once race r v6 v4 ip)
 
 v4_alone : (ip : Ip) → is_of families.V4 ip ≡ true → is_of families.V6 ip ≡ false
@@ -163,10 +163,10 @@ none_counts : (p : Ip → Bool) (reply : Option Reply) → count_by p (part_of f
 none_counts p None = refl
 none_counts p (Some reply) = refl
 
-pub no_v6 : (race : Race) → IsRace race → (v4 : Bool) → IsPermutation (parts_of race false v4) (order race (parts_of race false v4)) → count_by (is_of families.V6) (order_of race false v4) ≡ 0
+pub no_v6 : (race : Race) → IsRace race → (v4 : Bool) → IsPermutation (parts_of race false v4) (order race (parts_of race false v4)) → count_by (is_of families.V6) (interlaced_list race false v4) ≡ 0
 no_v6 race r v4 members =
     omega (arith, count-order (is_of families.V6) race false v4 members, count-append (is_of families.V6) (part_of false race.aaaa) (part_of v4 race.a), none_counts (is_of families.V6) race.aaaa, part_none families.V4 (is_of families.V6) v4 race.a v4_alone r.a)
 
-pub no_v4 : (race : Race) → IsRace race → (v6 : Bool) → IsPermutation (parts_of race v6 false) (order race (parts_of race v6 false)) → count_by (is_of families.V4) (order_of race v6 false) ≡ 0
+pub no_v4 : (race : Race) → IsRace race → (v6 : Bool) → IsPermutation (parts_of race v6 false) (order race (parts_of race v6 false)) → count_by (is_of families.V4) (interlaced_list race v6 false) ≡ 0
 no_v4 race r v6 members =
     omega (arith, count-order (is_of families.V4) race v6 false members, count-append (is_of families.V4) (part_of v6 race.aaaa) (part_of false race.a), none_counts (is_of families.V4) race.a, part_none families.V6 (is_of families.V4) v6 race.aaaa v6_alone r.aaaa)

@@ -9,7 +9,7 @@ use Rattle.he_plan.specs.declared.outcome.Outcome.TheVariants as outcomes
 use Rattle.he_plan.specs.Attempts.{IsFree, IsLeast, IsSeen, MayBegin, MayFollow, MayStart, is_untried, last_of, order_at, seen}
 use Rattle.he_plan.specs.Due.{IsAfterTurn, IsAnswerDue, IsDelayDue, IsDue, IsDueTick, IsTaken, IsWaiting}
 use Rattle.he_plan.specs.Finish.{fate_by, fate_of, outcome_of}
-use Rattle.he_plan.specs.Planning.{positive_tick, start_after, start_tick, v4_tick, waiting_tick}
+use Rattle.he_plan.specs.Planning.{positive_tick, start_after, start_tick, a_begin_tick, waiting_tick}
 use Rattle.he_plan.specs.Race.{Race, Reply}
 use Rattle.he_plan.specs.Timeline.{IsRace}
 use Rattle.he_plan.proofs.Agreeing.{order-shared, starts-shared}
@@ -110,17 +110,17 @@ due_positive race turn done t rested (Some reply) here answer h =
 due_a : (race : Race) (turn : Option ℕ) (done : List Attempt) (t : ℕ) → done ≡ [] → IfSome turn (λ n. ¬ Reaches (start_tick race done) n) → ((n : ℕ) → Reaches (a_tick race.settings.resolution race.aaaa race.a) n → Reaches (start_tick race done) n) → (aaaa a : Option Reply) → race.aaaa ≡ aaaa → race.a ≡ a → Reaches (a_tick race.settings.resolution aaaa a) t → IsDueBy race turn done t
 due_a race turn done t none rested here aaaa None six four h = absurd h
 due_a race turn done t none rested here aaaa (Some r) six four h =
-    let k : (list_any is_usable r.addresses ≡ true) × (v4_tick race.settings.resolution aaaa r.tick ≤ t) = a_from (list_any is_usable r.addresses) race.settings.resolution r.tick t aaaa h in
+    let k : (list_any is_usable r.addresses ≡ true) × (a_begin_tick race.settings.resolution aaaa r.tick ≤ t) = a_from (list_any is_usable r.addresses) race.settings.resolution r.tick t aaaa h in
     elim (taken_or_not turn r) [
       | inl taken ↦ by_aaaa aaaa six k.0 taken k.1
       | inr not ↦ (r.tick, inr (inl (rw four (not, refl))), after aaaa k.1)
     ]
   where
-    after : (aaaa : Option Reply) → v4_tick race.settings.resolution aaaa r.tick ≤ t → r.tick ≤ t
+    after : (aaaa : Option Reply) → a_begin_tick race.settings.resolution aaaa r.tick ≤ t → r.tick ≤ t
     after None h = omega arith
     after (Some s) h = omega arith
 
-    reached : (n : ℕ) (aaaa : Option Reply) → race.aaaa ≡ aaaa → list_any is_usable r.addresses ≡ true → v4_tick race.settings.resolution aaaa r.tick ≤ n → Reaches (start_tick race done) n
+    reached : (n : ℕ) (aaaa : Option Reply) → race.aaaa ≡ aaaa → list_any is_usable r.addresses ≡ true → a_begin_tick race.settings.resolution aaaa r.tick ≤ n → Reaches (start_tick race done) n
     reached n aaaa six some early = here n (rw (six, four) (a_if (list_any is_usable r.addresses) race.settings.resolution r.tick n aaaa some early))
 
     refute : (turn : Option ℕ) (s : Reply) → IfSome turn (λ n. ¬ Reaches (start_tick race done) n) → race.aaaa ≡ Some s → list_any is_usable r.addresses ≡ true → IsTaken turn r → IsTaken turn s → ⊥
@@ -133,7 +133,7 @@ due_a race turn done t none rested here aaaa (Some r) six four h =
     delay : (aaaa : Option Reply) → race.aaaa ≡ aaaa → ¬ IsSomeAnd aaaa (IsTaken turn) → list_any is_usable r.addresses ≡ true → IsTaken turn r → IsDelayDue race turn done (r.tick + race.settings.resolution)
     delay aaaa six not some taken = record { none = none; aaaa = rw six not; a = rw four (some, taken, refl) }
 
-    by_aaaa : (aaaa : Option Reply) → race.aaaa ≡ aaaa → list_any is_usable r.addresses ≡ true → IsTaken turn r → v4_tick race.settings.resolution aaaa r.tick ≤ t → IsDueBy race turn done t
+    by_aaaa : (aaaa : Option Reply) → race.aaaa ≡ aaaa → list_any is_usable r.addresses ≡ true → IsTaken turn r → a_begin_tick race.settings.resolution aaaa r.tick ≤ t → IsDueBy race turn done t
     by_aaaa None six some taken early = (r.tick + race.settings.resolution, inr (inr (inl (delay None six (λ h. h) some taken))), early)
     by_aaaa (Some s) six some taken early = elim (taken_or_not turn s) [
       | inl also ↦ absurd (refute turn s rested six some taken also)

@@ -44,8 +44,8 @@ all_untried family done (ip ∷ ips) none of =
     and_true true b = refl
     and_true false b = refl
 
--- where no address that counts is untried, only an answer that does not count is waited for
-late_is : (family : Family) (counts : Bool) (reply : Option Reply) (done : List Attempt) (from : ℕ) → is_answer family reply ≡ true → IsOwn family counts done → list_any (is_untried done) (part_of counts reply) ≡ false → late_tick counts from reply ≡ waiting_tick done from reply
+-- where no included address is untried, only an answer that is not included is waited for
+late_is : (family : Family) (included : Bool) (reply : Option Reply) (done : List Attempt) (from : ℕ) → is_answer family reply ≡ true → IsOwn family included done → list_any (is_untried done) (part_of included reply) ≡ false → late_tick included from reply ≡ waiting_tick done from reply
 late_is family true None done from answer own none = refl
 late_is family false None done from answer own none = refl
 late_is family true (Some reply) done from answer own none =
@@ -59,9 +59,9 @@ late_is family false (Some reply) done from answer own none =
     late_by true = refl
     late_by false = refl
 
--- an address that counts and is untried waits for the delay alone
-delay_is : (race : Race) → IsRace race → (done : List Attempt) (last : Attempt) (from : ℕ) (counts : Bool) (reply : Option Reply) → last.tick ≤ from → counts ≡ is_received race last.tick reply → list_any (is_untried done) (part_of counts reply) ≡ true → waiting_tick done from reply ≡ Some from
-delay_is race r done last from counts None after is some = cc
+-- an included address that is untried waits for the delay alone
+delay_is : (race : Race) → IsRace race → (done : List Attempt) (last : Attempt) (from : ℕ) (included : Bool) (reply : Option Reply) → last.tick ≤ from → included ≡ is_received race last.tick reply → list_any (is_untried done) (part_of included reply) ≡ true → waiting_tick done from reply ≡ Some from
+delay_is race r done last from included None after is some = cc
 delay_is race r done last from false (Some reply) after is some = cc
 delay_is race r done last from true (Some reply) after is some =
     let s : IsSeen race reply.tick (seen race reply.tick) = IsSeen-seen race r reply.tick in

@@ -13,7 +13,7 @@ use Rattle.he_addr.specs.declared.ip.Ip.{Ip}
 use Rattle.he_plan.specs.declared.attempts.Attempt.{Attempt}
 use Rattle.he_plan.specs.Attempts.{MayStart, is_tried, is_untried, last_of, order, order_at, received, received_of, seen}
 use Rattle.he_plan.specs.Interlacing.{interlace}
-use Rattle.he_plan.specs.Planning.{IsLater, IsOwn, IsRest, IsQueue, IsAtNext, is_received, was_received, part_of, parts_of, order_of}
+use Rattle.he_plan.specs.Planning.{IsLater, IsOwn, IsRest, IsQueue, IsAtNext, is_received, was_received, part_of, parts_of, interlaced_list}
 use Rattle.he_plan.specs.Race.{Race, Reply}
 use Rattle.he_plan.specs.Timeline.{IsRace, is_of}
 use Rattle.he_plan.proofs.Bools.{and_both, le_test, le_from, or_none, or_left_none, or_right_none, clash}
@@ -29,8 +29,8 @@ filter-usable (ip ∷ ips) = kept (is_usable ip) refl (filter-usable ips)
     kept true e rest = and_both _ _ e rest
     kept false e rest = rest
 
-part-usable : (counts : Bool) (reply : Option Reply) → list_all is_usable (part_of counts reply) ≡ true
-part-usable counts None = refl
+part-usable : (included : Bool) (reply : Option Reply) → list_all is_usable (part_of included reply) ≡ true
+part-usable included None = refl
 part-usable true (Some reply) = filter-usable reply.addresses
 part-usable false (Some reply) = refl
 
@@ -50,7 +50,7 @@ received_is race t v6 v4 six four =
     ap (λ xs. f xs (received_of race t race.a)) (part_is race t race.aaaa ∙ ap (λ b. part_of b race.aaaa) (sym six))
     ∙ ap (f (part_of v6 race.aaaa)) (part_is race t race.a ∙ ap (λ b. part_of b race.a) (sym four))
 
-order_is : (race : Race) (t : ℕ) (v6 v4 : Bool) → v6 ≡ is_received race t race.aaaa → v4 ≡ is_received race t race.a → order_at race t ≡ order_of race v6 v4
+order_is : (race : Race) (t : ℕ) (v6 v4 : Bool) → v6 ≡ is_received race t race.aaaa → v4 ≡ is_received race t race.a → order_at race t ≡ interlaced_list race v6 v4
 order_is race t v6 v4 six four = ap (λ ips. interlace (order race ips) race.settings.count) (received_is race t v6 v4 six four)
 
 -- an address passes where some do
@@ -71,7 +71,7 @@ counts_any p xs some = counts_by (count_by p xs) refl
 -- as many addresses are left as are untried
 pub left_is : (race : Race) (done : List Attempt) (v6 v4 : Bool) (ips : List Ip) (next : ℕ) → IsRest race done v6 v4 ips next → length ips - next ≡ count_by (is_untried done) (parts_of race v6 v4)
 left_is race done v6 v4 ips next q =
-    sym (length-drop next ips) ∙ ap length q.rest ∙ length-filter (is_untried done) (order_of race v6 v4) ∙ count-order (is_untried done) race v6 v4 q.members
+    sym (length-drop next ips) ∙ ap length q.rest ∙ length-filter (is_untried done) (interlaced_list race v6 v4) ∙ count-order (is_untried done) race v6 v4 q.members
 
 find_first : (p : Ip → Bool) (xs : List Ip) (y : Ip) (ys : List Ip) → filter p xs ≡ y ∷ ys → find p xs ≡ Some y
 find_first p [] y ys h = cc
@@ -95,7 +95,7 @@ at_next race done t v6 v4 ips next may six four rest =
       six = six;
       four = four;
       below = below;
-      first = λ d. ap (find (is_untried done)) (order_is race t v6 v4 six four) ∙ find_first (is_untried done) (order_of race v6 v4) (get_or ips next d) (drop (next + 1) ips) (split_at ips (filter (is_untried done) (order_of race v6 v4)) next d below rest.rest);
+      first = λ d. ap (find (is_untried done)) (order_is race t v6 v4 six four) ∙ find_first (is_untried done) (interlaced_list race v6 v4) (get_or ips next d) (drop (next + 1) ips) (split_at ips (filter (is_untried done) (interlaced_list race v6 v4)) next d below rest.rest);
     }
 
 stays_by : (race : Race) (last : Option Attempt) (t : ℕ) (reply : Option Reply) → IfSome last (λ x. x.tick < t) → was_received race last reply ≡ true → is_received race t reply ≡ true
@@ -116,7 +116,7 @@ own_still : (family : Family) (done : List Attempt) (old new now : Bool) → new
 own_still family done old new now is own none = own (or_left_none old now (sym is ∙ none))
 
 -- the queue made anew
-pub rest_anew : (race : Race) (done : List Attempt) (old6 old4 six four v6 v4 : Bool) (old ips : List Ip) (next : ℕ) → IsRest race done old6 old4 old next → v6 ≡ (old6 || six) → v4 ≡ (old4 || four) → IsPermutation (parts_of race v6 v4) (order race (parts_of race v6 v4)) → ips ≡ filter (is_untried done) (order_of race v6 v4) → IsRest race done v6 v4 ips 0
+pub rest_anew : (race : Race) (done : List Attempt) (old6 old4 six four v6 v4 : Bool) (old ips : List Ip) (next : ℕ) → IsRest race done old6 old4 old next → v6 ≡ (old6 || six) → v4 ≡ (old4 || four) → IsPermutation (parts_of race v6 v4) (order race (parts_of race v6 v4)) → ips ≡ filter (is_untried done) (interlaced_list race v6 v4) → IsRest race done v6 v4 ips 0
 rest_anew race done old6 old4 six four v6 v4 old ips next q is6 is4 members is = record {
   members = members;
   own_six = own_still families.V6 done old6 v6 six is6 q.own_six;
@@ -197,30 +197,30 @@ first_not p q all rest x is none =
     let few : count_by p (x ∷ rest) ≤ count_by p all = subst (λ (xs : List Ip). count_by p xs ≤ count_by p all) is (count-filter p q all) in
     or_left_none (p x) (list_any p rest) (none_counted p (x ∷ rest) (omega arith))
 
-own_more : (family : Family) (counts : Bool) (done : List Attempt) (x : Attempt) → IsOwn family counts done → (counts ≡ false → is_of family x.ip ≡ false) → IsOwn family counts (done ++ x ∷ [])
-own_more family counts done x own not none =
+own_more : (family : Family) (included : Bool) (done : List Attempt) (x : Attempt) → IsOwn family included done → (included ≡ false → is_of family x.ip ≡ false) → IsOwn family included (done ++ x ∷ [])
+own_more family included done x own not none =
     list_any-append (λ (y : Attempt). is_of family y.ip) done (x ∷ []) ∙ or_none _ _ (own none) (or_none _ _ (not none) refl)
 
 -- the queue after one more attempt, which starts at t at the address that the queue is at
 pub IsQueue-more : (race : Race) → IsRace race → (done : List Attempt) (x : Attempt) (v6 v4 : Bool) (ips : List Ip) (next : ℕ) (d : Ip) → IsAtNext race done x.tick v6 v4 ips next → x.ip ≡ get_or ips next d → IsQueue race (done ++ x ∷ []) v6 v4 ips (next + 1)
 IsQueue-more race r done x v6 v4 ips next d q ip =
-    let is : filter (is_untried done) (order_of race v6 v4) ≡ x.ip ∷ drop (next + 1) ips = split_at ips (filter (is_untried done) (order_of race v6 v4)) next d q.below q.rest.rest ∙ ap (λ y. y ∷ drop (next + 1) ips) (sym ip) in
+    let is : filter (is_untried done) (interlaced_list race v6 v4) ≡ x.ip ∷ drop (next + 1) ips = split_at ips (filter (is_untried done) (interlaced_list race v6 v4)) next d q.below q.rest.rest ∙ ap (λ y. y ∷ drop (next + 1) ips) (sym ip) in
     let last : last_of (done ++ x ∷ []) ≡ Some x = last_of-more done x in
     record {
       rest = record {
         members = q.rest.members;
-        own_six = own_more families.V6 v6 done x q.rest.own_six (λ e. first_not (is_of families.V6) (is_untried done) (order_of race v6 v4) (drop (next + 1) ips) x.ip is (none_v6 v6 e q.rest.members));
-        own_four = own_more families.V4 v4 done x q.rest.own_four (λ e. first_not (is_of families.V4) (is_untried done) (order_of race v6 v4) (drop (next + 1) ips) x.ip is (none_v4 v4 e q.rest.members));
-        rest = rest_more done x (order_of race v6 v4) (drop (next + 1) ips) is (order_once race r v6 v4 q.rest.members x.ip);
+        own_six = own_more families.V6 v6 done x q.rest.own_six (λ e. first_not (is_of families.V6) (is_untried done) (interlaced_list race v6 v4) (drop (next + 1) ips) x.ip is (none_v6 v6 e q.rest.members));
+        own_four = own_more families.V4 v4 done x q.rest.own_four (λ e. first_not (is_of families.V4) (is_untried done) (interlaced_list race v6 v4) (drop (next + 1) ips) x.ip is (none_v4 v4 e q.rest.members));
+        rest = rest_more done x (interlaced_list race v6 v4) (drop (next + 1) ips) is (order_once race r v6 v4 q.rest.members x.ip);
       };
       six = q.six ∙ ap (λ o. was_received race o race.aaaa) (sym last);
       four = q.four ∙ ap (λ o. was_received race o race.a) (sym last);
     }
   where
-    none_v6 : (b : Bool) → b ≡ false → IsPermutation (parts_of race b v4) (order race (parts_of race b v4)) → count_by (is_of families.V6) (order_of race b v4) ≡ 0
+    none_v6 : (b : Bool) → b ≡ false → IsPermutation (parts_of race b v4) (order race (parts_of race b v4)) → count_by (is_of families.V6) (interlaced_list race b v4) ≡ 0
     none_v6 true e members = cc
     none_v6 false e members = no_v6 race r v4 members
 
-    none_v4 : (b : Bool) → b ≡ false → IsPermutation (parts_of race v6 b) (order race (parts_of race v6 b)) → count_by (is_of families.V4) (order_of race v6 b) ≡ 0
+    none_v4 : (b : Bool) → b ≡ false → IsPermutation (parts_of race v6 b) (order race (parts_of race v6 b)) → count_by (is_of families.V4) (interlaced_list race v6 b) ≡ 0
     none_v4 true e members = cc
     none_v4 false e members = no_v4 race r v6 members

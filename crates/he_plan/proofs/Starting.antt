@@ -8,7 +8,7 @@ use Rattle.he_addr.specs.declared.ip.Ip.{Ip}
 use Rattle.he_addr.specs.Ip.{is_usable}
 use Rattle.he_plan.specs.declared.attempts.Attempt.{Attempt}
 use Rattle.he_plan.specs.Attempts.{IsLeast, IsFree, IsSeen, seen, received_of, IsAnswered, IsPositive, MayBegin, MayFollow, MayStart, is_untried, last_of}
-use Rattle.he_plan.specs.Planning.{earlier, positive_tick, v4_tick, waiting_tick, follow_tick, start_after, start_tick}
+use Rattle.he_plan.specs.Planning.{earlier, positive_tick, a_begin_tick, waiting_tick, follow_tick, start_after, start_tick}
 use Rattle.he_plan.specs.Race.{Race, Reply}
 use Rattle.he_plan.specs.Timeline.{IsRace}
 use Rattle.he_plan.proofs.Bools.{le_test, le_from, or_one, or_left, or_right}
@@ -73,25 +73,25 @@ BeginsOn race t aaaa a = IsPositive race t aaaa ⊎ (IsPositive race t a × (IsA
 
 -- the tick from which the A answer begins the race
 abbrev pub a_tick : ℕ → Option Reply → Option Reply → Option ℕ
-a_tick resolution aaaa a = option_map (v4_tick resolution aaaa) (positive_tick a)
+a_tick resolution aaaa a = option_map (a_begin_tick resolution aaaa) (positive_tick a)
 
-pub a_if : (b : Bool) (resolution x t : ℕ) (aaaa : Option Reply) → b ≡ true → v4_tick resolution aaaa x ≤ t → Reaches (option_map (v4_tick resolution aaaa) (if b then Some x else None)) t
+pub a_if : (b : Bool) (resolution x t : ℕ) (aaaa : Option Reply) → b ≡ true → a_begin_tick resolution aaaa x ≤ t → Reaches (option_map (a_begin_tick resolution aaaa) (if b then Some x else None)) t
 a_if true resolution x t aaaa e h = h
 a_if false resolution x t aaaa e h = cc
 
-pub a_from : (b : Bool) (resolution x t : ℕ) (aaaa : Option Reply) → Reaches (option_map (v4_tick resolution aaaa) (if b then Some x else None)) t → (b ≡ true) × (v4_tick resolution aaaa x ≤ t)
+pub a_from : (b : Bool) (resolution x t : ℕ) (aaaa : Option Reply) → Reaches (option_map (a_begin_tick resolution aaaa) (if b then Some x else None)) t → (b ≡ true) × (a_begin_tick resolution aaaa x ≤ t)
 a_from true resolution x t aaaa h = (refl, h)
 a_from false resolution x t aaaa h = absurd h
 
-v4_answered : (race : Race) (t : ℕ) → SeesOwn race t → (aaaa : Option Reply) (x : ℕ) → x ≤ t → IsAnswered race t aaaa → v4_tick race.settings.resolution aaaa x ≤ t
+v4_answered : (race : Race) (t : ℕ) → SeesOwn race t → (aaaa : Option Reply) (x : ℕ) → x ≤ t → IsAnswered race t aaaa → a_begin_tick race.settings.resolution aaaa x ≤ t
 v4_answered race t s None x h answered = absurd answered
 v4_answered race t s (Some r) x h answered = let k : r.tick ≤ t = s.own r.tick answered in omega arith
 
-v4_delayed : (resolution : ℕ) (aaaa : Option Reply) (x t : ℕ) → x + resolution ≤ t → v4_tick resolution aaaa x ≤ t
+v4_delayed : (resolution : ℕ) (aaaa : Option Reply) (x t : ℕ) → x + resolution ≤ t → a_begin_tick resolution aaaa x ≤ t
 v4_delayed resolution None x t h = h
 v4_delayed resolution (Some r) x t h = omega arith
 
-v4_from : (race : Race) (t : ℕ) → SeesOwn race t → (aaaa : Option Reply) (x : ℕ) → v4_tick race.settings.resolution aaaa x ≤ t → (x ≤ t) × (IsAnswered race t aaaa ⊎ (seen race (x + race.settings.resolution) ≤ t))
+v4_from : (race : Race) (t : ℕ) → SeesOwn race t → (aaaa : Option Reply) (x : ℕ) → a_begin_tick race.settings.resolution aaaa x ≤ t → (x ≤ t) × (IsAnswered race t aaaa ⊎ (seen race (x + race.settings.resolution) ≤ t))
 v4_from race t s None x h = (omega arith, inr (s.back (x + race.settings.resolution) h))
 v4_from race t s (Some r) x h = elim (min_one (x + race.settings.resolution) (max x r.tick) t h) [
   | inl k ↦ (omega arith, inr (s.back (x + race.settings.resolution) k))
@@ -112,7 +112,7 @@ begins_to race t s aaaa (Some r) (inr p) =
 a_begins : (race : Race) (t : ℕ) → SeesOwn race t → (aaaa a : Option Reply) → Reaches (a_tick race.settings.resolution aaaa a) t → BeginsOn race t aaaa a
 a_begins race t s aaaa None h = absurd h
 a_begins race t s aaaa (Some r) h =
-    let k : (list_any is_usable r.addresses ≡ true) × (v4_tick race.settings.resolution aaaa r.tick ≤ t) = a_from (list_any is_usable r.addresses) race.settings.resolution r.tick t aaaa h in
+    let k : (list_any is_usable r.addresses ≡ true) × (a_begin_tick race.settings.resolution aaaa r.tick ≤ t) = a_from (list_any is_usable r.addresses) race.settings.resolution r.tick t aaaa h in
     let l : (r.tick ≤ t) × (IsAnswered race t aaaa ⊎ (seen race (r.tick + race.settings.resolution) ≤ t)) = v4_from race t s aaaa r.tick k.1 in
     inr ((k.0, s.back r.tick l.0), l.1)
 

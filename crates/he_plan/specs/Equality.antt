@@ -1,231 +1,36 @@
--- Two races are the same where their lists are equal: the proofs of the laws of `==` on timelines.
-use Rattle.std.proofs.Common.{◌≡◌, ℕ, ◌==◌, ◌&&◌, Bool, true, false, List, Option, Some, None, refl, sym, ◌∙◌, ap, subst}
-use Rattle.std.specs.Bool.{Decides, beq}
-use Rattle.std.specs.Cmp.{IsPartialEquivalence, IsEquivalence, equiv}
+-- Mirrors the code: when two timelines are equal, field by field. The laws of `==` tie it to equal values.
+use Rattle.std.specs.Prelude.{ℕ, ◌==◌, ◌&&◌, Bool, true, false, Option, Some, None}
 use Rattle.std.specs.Cmp.Lexicographic.{pointwise}
-use Rattle.std.proofs.lemmas.Bool.Decides.{Decides-eqb}
-use Rattle.std.proofs.lemmas.Slice.Eq.{slice_eq-Decides}
 use Rattle.he_addr.specs.Ip.{same_ip}
 use Rattle.he_addr.specs.declared.ip.Ip.{Ip}
-use Rattle.he_addr.specs.declared.ip.Ip.TheVariants.{V4, V6}
 use Rattle.he_plan.specs.declared.outcome.Outcome.{Outcome}
 use Rattle.he_plan.specs.declared.outcome.Outcome.TheVariants as outcomes
-use Rattle.he_plan.specs.Race.{Race, Reply, equal_row, equal_source, equal_route, same_policy, same_host, same_outcome, same_told, same_pause, same_reply, same_settings, same_race}
+use Rattle.he_plan.specs.Race.{Race, Reply}
 use Rattle.he_plan.specs.Settings.{SettingValues}
-use Rattle.he_addr.specs.Prefix.{PrefixBits}
-use Rattle.he_select.specs.declared.host.Route.{Route}
-use Rattle.he_select.specs.declared.host.Source.{Source}
-use Rattle.he_select.specs.declared.policy.Row.{Row}
-use Rattle.he_select.specs.Hosts.{Interfaces}
-use Rattle.he_select.specs.Tables.{same_prefix}
+use Rattle.he_select.specs.Equality.{equal_hosts, equal_tables}
 
-is_true : Bool → Type 0
-is_true true = Unit {0}
-is_true false = ⊥
+abbrev pub same_outcome : Outcome → Outcome → Bool
+same_outcome (outcomes.Ok m) (outcomes.Ok n) = m == n
+same_outcome (outcomes.Fail m) (outcomes.Fail n) = m == n
+same_outcome _ _ = false
 
-no : true ≡ false → ⊥
-unfolding is_true
-no h = subst is_true h tt
+abbrev pub same_told : Ip × Outcome → Ip × Outcome → Bool
+same_told p q = same_ip p.0 q.0 && same_outcome p.1 q.1
 
-and_left : (a b : Bool) → (a && b) ≡ true → a ≡ true
-and_left true b h = refl
-and_left false b h = h
+abbrev pub same_pause : ℕ × ℕ → ℕ × ℕ → Bool
+same_pause p q = p.0 == q.0 && p.1 == q.1
 
-and_right : (a b : Bool) → (a && b) ≡ true → b ≡ true
-and_right true b h = h
-and_right false b h = absurd (no (sym h))
+abbrev pub same_reply : Option Reply → Option Reply → Bool
+same_reply None None = true
+same_reply (Some x) (Some y) = x.tick == y.tick && pointwise same_ip x.addresses y.addresses
+same_reply _ _ = false
 
-and_both : (a b : Bool) → a ≡ true → b ≡ true → (a && b) ≡ true
-and_both true b h k = k
-and_both false b h k = h
+abbrev pub same_settings : SettingValues → SettingValues → Bool
+same_settings x y = x.resolution == y.resolution && x.attempt == y.attempt && x.count == y.count && x.limit == y.limit
 
--- a test that says yes only of equals, and of each thing and itself, decides equality
-decides_by : {A : Type 0} (E : A → A → Bool) (x y : A) → (E x y ≡ true → x ≡ y) → E x x ≡ true → Decides (E x y) (x ≡ y)
-decides_by {A} E x y same self = (same, λ e. subst (λ (z : A). E x z ≡ true) e self)
-
-eq_from : (m n : ℕ) → (m == n) ≡ true → m ≡ n
-eq_from m n h = (Decides-eqb m n).0 h
-
-eq_self : (n : ℕ) → (n == n) ≡ true
-eq_self n = (Decides-eqb n n).1 refl
-
-ip_from : (x y : Ip) → same_ip x y ≡ true → x ≡ y
-ip_from (V4 m) (V4 n) h = ap V4 (eq_from m n h)
-ip_from (V6 m) (V6 n) h = ap V6 (eq_from m n h)
-ip_from (V4 m) (V6 n) h = absurd (no (sym h))
-ip_from (V6 m) (V4 n) h = absurd (no (sym h))
-
-ip_self : (x : Ip) → same_ip x x ≡ true
-ip_self (V4 m) = eq_self m
-ip_self (V6 m) = eq_self m
-
-outcome_from : (x y : Outcome) → same_outcome x y ≡ true → x ≡ y
-outcome_from (outcomes.Ok m) (outcomes.Ok n) h = ap outcomes.Ok (eq_from m n h)
-outcome_from (outcomes.Fail m) (outcomes.Fail n) h = ap outcomes.Fail (eq_from m n h)
-outcome_from (outcomes.Ok m) (outcomes.Fail n) h = absurd (no (sym h))
-outcome_from (outcomes.Fail m) (outcomes.Ok n) h = absurd (no (sym h))
-
-outcome_self : (x : Outcome) → same_outcome x x ≡ true
-outcome_self (outcomes.Ok m) = eq_self m
-outcome_self (outcomes.Fail m) = eq_self m
-
-pair_is : {A B : Type 0} (p q : A × B) → p.0 ≡ q.0 → p.1 ≡ q.1 → p ≡ q
-pair_is {A} {B} p q e f =
-    let g : A → A × B = λ a. (a, p.1) in
-    let h : B → A × B = λ b. (q.0, b) in
-    ap g e ∙ ap h f
-
-ips_decide : (xs ys : List Ip) → Decides (pointwise same_ip xs ys) (xs ≡ ys)
-ips_decide xs ys = slice_eq-Decides (λ x y. decides_by same_ip x y (ip_from x y) (ip_self x)) xs ys (pointwise same_ip xs ys) refl
-
-told_decide : (xs ys : List (Ip × Outcome)) → Decides (pointwise same_told xs ys) (xs ≡ ys)
-told_decide xs ys = slice_eq-Decides (λ x y. decides_by same_told x y (λ h. pair_is x y (ip_from x.0 y.0 (and_left _ _ h)) (outcome_from x.1 y.1 (and_right _ _ h))) (and_both _ _ (ip_self x.0) (outcome_self x.1))) xs ys (pointwise same_told xs ys) refl
-
-pauses_decide : (xs ys : List (ℕ × ℕ)) → Decides (pointwise same_pause xs ys) (xs ≡ ys)
-pauses_decide xs ys = slice_eq-Decides (λ x y. decides_by same_pause x y (λ h. pair_is x y (eq_from x.0 y.0 (and_left _ _ h)) (eq_from x.1 y.1 (and_right _ _ h))) (and_both _ _ (eq_self x.0) (eq_self x.1))) xs ys (pointwise same_pause xs ys) refl
-
-reply_from : (x y : Option Reply) → same_reply x y ≡ true → x ≡ y
-reply_from None None h = refl
-reply_from (Some x) (Some y) h =
-    let g : ℕ → Option Reply = λ t. Some (record { tick = t; addresses = x.addresses }) in
-    let k : List Ip → Option Reply = λ ips. Some (record { tick = y.tick; addresses = ips }) in
-    ap g (eq_from x.tick y.tick (and_left _ _ h)) ∙ ap k ((ips_decide x.addresses y.addresses).0 (and_right _ _ h))
-reply_from None (Some y) h = absurd (no (sym h))
-reply_from (Some x) None h = absurd (no (sym h))
-
-reply_self : (x : Option Reply) → same_reply x x ≡ true
-reply_self None = refl
-reply_self (Some x) = and_both _ _ (eq_self x.tick) ((ips_decide x.addresses x.addresses).1 refl)
-
-settings_from : (x y : SettingValues) → same_settings x y ≡ true → x ≡ y
-settings_from x y h =
-    let f : ℕ → SettingValues = λ v. record { resolution = v; attempt = x.attempt; count = x.count; limit = x.limit } in
-    let g : ℕ → SettingValues = λ v. record { resolution = y.resolution; attempt = v; count = x.count; limit = x.limit } in
-    let k : ℕ → SettingValues = λ v. record { resolution = y.resolution; attempt = y.attempt; count = v; limit = x.limit } in
-    let l : ℕ → SettingValues = λ v. record { resolution = y.resolution; attempt = y.attempt; count = y.count; limit = v } in
-    ap f (eq_from x.resolution y.resolution (and_left _ _ (and_left _ _ (and_left _ _ h))))
-    ∙ ap g (eq_from x.attempt y.attempt (and_right _ _ (and_left _ _ (and_left _ _ h))))
-    ∙ ap k (eq_from x.count y.count (and_right _ _ (and_left _ _ h)))
-    ∙ ap l (eq_from x.limit y.limit (and_right _ _ h))
-
-settings_self : (x : SettingValues) → same_settings x x ≡ true
-settings_self x = and_both _ _ (and_both _ _ (and_both _ _ (eq_self x.resolution) (eq_self x.attempt)) (eq_self x.count)) (eq_self x.limit)
-
-flag_from : (x y : Bool) → beq x y ≡ true → x ≡ y
-flag_from true true h = refl
-flag_from false false h = refl
-flag_from true false h = absurd (no (sym h))
-flag_from false true h = absurd (no (sym h))
-
-flag_self : (x : Bool) → beq x x ≡ true
-flag_self true = refl
-flag_self false = refl
-
-prefix_from : (x y : PrefixBits) → same_prefix x y ≡ true → x ≡ y
-prefix_from x y h =
-    let f : ℕ → PrefixBits = λ v. record { bits = v; len = x.len } in
-    let g : ℕ → PrefixBits = λ v. record { bits = y.bits; len = v } in
-    ap f (eq_from x.bits y.bits (and_left _ _ h)) ∙ ap g (eq_from x.len y.len (and_right _ _ h))
-
-prefix_self : (x : PrefixBits) → same_prefix x x ≡ true
-prefix_self x = and_both _ _ (eq_self x.bits) (eq_self x.len)
-
-row_from : (x y : Row) → equal_row x y ≡ true → x ≡ y
-row_from x y h =
-    let f : PrefixBits → Row = λ v. record x { prefix = v } in
-    let g : ℕ → Row = λ v. record y { precedence = v; label = x.label } in
-    let k : ℕ → Row = λ v. record y { label = v } in
-    ap f (prefix_from x.prefix y.prefix (and_left _ _ (and_left _ _ h)))
-    ∙ ap g (eq_from x.precedence y.precedence (and_right _ _ (and_left _ _ h)))
-    ∙ ap k (eq_from x.label y.label (and_right _ _ h))
-
-row_self : (x : Row) → equal_row x x ≡ true
-row_self x = and_both _ _ (and_both _ _ (prefix_self x.prefix) (eq_self x.precedence)) (eq_self x.label)
-
-source_from : (x y : Source) → equal_source x y ≡ true → x ≡ y
-source_from x y h =
-    let f : Ip → Source = λ v. record x { ip = v } in
-    let g : ℕ → Source = λ v. record x { ip = y.ip; plen = v } in
-    let k : ℕ → Source = λ v. record x { ip = y.ip; plen = y.plen; interface = v } in
-    let l : Bool → Source = λ v. record y { deprecated = v; temporary = x.temporary } in
-    let m : Bool → Source = λ v. record y { temporary = v } in
-    ap f (ip_from x.ip y.ip (and_left _ _ (and_left _ _ (and_left _ _ (and_left _ _ h)))))
-    ∙ ap g (eq_from x.plen y.plen (and_right _ _ (and_left _ _ (and_left _ _ (and_left _ _ h)))))
-    ∙ ap k (eq_from x.interface y.interface (and_right _ _ (and_left _ _ (and_left _ _ h))))
-    ∙ ap l (flag_from x.deprecated y.deprecated (and_right _ _ (and_left _ _ h)))
-    ∙ ap m (flag_from x.temporary y.temporary (and_right _ _ h))
-
-source_self : (x : Source) → equal_source x x ≡ true
-source_self x = and_both _ _ (and_both _ _ (and_both _ _ (and_both _ _ (ip_self x.ip) (eq_self x.plen)) (eq_self x.interface)) (flag_self x.deprecated)) (flag_self x.temporary)
-
-route_from : (x y : Route) → equal_route x y ≡ true → x ≡ y
-route_from x y h =
-    let f : PrefixBits → Route = λ v. record x { prefix = v } in
-    let g : ℕ → Route = λ v. record y { interface = v; tunnel = x.tunnel } in
-    let k : Bool → Route = λ v. record y { tunnel = v } in
-    ap f (prefix_from x.prefix y.prefix (and_left _ _ (and_left _ _ h)))
-    ∙ ap g (eq_from x.interface y.interface (and_right _ _ (and_left _ _ h)))
-    ∙ ap k (flag_from x.tunnel y.tunnel (and_right _ _ h))
-
-route_self : (x : Route) → equal_route x x ≡ true
-route_self x = and_both _ _ (and_both _ _ (prefix_self x.prefix) (eq_self x.interface)) (flag_self x.tunnel)
-
-policies_decide : (xs ys : List Row) → Decides (same_policy xs ys) (xs ≡ ys)
-policies_decide xs ys = slice_eq-Decides (λ x y. decides_by equal_row x y (row_from x y) (row_self x)) xs ys (same_policy xs ys) refl
-
-sources_decide : (xs ys : List Source) → Decides (pointwise equal_source xs ys) (xs ≡ ys)
-sources_decide xs ys = slice_eq-Decides (λ x y. decides_by equal_source x y (source_from x y) (source_self x)) xs ys (pointwise equal_source xs ys) refl
-
-routes_decide : (xs ys : List Route) → Decides (pointwise equal_route xs ys) (xs ≡ ys)
-routes_decide xs ys = slice_eq-Decides (λ x y. decides_by equal_route x y (route_from x y) (route_self x)) xs ys (pointwise equal_route xs ys) refl
-
-host_from : (x y : Interfaces) → same_host x y ≡ true → x ≡ y
-host_from x y h =
-    let f : List Source → Interfaces = λ v. record { sources = v; routes = x.routes } in
-    let g : List Route → Interfaces = λ v. record { sources = y.sources; routes = v } in
-    ap f ((sources_decide x.sources y.sources).0 (and_left _ _ h)) ∙ ap g ((routes_decide x.routes y.routes).0 (and_right _ _ h))
-
-host_self : (x : Interfaces) → same_host x x ≡ true
-host_self x = and_both _ _ ((sources_decide x.sources x.sources).1 refl) ((routes_decide x.routes x.routes).1 refl)
-
-pub race_from : (x y : Race) → same_race x y ≡ true → x ≡ y
-race_from x y h =
-    let but_pauses = and_left _ _ h in
-    let but_outcomes = and_left _ _ but_pauses in
-    let but_a = and_left _ _ but_outcomes in
-    let but_aaaa = and_left _ _ but_a in
-    let but_host = and_left _ _ but_aaaa in
-    let e : SettingValues → Race = λ v. record x { settings = v } in
-    let f : List Row → Race = λ v. record x { settings = y.settings; policy = v } in
-    let g : Interfaces → Race = λ v. record x { settings = y.settings; policy = y.policy; host = v } in
-    let k : Option Reply → Race = λ v. record y { aaaa = v; a = x.a; outcomes = x.outcomes; pauses = x.pauses } in
-    let l : Option Reply → Race = λ v. record y { a = v; outcomes = x.outcomes; pauses = x.pauses } in
-    let m : List (Ip × Outcome) → Race = λ v. record y { outcomes = v; pauses = x.pauses } in
-    let n : List (ℕ × ℕ) → Race = λ v. record y { pauses = v } in
-    ap e (settings_from x.settings y.settings (and_left _ _ but_host))
-    ∙ ap f ((policies_decide x.policy y.policy).0 (and_right _ _ but_host))
-    ∙ ap g (host_from x.host y.host (and_right _ _ but_aaaa))
-    ∙ ap k (reply_from x.aaaa y.aaaa (and_right _ _ but_a))
-    ∙ ap l (reply_from x.a y.a (and_right _ _ but_outcomes))
-    ∙ ap m ((told_decide x.outcomes y.outcomes).0 (and_right _ _ but_pauses))
-    ∙ ap n ((pauses_decide x.pauses y.pauses).0 (and_right _ _ h))
-
-pub race_self : (x : Race) → same_race x x ≡ true
-race_self x = and_both _ _ (and_both _ _ (and_both _ _ (and_both _ _ (and_both _ _ (and_both _ _ (settings_self x.settings) ((policies_decide x.policy x.policy).1 refl)) (host_self x.host)) (reply_self x.aaaa)) (reply_self x.a)) ((told_decide x.outcomes x.outcomes).1 refl)) ((pauses_decide x.pauses x.pauses).1 refl)
-
-pub race_is : (x y : Race) → x ≡ y → same_race x y ≡ true
-race_is x y e = subst (λ (z : Race). same_race x z ≡ true) e (race_self x)
-
-alike : (b c : Bool) → (b ≡ true → c ≡ true) → (c ≡ true → b ≡ true) → b ≡ c
-alike true c h k = sym (h refl)
-alike false true h k = k refl
-alike false false h k = refl
-
-pub same_race-per : IsPartialEquivalence same_race
-same_race-per = record {
-  symm = λ x y. alike (same_race x y) (same_race y x) (λ h. race_is y x (sym (race_from x y h))) (λ h. race_is x y (sym (race_from y x h)));
-  trans = λ x y z h k. race_is x z (race_from x y h ∙ race_from y z k);
-}
-
-pub same_race-equivalence : IsEquivalence same_race
-same_race-equivalence = equiv same_race-per race_self
+-- settings, policy, host, answers, outcomes and pauses are equal, as lists
+abbrev pub same_race : Race → Race → Bool
+same_race x y =
+    same_settings x.settings y.settings && equal_tables x.policy y.policy && equal_hosts x.host y.host
+    && same_reply x.aaaa y.aaaa && same_reply x.a y.a
+    && pointwise same_told x.outcomes y.outcomes && pointwise same_pause x.pauses y.pauses

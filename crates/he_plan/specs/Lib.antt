@@ -3,10 +3,12 @@ pub mod Attempts
 pub mod Building
 pub mod Due
 pub mod Equality
+pub mod EqualityLaws
 pub mod Finish
 pub mod Interlacing
 pub mod Planning
 pub mod Race
+pub mod Ranges
 pub mod Settings
 pub mod Timeline
 pub mod Transcript

@@ -1,4 +1,4 @@
--- What private functions answer: ticks that look at no pause, the winner so far, and what is told of an attempt.
+-- Mirrors the code: what private functions answer: ticks that look at no pause, the winner so far, what is told of an attempt.
 use Rattle.std.specs.Prelude.{ℕ, ◌+◌, ◌≤◌, ◌<◌, ◌&&◌, if◌then◌else◌, ◌++◌, List, [], ◌∷◌, min, max, Option, Some, None, option_map, IfSome, nat_le, nat_lt, ◌≡◌, Bool, true, false, length, drop, filter, find, slice_index_or}
 use Rattle.std.specs.List.{list_any}
 use Rattle.std.specs.List.Sorted.{IsPermutation}
@@ -34,13 +34,13 @@ positive_tick None = None
 positive_tick (Some reply) = if list_any is_usable reply.addresses then Some reply.tick else None
 
 -- the tick from which an A answer of this tick begins a race
-abbrev pub v4_tick : ℕ → Option Reply → ℕ → ℕ
-v4_tick resolution None tick = tick + resolution
-v4_tick resolution (Some aaaa) tick = min (tick + resolution) (max tick aaaa.tick)
+abbrev pub a_begin_tick : ℕ → Option Reply → ℕ → ℕ
+a_begin_tick resolution None tick = tick + resolution
+a_begin_tick resolution (Some aaaa) tick = min (tick + resolution) (max tick aaaa.tick)
 
 abbrev pub begin_tick : Race → Option ℕ
 begin_tick race =
-    earlier (positive_tick race.aaaa) (option_map (v4_tick race.settings.resolution race.aaaa) (positive_tick race.a))
+    earlier (positive_tick race.aaaa) (option_map (a_begin_tick race.settings.resolution race.aaaa) (positive_tick race.a))
 
 -- the tick from which an untried address of the answer may be tried, at or after `from`
 abbrev pub waiting_tick : List Attempt → ℕ → Option Reply → Option ℕ
@@ -57,9 +57,9 @@ abbrev pub start_after : Race → List Attempt → Option Attempt → Option ℕ
 start_after race done None = begin_tick race
 start_after race done (Some last) = follow_tick race done last
 
--- the tick of a positive answer that does not count yet, at or after `from`
+-- the tick of a positive answer that is not included yet, at or after `from`
 abbrev pub late_tick : Bool → ℕ → Option Reply → Option ℕ
-late_tick counts from reply = if counts then None else option_map (λ tick. max from tick) (positive_tick reply)
+late_tick included from reply = if included then None else option_map (λ tick. max from tick) (positive_tick reply)
 
 -- the tick from which the next attempt may start
 abbrev pub start_tick : Race → List Attempt → Option ℕ
@@ -74,29 +74,29 @@ abbrev pub is_received : Race → ℕ → Option Reply → Bool
 is_received race t None = false
 is_received race t (Some reply) = nat_le (seen race reply.tick) t
 
--- the usable addresses of an answer, where it counts
+-- the usable addresses of an answer, where it is included
 abbrev pub part_of : Bool → Option Reply → List Ip
-part_of counts None = []
-part_of counts (Some reply) = if counts then filter is_usable reply.addresses else []
+part_of included None = []
+part_of included (Some reply) = if included then filter is_usable reply.addresses else []
 
--- the addresses of the answers that count, as received
+-- the addresses of the included answers, as received
 abbrev pub parts_of : Race → Bool → Bool → List Ip
 parts_of race v6 v4 = part_of v6 race.aaaa ++ part_of v4 race.a
 
--- the interlaced list of the answers that count
-abbrev pub order_of : Race → Bool → Bool → List Ip
-order_of race v6 v4 = interlace (order race (parts_of race v6 v4)) race.settings.count
+-- the interlaced list of the included answers
+abbrev pub interlaced_list : Race → Bool → Bool → List Ip
+interlaced_list race v6 v4 = interlace (order race (parts_of race v6 v4)) race.settings.count
 
--- none of the attempts is of the family, unless its answer counts
+-- none of the attempts is of the family, unless its answer is included
 abbrev pub IsOwn : Family → Bool → List Attempt → Type 0
-IsOwn family counts done = counts ≡ false → list_any (λ x. is_of family x.ip) done ≡ false
+IsOwn family included done = included ≡ false → list_any (λ x. is_of family x.ip) done ≡ false
 
--- from `next` on these are the untried addresses of the interlaced list of the answers that count
+-- from `next` on these are the untried addresses of the interlaced list of the included answers
 pub record IsRest (race : Race) (done : List Attempt) (v6 v4 : Bool) (ips : List Ip) (next : ℕ) : Type 0 where
   pub members : IsPermutation (parts_of race v6 v4) (order race (parts_of race v6 v4))
   pub own_six : IsOwn families.V6 v6 done
   pub own_four : IsOwn families.V4 v4 done
-  pub rest : drop next ips ≡ filter (is_untried done) (order_of race v6 v4)
+  pub rest : drop next ips ≡ filter (is_untried done) (interlaced_list race v6 v4)
 
 -- the answer was seen by the last start
 abbrev pub was_received : Race → Option Attempt → Option Reply → Bool

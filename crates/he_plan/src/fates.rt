@@ -13,7 +13,7 @@ use std::alloc::Allocator;
 
 // The fates of a plan's attempts by place, and the winner of these fates: its finish and place.
 #[derive(Drop)]
-pub(crate) struct Told<A: Allocator> {
+pub(crate) struct FatesWithWinner<A: Allocator> {
     pub(crate) fates: Vec<Fate, A>,
     pub(crate) winner: Option<(u64, usize)>,
 }
@@ -24,7 +24,7 @@ pub(crate) fn fates_of<A: Allocator, B: Allocator>(
     alloc: A,
     timeline: &Timeline<B>,
     attempts: &[Attempt],
-) -> Result<Told<A>, Memory>
+) -> Result<FatesWithWinner<A>, Memory>
     requires { AreAttempts timeline.now attempts.now }
     ensures { IfOk result (λ told. AreTold timeline.now attempts.now told.fates.items told.winner) }
 {
@@ -35,7 +35,7 @@ pub(crate) fn fates_of<A: Allocator, B: Allocator>(
         fates.push(fate).map_err(|_| Memory)?;
         winner = next_winner(winner, place, fate);
     }
-    Ok(Told { fates, winner })
+    Ok(FatesWithWinner { fates, winner })
 }
 
 // What to tell of an attempt, where this is the winner of the earlier ones.

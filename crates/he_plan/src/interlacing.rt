@@ -33,7 +33,7 @@ fn interlace_by<A: Allocator + Copy>(
     ensures { IfOk result (λ v. v.items ≡ interlace_by family ips.now count) }
 {
     let leading = members(alloc, family, ips)?;
-    let other = strangers(alloc, family, ips)?;
+    let other = others(alloc, family, ips)?;
     let first = leading.len().min(count);
     let mut interlaced = Vec::with_capacity(alloc, ips.len())?;
     interlaced.extend_from_slice(&leading[..first])?;
@@ -50,7 +50,7 @@ fn members<A: Allocator>(alloc: A, family: Family, ips: &[Ip]) -> Result<Vec<Ip,
         .collect(alloc)
 }
 
-fn strangers<A: Allocator>(alloc: A, family: Family, ips: &[Ip]) -> Result<Vec<Ip, A>, AllocError>
+fn others<A: Allocator>(alloc: A, family: Family, ips: &[Ip]) -> Result<Vec<Ip, A>, AllocError>
     ensures { IfOk result (λ v. v.items ≡ filter (λ ip. not (is_of family ip)) ips.now) }
 {
     ips.iter()

@@ -3,7 +3,8 @@
 ghost use Rattle.std.specs.Prelude.{◌≡◌, ◌++◌, [], ◌∷◌, true, false, IfOk, OnOk, OnErr};
 ghost use Rattle.std.specs.Cmp.Lexicographic.{pointwise};
 ghost use Rattle.he_plan.specs.Finish.{outcome_in};
-ghost use Rattle.he_plan.specs.Race.{has_outcome, same_told};
+ghost use Rattle.he_plan.specs.Equality.{same_told};
+ghost use Rattle.he_plan.specs.Race.{has_outcome};
 ghost use Rattle.he_plan.specs.Timeline.{are_told_once};
 
 use crate::outcome::Outcome;

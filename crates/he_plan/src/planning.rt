@@ -4,7 +4,7 @@ ghost use Rattle.std.specs.Prelude.{◌≡◌, ◌||◌, ◌++◌, filter, IfOk,
 ghost use Rattle.std.specs.List.Sorted.{IsPermutation};
 ghost use Rattle.he_addr.specs.Ip.{is_usable};
 ghost use Rattle.he_plan.specs.Attempts.{AreAttempts, MayStart, is_untried, order};
-ghost use Rattle.he_plan.specs.Planning.{is_received, part_of, parts_of, order_of, IsLater, IsQueue, IsAtNext};
+ghost use Rattle.he_plan.specs.Planning.{is_received, part_of, parts_of, interlaced_list, IsLater, IsQueue, IsAtNext};
 ghost use Rattle.he_plan.specs.Race.{reply_of};
 
 use crate::attempts::{Attempt, Plan};
@@ -52,12 +52,12 @@ fn advance<A: Allocator + Copy, B: Allocator>(
     requires queue { IsQueue timeline.now done.now queue.v6 queue.v4 queue.ips.items queue.next }
     ensures { IfOk result (λ q. IsAtNext timeline.now done.now tick q.v6 q.v4 q.ips.items q.next) }
 {
-    let v6 = counts(timeline, Family::V6, tick, queue.v6);
-    let v4 = counts(timeline, Family::V4, tick, queue.v4);
+    let v6 = is_included(timeline, Family::V6, tick, queue.v6);
+    let v4 = is_included(timeline, Family::V4, tick, queue.v4);
     if v6 == queue.v6 && v4 == queue.v4 {
         return Ok(queue);
     }
-    let ips = order_of(alloc, timeline, v6, v4)?;
+    let ips = interlaced_list(alloc, timeline, v6, v4)?;
     let ips = untried(alloc, done, ips)?;
     Ok(Queue {
         v6,
@@ -93,8 +93,13 @@ fn filter_untried<A: Allocator>(
         .collect(alloc)
 }
 
-// Whether the answer counts at the tick, where it did by the last start or not.
-fn counts<A: Allocator>(timeline: &Timeline<A>, family: Family, tick: u64, before: bool) -> bool
+// Whether the answer is included in the list for the tick, where it was by the last start or not.
+fn is_included<A: Allocator>(
+    timeline: &Timeline<A>,
+    family: Family,
+    tick: u64,
+    before: bool,
+) -> bool
     ensures { result ≡ (before || is_received timeline.now tick (reply_of timeline.now family)) }
 {
     before || is_received(timeline, family, tick)
@@ -109,13 +114,13 @@ fn is_received<A: Allocator>(timeline: &Timeline<A>, family: Family, tick: u64) 
     }
 }
 
-pub(crate) fn order_of<A: Allocator + Copy, B: Allocator>(
+pub(crate) fn interlaced_list<A: Allocator + Copy, B: Allocator>(
     alloc: A,
     timeline: &Timeline<B>,
     v6: bool,
     v4: bool,
 ) -> Result<Vec<Ip, A>, Memory>
-    ensures value { IfOk result (λ v. v.items ≡ order_of timeline.now v6 v4) }
+    ensures value { IfOk result (λ v. v.items ≡ interlaced_list timeline.now v6 v4) }
     ensures members { IfOk result (λ _. IsPermutation (parts_of timeline.now v6 v4) (order timeline.now (parts_of timeline.now v6 v4))) }
 {
     let mut ips = Vec::new(alloc);
@@ -129,12 +134,12 @@ fn push_part<A: Allocator, B: Allocator>(
     ips: &mut Vec<Ip, A>,
     timeline: &Timeline<B>,
     family: Family,
-    counts: bool,
+    included: bool,
 ) -> Result<(), Memory>
-    ensures { OnOk result (ips.new.items ≡ ips.old.items ++ part_of counts (reply_of timeline.now family)) }
+    ensures { OnOk result (ips.new.items ≡ ips.old.items ++ part_of included (reply_of timeline.now family)) }
 {
     match timeline.answer(family) {
-        Some((_, addresses)) if counts => push_usable(ips, addresses).map_err(|_| Memory),
+        Some((_, addresses)) if included => push_usable(ips, addresses).map_err(|_| Memory),
         _ => Ok(()),
     }
 }

@@ -4,7 +4,7 @@ ghost use Rattle.std.specs.Prelude.{◌≡◌, ℕ, ◌≤◌, IfSome, IfNone};
 ghost use Rattle.std.specs.List.{list_any};
 ghost use Rattle.he_addr.specs.Ip.{is_usable};
 ghost use Rattle.he_plan.specs.Attempts.{IsLeast, MayStart, is_tried, last_of};
-ghost use Rattle.he_plan.specs.Planning.{earlier, positive_tick, v4_tick, begin_tick, late_tick, start_tick, IsLater, IsQueue};
+ghost use Rattle.he_plan.specs.Planning.{earlier, positive_tick, a_begin_tick, begin_tick, late_tick, start_tick, IsLater, IsQueue};
 ghost use Rattle.he_plan.specs.Race.{reply_of};
 ghost use Rattle.he_plan.specs.Timeline.{IsRace};
 
@@ -35,8 +35,8 @@ pub(crate) fn next_tick<A: Allocator, B: Allocator>(
     if tick < limit { Some(tick) } else { None }
 }
 
-// Where the queue has an address, it was received by the last start, so only the delay is waited for; where it has none,
-// only an answer that was not received then is.
+// Where the queue has an address, it was received by the last start, so only the Connection Attempt Delay (RFC 8305 section
+// 5) is waited for; where it has none, only an answer that was not received then is.
 fn start_tick<A: Allocator, B: Allocator>(
     timeline: &Timeline<A>,
     done: &[Attempt],
@@ -49,34 +49,37 @@ fn start_tick<A: Allocator, B: Allocator>(
     let Some(last) = done.last() else {
         return begin_tick(timeline);
     };
-    let from = last.tick + timeline.settings().attempt();
+    let attempt_delay_end = last.tick + timeline.settings().attempt();
     if queue.next < queue.ips.len() {
-        return Some(from);
+        return Some(attempt_delay_end);
     }
     earlier(
-        late_tick(timeline, Family::V6, queue.v6, from),
-        late_tick(timeline, Family::V4, queue.v4, from),
+        late_tick(timeline, Family::V6, queue.v6, attempt_delay_end),
+        late_tick(timeline, Family::V4, queue.v4, attempt_delay_end),
     )
 }
 
+// When the race begins: with a positive AAAA answer, or with a positive A answer once the AAAA answer has come or the
+// Resolution Delay has passed (RFC 8305 section 3).
 fn begin_tick<A: Allocator>(timeline: &Timeline<A>) -> Option<u64>
     ensures { result ≡ begin_tick timeline.now }
 {
     let v4 = match positive_tick(timeline, Family::V4) {
-        Some(tick) => Some(v4_tick(timeline, tick)),
+        Some(tick) => Some(a_begin_tick(timeline, tick)),
         None => None,
     };
     earlier(positive_tick(timeline, Family::V6), v4)
 }
 
-fn v4_tick<A: Allocator>(timeline: &Timeline<A>, tick: u64) -> u64
+// The tick from which an A answer of this tick begins a race.
+fn a_begin_tick<A: Allocator>(timeline: &Timeline<A>, tick: u64) -> u64
     requires { tick ≤ MAX_TICK }
-    ensures { result ≡ v4_tick timeline.now.settings.resolution timeline.now.aaaa tick }
+    ensures { result ≡ a_begin_tick timeline.now.settings.resolution timeline.now.aaaa tick }
 {
-    let delayed = tick + timeline.settings().resolution();
+    let resolution_delay_end = tick + timeline.settings().resolution();
     match timeline.answer(Family::V6) {
-        Some((aaaa, _)) => delayed.min(tick.max(aaaa)),
-        None => delayed,
+        Some((aaaa, _)) => resolution_delay_end.min(tick.max(aaaa)),
+        None => resolution_delay_end,
     }
 }
 
@@ -93,12 +96,12 @@ fn positive_tick<A: Allocator>(timeline: &Timeline<A>, family: Family) -> Option
 fn late_tick<A: Allocator>(
     timeline: &Timeline<A>,
     family: Family,
-    counts: bool,
+    included: bool,
     from: u64,
 ) -> Option<u64>
-    ensures { result ≡ late_tick counts from (reply_of timeline.now family) }
+    ensures { result ≡ late_tick included from (reply_of timeline.now family) }
 {
-    if counts {
+    if included {
         return None;
     }
     match positive_tick(timeline, family) {

@@ -3,7 +3,9 @@
 ghost use Rattle.std.specs.Prelude.{All, ◌≡◌, ◌≤◌, drop, length, option_map, max, IfOk, IfSome, IsTrue, OnOk, OnErr};
 ghost use Rattle.std.specs.Cmp.Lexicographic.{pointwise};
 ghost use Rattle.he_addr.specs.Ip.{same_ip, InRange};
-ghost use Rattle.he_plan.specs.Race.{Race, Reply, reply_of, addresses_of, has_ip, has_outcome, stands, same_policy, same_host, same_told, same_pause, same_reply, same_race};
+ghost use Rattle.he_plan.specs.Race.{Race, Reply, reply_of, addresses_of, has_ip, has_outcome, stands};
+ghost use Rattle.he_plan.specs.Equality.{same_pause, same_reply, same_race};
+ghost use Rattle.he_select.specs.Equality.{equal_hosts, equal_tables};
 ghost use Rattle.he_plan.specs.Timeline.{IsRace, are_pauses, duration_of};
 ghost use Rattle.he_plan.specs.Attempts.{IsSeen, seen, seen_past};
 ghost use Rattle.he_plan.specs.Finish.{outcome_of, outcome_in};
@@ -303,8 +305,8 @@ fn seen_ahead(pauses: &[(u64, u64)], tick: u64) -> u64
 
 impl<A: Allocator> PartialEq for Timeline<A> {
     ghost use Rattle.std.specs.Prelude.{◌≡◌, ◌↔◌, IsTrue};
-    ghost use Rattle.he_plan.specs.Race.{same_race};
-    ghost use Rattle.he_plan.specs.Equality.{same_race-per};
+    ghost use Rattle.he_plan.specs.Equality.{same_race};
+    ghost use Rattle.he_plan.specs.EqualityLaws.{same_race-per};
 
     ghost eq = { same_race };
 
@@ -320,19 +322,19 @@ impl<A: Allocator> PartialEq for Timeline<A> {
 }
 
 impl<A: Allocator> Eq for Timeline<A> {
-    ghost use Rattle.he_plan.specs.Equality.{same_race-equivalence};
+    ghost use Rattle.he_plan.specs.EqualityLaws.{same_race-equivalence};
 
     ghost laws = { same_race-equivalence };
 }
 
 fn same_policy<A: Allocator>(x: &Policy<A>, y: &Policy<A>) -> bool
-    ensures { result ≡ same_policy x.now y.now }
+    ensures { result ≡ equal_tables x.now y.now }
 {
     x == y
 }
 
 fn same_host<A: Allocator>(x: &Host<A>, y: &Host<A>) -> bool
-    ensures { result ≡ same_host x.now y.now }
+    ensures { result ≡ equal_hosts x.now y.now }
 {
     x == y
 }

@@ -1,2 +1,4 @@
+pub mod Known
 pub mod Lines
+pub mod OneOutput
 pub mod Races

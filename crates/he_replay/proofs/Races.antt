@@ -1,5 +1,5 @@
 -- One race more: what is read of an input, and what is written for it, grow together.
-use Rattle.std.proofs.Common.{ℕ, ◌≡◌, ◌+◌, ◌-◌, ◌<◌, ◌≤◌, ◌++◌, List, [], ◌∷◌, length, take, drop, Bool, Option, Some, sym, ◌∙◌, ap, subst, refl, arith, append_assoc, inl, inr, length-append, length-drop}
+use Rattle.std.proofs.Common.{ℕ, ◌≡◌, ◌+◌, ◌-◌, ◌<◌, ◌≤◌, ◌++◌, List, [], ◌∷◌, length, take, drop, Bool, Option, Some, sym, ◌∙◌, ap, subst, refl, arith, append_assoc, inr, length-append}
 use Rattle.std.specs.List.{slice_range}
 use Rattle.std.proofs.lemmas.List.{take-append-drop, append-nil}
 use Rattle.std.proofs.lemmas.List.Sums.{sum_by-append}
@@ -8,9 +8,9 @@ use Rattle.he_plan.specs.Race.{Race}
 use Rattle.he_text.specs.Faults.{fault_of}
 use Rattle.he_text.specs.Text.{IsRaceText}
 use Rattle.he_text.specs.declared.fault.TextFault.{TextFault}
-use Rattle.he_replay.specs.declared.limits.TheConstants.{MOST_RACES}
+use Rattle.he_replay.specs.Limits.{most_races}
 use Rattle.he_replay.specs.declared.output.InputFault.{InputFault}
-use Rattle.he_replay.specs.Output.{AreTexts, IsFault, IsOutput, fault_at_end, fault_behind, line_count}
+use Rattle.he_replay.specs.Output.{AreTexts, IsFault, IsOutput, fault_behind, line_count}
 use Rattle.he_replay.specs.Steps.{TakesRace, IsUnderWay}
 
 pub AreTexts-snoc : (IsText : List ℕ → Race → Type 0) (races : List Race) (text : List ℕ) → AreTexts IsText races text
@@ -19,7 +19,7 @@ AreTexts-snoc IsText [] text none race last is = (last, [], ap (λ (before : Lis
 AreTexts-snoc IsText (first ∷ races) text are race last is =
     (are.0, are.1 ++ last, ap (λ (before : List ℕ). before ++ last) are.2 ∙ append_assoc are.0 are.1 last, are.3, AreTexts-snoc IsText races are.1 are.4 race last is)
 
-line_count-append : (xs ys : List ℕ) → line_count (xs ++ ys) ≡ line_count xs + line_count ys
+pub line_count-append : (xs ys : List ℕ) → line_count (xs ++ ys) ≡ line_count xs + line_count ys
 line_count-append xs ys = sum_by-append _ xs ys
 
 -- up to the end of a range: up to its start, and the range
@@ -46,7 +46,7 @@ one_more IsText input text new from lines count end way takes =
 
 -- what is read ends here, with this fault of the rest
 pub ended : (IsText : List ℕ → Race → Type 0) (input text : List ℕ) (is_broken : Bool) (from lines count : ℕ) (fault : Option InputFault) → IsUnderWay IsText input text from lines count
-    → count ≤ MOST_RACES → IsFault is_broken count lines (drop from input) fault → IsOutput IsText input is_broken text fault
+    → count ≤ most_races → IsFault is_broken count lines (drop from input) fault → IsOutput IsText input is_broken text fault
 ended IsText input text is_broken from lines count fault way few is = record {
   races = way.races;
   before = take from input;
@@ -62,7 +62,7 @@ ended IsText input text is_broken from lines count fault way few is = record {
 }
 
 -- a fault that was found in what follows
-pub found_fault : (is_broken : Bool) (count lines : ℕ) (rest : List ℕ) (found : TextFault) → 0 < length rest → count < MOST_RACES
+pub found_fault : (is_broken : Bool) (count lines : ℕ) (rest : List ℕ) (found : TextFault) → 0 < length rest → count < most_races
     → fault_of rest ≡ Some (found.line, found.kind) → IsFault is_broken count lines rest (Some (fault_behind is_broken lines (found.line, found.kind)))
 found_fault is_broken count lines [] found some few is = absurd (omega arith)
 found_fault is_broken count lines (byte ∷ rest) found some few is = inr (omega arith, (found.line, found.kind), is, refl)

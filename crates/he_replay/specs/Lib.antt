@@ -1,3 +1,5 @@
+pub mod Known
+pub mod Limits
 pub mod Output
 pub mod Steps
 pub mod Stream

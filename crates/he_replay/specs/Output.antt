@@ -2,7 +2,6 @@
 use Rattle.std.specs.Prelude.{ℕ, ◌≡◌, ◌≤◌, ◌+◌, ◌==◌, ◌++◌, Bool, true, false, List, [], ◌∷◌, length, count_by, ◌⊎◌, Option, Some, None}
 use Rattle.he_plan.specs.Race.{Race}
 use Rattle.he_plan.specs.Transcript.{IsTranscript, Report}
-use Rattle.he_text.specs.declared.fault.TextFault.{TextFault}
 use Rattle.he_text.specs.declared.fault.TextKind.{TextKind}
 use Rattle.he_text.specs.declared.fault.TextKind.TheVariants as kinds
 use Rattle.he_text.specs.Faults.{fault_of}
@@ -11,7 +10,7 @@ use Rattle.he_text.specs.Orders.{order_text}
 use Rattle.he_text.specs.Written.{transcript_text}
 use Rattle.he_replay.specs.declared.content.Content.{Content}
 use Rattle.he_replay.specs.declared.content.Content.TheVariants as contents
-use Rattle.he_replay.specs.declared.limits.TheConstants.{MOST_RACES}
+use Rattle.he_replay.specs.Limits.{most_races}
 use Rattle.he_replay.specs.declared.output.InputFault.{InputFault}
 use Rattle.he_replay.specs.declared.output.InputFault.TheVariants.{Text, Read}
 
@@ -53,8 +52,8 @@ fault_behind is_broken lines (line, kind) = Text (record { line = lines + line; 
 abbrev pub IsFault : Bool → ℕ → ℕ → List ℕ → Option InputFault → Type 0
 IsFault is_broken races lines [] fault = fault ≡ fault_at_end is_broken
 IsFault is_broken races lines (byte ∷ rest) fault =
-    ((races ≡ MOST_RACES) × (fault ≡ Some (Text (record { line = lines + 1; kind = kinds.TooMany }))))
-    ⊎ ((races + 1 ≤ MOST_RACES)
+    ((races ≡ most_races) × (fault ≡ Some (Text (record { line = lines + 1; kind = kinds.TooMany }))))
+    ⊎ ((races + 1 ≤ most_races)
     × (found : ℕ × TextKind) × (fault_of (byte ∷ rest) ≡ Some found) × (fault ≡ Some (fault_behind is_broken lines found)))
 
 -- the text that is written for an input, and what is wrong with the input: a text of each of its races up to the first fault
@@ -64,6 +63,6 @@ pub record IsOutput (IsText : List ℕ → Race → Type 0) (input : List ℕ) (
   pub rest : List ℕ
   pub parts : input ≡ before ++ rest
   pub whole : AreTexts IsRaceText races before
-  pub few : length races ≤ MOST_RACES
+  pub few : length races ≤ most_races
   pub told : AreTexts IsText races text
   pub fault_is : IsFault is_broken (length races) (line_count before) rest fault

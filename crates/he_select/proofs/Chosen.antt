@@ -3,6 +3,7 @@ use Rattle.std.proofs.Common.{◌≡◌, Bool, true, false, not, List, [], ◌�
 use Rattle.std.specs.Prelude.{Option, None, Some, option_map, option_and_then, is_some, nat_eq, ◌&&◌}
 use Rattle.std.specs.List.{list_all}
 use Rattle.std.specs.Option.{option_map_or}
+use Rattle.he_addr.specs.declared.ip.Ip.{Ip}
 use Rattle.he_addr.specs.Ip.{scope_of}
 use Rattle.he_addr.specs.Prefix.{common_of}
 use Rattle.he_select.specs.declared.host.Source.{Source}
@@ -12,10 +13,12 @@ use Rattle.he_select.specs.declared.ranking.Attributes.{Attributes}
 use Rattle.he_select.specs.declared.ranking.Key.{Key}
 use Rattle.he_select.specs.declared.ranking.Ranked.{Ranked}
 use Rattle.he_select.specs.declared.selection.Candidate.{Candidate}
-use Rattle.he_select.specs.DestinationKeys.{attributes_of, chosen_by, key_by, key_of, ranked_by, ranked_of}
+use Rattle.he_select.specs.declared.selection.Labelled.{Labelled}
+use Rattle.he_select.specs.DestinationKeys.{destination_key}
+use Rattle.he_select.specs.Ranking.{attributes_of, chosen_by, key_by, ranked_by, ranked_of}
 use Rattle.he_select.specs.HostFaults.{is_sound_source}
-use Rattle.he_select.specs.Keys.{admits, candidate_of, comes_before, destination_of, labelled_of, source_key}
-use Rattle.he_select.specs.Preference.{Member}
+use Rattle.he_select.specs.Keys.{admits, candidate_of, is_better_candidate, destination_of, labelled_of, source_key}
+use Rattle.he_select.specs.Preference.{Member, members_from}
 use Rattle.he_select.specs.Selection.{World, route_of, source_of}
 use Rattle.he_select.specs.Tables.{label_of, precedence_of}
 use Rattle.he_select.specs.Walking.{walk_fitting}
@@ -63,19 +66,19 @@ same_with world m route (Some source) = simp not_not refl
 
 keys_by : (world : World) (m : Member) (route : Option Route) → route_of world m.ip ≡ route
     → key_by (attributes_of world.rows world.routes m.ip) (chosen_by (attributes_of world.rows world.routes m.ip) (map (labelled_of world.rows) world.sources)) m.place
-    ≡ key_of world m
-unfolding chosen_by key_of
+    ≡ destination_key world m
+unfolding chosen_by destination_key
 keys_by world m None e =
     let goal : Attributes = attributes_of world.rows world.routes m.ip in
-    let find : Route → Option Candidate = λ route. walk_fitting (λ candidate. admits (destination_of m.ip (label_of world.rows m.ip) route) candidate.source) comes_before None (map (candidate_of (destination_of m.ip (label_of world.rows m.ip) route)) (map (labelled_of world.rows) world.sources)) in
+    let find : Route → Option Candidate = λ route. walk_fitting (λ candidate. admits (destination_of m.ip (label_of world.rows m.ip) route) candidate.source) is_better_candidate None (map (candidate_of (destination_of m.ip (label_of world.rows m.ip) route)) (map (labelled_of world.rows) world.sources)) in
     ap (λ o. code_key world m o (option_and_then find o)) e
     ∙ same_without world m None
     ∙ ap (λ o. rules_key world m o None) (sym e)
     ∙ ap (rules_key world m (route_of world m.ip)) (sym (no_source world m.ip e))
 keys_by world m (Some route) e =
-    let find : Route → Option Candidate = λ route. walk_fitting (λ candidate. admits (destination_of m.ip (label_of world.rows m.ip) route) candidate.source) comes_before None (map (candidate_of (destination_of m.ip (label_of world.rows m.ip) route)) (map (labelled_of world.rows) world.sources)) in
+    let find : Route → Option Candidate = λ route. walk_fitting (λ candidate. admits (destination_of m.ip (label_of world.rows m.ip) route) candidate.source) is_better_candidate None (map (candidate_of (destination_of m.ip (label_of world.rows m.ip) route)) (map (labelled_of world.rows) world.sources)) in
     let found : find route ≡ option_map (made world m.ip route) (source_of world m.ip) =
-    ap (walk_fitting (λ candidate. admits (destination_of m.ip (label_of world.rows m.ip) route) candidate.source) comes_before None) (map-map (candidate_of (destination_of m.ip (label_of world.rows m.ip) route)) (labelled_of world.rows) world.sources)
+    ap (walk_fitting (λ candidate. admits (destination_of m.ip (label_of world.rows m.ip) route) candidate.source) is_better_candidate None) (map-map (candidate_of (destination_of m.ip (label_of world.rows m.ip) route)) (labelled_of world.rows) world.sources)
     ∙ source_walked world m.ip route e in
     ap (λ o. code_key world m o (option_and_then find o)) e
     ∙ ap (code_key world m (Some route)) found
@@ -88,3 +91,11 @@ ranked_is world m = ap (λ (k : Key). let r : Ranked = record { key = k; ip = m.
 pub labelled_sound : (rows : List Row) (sources : List Source) → list_all is_sound_source sources ≡ list_all (λ labelled. is_sound_source labelled.source) (map (labelled_of rows) sources)
 labelled_sound rows [] = refl
 labelled_sound rows (source ∷ sources) = ap (λ t. is_sound_source source && t) (labelled_sound rows sources)
+
+-- the keys that the code makes of a list, by the labels that it took before
+pub all_ranked : (world : World) (ips : List Ip) (labelled : List Labelled) (made now : List Ranked)
+    → labelled ≡ map (labelled_of world.rows) world.sources → made ≡ map (ranked_by world.rows world.routes labelled) (members_from 0 ips) → now ≡ made
+    → now ≡ map (ranked_of world) (members_from 0 ips)
+all_ranked world ips labelled made now by_label by_key is =
+    is ∙ by_key ∙ ap (λ l. map (ranked_by world.rows world.routes l) (members_from 0 ips)) by_label
+    ∙ map-same (ranked_by world.rows world.routes (map (labelled_of world.rows) world.sources)) (ranked_of world) (ranked_is world) (members_from 0 ips)

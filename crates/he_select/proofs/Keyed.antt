@@ -14,7 +14,7 @@ use Rattle.he_addr.specs.Prefix.{common_of}
 use Rattle.he_select.specs.declared.host.Source.{Source}
 use Rattle.he_select.specs.declared.policy.Row.{Row}
 use Rattle.he_select.specs.declared.ranking.Key.{Key}
-use Rattle.he_select.specs.DestinationKeys.{key_of, key_cmp}
+use Rattle.he_select.specs.DestinationKeys.{destination_key, key_cmp}
 use Rattle.he_select.specs.Preference.{Member, common_with_source, destination_rules, has_current_source, has_like_label, has_like_scope, is_native}
 use Rattle.he_select.specs.Rules.{first_of}
 use Rattle.he_select.specs.Selection.{World, is_reachable, source_of}
@@ -68,8 +68,8 @@ same_family false true e = cc
 same_family false false e = refl
 
 pub by_keys : (world : World) → PartsFamilies world.rows → (a b : Member) → IsUsable a.ip → IsUsable b.ip
-    → first_of (destination_rules world) a b ≡ key_cmp (key_of world a) (key_of world b)
-unfolding destination_rules key_of key_cmp
+    → first_of (destination_rules world) a b ≡ key_cmp (destination_key world a) (destination_key world b)
+unfolding destination_rules destination_key key_cmp
 by_keys world parts a b ua ub =
     let ra : Bool = is_reachable world a.ip in
     let rb : Bool = is_reachable world b.ip in

@@ -17,7 +17,7 @@ use Rattle.he_addr.specs.Ip.{InRange}
 use Rattle.he_addr.specs.Prefix.{contains}
 use Rattle.he_select.specs.declared.host.Route.{Route}
 use Rattle.he_select.specs.declared.host.Source.{Source}
-use Rattle.he_select.specs.DestinationKeys.{key_cmp, key_of}
+use Rattle.he_select.specs.DestinationKeys.{key_cmp, destination_key}
 use Rattle.he_select.specs.Laws.{EveryAddressHasRow, PreferenceIsByKeys, PreferenceIsStrictTotalOrder, ReachableWhereCandidates}
 use Rattle.he_select.specs.Rules.{best_by}
 use Rattle.he_select.specs.Selection.{World, candidates, is_better, is_candidate, route_of, source_of}
@@ -40,15 +40,15 @@ one_first Equal p e h = absurd (h refl)
 one_first Greater p e h = inr (ap is_lt e)
 
 pub preference_orders : PreferenceIsStrictTotalOrder
-unfolding key_of
+unfolding destination_key
 preference_orders world admitted =
     let keyed = preference_by_keys world admitted in
     record {
-      irreflexive = λ a ua. keyed a a ua ua ∙ ap is_lt (tied_itself keys_total (key_of world a));
+      irreflexive = λ a ua. keyed a a ua ua ∙ ap is_lt (tied_itself keys_total (destination_key world a));
       transitive = λ a b c ua ub uc ab bc.
-          keyed a c ua uc ∙ ap is_lt (keys_total.trans (key_of world a) (key_of world b) (key_of world c) (was_less _ (sym (keyed a b ua ub) ∙ ab)) (was_less _ (sym (keyed b c ub uc) ∙ bc)));
+          keyed a c ua uc ∙ ap is_lt (keys_total.trans (destination_key world a) (destination_key world b) (destination_key world c) (was_less _ (sym (keyed a b ua ub) ∙ ab)) (was_less _ (sym (keyed b c ub uc) ∙ bc)));
       total = λ a b ua ub apart.
-          elim (one_first (key_cmp (key_of world a) (key_of world b)) (key_cmp (key_of world b) (key_of world a)) (keys_total.antisymm (key_of world b) (key_of world a)) (λ tied. apart (same_place (key_of world a) (key_of world b) tied))) [
+          elim (one_first (key_cmp (destination_key world a) (destination_key world b)) (key_cmp (destination_key world b) (destination_key world a)) (keys_total.antisymm (destination_key world b) (destination_key world a)) (λ tied. apart (same_place (destination_key world a) (destination_key world b) tied))) [
             | inl ab ↦ inl (keyed a b ua ub ∙ ab)
             | inr ba ↦ inr (keyed b a ub ua ∙ ba)
           ];

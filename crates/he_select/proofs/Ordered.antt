@@ -12,7 +12,8 @@ use Rattle.he_addr.specs.declared.ip.Ip.{Ip}
 use Rattle.he_addr.specs.Ip.{IsUsable}
 use Rattle.he_select.specs.declared.ranking.Key.{Key}
 use Rattle.he_select.specs.declared.ranking.Ranked.{Ranked}
-use Rattle.he_select.specs.DestinationKeys.{key_cmp, key_of, ranked_of}
+use Rattle.he_select.specs.DestinationKeys.{key_cmp, destination_key}
+use Rattle.he_select.specs.Ranking.{ranked_of}
 use Rattle.he_select.specs.Laws.{IsOneOrder}
 use Rattle.he_select.specs.Preference.{IsOrder, Member, member_at, members_from, order_of, prefers}
 use Rattle.he_select.specs.Selection.{World}
@@ -87,7 +88,7 @@ module _ (world : World) where
   ties k r = is_eq (key_cmp r.key k)
 
   none_before : (ips : List Ip) (place : ℕ) (k : Key) → k.place < place → count_by (ties k) (keyed world place ips) ≡ 0
-  unfolding key_of
+  unfolding destination_key
   none_before [] place k lt = refl
   none_before (x ∷ xs) place k lt =
       let r : Ranked = ranked_of world (record { ip = x; place = place }) in
@@ -97,7 +98,7 @@ module _ (world : World) where
 
   -- no two have one key
   at_most_once : (ips : List Ip) (place : ℕ) (k : Key) → count_by (ties k) (keyed world place ips) ≤ 1
-  unfolding key_of
+  unfolding destination_key
   at_most_once [] place k = omega arith
   at_most_once (x ∷ xs) place k =
       let r : Ranked = ranked_of world (record { ip = x; place = place }) in
@@ -115,8 +116,8 @@ module _ (world : World) where
       ]
 
   -- each has the key of the member that it names
-  own_keys : (ips : List Ip) (place : ℕ) → Each (λ (r : Ranked). r.key ≡ key_of world (record { ip = r.ip; place = r.key.place })) (keyed world place ips)
-  unfolding key_of
+  own_keys : (ips : List Ip) (place : ℕ) → Each (λ (r : Ranked). r.key ≡ destination_key world (record { ip = r.ip; place = r.key.place })) (keyed world place ips)
+  unfolding destination_key
   own_keys [] place = tt
   own_keys (x ∷ xs) place = (refl, own_keys xs (place + 1))
 
@@ -126,16 +127,16 @@ module _ (world : World) where
       → (slice_get ips y.key.place ≡ Some y.ip) × (count_by (λ other. prefers world other (record { ip = y.ip; place = y.key.place })) (members_from 0 ips) ≡ k)
   preferred_before parts ips usable ys moved sorted k y at =
       let m : Member = record { ip = y.ip; place = y.key.place } in
-      let own : y.key ≡ key_of world m = each_at _ ys (each-permutation _ (keyed world 0 ips) ys moved (own_keys ips 0)) k y at in
+      let own : y.key ≡ destination_key world m = each_at _ ys (each-permutation _ (keyed world 0 ips) ys moved (own_keys ips 0)) k y at in
       let stands : slice_get ips y.key.place ≡ Some y.ip =
       each_at (λ (r : Ranked). slice_get ips r.key.place ≡ Some r.ip) ys (each-permutation _ (keyed world 0 ips) ys moved (own_places world ips ips 0 (λ i. ap (slice_get ips) (omega arith)))) k y at in
       let less : Key → Ranked → Bool = λ q r. is_lt (key_cmp r.key q) in
       let once : count_by (ties y.key) ys ≤ 1 = omega (arith, count-permutation (ties y.key) (keyed world 0 ips) ys moved, at_most_once ips 0 y.key) in
       let here : count_by (less y.key) ys ≡ k =
       counted_at key_cmp keys_total (λ (r : Ranked). r.key) ys sorted k y at once in
-      let counts : count_by (less (key_of world m)) ys ≡ count_by (λ other. prefers world other m) (members_from 0 ips) =
-      count-permutation (less (key_of world m)) (keyed world 0 ips) ys moved
-      ∙ count-map (less (key_of world m)) (ranked_of world) (members_from 0 ips)
+      let counts : count_by (less (destination_key world m)) ys ≡ count_by (λ other. prefers world other m) (members_from 0 ips) =
+      count-permutation (less (destination_key world m)) (keyed world 0 ips) ys moved
+      ∙ count-map (less (destination_key world m)) (ranked_of world) (members_from 0 ips)
       ∙ count-same _ _ (members_from 0 ips) (preferred_by_keys world parts ips 0 usable m (each_at IsUsable ips usable y.key.place y.ip stands)) in
       (stands, sym counts ∙ ap (λ q. count_by (less q) ys) (sym own) ∙ here)
 

@@ -13,7 +13,7 @@ use Rattle.he_select.specs.declared.host.Source.{Source}
 use Rattle.he_select.specs.declared.host.Route.{Route}
 use Rattle.he_select.specs.declared.selection.Candidate.{Candidate}
 use Rattle.he_select.specs.declared.selection.SourceKey.{SourceKey}
-use Rattle.he_select.specs.Keys.{admits, candidate_of, comes_before, destination_of, labelled_of, source_key, source_key_cmp}
+use Rattle.he_select.specs.Keys.{admits, candidate_of, is_better_candidate, destination_of, labelled_of, source_key, source_key_cmp}
 use Rattle.he_select.specs.Rules.{first_of, best_by}
 use Rattle.he_select.specs.Selection.{World, candidates, is_better, is_candidate, route_of, source_of, source_rules}
 use Rattle.he_select.specs.Tables.{label_of}
@@ -60,21 +60,21 @@ by_source_keys world ip route e a b =
 abbrev pub made : World → Ip → Route → Source → Candidate
 made world ip route source = candidate_of (destination_of ip (label_of world.rows ip) route) (labelled_of world.rows source)
 
-keys_rank : IsStrictWeakOrder comes_before
+keys_rank : IsStrictWeakOrder is_better_candidate
 keys_rank = ranks_by source_keys_total (λ (c : Candidate). c.key)
 
 -- the loop over the candidates' keys finds the source
 pub source_walked : (world : World) (ip : Ip) (route : Route) → route_of world ip ≡ Some route
-    → walk_fitting (λ candidate. admits (destination_of ip (label_of world.rows ip) route) candidate.source) comes_before None (map (made world ip route) world.sources)
+    → walk_fitting (λ candidate. admits (destination_of ip (label_of world.rows ip) route) candidate.source) is_better_candidate None (map (made world ip route) world.sources)
     ≡ option_map (made world ip route) (source_of world ip)
 unfolding source_of candidates
 source_walked world ip route e =
     let to : Source → Candidate = made world ip route in
     let fits : Candidate → Bool = λ c. admits (destination_of ip (label_of world.rows ip) route) c.source in
-    best_fitting comes_before keys_rank fits (map to world.sources)
-    ∙ ap (best_by comes_before) (filter-map to fits world.sources)
-    ∙ best_by-map to comes_before (filter (is_candidate route ip) world.sources)
-    ∙ ap (option_map to) (best_by-same (λ a b. comes_before (to a) (to b)) (is_better world ip) (λ a b. sym (ap is_lt (by_source_keys world ip route e a b))) (filter (is_candidate route ip) world.sources))
+    best_fitting is_better_candidate keys_rank fits (map to world.sources)
+    ∙ ap (best_by is_better_candidate) (filter-map to fits world.sources)
+    ∙ best_by-map to is_better_candidate (filter (is_candidate route ip) world.sources)
+    ∙ ap (option_map to) (best_by-same (λ a b. is_better_candidate (to a) (to b)) (is_better world ip) (λ a b. sym (ap is_lt (by_source_keys world ip route e a b))) (filter (is_candidate route ip) world.sources))
     ∙ ap (λ o. option_map to (best_by (is_better world ip) (option_map_or (λ r. filter (is_candidate r ip) world.sources) o []))) (sym e)
 
 -- without a route there is no source
@@ -88,7 +88,7 @@ mapped_ip world ip route (Some source) = refl
 
 -- the address of what the loop finds
 pub walked_ip : (world : World) (ip : Ip) (route : Route) → route_of world ip ≡ Some route → (best : Option Candidate)
-    → best ≡ walk_fitting (λ candidate. admits (destination_of ip (label_of world.rows ip) route) candidate.source) comes_before None (map (made world ip route) world.sources)
+    → best ≡ walk_fitting (λ candidate. admits (destination_of ip (label_of world.rows ip) route) candidate.source) is_better_candidate None (map (made world ip route) world.sources)
     → option_map (λ (c : Candidate). c.source.ip) best ≡ option_map (λ (s : Source). s.ip) (source_of world ip)
 walked_ip world ip route e best is =
     ap (option_map (λ (c : Candidate). c.source.ip)) (is ∙ source_walked world ip route e) ∙ mapped_ip world ip route (source_of world ip)

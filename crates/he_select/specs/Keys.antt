@@ -1,4 +1,4 @@
--- The keys by which sources and destinations are compared: one number for each rule, the least key is preferred.
+-- Mirrors the code: the keys by which it compares sources, one number for each rule, the least key is preferred.
 use Rattle.std.specs.Prelude.{ℕ, ◌==◌, ◌&&◌, ◌||◌, Bool, not, nat_lt, List}
 use Rattle.std.specs.Bool.{beq}
 use Rattle.std.specs.Int.{abs_diff}
@@ -53,8 +53,8 @@ labelled_of rows source = record { source = source; label = label_of rows source
 abbrev pub candidate_of : Destination → Labelled → Candidate
 candidate_of destination labelled = record { key = source_key destination labelled; source = labelled.source; label = labelled.label }
 
-abbrev pub comes_before : Candidate → Candidate → Bool
-comes_before a b = is_lt (source_key_cmp a.key b.key)
+abbrev pub is_better_candidate : Candidate → Candidate → Bool
+is_better_candidate a b = is_lt (source_key_cmp a.key b.key)
 
 -- what the source rules look at of a destination with this label and route
 abbrev pub destination_of : Ip → ℕ → Route → Destination

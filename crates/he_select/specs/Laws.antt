@@ -3,7 +3,7 @@ use Rattle.std.specs.Prelude.{All, ◌≡◌, ◌≢◌, ◌<◌, ◌⊎◌, ◌
 use Rattle.std.specs.Ordering.{is_lt}
 use Rattle.he_addr.specs.declared.ip.Ip.{Ip}
 use Rattle.he_addr.specs.Ip.{InRange, IsUsable}
-use Rattle.he_select.specs.DestinationKeys.{key_cmp, key_of}
+use Rattle.he_select.specs.DestinationKeys.{key_cmp, destination_key}
 use Rattle.he_select.specs.Preference.{IsOrder, Member, order_of, prefers}
 use Rattle.he_select.specs.Refusals.{cause_if, first_repeat}
 use Rattle.std.specs.List.{list_any}
@@ -33,7 +33,7 @@ pub record IsStrictTotalOrderOn (P : Member → Type 0) (before : Member → Mem
 abbrev pub PreferenceIsByKeys : Type 0
 PreferenceIsByKeys =
     (world : World) → IsAdmitted world.rows → (a b : Member) → IsUsable a.ip → IsUsable b.ip
-    → prefers world a b ≡ is_lt (key_cmp (key_of world a) (key_of world b))
+    → prefers world a b ≡ is_lt (key_cmp (destination_key world a) (destination_key world b))
 
 -- hence it is a strict total order on the members of a list
 abbrev pub PreferenceIsStrictTotalOrder : Type 0

@@ -8,6 +8,7 @@ pub mod Laws
 pub mod Places
 pub mod Preference
 pub mod Ranges
+pub mod Ranking
 pub mod Refusals
 pub mod Rules
 pub mod Selection

@@ -3,7 +3,8 @@
 ghost use Rattle.std.specs.Prelude.{◌≡◌, Option, IsTrue};
 ghost use Rattle.std.specs.List.{list_all};
 ghost use Rattle.he_addr.specs.Ip.{InRange};
-ghost use Rattle.he_select.specs.DestinationKeys.{attributes_of, chosen_by, key_by, key_cmp, ranked_by};
+ghost use Rattle.he_select.specs.DestinationKeys.{key_cmp};
+ghost use Rattle.he_select.specs.Ranking.{attributes_of, chosen_by, key_by, ranked_by};
 ghost use Rattle.he_select.specs.HostFaults.{is_sound_source};
 
 use crate::host::Route;
@@ -79,7 +80,7 @@ impl Attributes {
         }
     }
 
-    #[tactic(auto, unfolding(crate::specs::DestinationKeys::chosen_by))]
+    #[tactic(auto, unfolding(crate::specs::Ranking::chosen_by))]
     fn choose_source(&self, sources: &[Labelled]) -> Option<Candidate>
         requires { IsTrue (list_all (λ labelled. is_sound_source labelled.source) sources.now) }
         ensures { result ≡ chosen_by self.now sources.now }
@@ -88,7 +89,7 @@ impl Attributes {
         Destination::new(self.ip, self.label, &route).best_of(sources)
     }
 
-    #[tactic(auto, unfolding(crate::specs::DestinationKeys::key_by))]
+    #[tactic(auto, unfolding(crate::specs::Ranking::key_by))]
     fn key(&self, source: Option<Candidate>, place: usize) -> Key
         ensures { result ≡ key_by self.now source place }
     {
@@ -97,7 +98,7 @@ impl Attributes {
             unreachable: source.is_none(),
             // Rule 2: prefer matching scope.
             other_scope: source.map_or(false, |chosen| chosen.source.ip.scope() != self.scope),
-            // Rule 3: avoid deprecated addresses.
+            // Rule 3: avoid deprecated addresses. Rule 4 is left out: there are no home addresses here.
             deprecated: source.map_or(false, |chosen| chosen.source.deprecated),
             // Rule 5: prefer matching label.
             other_label: source.map_or(false, |chosen| chosen.label != self.label),
@@ -107,7 +108,7 @@ impl Attributes {
             tunnel: self.route.map_or(false, |route| route.tunnel),
             // Rule 8: prefer smaller scope.
             scope: self.scope,
-            // Rule 9: use longest matching prefix.
+            // Rule 9: use longest matching prefix. Needs no test of the family: an admitted table's precedences part the families.
             common: Reverse(source.map_or(0, |chosen| chosen.key.common.0)),
             // Rule 10: otherwise, leave the order unchanged.
             place,

@@ -4,7 +4,7 @@ ghost use Rattle.std.specs.Prelude.{◌≡◌, Some, None, map, IsTrue};
 ghost use Rattle.std.specs.List.{list_all};
 ghost use Rattle.he_addr.specs.Ip.{family_of};
 ghost use Rattle.he_select.specs.HostFaults.{is_sound_source};
-ghost use Rattle.he_select.specs.Keys.{source_key, source_key_cmp, candidate_of, destination_of, labelled_of, admits, comes_before};
+ghost use Rattle.he_select.specs.Keys.{source_key, source_key_cmp, candidate_of, destination_of, labelled_of, admits, is_better_candidate};
 ghost use Rattle.he_select.specs.Walking.{keep_better, keep_fitting, walk_fitting};
 
 use crate::host::{Route, Source};
@@ -76,16 +76,20 @@ impl Labelled {
 impl Candidate {
     /// The candidate, or the best so far if that is as good.
     fn or_better(self, best: Option<Candidate>) -> Candidate
-        ensures { Some result ≡ keep_better comes_before best self }
+        ensures { Some result ≡ keep_better is_better_candidate best self }
     {
         match best {
             None => self,
-            Some(best) => if self.comes_before(&best) { self } else { best },
+            Some(best) => if self.is_better_candidate(&best) {
+                self
+            } else {
+                best
+            },
         }
     }
 
-    fn comes_before(&self, other: &Candidate) -> bool
-        ensures { result ≡ comes_before self.now other.now }
+    fn is_better_candidate(&self, other: &Candidate) -> bool
+        ensures { result ≡ is_better_candidate self.now other.now }
     {
         self.key.compare(&other.key).is_lt()
     }
@@ -106,7 +110,7 @@ impl Destination {
     /// The best of the sources that may be used for this destination.
     pub(crate) fn best_of(&self, sources: &[Labelled]) -> Option<Candidate>
         requires { IsTrue (list_all (λ labelled. is_sound_source labelled.source) sources.now) }
-        ensures { result ≡ walk_fitting (λ candidate. admits self.now candidate.source) comes_before None (map (candidate_of self.now) sources.now) }
+        ensures { result ≡ walk_fitting (λ candidate. admits self.now candidate.source) is_better_candidate None (map (candidate_of self.now) sources.now) }
     {
         let mut best = None;
         for labelled in sources {
@@ -118,13 +122,13 @@ impl Destination {
     /// The better one of the best so far and a source, if that may be used at all.
     pub(crate) fn keep(&self, best: Option<Candidate>, labelled: &Labelled) -> Option<Candidate>
         requires { IsTrue (is_sound_source labelled.now.source) }
-        ensures { result ≡ keep_fitting (λ candidate. admits self.now candidate.source) comes_before best (candidate_of self.now labelled.now) }
+        ensures { result ≡ keep_fitting (λ candidate. admits self.now candidate.source) is_better_candidate best (candidate_of self.now labelled.now) }
     {
         if !self.admits(&labelled.source) {
             return best;
         }
         let candidate = Candidate {
-            key: self.key_of(labelled),
+            key: self.source_key(labelled),
             source: labelled.source,
             label: labelled.label,
         };
@@ -141,7 +145,7 @@ impl Destination {
     }
 
     #[tactic(auto, unfolding(crate::specs::Keys::source_key))]
-    fn key_of(&self, labelled: &Labelled) -> SourceKey
+    fn source_key(&self, labelled: &Labelled) -> SourceKey
         requires sound { IsTrue (is_sound_source labelled.now.source) }
         requires family { family_of labelled.now.source.ip ≡ family_of self.now.ip }
         ensures { result ≡ source_key self.now labelled.now }
@@ -156,7 +160,8 @@ impl Destination {
             scope_distance: scope.abs_diff(self.scope),
             // Rule 3: avoid deprecated addresses.
             deprecated: source.deprecated,
-            // Rule 5: prefer outgoing interface.
+            // Rule 4 is left out: there are no home addresses here.
+            // Rule 5: prefer outgoing interface. Rule 5.5 is left out: no host tells the next hop's prefixes.
             other_interface: source.interface != self.interface,
             // Rule 6: prefer matching label.
             other_label: labelled.label != self.label,
@@ -175,7 +180,7 @@ pub(crate) fn best_source(
     destination: &Destination,
 ) -> Option<Candidate>
     requires { IsTrue (list_all is_sound_source sources.now) }
-    ensures { result ≡ walk_fitting (λ candidate. admits destination.now candidate.source) comes_before None (map (λ source. candidate_of destination.now (labelled_of rows.now source)) sources.now) }
+    ensures { result ≡ walk_fitting (λ candidate. admits destination.now candidate.source) is_better_candidate None (map (λ source. candidate_of destination.now (labelled_of rows.now source)) sources.now) }
 {
     let mut best = None;
     for source in sources {

@@ -3,7 +3,8 @@
 ghost use Rattle.std.specs.Prelude.{◌≡◌, map, All, IsPermutation, IsSortedByKey, IsTrue, IfOk, OnOk};
 ghost use Rattle.std.specs.List.{list_all};
 ghost use Rattle.he_addr.specs.Ip.{InRange, is_usable};
-ghost use Rattle.he_select.specs.DestinationKeys.{key_cmp, ranked_by};
+ghost use Rattle.he_select.specs.DestinationKeys.{key_cmp};
+ghost use Rattle.he_select.specs.Ranking.{ranked_by};
 ghost use Rattle.he_select.specs.HostFaults.{is_sound_source};
 ghost use Rattle.he_select.specs.Keys.{labelled_of};
 ghost use Rattle.he_select.specs.Preference.{IsOrder, members_from, order_of};

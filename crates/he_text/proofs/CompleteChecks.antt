@@ -8,11 +8,13 @@ use Rattle.he_plan.specs.declared.limits.TheConstants.{MAX_PAUSES}
 use Rattle.he_plan.specs.Building.{last_end}
 use Rattle.he_plan.specs.Race.{has_outcome}
 use Rattle.he_plan.specs.Timeline.{are_distinct, are_pauses, are_told_once}
+use Rattle.he_select.proofs.Admitted.{no_fault_from}
 use Rattle.he_select.specs.declared.limits.TheConstants.{ROWS, SOURCES, ROUTES}
 use Rattle.he_select.specs.declared.policy.Row.{Row}
 use Rattle.he_select.specs.Hosts.{same_source, same_route}
-use Rattle.he_select.specs.Rules.{first_repeat}
-use Rattle.he_select.specs.Tables.{IsAdmitted, same_row, table_fault}
+use Rattle.he_select.specs.Refusals.{first_repeat}
+use Rattle.he_select.specs.TableFaults.{table_fault}
+use Rattle.he_select.specs.Tables.{IsAdmitted, same_row}
 use Rattle.he_text.specs.declared.fault.TextKind.{TextKind}
 use Rattle.he_text.specs.declared.fault.TextKind.TheVariants as kinds
 use Rattle.he_text.specs.declared.limits.TheConstants.{MAX_ANSWERS, MAX_LINE}
@@ -186,13 +188,9 @@ last_table told later row whole none =
     let P : List Row → Type 0 = λ rows. IsAdmitted (table_of_rows rows) in
     by_rows (rows_given told) (subst P split (rows_fit (told ++ PolicyRow row ∷ later) whole))
   where
-    nothing : {F : Type 0} (o : Option F) → IsTrue (is_none o) → o ≡ None
-    nothing None h = refl
-    nothing (Some f) h = cc
-
     by_rows : (rows : List Row) → IsAdmitted (table_of_rows (rows ++ row ∷ [])) → table_fault (rows ++ row ∷ []) ≡ None
-    by_rows [] h = nothing (table_fault (row ∷ [])) h
-    by_rows (first ∷ rows) h = nothing (table_fault (first ∷ rows ++ row ∷ [])) h
+    by_rows [] h = no_fault_from (row ∷ []) h
+    by_rows (first ∷ rows) h = no_fault_from (first ∷ rows ++ row ∷ []) h
 
 -- behind what is no row there is none
 after_rows : (t : Said) → 2 ≤ group_said t → row_said t ≡ None → 3 ≤ group_said t

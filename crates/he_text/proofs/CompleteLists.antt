@@ -14,7 +14,7 @@ use Rattle.he_plan.specs.declared.outcome.Outcome.{Outcome}
 use Rattle.he_plan.specs.Race.{has_outcome}
 use Rattle.he_plan.specs.Timeline.{are_told_once, are_pauses}
 use Rattle.he_plan.proofs.Ranges.{same_ip-sym}
-use Rattle.he_select.specs.Rules.{repeat_from, first_repeat}
+use Rattle.he_select.specs.Refusals.{repeat_from, first_repeat}
 
 -- what stands before, at and behind one that gives something
 pub given_split : {X Y : Type 0} (h : X → Option Y) (before after : List X) (x : X) (y : Y) → h x ≡ Some y → filter_map h (before ++ x ∷ after) ≡ filter_map h before ++ y ∷ filter_map h after

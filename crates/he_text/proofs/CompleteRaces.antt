@@ -13,16 +13,21 @@ use Rattle.he_plan.specs.declared.limits.TheConstants.{MAX_TICK, MAX_ADDRESSES}
 use Rattle.he_plan.specs.declared.outcome.Outcome.{Outcome}
 use Rattle.he_plan.specs.Race.{Reply, addresses_of, has_ip, stands}
 use Rattle.he_plan.specs.Timeline.{IsRace, are_of, are_distinct, is_answer, is_outcome, is_duration, duration_of}
-use Rattle.he_select.proofs.Causes.{none_stands, unmapped, not_caused, all_sound}
+use Rattle.he_select.proofs.Admitted.{no_fault as no_table_fault}
+use Rattle.he_select.proofs.Causes.{none_stands, unmapped, not_caused}
+use Rattle.he_select.proofs.Hosted.{all_sound, no_fault as no_host_fault}
+use Rattle.he_select.specs.Hosts.{IsHost}
 use Rattle.he_select.specs.declared.host.HostFault.TheVariants as hosts
 use Rattle.he_select.specs.declared.policy.PolicyFault.TheVariants as policies
 use Rattle.he_select.specs.declared.host.Source.{Source}
 use Rattle.he_select.specs.declared.host.Route.{Route}
 use Rattle.he_select.specs.declared.limits.TheConstants.{ROWS, SOURCES, ROUTES}
 use Rattle.he_select.specs.declared.policy.Row.{Row}
-use Rattle.he_select.specs.Hosts.{host_causes, host_fault, is_sound_source, same_source, same_route}
-use Rattle.he_select.specs.Rules.{first_repeat}
-use Rattle.he_select.specs.Tables.{IsAdmitted, same_row, table_causes, table_fault}
+use Rattle.he_select.specs.HostFaults.{host_causes, host_fault, is_sound_source}
+use Rattle.he_select.specs.Hosts.{same_source, same_route}
+use Rattle.he_select.specs.Refusals.{first_repeat}
+use Rattle.he_select.specs.TableFaults.{table_causes, table_fault}
+use Rattle.he_select.specs.Tables.{IsAdmitted, same_row}
 use Rattle.he_text.specs.declared.words.Name.{Name}
 use Rattle.he_text.specs.Faults.{known_to}
 use Rattle.he_text.specs.Said.{Said, Setting, PolicyRow, HostSource, HostRoute, Answer, Told, Paused, Ended, setting_said, source_said, answer_said, outcome_said, at_front, rows_given, sources_given, routes_given, answer_given, outcomes_given, table_of_rows, race_of}
@@ -55,7 +60,7 @@ admitted_rows : (rows : List Row) → IsAdmitted (table_of_rows rows) → AreRow
 unfolding table_fault
 admitted_rows [] h = record { few = omega arith; once = refl }
 admitted_rows (row ∷ rows) h =
-    let none = none_stands (table_causes (row ∷ rows)) h in
+    let none = none_stands (table_causes (row ∷ rows)) (no_table_fault (row ∷ rows) h) in
     let size = not_caused (length (row ∷ rows) == 0 || ltb ROWS (length (row ∷ rows))) policies.Size none.0 in
     record {
       few = ltb-false ROWS (length (row ∷ rows)) (or_parts (length (row ∷ rows) == 0) (ltb ROWS (length (row ∷ rows))) size).1;
@@ -74,17 +79,17 @@ pub record AreHosts (sources : List Source) (routes : List Route) : Type 0 where
   pub routes_once : first_repeat same_route routes ≡ None
   pub sound : list_all is_sound_source sources ≡ true
 
-pub admitted_host : (sources : List Source) (routes : List Route) → IsTrue (is_none (host_fault sources routes)) → AreHosts sources routes
+pub admitted_host : (sources : List Source) (routes : List Route) → IsHost (record { sources = sources; routes = routes }) → AreHosts sources routes
 unfolding host_fault
 admitted_host sources routes h =
-    let none = none_stands (host_causes sources routes) h in
+    let none = none_stands (host_causes sources routes) (no_host_fault (record { sources = sources; routes = routes }) h) in
     let many = or_parts (ltb SOURCES (length sources)) (ltb ROUTES (length routes)) (not_caused (ltb SOURCES (length sources) || ltb ROUTES (length routes)) hosts.TooMany none.0) in
     record {
       few_sources = ltb-false SOURCES (length sources) many.0;
       few_routes = ltb-false ROUTES (length routes) many.1;
       sources_once = is_nothing (first_repeat same_source sources) (unmapped hosts.RepeatedSource (first_repeat same_source sources) none.1.0);
       routes_once = is_nothing (first_repeat same_route routes) (unmapped hosts.RepeatedRoute (first_repeat same_route routes) none.1.1.0);
-      sound = all_sound sources routes h;
+      sound = all_sound (record { sources = sources; routes = routes }) h;
     }
 
 pub hosts_are : (said : List Said) → IsWhole said → AreHosts (sources_given said) (routes_given said)

@@ -9,7 +9,8 @@ use Rattle.he_select.specs.declared.policy.PolicyFault.{PolicyFault}
 use Rattle.he_select.specs.declared.host.Source.{Source}
 use Rattle.he_select.specs.declared.host.Route.{Route}
 use Rattle.he_select.specs.Hosts.{same_source, same_route}
-use Rattle.he_select.specs.Tables.{same_row, table_fault}
+use Rattle.he_select.specs.TableFaults.{table_fault}
+use Rattle.he_select.specs.Tables.{same_row}
 use Rattle.he_text.specs.declared.draft.Given.{Given}
 use Rattle.he_text.specs.declared.fault.TextKind.{TextKind}
 use Rattle.he_text.specs.declared.fault.TextKind.TheVariants as kinds

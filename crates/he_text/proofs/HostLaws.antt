@@ -13,9 +13,10 @@ use Rattle.he_select.specs.declared.policy.PolicyFault.{PolicyFault}
 use Rattle.he_select.specs.declared.host.Source.{Source}
 use Rattle.he_select.specs.declared.host.Route.{Route}
 use Rattle.he_select.specs.declared.host.HostFault.TheVariants as hosts
-use Rattle.he_select.specs.Hosts.{Interfaces, same_source, same_route, is_sound_source, is_sound_route, host_fault}
-use Rattle.he_select.specs.Rules.{cause_if, first_cause, first_repeat}
-use Rattle.he_select.specs.Tables.{table_fault}
+use Rattle.he_select.specs.HostFaults.{is_sound_source, is_sound_route, host_fault}
+use Rattle.he_select.specs.Hosts.{Interfaces, same_source, same_route}
+use Rattle.he_select.specs.Refusals.{cause_if, first_cause, first_repeat}
+use Rattle.he_select.specs.TableFaults.{table_fault}
 use Rattle.he_select.proofs.Repeats.{repeats_law}
 use Rattle.he_text.specs.declared.fault.TextKind.{TextKind}
 use Rattle.he_text.specs.declared.fault.TextKind.TheVariants as kinds

@@ -23,9 +23,13 @@ use Rattle.he_select.specs.declared.host.Route.{Route}
 use Rattle.he_select.specs.declared.host.Source.{Source}
 use Rattle.he_select.specs.declared.policy.PolicyFault.{PolicyFault}
 use Rattle.he_select.specs.declared.policy.Row.{Row}
-use Rattle.he_select.specs.Hosts.{IsHost, Interfaces, host_fault}
+use Rattle.he_select.specs.HostFaults.{host_fault}
+use Rattle.he_select.specs.Hosts.{IsHost, Interfaces}
 use Rattle.he_select.specs.Standard.{standard_rows}
-use Rattle.he_select.specs.Tables.{IsAdmitted, table_fault}
+use Rattle.he_select.specs.TableFaults.{table_fault}
+use Rattle.he_select.specs.Tables.{IsAdmitted}
+use Rattle.he_select.proofs.Admitted.{admitted_from}
+use Rattle.he_select.proofs.Hosted.{host_from as is_host}
 use Rattle.he_select.proofs.Standards.{standard_admits}
 use Rattle.he_text.specs.declared.draft.Given.{Given}
 use Rattle.he_text.specs.declared.draft.Order.{Order}
@@ -162,7 +166,7 @@ policy_fits (row ∷ rows) policy h = by_fault (table_fault (row ∷ rows)) refl
     by_fault : (fault : Option PolicyFault) → table_fault (row ∷ rows) ≡ fault → told_by table_kind (option_map_or Err fault (Ok (row ∷ rows))) ≡ Ok policy → IsAdmitted policy
     by_fault None e h =
         let same : row ∷ rows ≡ policy = cc (h) in
-        let fits : IsAdmitted (row ∷ rows) = ap is_none e in
+        let fits : IsAdmitted (row ∷ rows) = admitted_from (row ∷ rows) (ap is_none e) in
         let P : List Row → Type 0 = IsAdmitted in
         subst P same fits
     by_fault (Some fault) e h = cc
@@ -175,7 +179,7 @@ host_fits sources routes host h = by_fault (host_fault sources routes) refl h
     by_fault None e h =
         let same : record { sources = sources; routes = routes } ≡ host = cc (h) in
         let P : Interfaces → Type 0 = IsHost in
-        subst P same (ap is_none e)
+        subst P same (is_host (record { sources = sources; routes = routes }) (ap is_none e))
     by_fault (Some fault) e h = cc
 
 start_fits : (head : HeadGiven) (race : Race) → race_begun head ≡ Ok race → IsRace race

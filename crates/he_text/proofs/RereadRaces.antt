@@ -16,7 +16,8 @@ use Rattle.he_select.specs.declared.policy.Row.{Row}
 use Rattle.he_select.specs.declared.host.Source.{Source}
 use Rattle.he_select.specs.declared.host.Route.{Route}
 use Rattle.he_select.specs.Hosts.{Interfaces}
-use Rattle.he_select.specs.Tables.{IsAdmitted, table_fault}
+use Rattle.he_select.specs.TableFaults.{table_fault}
+use Rattle.he_select.specs.Tables.{IsAdmitted}
 use Rattle.he_text.specs.declared.words.Name.{Name}
 use Rattle.he_text.specs.declared.words.Name.TheVariants.{Resolution, Attempt, Count, Limit}
 use Rattle.he_text.specs.Said.{Said, Setting, PolicyRow, HostSource, HostRoute, Answer, Told, Paused, setting_said, row_said, source_said, route_said, answer_said, outcome_said, pause_said, at_front, setting_given, rows_given, sources_given, routes_given, answer_given, outcomes_given, pauses_given, settings_given, table_of_rows, race_of}
@@ -209,7 +210,7 @@ first_listed (Some reply) = refl
 -- an admitted table has a row
 table_back : (rows : List Row) → IsAdmitted rows → table_of_rows rows ≡ rows
 unfolding table_fault
-table_back [] admitted = cc
+table_back [] admitted = absurd (omega (arith, admitted.size.0))
 table_back (row ∷ rows) admitted = refl
 
 abbrev made_settings : ℕ → ℕ → ℕ → ℕ → SettingValues

@@ -16,11 +16,13 @@ use Rattle.he_plan.specs.Race.{Race, Reply, addresses_of, has_ip, stands}
 use Rattle.he_plan.specs.Settings.{SettingValues, IsSettings}
 use Rattle.he_plan.specs.Timeline.{IsRace, are_of, are_distinct, is_answer, is_outcome, is_duration, duration_of, are_pauses}
 use Rattle.he_select.proofs.Causes.{none_stands, unmapped}
+use Rattle.he_select.proofs.Hosted.{no_fault as no_host_fault}
+use Rattle.he_select.specs.Hosts.{IsHost}
 use Rattle.he_select.specs.declared.host.HostFault.TheVariants as hosts
 use Rattle.he_select.specs.declared.host.Source.{Source}
 use Rattle.he_select.specs.declared.host.Route.{Route}
 use Rattle.he_select.specs.declared.policy.Row.{Row}
-use Rattle.he_select.specs.Hosts.{host_causes, host_fault, is_sound_source, is_sound_route}
+use Rattle.he_select.specs.HostFaults.{host_causes, host_fault, is_sound_source, is_sound_route}
 use Rattle.he_text.specs.InRange.{RowInRange, SourceInRange, RouteInRange, RaceInRange}
 use Rattle.he_text.specs.Said.{Said, PolicyRow, HostSource, HostRoute}
 use Rattle.he_text.proofs.CompleteRaces.{admitted_host}
@@ -64,11 +66,11 @@ no_bad p (x ∷ xs) place h =
       | inr gone ↦ absurd (false≢true (rw gone at h))
     ]
 
-sound_routes : (sources : List Source) (routes : List Route) → IsTrue (is_none (host_fault sources routes)) → list_all is_sound_route routes ≡ true
+sound_routes : (sources : List Source) (routes : List Route) → IsHost (record { sources = sources; routes = routes }) → list_all is_sound_route routes ≡ true
 unfolding host_fault
 sound_routes sources routes h =
     let bad : Option ℕ = position_from (λ route. not (is_sound_route route)) 0 routes in
-    no_bad is_sound_route routes 0 (unmapped hosts.BadRoute bad (none_stands (host_causes sources routes) h).1.1.1.1.0)
+    no_bad is_sound_route routes 0 (unmapped hosts.BadRoute bad (none_stands (host_causes sources routes) (no_host_fault (record { sources = sources; routes = routes }) h)).1.1.1.1.0)
 
 routes_can : (routes : List Route) → list_all is_sound_route routes ≡ true → AllByRecursion RouteInRange routes → AllSpellable (map HostRoute routes)
 routes_can [] sound h = tt

@@ -13,7 +13,8 @@ use Rattle.he_text.specs.Ranges.{most_line_bytes}
 use Rattle.he_text.specs.declared.fault.TextKind.{TextKind}
 use Rattle.he_text.specs.declared.fault.TextKind.TheVariants as kinds
 use Rattle.he_select.specs.Hosts.{same_source, same_route}
-use Rattle.he_select.specs.Tables.{same_row, table_fault}
+use Rattle.he_select.specs.TableFaults.{table_fault}
+use Rattle.he_select.specs.Tables.{same_row}
 use Rattle.he_text.specs.declared.words.Word.{Word}
 use Rattle.he_text.specs.Forms.{word_of, said_in}
 use Rattle.he_text.specs.Parts.{lines_of, tokens_of}

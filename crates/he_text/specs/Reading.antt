@@ -20,9 +20,11 @@ use Rattle.he_select.specs.declared.host.Source.{Source}
 use Rattle.he_select.specs.declared.host.Route.{Route}
 use Rattle.he_select.specs.declared.host.HostFault.{HostFault}
 use Rattle.he_select.specs.declared.host.HostFault.TheVariants as hosts
-use Rattle.he_select.specs.Hosts.{Interfaces, same_source, same_route, host_of}
+use Rattle.he_select.specs.HostFaults.{host_of}
+use Rattle.he_select.specs.Hosts.{Interfaces, same_source, same_route}
 use Rattle.he_select.specs.Standard.{standard_rows}
-use Rattle.he_select.specs.Tables.{same_row, table_fault, table_of}
+use Rattle.he_select.specs.TableFaults.{table_fault, table_of}
+use Rattle.he_select.specs.Tables.{same_row}
 use Rattle.he_text.specs.declared.draft.Order.{Order}
 use Rattle.he_text.specs.declared.draft.Given.{Given}
 use Rattle.he_text.specs.declared.fault.TextKind.{TextKind}

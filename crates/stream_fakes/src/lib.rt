@@ -20,6 +20,3 @@ pub mod writer;
 
 pub use reader::FakeReader;
 pub use writer::FakeWriter;
-
-#[cfg(test)]
-mod tests;

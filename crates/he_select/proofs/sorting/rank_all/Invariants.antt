@@ -1,7 +1,7 @@
 use Rattle.std.proofs.Common.{◌≡◌, drop, map, ◌++◌}
 use Rattle.std.specs.List.{AllWithin}
 use Rattle.he_addr.specs.Ip.{InRange}
-use Rattle.he_select.specs.DestinationKeys.{ranked_by}
+use Rattle.he_select.specs.Ranking.{ranked_by}
 use Rattle.he_select.specs.Preference.{members_from}
 use Rattle.he_select.proofs.sorting.rank_all.Given as goal
 

@@ -7,13 +7,14 @@ use Rattle.he_addr.specs.declared.ip.Ip.{Ip}
 use Rattle.he_addr.specs.Ip.{IsUsable}
 use Rattle.he_select.specs.declared.ranking.Ranked.{Ranked}
 use Rattle.he_select.specs.declared.selection.Labelled.{Labelled}
-use Rattle.he_select.specs.DestinationKeys.{key_cmp, ranked_by, ranked_of}
+use Rattle.he_select.specs.DestinationKeys.{key_cmp}
+use Rattle.he_select.specs.Ranking.{ranked_of}
 use Rattle.he_select.specs.HostFaults.{is_sound_source}
 use Rattle.he_select.specs.Keys.{labelled_of}
 use Rattle.he_select.specs.Preference.{IsOrder, members_from, order_of}
 use Rattle.he_select.specs.Selection.{World}
 use Rattle.he_select.proofs.Arranged.{each_usable, is_order}
-use Rattle.he_select.proofs.Chosen.{labelled_sound, map-same, ranked_is}
+use Rattle.he_select.proofs.Chosen.{all_ranked, labelled_sound}
 use Rattle.he_select.proofs.Counting.{Each, Rising, rising}
 use Rattle.he_select.proofs.Families.{parts_families}
 use Rattle.he_select.proofs.Keyed.{PartsFamilies, keys_total}
@@ -32,9 +33,7 @@ returns g c =
     let ips : List Ip = c.args.addresses.now in
     let labelled : c.deref.result.now ≡ map (labelled_of c.args.rows.now) c.args.sources.now = c.deref.ensures.value ∙ c.in_ok-labelled.ensures in
     let keyed : c.deref_mut.result.now ≡ map (ranked_of world) (members_from 0 ips) =
-    c.deref_mut.ensures.value ∙ c.in_ok-ranked.ensures.keys
-    ∙ ap (λ l. map (ranked_by c.args.rows.now c.args.routes.now l) (members_from 0 ips)) labelled
-    ∙ map-same (ranked_by c.args.rows.now c.args.routes.now (map (labelled_of c.args.rows.now) c.args.sources.now)) (ranked_of world) (ranked_is world) (members_from 0 ips) in
+    all_ranked world ips c.deref.result.now c.in_ok-ranked.ranked.items c.deref_mut.result.now labelled c.in_ok-ranked.ensures.keys c.deref_mut.ensures.value in
     let kept = length_permutation c.deref_mut.result.now c.sort.new.ranked c.sort.ensures.permutation ∙ ap (λ (l : List Ranked). length l) c.deref_mut.ensures.value in
     let now : c.deref-2.result.now ≡ c.sort.new.ranked =
     c.deref-2.ensures.value ∙ written_back c.in_ok-ranked.ranked.items c.sort.new.ranked c.in_ok-ranked.ranked.len kept (sym (ap (λ (l : List Ranked). length l) c.deref_mut.ensures.value) ∙ c.deref_mut.ensures.len) in

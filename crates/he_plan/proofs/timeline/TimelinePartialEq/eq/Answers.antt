@@ -1,5 +1,5 @@
 use Rattle.std.proofs.Common.{sym, ◌∙◌}
-use Rattle.he_plan.specs.Equality.{race_from, race_is}
+use Rattle.he_plan.specs.EqualityLaws.{race_from, race_is}
 use Rattle.he_plan.proofs.timeline.TimelinePartialEq.eq.Goals as goal
 
 pub returns-clause-lists : goal.returns-clause-lists

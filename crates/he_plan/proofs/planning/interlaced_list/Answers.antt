@@ -2,7 +2,7 @@ use Rattle.std.proofs.Common.{◌≡◌, arith}
 use Rattle.std.proofs.lemmas.Grind.{common_steps}
 use Rattle.he_plan.specs.Planning.{parts_of}
 use Rattle.he_plan.proofs.Queued.{parts-usable}
-use Rattle.he_plan.proofs.planning.order_of.Goals as goal
+use Rattle.he_plan.proofs.planning.interlaced_list.Goals as goal
 
 pub order-requires : goal.order-requires
 order-requires g c =

@@ -1,0 +1,264 @@
+// A second opinion on plans: each tick is asked whether an attempt may start on it, as the definitions say, and all addresses,
+// attempts and pauses are looked at again each time. Its answers are those of `plan` on timelines that are drawn.
+
+ghost use Rattle.std.specs.Prelude.{◌≡◌, ◌<◌, max};
+ghost use Rattle.std.specs.List.{list_all};
+ghost use Rattle.he_addr.specs.Ip.{is_usable};
+
+use crate::homes::{Home, builder};
+use he_addr::{Family, Ip, Memory};
+use he_plan::{Attempt, Settings, Timeline, TimelineBuilder, interlace, plan};
+use he_select::order;
+use std::alloc::{Allocator, Global};
+use std::test::Fail;
+
+// 2001:db8:1::, ff02::, 198.51.100.0 and 224.0.0.0
+const V6_A: u128 = 0x2001_0db8_0001_0000_0000_0000_0000_0000;
+
+const MULTICAST_V6: u128 = 0xff02_0000_0000_0000_0000_0000_0000_0000;
+
+const V4_A: u32 = 0xc633_6400;
+
+const MULTICAST_V4: u32 = 0xe000_0000;
+
+fn plain_plan<A: Allocator + Copy>(
+    alloc: A,
+    timeline: &Timeline<A>,
+) -> Result<Vec<Attempt, A>, Memory> {
+    let mut done = Vec::new(alloc);
+    for tick in 0..timeline.settings().limit() {
+        if may_start(timeline, &done, tick) {
+            push_next(alloc, timeline, &mut done, tick)?;
+        }
+    }
+    Ok(done)
+}
+
+// Whether the client may act at the tick and is to start the first attempt or, if it has an address to try, another one.
+fn may_start<A: Allocator>(timeline: &Timeline<A>, done: &[Attempt], tick: u64) -> bool {
+    if seen(timeline.pauses(), tick) != tick {
+        return false;
+    }
+    match done.last() {
+        None => may_begin(timeline, tick),
+        Some(last) => last.tick.saturating_add(timeline.settings().attempt()) <= tick,
+    }
+}
+
+fn may_begin<A: Allocator>(timeline: &Timeline<A>, tick: u64) -> bool {
+    if is_positive(timeline, Family::V6, tick) {
+        return true;
+    }
+    is_positive(timeline, Family::V4, tick)
+        && (is_answered(timeline, Family::V6, tick) || is_delay_over(timeline, tick))
+}
+
+fn is_delay_over<A: Allocator>(timeline: &Timeline<A>, tick: u64) -> bool {
+    let resolution = timeline.settings().resolution();
+    match timeline.answer(Family::V4) {
+        Some((a, _)) => seen(timeline.pauses(), a.saturating_add(resolution)) <= tick,
+        None => false,
+    }
+}
+
+fn is_answered<A: Allocator>(timeline: &Timeline<A>, family: Family, tick: u64) -> bool {
+    match timeline.answer(family) {
+        Some((answered, _)) => seen(timeline.pauses(), answered) <= tick,
+        None => false,
+    }
+}
+
+fn is_positive<A: Allocator>(timeline: &Timeline<A>, family: Family, tick: u64) -> bool {
+    is_answered(timeline, family, tick)
+        && match timeline.answer(family) {
+            Some((_, ips)) => ips.iter().any(|ip| ip.is_usable()),
+            None => false,
+        }
+}
+
+fn push_next<A: Allocator + Copy>(
+    alloc: A,
+    timeline: &Timeline<A>,
+    done: &mut Vec<Attempt, A>,
+    tick: u64,
+) -> Result<(), Memory> {
+    let v6 = is_answered(timeline, Family::V6, tick);
+    let v4 = is_answered(timeline, Family::V4, tick);
+    for ip in &order_of(alloc, timeline, v6, v4)? {
+        if !done.iter().any(|attempt| attempt.ip == *ip) {
+            let place = done.len();
+            let ip = *ip;
+            return done.push(Attempt { place, tick, ip }).map_err(|_| Memory);
+        }
+    }
+    Ok(())
+}
+
+// The usable addresses of the answers that count, in order and interlaced.
+fn order_of<A: Allocator + Copy>(
+    alloc: A,
+    timeline: &Timeline<A>,
+    v6: bool,
+    v4: bool,
+) -> Result<Vec<Ip, A>, Memory> {
+    let mut ips = Vec::new(alloc);
+    push_usable(&mut ips, timeline, Family::V6, v6)?;
+    push_usable(&mut ips, timeline, Family::V4, v4)?;
+    if !are_usable(&ips) {
+        return Err(Memory);
+    }
+    let sorted = order(alloc, timeline.policy(), timeline.host(), &ips)?;
+    interlace(alloc, &sorted, timeline.settings().count())
+}
+
+fn are_usable(ips: &[Ip]) -> bool
+    ensures { result ≡ list_all is_usable ips.now }
+{
+    ips.iter().all(|ip| ip.is_usable())
+}
+
+fn push_usable<A: Allocator>(
+    ips: &mut Vec<Ip, A>,
+    timeline: &Timeline<A>,
+    family: Family,
+    counts: bool,
+) -> Result<(), Memory> {
+    if let Some((_, given)) = timeline.answer(family) {
+        for ip in given {
+            if counts && ip.is_usable() {
+                ips.push(*ip).map_err(|_| Memory)?;
+            }
+        }
+    }
+    Ok(())
+}
+
+fn seen(pauses: &[(u64, u64)], tick: u64) -> u64 {
+    let mut seen = tick;
+    for pause in pauses {
+        if pause.0 <= seen && seen < pause.1 {
+            seen = pause.1;
+        }
+    }
+    seen
+}
+
+/// Numbers that look drawn and are the same in each run (Knuth's linear congruential generator).
+#[derive(Drop)]
+struct Drawn(u64);
+
+impl Drawn {
+    fn below(&mut self, bound: u64) -> u64
+        ensures { result < max bound 1 }
+    {
+        self.0 = self
+            .0
+            .wrapping_mul(6_364_136_223_846_793_005)
+            .wrapping_add(1_442_695_040_888_963_407);
+        (self.0 >> 33) % bound.max(1)
+    }
+}
+
+// The usable address of this number, or in its place one that is not.
+fn address(family: Family, number: u32, is_usable: bool) -> Ip {
+    match (family, is_usable) {
+        (Family::V6, true) => Ip::V6(V6_A.wrapping_add(number as u128)),
+        (Family::V6, false) => Ip::V6(MULTICAST_V6.wrapping_add(number as u128)),
+        (Family::V4, true) => Ip::V4(V4_A.wrapping_add(number)),
+        (Family::V4, false) => Ip::V4(MULTICAST_V4.wrapping_add(number)),
+    }
+}
+
+// An answer of up to eleven addresses, of which about one in four is unusable; one answer in eight never comes.
+fn draw_answer(
+    alloc: Global,
+    builder: &mut TimelineBuilder,
+    family: Family,
+    drawn: &mut Drawn,
+) -> Result<(), Fail> {
+    if drawn.below(8) == 0 {
+        return Ok(());
+    }
+    let mut ips = Vec::new(alloc);
+    for number in 0..drawn.below(12) as u32 {
+        let is_usable = drawn.below(4) > 0;
+        ips.push(address(family, number, is_usable))?;
+    }
+    builder.answer(family, drawn.below(300), &ips)?;
+    Ok(())
+}
+
+// Up to seven pauses, some of which adjoin.
+fn draw_pauses(builder: &mut TimelineBuilder, drawn: &mut Drawn) -> Result<(), Fail> {
+    let mut end: u64 = 0;
+    for _ in 0..drawn.below(8) {
+        let gap = if drawn.below(3) == 0 {
+            0
+        } else {
+            drawn.below(200)
+        };
+        let from = end.saturating_add(gap);
+        end = from.saturating_add(1 + drawn.below(120));
+        builder.pause(from, end)?;
+    }
+    Ok(())
+}
+
+fn draw(alloc: Global, drawn: &mut Drawn) -> Result<Timeline, Fail> {
+    let resolution = drawn.below(100);
+    let attempt = 10 + drawn.below(60);
+    let count = 1 + drawn.below(4);
+    let limit = 1 + drawn.below(1_500);
+    let settings = Settings::new(resolution, attempt, count, limit)?;
+    let home = match drawn.below(3) {
+        0 => Home::Usual,
+        1 => Home::LinkLocal,
+        _ => Home::WithoutV6,
+    };
+    let mut builder = builder(alloc, settings, home)?;
+    draw_answer(alloc, &mut builder, Family::V6, drawn)?;
+    draw_answer(alloc, &mut builder, Family::V4, drawn)?;
+    draw_pauses(&mut builder, drawn)?;
+    Ok(builder.finish())
+}
+
+// Whether the plan is the plain one, and how many attempts it has.
+fn same_plan(alloc: Global, timeline: &Timeline) -> Result<Option<usize>, Memory> {
+    let plan = plan(alloc, timeline)?;
+    let plain = plain_plan(alloc, timeline)?;
+    if plan.attempts() == plain.as_slice() {
+        Ok(Some(plain.len()))
+    } else {
+        Ok(None)
+    }
+}
+
+fn same_seen(timeline: &Timeline) -> bool {
+    for tick in 0..1_000 {
+        if timeline.seen(tick) != seen(timeline.pauses(), tick) {
+            return false;
+        }
+    }
+    true
+}
+
+// How many attempts the drawn timelines have, if `plan` and `seen` answer as the plain ones.
+fn same_attempts(alloc: Global) -> Result<Option<usize>, Fail> {
+    let mut drawn = Drawn(8_305);
+    let mut attempts: usize = 0;
+    for _ in 0..400 {
+        let timeline = draw(alloc, &mut drawn)?;
+        match same_plan(alloc, &timeline)? {
+            Some(more) if same_seen(&timeline) => attempts = attempts.saturating_add(more),
+            _ => return Ok(None),
+        }
+    }
+    Ok(Some(attempts))
+}
+
+#[test]
+fn drawn_timelines(rt: HostRuntime) -> Result<(), Fail> {
+    let attempts = same_attempts(rt.alloc())?.ok_or("another plan")?;
+    assert!(rt; attempts > 2_000, "{attempts} attempts");
+    Ok(())
+}

@@ -1,0 +1,84 @@
+-- A fault of the text is the input's own, stands whatever follows, or is that of a policy table at a break.
+use Rattle.std.proofs.Common.{ℕ, ◌≡◌, ◌+◌, ◌++◌, ◌⊎◌, ◌==◌, List, [], ◌∷◌, length, Bool, true, false, Option, Some, None, ap, sym, ◌∙◌, refl, arith, inl, inr, append_assoc}
+use Rattle.std.proofs.lemmas.List.Splits.{length-slice_split}
+use Rattle.he_plan.specs.Race.{Race}
+use Rattle.he_text.specs.declared.fault.TextFault.{TextFault}
+use Rattle.he_text.specs.declared.fault.TextKind.{TextKind}
+use Rattle.he_text.specs.declared.fault.TextKind.TheVariants as kinds
+use Rattle.he_text.specs.Beginnings.{FaultStands, IsTableFault, MayChange}
+use Rattle.he_text.specs.Faults.{fault_of}
+use Rattle.he_text.specs.Parts.{lines_of}
+use Rattle.he_replay.specs.declared.output.InputFault.{InputFault}
+use Rattle.he_replay.specs.declared.output.InputFault.TheVariants.{Text, Read}
+use Rattle.he_replay.specs.Known.{IsKnown}
+use Rattle.he_replay.specs.Output.{IsFault, IsOutput, fault_behind, line_count}
+use Rattle.he_replay.proofs.Races.{line_count-append}
+
+-- a fault that is told of an input that broke off is told of one that ended too
+however_it_ends : (is_broken : Bool) (lines n : ℕ) (kind : TextKind) (fault : TextFault) → Some (Text fault) ≡ Some (fault_behind true lines (n, kind)) → Some (Text fault) ≡ Some (fault_behind is_broken lines (n, kind))
+however_it_ends true lines n kind fault e = e
+however_it_ends false lines n kinds.Header fault e = e
+however_it_ends false lines n kinds.Word fault e = e
+however_it_ends false lines n kinds.Number fault e = e
+however_it_ends false lines n kinds.Address fault e = e
+however_it_ends false lines n kinds.Prefix fault e = e
+however_it_ends false lines n kinds.Repeated fault e = e
+however_it_ends false lines n kinds.Range fault e = e
+however_it_ends false lines n kinds.TooMany fault e = e
+however_it_ends false lines n kinds.Unfinished fault e = cc
+however_it_ends false lines n (kinds.Policy table) fault e = e
+however_it_ends false lines n kinds.Memory fault e = e
+
+-- the kind and the line of a fault of the text
+kind_in : Option InputFault → TextKind
+kind_in (Some (Text fault)) = fault.kind
+kind_in (Some Read) = kinds.Memory
+kind_in None = kinds.Memory
+
+line_in : Option InputFault → ℕ
+line_in (Some (Text fault)) = fault.line
+line_in (Some Read) = 0
+line_in None = 0
+
+-- a fault that what follows may mend is a policy table's, on the last line
+table_behind : (lines : ℕ) (rest : List ℕ) (n : ℕ) (kind : TextKind) (fault : TextFault) → Some (Text fault) ≡ Some (fault_behind true lines (n, kind)) → MayChange rest n kind
+    → IsTableFault fault.kind × (fault.line ≡ lines + line_count rest)
+unfolding line_in kind_in
+table_behind lines rest n kind fault told (inl unfinished) =
+    let bad : Some (Text fault) ≡ Some Read = told ∙ ap (λ k. Some (fault_behind true lines (n, k))) unfinished in cc
+table_behind lines rest n kind fault told (inr ((table, is), last)) =
+    let same : Some (Text fault) ≡ Some (fault_behind true lines (n, kinds.Policy table)) = told ∙ ap (λ k. Some (fault_behind true lines (n, k))) is in
+    let line : fault.line ≡ lines + n = ap line_in same in
+    let count : length (lines_of rest) ≡ _ = length-slice_split (λ b. b == 10) rest in
+    ((table, ap kind_in same), omega arith)
+
+module _
+    (faults_stand : (text : List ℕ) (line : ℕ) (kind : TextKind) → fault_of text ≡ Some (line, kind) → MayChange text line kind ⊎ FaultStands text line kind)
+  where
+    -- a fault of what stands behind whole races of a broken input stands whatever follows, or is a policy table's
+    known_behind : (count lines : ℕ) (rest : List ℕ) (fault : TextFault) → IsFault true count lines rest (Some (Text fault))
+        → ((more : List ℕ) (is_broken : Bool) → IsFault is_broken count lines (rest ++ more) (Some (Text fault))) ⊎ (IsTableFault fault.kind × (fault.line ≡ lines + line_count rest))
+    known_behind count lines [] fault is = cc
+    known_behind count lines (byte ∷ rest) fault (inl most) = inl (λ more is_broken. inl most)
+    known_behind count lines (byte ∷ rest) fault (inr (few, (n, kind), is, told)) =
+        elim (faults_stand (byte ∷ rest) n kind is) [
+          | inl may ↦ inr (table_behind lines (byte ∷ rest) n kind fault told may)
+          | inr stands ↦ inl (λ more is_broken. inr (few, (n, kind), stands more, however_it_ends is_broken lines n kind fault told))
+        ]
+
+    pub known : (IsText : List ℕ → Race → Type 0) (input : List ℕ) (is_broken : Bool) (text : List ℕ) (fault : TextFault) → IsOutput IsText input is_broken text (Some (Text fault)) → IsKnown IsText input is_broken text fault
+    known IsText input false text fault output = inl refl
+    known IsText input true text fault output =
+        elim (known_behind (length output.races) (line_count output.before) output.rest fault output.fault_is) [
+          | inl stands ↦ inr (inl (λ more is_broken. record {
+            races = output.races;
+            before = output.before;
+            rest = output.rest ++ more;
+            parts = ap (λ i. i ++ more) output.parts ∙ append_assoc output.before output.rest more;
+            whole = output.whole;
+            few = output.few;
+            told = output.told;
+            fault_is = stands more is_broken;
+          }))
+          | inr (table, line) ↦ inr (inr (refl, table, line ∙ sym (line_count-append output.before output.rest) ∙ sym (ap line_count output.parts)))
+        ]
