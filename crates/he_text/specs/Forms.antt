@@ -11,7 +11,8 @@ use Rattle.he_plan.specs.declared.outcome.Outcome.TheVariants as outcomes
 use Rattle.he_plan.specs.Race.{Reply}
 use Rattle.he_plan.specs.Timeline.{is_of}
 use Rattle.he_select.specs.Ranges.{least_interface}
-use Rattle.he_text.specs.Ranges.{most_addresses, most_source_marks, most_route_marks, most_resolution, least_attempt, most_attempt, least_count, most_count, least_limit, most_limit, most_precedence, most_label, most_interface, most_tick, least_duration, most_duration, least_pause_end, most_pause_end}
+use Rattle.he_plan.specs.declared.limits.TheConstants.{MAX_ADDRESSES, MAX_RESOLUTION, MIN_ATTEMPT, MAX_ATTEMPT, MIN_COUNT, MAX_COUNT, MIN_LIMIT, MAX_LIMIT, MAX_TICK, MIN_DURATION, MAX_DURATION, MAX_PAUSE_END}
+use Rattle.he_text.specs.Ranges.{most_source_marks, most_route_marks, most_precedence, most_label, most_interface, least_pause_end}
 use Rattle.he_text.specs.declared.fault.TextKind.{TextKind}
 use Rattle.he_text.specs.declared.fault.TextKind.TheVariants as kinds
 use Rattle.he_text.specs.declared.words.Name.{Name}
@@ -35,15 +36,15 @@ abbrev pub ◌>>=◌ : {A B E : Type 0} → Result A E → (A → Result B E) �
 -- the least and the greatest value of a setting
 abbrev pub least_value : Name → ℕ
 least_value Resolution = 0
-least_value Attempt = least_attempt
-least_value Count = least_count
-least_value Limit = least_limit
+least_value Attempt = MIN_ATTEMPT
+least_value Count = MIN_COUNT
+least_value Limit = MIN_LIMIT
 
 abbrev pub most_value : Name → ℕ
-most_value Resolution = most_resolution
-most_value Attempt = most_attempt
-most_value Count = most_count
-most_value Limit = most_limit
+most_value Resolution = MAX_RESOLUTION
+most_value Attempt = MAX_ATTEMPT
+most_value Count = MAX_COUNT
+most_value Limit = MAX_LIMIT
 
 abbrev pub within : ℕ → ℕ → ℕ → Result ℕ TextKind
 within low high n = if nat_le low n && nat_le n high then Ok n else Err kinds.Range
@@ -137,9 +138,9 @@ listed_in family tokens = addresses_in family tokens
 -- aaaa TICK none, aaaa TICK ADDRESS .. and the same of a
 unfoldable pub answer_in : Family → List (List ℕ) → Result Reply TextKind
 answer_in family (number ∷ first ∷ more) =
-    if nat_lt most_addresses (length (first ∷ more)) then Err kinds.TooMany
+    if nat_lt MAX_ADDRESSES (length (first ∷ more)) then Err kinds.TooMany
     else do
-      tick ← number_from 0 most_tick number
+      tick ← number_from 0 MAX_TICK number
       ips ← listed_in family (first ∷ more)
       Ok (record { tick = tick; addresses = ips })
 answer_in family _ = Err kinds.Word
@@ -159,15 +160,15 @@ unfoldable pub connect_in : (Ip → Bool) → List (List ℕ) → Result (Ip × 
 connect_in known (address ∷ mark ∷ number ∷ []) = do
   ip ← known_in known address
   succeeds ← mark_in mark
-  ticks ← number_from least_duration most_duration number
+  ticks ← number_from MIN_DURATION MAX_DURATION number
   Ok (ip, if succeeds then outcomes.Ok ticks else outcomes.Fail ticks)
 connect_in known _ = Err kinds.Word
 
 -- pause FROM TO
 unfoldable pub pause_in : List (List ℕ) → Result (ℕ × ℕ) TextKind
 pause_in (from ∷ to ∷ []) = do
-  first ← number_from 0 most_tick from
-  last ← number_from least_pause_end most_pause_end to
+  first ← number_from 0 MAX_TICK from
+  last ← number_from least_pause_end MAX_PAUSE_END to
   Ok (first, last)
 pause_in _ = Err kinds.Word
 

@@ -1,4 +1,5 @@
--- The numbers of the texts. The law `laws::ranges` ties the constants of the program to them.
+-- The numbers of the texts. The law `laws::ranges` ties the constants of the program to them. Those of a race stand in the
+-- `Ranges` of he_plan, how many rows, sources and routes there may be in those of he_select.
 use Rattle.std.specs.Prelude.{ℕ}
 
 -- the byte behind each line, LF, and the byte between two tokens, a space
@@ -12,16 +13,9 @@ token_end = 32
 abbrev pub most_line_bytes : ℕ
 most_line_bytes = 4096
 
--- the most lines with the answer of one family, and of pauses
+-- the most lines with the answer of one family
 abbrev pub most_answers : ℕ
 most_answers = 1
-
-abbrev pub most_pauses : ℕ
-most_pauses = 136
-
--- the most addresses of an answer
-abbrev pub most_addresses : ℕ
-most_addresses = 64
 
 -- the most marks of a source and of a route
 abbrev pub most_source_marks : ℕ
@@ -29,40 +23,6 @@ most_source_marks = 2
 
 abbrev pub most_route_marks : ℕ
 most_route_marks = 1
-
--- the settings, in ticks but for the count, and their defaults
-abbrev pub most_resolution : ℕ
-most_resolution = 1000
-
-abbrev pub default_resolution : ℕ
-default_resolution = 50
-
-abbrev pub least_attempt : ℕ
-least_attempt = 10
-
-abbrev pub most_attempt : ℕ
-most_attempt = 2000
-
-abbrev pub default_attempt : ℕ
-default_attempt = 250
-
-abbrev pub least_count : ℕ
-least_count = 1
-
-abbrev pub most_count : ℕ
-most_count = 8
-
-abbrev pub default_count : ℕ
-default_count = 1
-
-abbrev pub least_limit : ℕ
-least_limit = 1
-
-abbrev pub most_limit : ℕ
-most_limit = 3600000
-
-abbrev pub default_limit : ℕ
-default_limit = 30000
 
 -- the numbers of a row, and of an interface
 abbrev pub most_precedence : ℕ
@@ -74,18 +34,6 @@ most_label = 65535
 abbrev pub most_interface : ℕ
 most_interface = 65535
 
--- the tick of an answer and at which a pause begins, how long a connect takes, and the first tick behind a pause
-abbrev pub most_tick : ℕ
-most_tick = 3600000
-
-abbrev pub least_duration : ℕ
-least_duration = 1
-
-abbrev pub most_duration : ℕ
-most_duration = 3600000
-
+-- the least first tick behind a pause
 abbrev pub least_pause_end : ℕ
 least_pause_end = 1
-
-abbrev pub most_pause_end : ℕ
-most_pause_end = 3600001

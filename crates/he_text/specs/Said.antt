@@ -7,7 +7,7 @@ use Rattle.he_addr.specs.declared.ip.Ip.{Ip}
 use Rattle.he_plan.specs.declared.outcome.Outcome.{Outcome}
 use Rattle.he_plan.specs.Settings.{SettingValues}
 use Rattle.he_plan.specs.Race.{Race, Reply}
-use Rattle.he_text.specs.Ranges.{default_resolution, default_attempt, default_count, default_limit}
+use Rattle.he_plan.specs.declared.limits.TheConstants.{DEFAULT_RESOLUTION, DEFAULT_ATTEMPT, DEFAULT_COUNT, DEFAULT_LIMIT}
 use Rattle.he_text.specs.declared.words.Name.{Name}
 use Rattle.he_text.specs.declared.words.Name.TheVariants.{Resolution, Attempt, Count, Limit}
 use Rattle.he_select.specs.declared.policy.Row.{Row}
@@ -93,10 +93,10 @@ pauses_given said = filter_map pause_said said
 -- a setting that isn't given has its default
 abbrev pub settings_given : List Said → SettingValues
 settings_given said = record {
-  resolution = unwrap_or (setting_given Resolution said) default_resolution;
-  attempt = unwrap_or (setting_given Attempt said) default_attempt;
-  count = unwrap_or (setting_given Count said) default_count;
-  limit = unwrap_or (setting_given Limit said) default_limit;
+  resolution = unwrap_or (setting_given Resolution said) DEFAULT_RESOLUTION;
+  attempt = unwrap_or (setting_given Attempt said) DEFAULT_ATTEMPT;
+  count = unwrap_or (setting_given Count said) DEFAULT_COUNT;
+  limit = unwrap_or (setting_given Limit said) DEFAULT_LIMIT;
 }
 
 -- the given rows are the whole table; where none is given, the standard table holds

@@ -13,7 +13,8 @@ use Rattle.he_plan.specs.declared.outcome.Outcome.TheVariants as outcomes
 use Rattle.he_plan.specs.Race.{Race}
 use Rattle.he_plan.specs.Timeline.{IsRace, are_of, duration_of}
 use Rattle.he_select.specs.Ranges.{least_interface}
-use Rattle.he_text.specs.Ranges.{most_line_bytes, most_addresses, most_precedence, most_label, most_interface, most_tick, least_duration, most_duration, least_pause_end, most_pause_end}
+use Rattle.he_plan.specs.declared.limits.TheConstants.{MAX_ADDRESSES, MAX_TICK, MIN_DURATION, MAX_DURATION, MAX_PAUSE_END}
+use Rattle.he_text.specs.Ranges.{most_line_bytes, most_precedence, most_label, most_interface, least_pause_end}
 use Rattle.he_text.specs.declared.fault.TextKind.{TextKind}
 use Rattle.he_text.specs.declared.fault.TextKind.TheVariants as kinds
 use Rattle.he_text.specs.declared.words.Name.{Name}
@@ -67,13 +68,13 @@ Says line (HostRoute route) =
     × SpellsPrefix first route.prefix × IsNumber least_interface most_interface second route.interface
 Says line (Answer family reply) =
     (number : List ℕ) × (tokens : List (List ℕ)) × (tokens_of line ≡ spelling_of (answer_word family) ∷ number ∷ tokens)
-    × IsNumber 0 most_tick number reply.tick × Lists tokens reply.addresses × (length tokens ≤ most_addresses)
+    × IsNumber 0 MAX_TICK number reply.tick × Lists tokens reply.addresses × (length tokens ≤ MAX_ADDRESSES)
 Says line (Told ip outcome) =
     (address : List ℕ) × (number : List ℕ) × (tokens_of line ≡ spelling_of words.Connect ∷ address ∷ mark_text outcome ∷ number ∷ [])
-    × Spells address ip × IsNumber least_duration most_duration number (duration_of outcome)
+    × Spells address ip × IsNumber MIN_DURATION MAX_DURATION number (duration_of outcome)
 Says line (Paused from to) =
     (first : List ℕ) × (second : List ℕ) × (tokens_of line ≡ spelling_of words.Pause ∷ first ∷ second ∷ [])
-    × IsNumber 0 most_tick first from × IsNumber least_pause_end most_pause_end second to
+    × IsNumber 0 MAX_TICK first from × IsNumber least_pause_end MAX_PAUSE_END second to
 Says line Ended = ⊥
 
 -- what a line may say where these addresses are known, besides how it is spelled

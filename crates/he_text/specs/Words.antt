@@ -2,7 +2,8 @@
 use Rattle.std.specs.Prelude.{ℕ, List, Bool, true, false, Option, Some, None, if◌then◌else◌, nat_le, codes}
 use Rattle.std.specs.Str.{bytes_eq}
 use Rattle.he_select.specs.Ranges.{most_rows, most_sources, most_routes}
-use Rattle.he_text.specs.Ranges.{most_answers, most_pauses}
+use Rattle.he_plan.specs.declared.limits.TheConstants.{MAX_PAUSES}
+use Rattle.he_text.specs.Ranges.{most_answers}
 use Rattle.he_text.specs.declared.fault.TextKind.{TextKind}
 use Rattle.he_text.specs.declared.fault.TextKind.TheVariants as kinds
 use Rattle.he_text.specs.declared.words.Word.{Word}
@@ -60,7 +61,7 @@ most_lines Source = Some (most_sources, kinds.TooMany)
 most_lines Route = Some (most_routes, kinds.TooMany)
 most_lines Aaaa = Some (most_answers, kinds.Repeated)
 most_lines A = Some (most_answers, kinds.Repeated)
-most_lines Pause = Some (most_pauses, kinds.TooMany)
+most_lines Pause = Some (MAX_PAUSES, kinds.TooMany)
 most_lines _ = None
 
 -- the word that a token spells
