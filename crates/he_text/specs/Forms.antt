@@ -10,7 +10,8 @@ use Rattle.he_plan.specs.declared.outcome.Outcome.{Outcome}
 use Rattle.he_plan.specs.declared.outcome.Outcome.TheVariants as outcomes
 use Rattle.he_plan.specs.Race.{Reply}
 use Rattle.he_plan.specs.Timeline.{is_of}
-use Rattle.he_text.specs.Ranges.{most_addresses, most_source_marks, most_route_marks, most_resolution, least_attempt, most_attempt, least_count, most_count, least_limit, most_limit, most_precedence, most_label, least_interface, most_interface, most_tick, least_duration, most_duration, least_pause_end, most_pause_end}
+use Rattle.he_select.specs.Ranges.{least_interface}
+use Rattle.he_text.specs.Ranges.{most_addresses, most_source_marks, most_route_marks, most_resolution, least_attempt, most_attempt, least_count, most_count, least_limit, most_limit, most_precedence, most_label, most_interface, most_tick, least_duration, most_duration, least_pause_end, most_pause_end}
 use Rattle.he_text.specs.declared.fault.TextKind.{TextKind}
 use Rattle.he_text.specs.declared.fault.TextKind.TheVariants as kinds
 use Rattle.he_text.specs.declared.words.Name.{Name}

@@ -2,7 +2,7 @@
 -- ends with a whole line it is empty.
 use Rattle.std.specs.Prelude.{ℕ, ◌==◌, List}
 use Rattle.std.specs.List.{slice_split}
-use Rattle.he_text.specs.declared.parts.TheConstants.{LINE_END, TOKEN_END}
+use Rattle.he_text.specs.Ranges.{line_end, token_end}
 
 -- what stands between two marks, before the first and behind the last
 abbrev pub pieces_of : ℕ → List ℕ → List (List ℕ)
@@ -10,8 +10,8 @@ pieces_of mark text = slice_split (λ b. b == mark) text
 
 -- the lines of a text, and last what follows the last of them
 abbrev pub lines_of : List ℕ → List (List ℕ)
-lines_of text = pieces_of LINE_END text
+lines_of text = pieces_of line_end text
 
 -- the tokens of a line; two spaces have an empty token between them
 abbrev pub tokens_of : List ℕ → List (List ℕ)
-tokens_of line = pieces_of TOKEN_END line
+tokens_of line = pieces_of token_end line

@@ -1,20 +1,18 @@
 -- The numbers of the texts. The law `laws::ranges` ties the constants of the program to them.
 use Rattle.std.specs.Prelude.{ℕ}
 
+-- the byte behind each line, LF, and the byte between two tokens, a space
+abbrev pub line_end : ℕ
+line_end = 10
+
+abbrev pub token_end : ℕ
+token_end = 32
+
 -- the most bytes of a line, its line end not counted
 abbrev pub most_line_bytes : ℕ
 most_line_bytes = 4096
 
--- the most lines of each word, and of each family's answer
-abbrev pub most_rows : ℕ
-most_rows = 64
-
-abbrev pub most_sources : ℕ
-most_sources = 64
-
-abbrev pub most_routes : ℕ
-most_routes = 64
-
+-- the most lines with the answer of one family, and of pauses
 abbrev pub most_answers : ℕ
 most_answers = 1
 
@@ -72,9 +70,6 @@ most_precedence = 65535
 
 abbrev pub most_label : ℕ
 most_label = 65535
-
-abbrev pub least_interface : ℕ
-least_interface = 1
 
 abbrev pub most_interface : ℕ
 most_interface = 65535

@@ -12,7 +12,8 @@ use Rattle.he_plan.specs.declared.outcome.Outcome.{Outcome}
 use Rattle.he_plan.specs.declared.outcome.Outcome.TheVariants as outcomes
 use Rattle.he_plan.specs.Race.{Race}
 use Rattle.he_plan.specs.Timeline.{IsRace, are_of, duration_of}
-use Rattle.he_text.specs.Ranges.{most_line_bytes, most_addresses, most_precedence, most_label, least_interface, most_interface, most_tick, least_duration, most_duration, least_pause_end, most_pause_end}
+use Rattle.he_select.specs.Ranges.{least_interface}
+use Rattle.he_text.specs.Ranges.{most_line_bytes, most_addresses, most_precedence, most_label, most_interface, most_tick, least_duration, most_duration, least_pause_end, most_pause_end}
 use Rattle.he_text.specs.declared.fault.TextKind.{TextKind}
 use Rattle.he_text.specs.declared.fault.TextKind.TheVariants as kinds
 use Rattle.he_text.specs.declared.words.Name.{Name}

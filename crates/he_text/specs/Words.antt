@@ -1,7 +1,8 @@
 -- The words of timeline texts: how they are spelled, and the groups in which their lines stand.
 use Rattle.std.specs.Prelude.{ℕ, List, Bool, true, false, Option, Some, None, if◌then◌else◌, nat_le, codes}
 use Rattle.std.specs.Str.{bytes_eq}
-use Rattle.he_text.specs.Ranges.{most_rows, most_sources, most_routes, most_answers, most_pauses}
+use Rattle.he_select.specs.Ranges.{most_rows, most_sources, most_routes}
+use Rattle.he_text.specs.Ranges.{most_answers, most_pauses}
 use Rattle.he_text.specs.declared.fault.TextKind.{TextKind}
 use Rattle.he_text.specs.declared.fault.TextKind.TheVariants as kinds
 use Rattle.he_text.specs.declared.words.Word.{Word}

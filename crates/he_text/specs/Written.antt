@@ -16,12 +16,13 @@ use Rattle.he_select.specs.declared.policy.Row.{Row}
 use Rattle.he_select.specs.declared.host.Source.{Source}
 use Rattle.he_select.specs.declared.host.Route.{Route}
 use Rattle.he_select.specs.Hosts.{Interfaces}
+use Rattle.he_text.specs.Ranges.{line_end, token_end}
 use Rattle.he_text.specs.Text.{mark_text, source_marks, route_marks}
 use Rattle.he_addr.specs.Printing.{printed, source_text, prefix_text}
 
 -- a line: its tokens parted by single spaces, and a line end
 abbrev pub written_line : List (List ℕ) → List ℕ
-written_line tokens = join_with_byte 32 tokens ++ 10 ∷ []
+written_line tokens = join_with_byte token_end tokens ++ line_end ∷ []
 
 -- what became of an attempt
 abbrev pub fate_text : Mark → List (List ℕ)

@@ -7,12 +7,13 @@ ghost use Rattle.he_plan.specs.Timeline.{IsRace};
 ghost use Rattle.he_text.specs.declared.fault.TextKind.{TextKind};
 ghost use Rattle.he_text.specs.declared.limits.TheConstants.{MAX_LINE, MAX_ANSWERS, SOURCE_MARKS, ROUTE_MARKS, MAX_PRECEDENCE, MAX_LABEL, MIN_INTERFACE, MAX_INTERFACE};
 ghost use Rattle.he_plan.specs.declared.limits.TheConstants.{MAX_PAUSES, MAX_ADDRESSES, MAX_RESOLUTION, DEFAULT_RESOLUTION, MIN_ATTEMPT, MAX_ATTEMPT, DEFAULT_ATTEMPT, MIN_COUNT, MAX_COUNT, DEFAULT_COUNT, MIN_LIMIT, MAX_LIMIT, DEFAULT_LIMIT, MAX_TICK, MIN_DURATION, MAX_DURATION, MAX_PAUSE_END};
-ghost use Rattle.he_select.specs.declared.limits.TheConstants.{ROWS, SOURCES, ROUTES};
+ghost use Rattle.he_text.specs.declared.parts.TheConstants.{LINE_END, TOKEN_END};
+ghost use Rattle.he_select.specs.Ranges.{least_interface};
 ghost use Rattle.he_text.specs.Beginnings.{FaultStands, MayChange};
 ghost use Rattle.he_text.specs.Faults.{fault_of};
 ghost use Rattle.he_text.specs.FirstFault.{IsFirstFaultOf};
 ghost use Rattle.he_text.specs.InRange.{RaceInRange};
-ghost use Rattle.he_text.specs.Ranges.{most_line_bytes, most_rows, most_sources, most_routes, most_answers, most_pauses, most_addresses, most_source_marks, most_route_marks, most_resolution, default_resolution, least_attempt, most_attempt, default_attempt, least_count, most_count, default_count, least_limit, most_limit, default_limit, most_precedence, most_label, least_interface, most_interface, most_tick, least_duration, most_duration, most_pause_end};
+ghost use Rattle.he_text.specs.Ranges.{line_end, token_end, most_line_bytes, most_answers, most_pauses, most_addresses, most_source_marks, most_route_marks, most_resolution, default_resolution, least_attempt, most_attempt, default_attempt, least_count, most_count, default_count, least_limit, most_limit, default_limit, most_precedence, most_label, most_interface, most_tick, least_duration, most_duration, most_pause_end};
 ghost use Rattle.he_text.specs.Forms.{said_in};
 ghost use Rattle.he_text.specs.Said.{Said, Ended};
 ghost use Rattle.he_text.specs.Text.{Says, IsAllowed, IsRaceText, BeginsWithRace, TellsFault};
@@ -75,8 +76,9 @@ pub fn told_faults_stand()
 
 /// The program's constants are the numbers of the definitions (`specs/Ranges`). Runs nothing.
 pub fn ranges()
-    ensures lines { (MAX_LINE ≡ most_line_bytes) × (ROWS ≡ most_rows) × (SOURCES ≡ most_sources) × (ROUTES ≡ most_routes) × (MAX_ANSWERS ≡ most_answers) × (MAX_PAUSES ≡ most_pauses) × (MAX_ADDRESSES ≡ most_addresses) }
-    ensures marks { (SOURCE_MARKS ≡ most_source_marks) × (ROUTE_MARKS ≡ most_route_marks) }
+    ensures marks { (LINE_END ≡ line_end) × (TOKEN_END ≡ token_end) }
+    ensures lines { (MAX_LINE ≡ most_line_bytes) × (MAX_ANSWERS ≡ most_answers) × (MAX_PAUSES ≡ most_pauses) × (MAX_ADDRESSES ≡ most_addresses) }
+    ensures host { (SOURCE_MARKS ≡ most_source_marks) × (ROUTE_MARKS ≡ most_route_marks) }
     ensures settings { (MAX_RESOLUTION ≡ most_resolution) × (DEFAULT_RESOLUTION ≡ default_resolution) × (MIN_ATTEMPT ≡ least_attempt) × (MAX_ATTEMPT ≡ most_attempt) × (DEFAULT_ATTEMPT ≡ default_attempt) × (MIN_COUNT ≡ least_count) × (MAX_COUNT ≡ most_count) × (DEFAULT_COUNT ≡ default_count) × (MIN_LIMIT ≡ least_limit) × (MAX_LIMIT ≡ most_limit) × (DEFAULT_LIMIT ≡ default_limit) }
     ensures selection { (MAX_PRECEDENCE ≡ most_precedence) × (MAX_LABEL ≡ most_label) × (MIN_INTERFACE ≡ least_interface) × (MAX_INTERFACE ≡ most_interface) }
     ensures events { (MAX_TICK ≡ most_tick) × (MIN_DURATION ≡ least_duration) × (MAX_DURATION ≡ most_duration) × (MAX_PAUSE_END ≡ most_pause_end) }
