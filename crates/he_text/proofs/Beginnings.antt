@@ -8,7 +8,7 @@ use Rattle.std.proofs.lemmas.List.{append-nil}
 use Rattle.std.proofs.lemmas.List.Splits.{length-slice_split}
 use Rattle.he_plan.specs.Race.{Race}
 use Rattle.he_select.specs.declared.policy.PolicyFault.{PolicyFault}
-use Rattle.he_select.specs.Tables.{table_fault}
+use Rattle.he_select.specs.TableFaults.{table_fault}
 use Rattle.he_text.specs.declared.fault.TextKind.{TextKind}
 use Rattle.he_text.specs.declared.fault.TextKind.TheVariants as kinds
 use Rattle.he_text.specs.declared.limits.TheConstants.{MAX_LINE}

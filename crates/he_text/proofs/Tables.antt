@@ -8,8 +8,9 @@ use Rattle.std.proofs.lemmas.List.{length-append, drop-replicate}
 use Rattle.he_select.specs.declared.limits.TheConstants.{ROWS}
 use Rattle.he_select.specs.declared.policy.PolicyFault.TheVariants as faults
 use Rattle.he_select.specs.declared.policy.Row.{Row}
-use Rattle.he_select.specs.Rules.{first_repeat, cause_if, first_cause}
-use Rattle.he_select.specs.Tables.{same_row, has_row, any_address, any_v4_address, shared_from, table_fault}
+use Rattle.he_select.specs.Refusals.{first_repeat, cause_if, first_cause}
+use Rattle.he_select.specs.TableFaults.{has_row, shared_from, table_fault}
+use Rattle.he_select.specs.Tables.{same_row, any_address, any_v4_address}
 
 either : (a b : Bool) → b ≡ true → (a || b) ≡ true
 either true b h = refl

@@ -2,7 +2,7 @@
 
 ghost use Rattle.std.specs.Prelude.{◌≡◌, ◌⊎◌, ◌++◌, [], ◌∷◌, Ok, Err, IsOk, option_map, MatchResult};
 ghost use Rattle.std.specs.Option.{option_map_or};
-ghost use Rattle.he_select.specs.Tables.{table_fault};
+ghost use Rattle.he_select.specs.TableFaults.{table_fault};
 ghost use Rattle.he_text.specs.declared.fault.TextKind.TheVariants as kinds;
 ghost use Rattle.he_text.specs.Left.{tokens_left};
 ghost use Rattle.he_text.specs.Reading.{Fails, no_head, add_setting, add_row, add_source, add_route, take_given, policy_from, host_from, race_begun};

@@ -1,5 +1,5 @@
 use Rattle.std.proofs.Common.{sym, ◌∙◌, ap, arith}
-use Rattle.he_select.specs.Tables.{table_fault}
+use Rattle.he_select.specs.TableFaults.{table_fault}
 use Rattle.he_text.proofs.Tables.{too_many_rows, put_rows}
 use Rattle.he_text.proofs.head.table_fault.Goals as goal
 
