@@ -1,16 +1,16 @@
 -- The transcript of told fates is that of the race's own.
-use Rattle.std.proofs.Common.{◌≡◌, ℕ, zero, suc, ◌≤◌, ◌<◌, ◌+◌, ◌++◌, Bool, true, false, List, [], ◌∷◌, if◌then◌else◌, length, drop, get_or, map, filter, Option, Some, None, IfNone, nat_lt, refl, sym, ◌∙◌, ap, arith, inl, inr, subst, append_assoc, add-one, drop-cons}
+use Rattle.std.proofs.Common.{◌≡◌, ℕ, zero, suc, ◌≤◌, ◌<◌, ◌+◌, ◌++◌, Bool, true, false, List, [], ◌∷◌, if◌then◌else◌, length, drop, get_or, map, filter, max, Option, Some, None, IfNone, nat_lt, refl, sym, ◌∙◌, ap, arith, inl, inr, subst, append_assoc, add-one, drop-cons}
 use Rattle.std.specs.List.{AllZip, slice_get}
 use Rattle.he_plan.specs.declared.attempts.Attempt.{Attempt}
 use Rattle.he_plan.specs.declared.finish.Fate.{Fate}
-use Rattle.he_plan.specs.declared.finish.Fate.TheVariants.{Succeeded}
+use Rattle.he_plan.specs.declared.finish.Fate.TheVariants.{Succeeded, Failed, Running, Skipped}
 use Rattle.he_plan.specs.declared.transcript.Line.{Line}
 use Rattle.he_plan.specs.Attempts.{AreAttempts}
 use Rattle.he_plan.specs.Finish.{fate_of, IsSuccess, ComesFirst, IsWinner}
-use Rattle.he_plan.specs.Planning.{told_line, told_one, told_lines}
+use Rattle.he_plan.specs.Planning.{last_failure, told_line, told_one, told_lines}
 use Rattle.he_plan.specs.Race.{Race}
 use Rattle.he_plan.specs.Timeline.{IsRace}
-use Rattle.he_plan.specs.Transcript.{IsTranscript, AreTold, IsToldFate, stop_of, line_of, lines_of, result_of}
+use Rattle.he_plan.specs.Transcript.{IsTranscript, AreTold, IsToldFate, failures, greatest, stop_of, line_of, lines_of, result_of}
 use Rattle.he_plan.proofs.Bools.{lt_from}
 use Rattle.he_plan.proofs.Finishing.{success_after}
 
@@ -131,3 +131,14 @@ told-is race r attempts told winner a = record {
 pub told-all : (race : Race) (attempts : List Attempt) (told : List Fate) (winner : Option (ℕ × ℕ)) → AreTold race attempts told winner → IfNone winner (AreAttempts race attempts)
 told-all race attempts told None a = a.are
 told-all race attempts told (Some w) a = tt
+
+last_failure-max : (tick : ℕ) (told : List Fate) → last_failure tick told ≡ max tick (greatest (failures told))
+last_failure-max tick [] = omega arith
+last_failure-max tick (Failed finish ∷ told) = last_failure-max (max tick finish) told ∙ omega arith
+last_failure-max tick (Succeeded finish ∷ told) = last_failure-max tick told
+last_failure-max tick (Running ∷ told) = last_failure-max tick told
+last_failure-max tick (Skipped ∷ told) = last_failure-max tick told
+
+-- the latest failure after both answers is the greatest of all these ticks
+pub last_failure-is : (x y : ℕ) (told : List Fate) → last_failure (max x y) told ≡ greatest (x ∷ y ∷ failures told)
+last_failure-is x y told = last_failure-max (max x y) told ∙ omega arith

@@ -8,7 +8,7 @@ use Rattle.he_addr.specs.declared.ip.Ip.{Ip}
 use Rattle.he_addr.specs.Ip.{is_usable}
 use Rattle.he_plan.specs.declared.attempts.Attempt.{Attempt}
 use Rattle.he_plan.specs.declared.finish.Fate.{Fate}
-use Rattle.he_plan.specs.declared.finish.Fate.TheVariants.{Succeeded, Skipped}
+use Rattle.he_plan.specs.declared.finish.Fate.TheVariants.{Succeeded, Failed, Skipped}
 use Rattle.he_plan.specs.declared.limits.TheConstants.{MAX_LIMIT}
 use Rattle.he_plan.specs.Race.{Race, Reply}
 use Rattle.he_plan.specs.declared.transcript.Line.{Line}
@@ -153,3 +153,9 @@ abbrev pub told_lines : ℕ → Option (ℕ × ℕ) → List Attempt → List Fa
 told_lines stop winner [] told = []
 told_lines stop winner (x ∷ attempts) [] = []
 told_lines stop winner (x ∷ attempts) (fate ∷ told) = told_one stop winner x fate ++ told_lines stop winner attempts told
+
+-- the latest of the failures, and of `tick`
+abbrev pub last_failure : ℕ → List Fate → ℕ
+last_failure tick [] = tick
+last_failure tick (Failed finish ∷ told) = last_failure (max tick finish) told
+last_failure tick (_ ∷ told) = last_failure tick told

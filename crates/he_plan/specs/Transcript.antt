@@ -53,11 +53,15 @@ abbrev pub is_failed : Fate → Bool
 is_failed (fates.Failed finish) = true
 is_failed _ = false
 
--- the latest failure, from `tick` on
-abbrev pub last_failure : ℕ → List Fate → ℕ
-last_failure tick [] = tick
-last_failure tick (fates.Failed finish ∷ told) = last_failure (max tick finish) told
-last_failure tick (_ ∷ told) = last_failure tick told
+-- the ticks at which attempts failed
+abbrev pub failures : List Fate → List ℕ
+failures [] = []
+failures (fates.Failed finish ∷ told) = finish ∷ failures told
+failures (_ ∷ told) = failures told
+
+abbrev pub greatest : List ℕ → ℕ
+greatest [] = 0
+greatest (tick ∷ ticks) = max tick (greatest ticks)
 
 -- each usable address of the answer was tried
 abbrev pub is_tried_out : List Attempt → Reply → Bool
@@ -69,10 +73,11 @@ is_exhausted race attempts told aaaa a =
     nat_le (seen race aaaa.tick) race.settings.limit && nat_le (seen race a.tick) race.settings.limit
     && is_tried_out attempts aaaa && is_tried_out attempts a && list_all is_failed told
 
+-- then the race ends at the greatest of both seen ticks and all failures, else at the limit
 abbrev pub without_winner : Race → List Attempt → List Fate → Option Reply → Option Reply → Outcome3
 without_winner race attempts told (Some aaaa) (Some a) =
     if is_exhausted race attempts told aaaa a
-    then results.Exhausted (last_failure (max (seen race aaaa.tick) (seen race a.tick)) told)
+    then results.Exhausted (greatest (seen race aaaa.tick ∷ seen race a.tick ∷ failures told))
     else results.Limit race.settings.limit
 without_winner race attempts told _ _ = results.Limit race.settings.limit
 

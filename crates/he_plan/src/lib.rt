@@ -19,9 +19,11 @@
 //! Proved, against the definitions of `specs/`: each call of the builder answers the new race or the first fault, and a
 //! refused one leaves it as it was; `plan` answers the one list of attempts (`Attempts`), whatever the pauses;
 //! `Timeline::seen` the least tick that no pause covers; `interlace` the interlaced list (`Interlacing`); and the
-//! transcript is the race's (`Transcript`), also where attempts that start after a success are told as skipped. `laws` has
-//! what follows from the definitions alone, as that a race has no more attempts than usable addresses. Addresses are tried
-//! in the order of RFC 6724 section 6, which `he_select` defines and computes, interlaced.
+//! transcript is the race's (`Transcript`), also where attempts that start after a success are told as skipped, and where
+//! no more is known of the attempts than what became of them by the race's end. `laws` has what follows from the
+//! definitions alone, as that a race has one transcript; `due` what a race that is being run may start, and when;
+//! `agreement` what stays when a race grows. Addresses are tried in the order of RFC 6724 section 6, which `he_select`
+//! defines and computes, interlaced.
 //!
 //! Tested only: that a call succeeds where memory is granted.
 #![tactic(auto)]

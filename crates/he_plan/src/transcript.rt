@@ -1,12 +1,12 @@
 // The transcript of a race.
 
-ghost use Rattle.std.specs.Prelude.{◌≡◌, ◌&&◌, ◌||◌, ◌++◌, not, length, Some, IfNone, IfOk, IsTrue, OnOk};
+ghost use Rattle.std.specs.Prelude.{◌≡◌, ◌&&◌, ◌||◌, ◌++◌, ◌∷◌, not, length, Some, IfNone, IfOk, IsTrue, OnOk};
 ghost use Rattle.std.specs.List.{list_all};
 ghost use Rattle.he_addr.specs.Ip.{is_usable};
 ghost use Rattle.he_plan.specs.Attempts.{AreAttempts, is_tried, last_of};
-ghost use Rattle.he_plan.specs.Planning.{told_lines, told_one, has_room};
+ghost use Rattle.he_plan.specs.Planning.{told_lines, told_one, has_room, last_failure};
 ghost use Rattle.he_plan.specs.Timeline.{IsRace};
-ghost use Rattle.he_plan.specs.Transcript.{IsTranscript, AreKnown, AreTold, stop_of, is_place, failed_mark, mark_at, result_of, without_winner, is_failed, is_tried_out, last_failure};
+ghost use Rattle.he_plan.specs.Transcript.{IsTranscript, AreKnown, AreTold, stop_of, is_place, failed_mark, mark_at, result_of, without_winner, is_failed, is_tried_out, failures, greatest};
 
 use crate::attempts::{Attempt, Plan};
 use crate::fates::fates_of;
@@ -252,10 +252,17 @@ fn without_winner<A: Allocator>(
         && are_failed(fates)
         && are_tried_out(timeline, attempts, aaaa, a)
     {
-        Outcome3::Exhausted(last_failure(aaaa_seen.max(a_seen), fates))
+        Outcome3::Exhausted(exhausted_tick(aaaa_seen, a_seen, fates))
     } else {
         Outcome3::Limit(limit)
     }
+}
+
+// The greatest of both ticks at which the answers are seen and of all failures.
+fn exhausted_tick(aaaa_seen: u64, a_seen: u64, fates: &[Fate]) -> u64
+    ensures { result ≡ greatest (aaaa_seen ∷ a_seen ∷ failures fates.now) }
+{
+    last_failure(aaaa_seen.max(a_seen), fates)
 }
 
 fn are_failed(fates: &[Fate]) -> bool

@@ -1,4 +1,4 @@
--- One step through an input. It helps the proofs; what is written for an input stands in `Output`.
+-- Mirrors the code: one step through an input. It helps the proofs; what is written for an input stands in `Output`.
 use Rattle.std.specs.Prelude.{ℕ, ◌≡◌, ◌<◌, ◌≤◌, ◌+◌, ◌++◌, List, length, drop, take, slice_range, Some}
 use Rattle.he_plan.specs.Race.{Race}
 use Rattle.he_text.specs.Faults.{fault_of}

@@ -13,10 +13,10 @@ pub enum ReplayFault {
     /// The input is no timeline text.
     #[error(transparent)]
     Text(TextFault),
-    /// A read failed, or the bound of reads was reached.
+    /// A step of the input failed, or the bound of steps was reached.
     #[error("cannot read the input")]
     Read,
-    /// A write or the flush failed.
+    /// A step of the output failed or took no byte, the flush failed, or the bound of steps was reached.
     #[error("cannot write the output")]
     Write,
     /// An allocation was refused.

@@ -1,4 +1,4 @@
-//! The orders of the addresses of a reader's races, written to a writer.
+//! The orders of the addresses of an input's races, written to an output.
 ghost use Rattle.std.specs.Prelude.{◌≡◌};
 ghost use Rattle.he_stream.specs.Input.{Gives};
 ghost use Rattle.he_stream.specs.Output.{PutsPart, PutsWhole};
@@ -10,17 +10,19 @@ use crate::stream::stream;
 use he_stream::{InputStream, OutputStream};
 use std::alloc::Allocator;
 
-/// Reads timelines to the end of the reader and writes for each in which order its addresses are to be tried (RFC 6724
+/// Reads timelines to the end of the input and writes for each in which order its addresses are to be tried (RFC 6724
 /// section 6): its usable addresses, whatever the ticks of the answers, each with the source that the host uses for it.
 ///
 /// After `Text` and `Read` all that the input before the fault asks for was written, after `Write` a first part of it, after
-/// `Memory` nothing. The writer is flushed at the end, after `Text` and `Read` too.
+/// `Memory` nothing. The output is flushed at the end, after `Text` and `Read` too.
 ///
 /// # Errors
 ///
 /// - `Text` where the input is no timeline text.
-/// - `Read` where a read failed before a fault of the text was found, or the bound of reads was reached.
-/// - `Write` where a write or the flush failed, whatever the input was.
+/// - `Read` where a step of the input failed before a fault of the text was found, or the bound of 4,294,967,296 steps
+///   was reached.
+/// - `Write` where a step of the output failed or took no byte, the flush failed, or the bound of 4,294,967,296 steps was
+///   reached, whatever the input was.
 /// - `Memory` where an allocation was refused.
 pub fn orders<A: Allocator + Copy, I: InputStream, O: OutputStream>(
     alloc: A,

@@ -1,4 +1,4 @@
-//! Replaying the timelines of a reader to a writer.
+//! Replaying the timelines of an input to an output.
 ghost use Rattle.std.specs.Prelude.{◌≡◌, ◌≤◌};
 ghost use Rattle.he_stream.specs.Input.{Gives};
 ghost use Rattle.he_stream.specs.Output.{PutsPart, PutsWhole};
@@ -11,18 +11,19 @@ use crate::stream::stream;
 use he_stream::{InputStream, OutputStream};
 use std::alloc::Allocator;
 
-/// Reads timelines to the end of the reader and writes their transcripts, with so many workers.
+/// Reads timelines to the end of the input and writes their transcripts, with so many workers.
 ///
 /// After `Text` and `Read` all that the input before the fault asks for was written, after `Write` a
-/// first part of it, after `Memory` nothing. The writer is flushed at the end, after `Text` and
+/// first part of it, after `Memory` nothing. The output is flushed at the end, after `Text` and
 /// `Read` too.
 ///
 /// # Errors
 ///
 /// - `Text` where the input is no timeline text.
-/// - `Read` where a read failed before a fault of the text was found, or the bound of reads was
-///   reached.
-/// - `Write` where a write or the flush failed, whatever the input was.
+/// - `Read` where a step of the input failed before a fault of the text was found, or the bound of
+///   4,294,967,296 steps was reached.
+/// - `Write` where a step of the output failed or took no byte, the flush failed, or the bound of 4,294,967,296 steps was
+///   reached, whatever the input was.
 /// - `Memory` where an allocation was refused.
 pub fn replay<T, A: Allocator + Copy, I: InputStream, O: OutputStream>(
     rt: &T,

@@ -1,5 +1,5 @@
 -- How the reading of an input ends.
-use Rattle.std.specs.Prelude.{◌≡◌, ◌⊎◌, ℕ, ⊤, Bool, true, false, List, Option, Result, Ok, Err}
+use Rattle.std.specs.Prelude.{◌⊎◌, ℕ, ⊤, Bool, true, false, List, Option, Result, Ok, Err}
 use Rattle.std.specs.Bool.{OnFalse}
 use Rattle.std.specs.Io.KnownBytes.{Consumes, IsAtEnd}
 use Rattle.he_stream.specs.declared.answer.Taken.{Taken}
@@ -8,7 +8,6 @@ use Rattle.he_stream.specs.declared.fault.ReadFault.{ReadFault}
 use Rattle.he_stream.specs.declared.fault.ReadFault.TheVariants as faults
 use Rattle.he_stream.specs.Limits.{most_reads}
 use Rattle.he_stream.specs.Runs.{EndsWith, RunsOut, Stops}
-use Rattle.he_stream.specs.Steps.{Takes}
 
 -- an answer after which another step is made
 abbrev pub TakesOn : Taken → Type 0
@@ -23,11 +22,6 @@ ReadsTo takes first last (Ok done) = EndsWith takes TakesOn most_reads taken.End
 ReadsTo takes first last (Err faults.Failed) = EndsWith takes TakesOn most_reads taken.Failed first last
 ReadsTo takes first last (Err faults.Bound) = RunsOut takes TakesOn most_reads first last
 ReadsTo takes first last (Err faults.Memory) = Stops takes TakesOn most_reads first last
-
--- one step, or a growth that was refused before it
-abbrev pub TakesPiece : {S : Type 0} → (S → Option (List ℕ)) → (S → Taken → S → Type 0) → S → S → List ℕ → Result Taken ReadFault → Type 0
-TakesPiece remaining takes first last room (Ok taken) = Takes (remaining first) (remaining last) taken room × takes first taken last
-TakesPiece remaining takes first last room (Err fault) = (first ≡ last) × (fault ≡ faults.Memory)
 
 -- the input ended, or it broke off: a step failed, or the bound of steps was reached
 abbrev pub EndsBroken : {S : Type 0} → (S → Taken → S → Type 0) → S → S → Bool → Type 0

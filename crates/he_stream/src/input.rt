@@ -2,7 +2,8 @@
 ghost use Rattle.std.specs.Prelude.{◌≡◌, ◌<◌, ◌≤◌, OnErr, OnOk, length, take, drop, vec_len};
 ghost use Rattle.std.specs.Io.{StartsWith, appended_bytes};
 ghost use Rattle.std.specs.Io.KnownBytes.{Consumes, IsAtEnd};
-ghost use Rattle.he_stream.specs.Input.{ReadsTo, TakesPiece};
+ghost use Rattle.he_stream.specs.Input.{ReadsTo};
+ghost use Rattle.he_stream.specs.Pieces.{TakesPiece};
 
 use crate::answer::Taken;
 use crate::fault::ReadFault;

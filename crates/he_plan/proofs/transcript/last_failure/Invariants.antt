@@ -1,5 +1,5 @@
 use Rattle.std.proofs.Common.{◌≡◌, drop}
-use Rattle.he_plan.specs.Transcript.{last_failure}
+use Rattle.he_plan.specs.Planning.{last_failure}
 use Rattle.he_plan.proofs.transcript.last_failure.Given as goal
 
 abbrev pub invariant-loop-fate : goal.invariant-loop-fate

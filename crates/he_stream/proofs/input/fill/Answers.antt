@@ -1,4 +1,4 @@
-use Rattle.std.proofs.Common.{rules, ◌≡◌, ◌+◌, ◌≤◌, length, take, vec_len, ℕ, arith, length-drop, refl, sym, subst, ap}
+use Rattle.std.proofs.Common.{rules, ◌+◌, ◌≤◌, length, ℕ, arith, length-drop}
 use Rattle.std.proofs.lemmas.List.{places}
 use Rattle.he_stream.proofs.Chains.{one_step_more}
 use Rattle.he_stream.proofs.Filling.{filled_more, filled_same}

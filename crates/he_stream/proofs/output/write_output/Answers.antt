@@ -1,4 +1,4 @@
-use Rattle.std.proofs.Common.{arith, inr, ℕ, List, ◌+◌, ◌++◌, take, Bor, ap, sym, ◌∙◌}
+use Rattle.std.proofs.Common.{arith, inr, ℕ, List, ◌++◌, take, Bor, ap, sym, ◌∙◌}
 use Rattle.std.proofs.KnownBytes.{Appends-trans, Appends-kept}
 use Rattle.he_stream.proofs.Chains.{one_step_more}
 use Rattle.he_stream.proofs.Parts.{part_grows}

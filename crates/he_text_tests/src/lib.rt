@@ -1,0 +1,7 @@
+//! Tests of `he_text` that no file of races can hold: timelines written, and want of memory.
+#![tactic(auto)]
+
+#[cfg(test)]
+mod memory;
+#[cfg(test)]
+mod written;
