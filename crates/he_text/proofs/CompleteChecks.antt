@@ -1,6 +1,6 @@
 -- The checks of a line within a race find nothing wrong with it.
 use Rattle.std.proofs.Common.{◌≡◌, ℕ, ◌≤◌, ◌<◌, ◌&&◌, Bool, true, false, not, cond, leb, ltb, List, [], ◌∷◌, ◌++◌, length, Option, Some, None, is_some, Ok, refl, sym, ◌∙◌, ap, subst, inl, inr, arith}
-use Rattle.std.specs.Prelude.{◌⊎◌, is_none, option_map, IsTrue}
+use Rattle.std.specs.Prelude.{◌⊎◌, option_map}
 use Rattle.std.specs.List.{AllZip, AllByRecursion, filter_map, list_any}
 use Rattle.std.proofs.lemmas.Bool.{lt-leb, le-leb, leb-true, and_from, and_parts}
 use Rattle.he_addr.specs.declared.ip.Family.TheVariants as families

@@ -1,10 +1,10 @@
 -- What the form of a line makes of it is what the line says.
-use Rattle.std.proofs.Common.{◌≡◌, ℕ, Bool, true, false, List, [], ◌∷◌, Result, Ok, refl, sym, ◌∙◌, ap, subst}
+use Rattle.std.proofs.Common.{◌≡◌, ℕ, Bool, true, false, List, Ok, refl, sym, subst}
 use Rattle.he_addr.specs.declared.ip.Family.TheVariants as families
 use Rattle.he_addr.specs.declared.ip.Ip.{Ip}
 use Rattle.he_text.specs.declared.words.Word.{Word}
 use Rattle.he_text.specs.declared.words.Word.TheVariants as words
-use Rattle.he_text.specs.Forms.{◌>>=◌, setting_in, row_in, host_source_in, host_route_in, answer_in, connect_in, pause_in, end_in, word_of, said_by, said_in}
+use Rattle.he_text.specs.Forms.{setting_in, row_in, host_source_in, host_route_in, answer_in, connect_in, pause_in, end_in, word_of, said_by, said_in}
 use Rattle.he_text.specs.Parts.{tokens_of}
 use Rattle.he_text.specs.Said.{Said, Setting, PolicyRow, HostSource, HostRoute, Answer, Told, Paused, Ended}
 use Rattle.he_text.specs.Text.{Says, IsAllowed}
