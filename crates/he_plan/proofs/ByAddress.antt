@@ -1,5 +1,5 @@
 -- The outcomes of a race, found by address.
-use Rattle.std.proofs.Common.{◌≡◌, ◌++◌, ◌&&◌, ◌||◌, Bool, true, false, cond, not, List, [], ◌∷◌, Option, Some, None, is_some, option_map, find, refl, sym, ◌∙◌, ap}
+use Rattle.std.proofs.Common.{◌≡◌, ◌++◌, ◌||◌, Bool, true, false, cond, not, List, [], ◌∷◌, Option, Some, None, is_some, option_map, find, refl, ◌∙◌}
 use Rattle.std.specs.Map.{lookup}
 use Rattle.he_addr.specs.Ip.{same_ip}
 use Rattle.he_addr.specs.declared.ip.Ip.{Ip}

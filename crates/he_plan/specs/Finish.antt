@@ -32,6 +32,15 @@ fate_by race start (Some (outcomes.Fail duration)) =
 abbrev pub fate_of : Race → Attempt → Fate
 fate_of race x = fate_by race x.tick (outcome_of race x.ip)
 
+-- what is known of it at the tick: an attempt that finishes later still runs
+abbrev pub known_by : ℕ → Fate → Fate
+known_by tick (Succeeded finish) = if nat_le finish tick then Succeeded finish else Running
+known_by tick (Failed finish) = if nat_le finish tick then Failed finish else Running
+known_by tick _ = Running
+
+abbrev pub known_at : Race → ℕ → Attempt → Fate
+known_at race tick x = known_by tick (fate_of race x)
+
 -- a success's finish and place
 abbrev pub IsSuccess : List Fate → ℕ × ℕ → Type 0
 IsSuccess fates key = slice_get fates key.1 ≡ Some (Succeeded key.0)

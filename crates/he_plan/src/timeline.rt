@@ -1,8 +1,8 @@
 // A race's whole input: settings, policy, host, answers, outcomes and pauses.
 
-ghost use Rattle.std.specs.Prelude.{◌≡◌, ◌≤◌, drop, length, option_map, max, IfOk, IfSome, IsTrue, OnOk, OnErr};
+ghost use Rattle.std.specs.Prelude.{All, ◌≡◌, ◌≤◌, drop, length, option_map, max, IfOk, IfSome, IsTrue, OnOk, OnErr};
 ghost use Rattle.std.specs.Cmp.Lexicographic.{pointwise};
-ghost use Rattle.he_addr.specs.Ip.{same_ip};
+ghost use Rattle.he_addr.specs.Ip.{same_ip, InRange};
 ghost use Rattle.he_plan.specs.Race.{Race, Reply, reply_of, addresses_of, has_ip, has_outcome, stands, same_policy, same_host, same_told, same_pause, same_reply, same_race};
 ghost use Rattle.he_plan.specs.Timeline.{IsRace, are_pauses, duration_of};
 ghost use Rattle.he_plan.specs.Attempts.{IsSeen, seen, seen_past};
@@ -365,5 +365,30 @@ fn copy_answer<A: Allocator, B: Allocator>(
     match answer {
         Some(answer) => Ok(Some(Answer::new(alloc, answer.tick, &answer.addresses)?)),
         None => Ok(None),
+    }
+}
+
+/// The addresses of both answers are of their families' widths.
+pub fn are_addresses_in_range<A: Allocator>(timeline: &Timeline<A>)
+    ensures six { All InRange (addresses_of timeline.now.aaaa) }
+    ensures four { All InRange (addresses_of timeline.now.a) }
+{
+    see_range(&timeline.aaaa);
+    see_range(&timeline.a);
+}
+
+fn see_range<A: Allocator>(answer: &Option<Answer<A>>)
+    ensures { All InRange (addresses_of answer.now) }
+{
+    if let Some(answer) = answer {
+        see_ranges(&answer.addresses);
+    }
+}
+
+fn see_ranges(ips: &[Ip])
+    ensures { All InRange ips.now }
+{
+    for ip in ips {
+        let _ = ip.is_usable();
     }
 }

@@ -1,15 +1,12 @@
-use Rattle.std.proofs.Common.{rules, ◌≡◌, ◌++◌, [], ◌∷◌, true, false, IfOk, OnOk, OnErr, ℕ, ◌+◌, ◌-◌, ◌*◌, ◌<◌, ◌≤◌, length, ◌/◌, ◌%◌, Bool, nat_eq, nat_lt, List, slice_index_or, slice_set, bit_and, bit_or, Fits, w8, w32, w64, Bor, MutBor}
-use Rattle.std.specs.Cmp.Lexicographic.{pointwise}
-use Rattle.he_plan.specs.Finish.{outcome_in}
-use Rattle.he_plan.specs.Race.{has_outcome, same_told}
-use Rattle.he_plan.specs.Timeline.{are_told_once}
+use Rattle.std.proofs.Common.{◌≡◌, ◌++◌, [], ◌∷◌}
+use Rattle.he_plan.specs.Race.{has_outcome}
 use Rattle.he_plan.proofs.outcomes.Outcomes.push.Goals as goal
-use Rattle.std.proofs.Common.{is_some, refl, sym, ◌∙◌, ap}
+use Rattle.std.proofs.Common.{refl, ◌∙◌, ap}
 use Rattle.he_addr.specs.Ip.{same_ip}
 use Rattle.he_addr.specs.contracts.ip.IpPartialEq.TheImpl.{eq-value}
 use Rattle.he_addr.specs.declared.ip.Ip.{Ip}
 use Rattle.he_addr.specs.declared.ip.Ip.TheVariants.{V4, V6}
-use Rattle.he_plan.proofs.ByAddress.{looked_up, is_there, none_there}
+use Rattle.he_plan.proofs.ByAddress.{none_there}
 use Rattle.indexmap.proofs.CallerLemmas.{insert_entry-new}
 
 same_as : (x y : Ip) → eq-value.it x y ≡ same_ip x y

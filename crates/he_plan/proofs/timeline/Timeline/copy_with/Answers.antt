@@ -1,6 +1,5 @@
-use Rattle.std.proofs.Common.{◌≡◌, sym, ◌∙◌, ap}
+use Rattle.std.proofs.Common.{sym, ◌∙◌, ap}
 use Rattle.he_plan.specs.Race.{Race}
-use Rattle.he_plan.specs.Timeline.{IsRace}
 use Rattle.he_plan.proofs.timeline.Timeline.copy_with.Goals as goal
 
 pub invariant_of-result : goal.invariant_of-result
