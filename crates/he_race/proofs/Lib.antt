@@ -1,1 +1,3 @@
+pub mod Scripts
 pub mod Waits
+pub mod Wheels

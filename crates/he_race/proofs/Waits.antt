@@ -1,5 +1,5 @@
 -- What a pending poll of an attempt waits for.
-use Rattle.std.proofs.Common.{◌≡◌, ℕ, ◌<◌, Bool, true, false, List, [], ◌∷◌, Option, Some, Result, Ok, ◌⊎◌, inl, inr, MatchBool, refl, sym, subst, nat_lt}
+use Rattle.std.proofs.Common.{◌≡◌, ℕ, ◌<◌, Bool, true, false, List, [], ◌∷◌, Option, Some, Result, Ok, ◌⊎◌, inl, inr, MatchBool, if◌then◌else◌, refl, sym, ap, subst, nat_lt}
 use Rattle.std.proofs.lemmas.Bool.Decides.{Decides-ltb}
 use Rattle.futures.specs.Poll.{OnPending}
 use Rattle.futures.specs.Task.{IsArmed}
@@ -115,3 +115,7 @@ module _ {C Conn Run : Type 0} (connector : ConnectorOf C Conn Run) (trial : Tri
 pub on_pending : {A : Type 0} (r : Poll A) (X : Type 0) → r ≡ Pending → OnPending r X → X
 on_pending Pending X e x = x
 on_pending (Ready y) X e x = absurd (not_pending y e)
+
+-- a choice that a tick before another decides
+pub early : {A : Type 0} (x y : A) (t tick : ℕ) → t < tick → (if nat_lt t tick then x else y) ≡ x
+early x y t tick h = ap (λ b. if b then x else y) ((Decides-ltb t tick).1 h)

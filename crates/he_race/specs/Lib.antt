@@ -1,2 +1,4 @@
-pub mod Waiting
 pub mod Attempt
+pub mod Scripted
+pub mod Waiting
+pub mod Wheel

@@ -5,11 +5,15 @@ pub mod attempt;
 pub mod connector;
 pub mod faults;
 pub mod limits;
+pub mod scripted;
 pub mod ticker;
 pub mod trial;
+pub mod wheel;
 
 pub use attempt::{AttemptFuture, Finish};
 pub use connector::Connector;
 pub use faults::{ConnectFault, TickFault};
+pub use scripted::{Scripted, ScriptedTrial};
 pub use ticker::Ticker;
 pub use trial::Trial;
+pub use wheel::WheelTicker;
