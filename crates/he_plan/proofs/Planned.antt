@@ -26,7 +26,7 @@ get_some : (xs : List Attempt) (x : Attempt) → slice_get (x ∷ xs) (length xs
 get_some [] x h = cc
 get_some (y ∷ xs) x h = get_some xs y h
 
-last_of-some : (xs : List Attempt) (x : Attempt) → last_of (x ∷ xs) ≡ None → ⊥
+pub last_of-some : (xs : List Attempt) (x : Attempt) → last_of (x ∷ xs) ≡ None → ⊥
 last_of-some xs x h =
     let e : length (x ∷ xs) - 1 ≡ length xs = omega arith in
     get_some xs x (rw e at h)

@@ -85,11 +85,11 @@ IsRace-with_answer race families.V4 tick addresses r none early few of distinct 
 }
 
 -- the end of the last pause, `low` where there is none
-abbrev end_from : ℕ → List (ℕ × ℕ) → ℕ
+abbrev pub end_from : ℕ → List (ℕ × ℕ) → ℕ
 end_from low [] = low
 end_from low (p ∷ pauses) = end_from p.1 pauses
 
-end_from-is : (low : ℕ) (pauses : List (ℕ × ℕ)) → option_map_or (λ (p : ℕ × ℕ). p.1) (slice_get pauses (length pauses - 1)) low ≡ end_from low pauses
+pub end_from-is : (low : ℕ) (pauses : List (ℕ × ℕ)) → option_map_or (λ (p : ℕ × ℕ). p.1) (slice_get pauses (length pauses - 1)) low ≡ end_from low pauses
 end_from-is low [] = refl
 end_from-is low (p ∷ []) = refl
 end_from-is low (p ∷ q ∷ pauses) =

@@ -32,20 +32,20 @@ SeesOwn-free race r t free = record {
 abbrev pub Reaches : Option ℕ → ℕ → Type 0
 Reaches o t = IsSomeAnd o (λ x. x ≤ t)
 
-reaches_if : (b : Bool) (x t : ℕ) → Reaches (if b then Some x else None) t → (b ≡ true) × (x ≤ t)
+pub reaches_if : (b : Bool) (x t : ℕ) → Reaches (if b then Some x else None) t → (b ≡ true) × (x ≤ t)
 reaches_if true x t h = (refl, h)
 reaches_if false x t h = absurd h
 
-reaches_then : (b : Bool) (x t : ℕ) → b ≡ true → x ≤ t → Reaches (if b then Some x else None) t
+pub reaches_then : (b : Bool) (x t : ℕ) → b ≡ true → x ≤ t → Reaches (if b then Some x else None) t
 reaches_then true x t e h = h
 reaches_then false x t e h = cc
 
-earlier_left : (x y : Option ℕ) (t : ℕ) → Reaches x t → Reaches (earlier x y) t
+pub earlier_left : (x y : Option ℕ) (t : ℕ) → Reaches x t → Reaches (earlier x y) t
 earlier_left None y t h = absurd h
 earlier_left (Some x) None t h = h
 earlier_left (Some x) (Some y) t h = omega arith
 
-earlier_right : (x y : Option ℕ) (t : ℕ) → Reaches y t → Reaches (earlier x y) t
+pub earlier_right : (x y : Option ℕ) (t : ℕ) → Reaches y t → Reaches (earlier x y) t
 earlier_right None y t h = h
 earlier_right (Some x) None t h = absurd h
 earlier_right (Some x) (Some y) t h = omega arith
@@ -53,7 +53,7 @@ earlier_right (Some x) (Some y) t h = omega arith
 min_one : (x y t : ℕ) → min x y ≤ t → (x ≤ t) ⊎ (y ≤ t)
 min_one x y t h = elim (cases_lt x y) [ inl k ↦ inl (omega arith) | inr k ↦ inr (omega arith) ]
 
-earlier_one : (x y : Option ℕ) (t : ℕ) → Reaches (earlier x y) t → Reaches x t ⊎ Reaches y t
+pub earlier_one : (x y : Option ℕ) (t : ℕ) → Reaches (earlier x y) t → Reaches x t ⊎ Reaches y t
 earlier_one None y t h = inr h
 earlier_one (Some x) None t h = inl h
 earlier_one (Some x) (Some y) t h = min_one x y t h
@@ -72,14 +72,14 @@ abbrev BeginsOn : Race → ℕ → Option Reply → Option Reply → Type 0
 BeginsOn race t aaaa a = IsPositive race t aaaa ⊎ (IsPositive race t a × (IsAnswered race t aaaa ⊎ IsSomeAnd a (λ r. seen race (r.tick + race.settings.resolution) ≤ t)))
 
 -- the tick from which the A answer begins the race
-abbrev a_tick : ℕ → Option Reply → Option Reply → Option ℕ
+abbrev pub a_tick : ℕ → Option Reply → Option Reply → Option ℕ
 a_tick resolution aaaa a = option_map (v4_tick resolution aaaa) (positive_tick a)
 
-a_if : (b : Bool) (resolution x t : ℕ) (aaaa : Option Reply) → b ≡ true → v4_tick resolution aaaa x ≤ t → Reaches (option_map (v4_tick resolution aaaa) (if b then Some x else None)) t
+pub a_if : (b : Bool) (resolution x t : ℕ) (aaaa : Option Reply) → b ≡ true → v4_tick resolution aaaa x ≤ t → Reaches (option_map (v4_tick resolution aaaa) (if b then Some x else None)) t
 a_if true resolution x t aaaa e h = h
 a_if false resolution x t aaaa e h = cc
 
-a_from : (b : Bool) (resolution x t : ℕ) (aaaa : Option Reply) → Reaches (option_map (v4_tick resolution aaaa) (if b then Some x else None)) t → (b ≡ true) × (v4_tick resolution aaaa x ≤ t)
+pub a_from : (b : Bool) (resolution x t : ℕ) (aaaa : Option Reply) → Reaches (option_map (v4_tick resolution aaaa) (if b then Some x else None)) t → (b ≡ true) × (v4_tick resolution aaaa x ≤ t)
 a_from true resolution x t aaaa h = (refl, h)
 a_from false resolution x t aaaa h = absurd h
 
@@ -178,7 +178,7 @@ starts_to : (race : Race) → IsRace race → (done : List Attempt) (t : ℕ) (l
 starts_to race r done t None m = (m.0, begins_to race t (SeesOwn-free race r t m.0) race.aaaa race.a m.1)
 starts_to race r done t (Some last) m = (m.free, follows_to race t (SeesOwn-free race r t m.free) done last m)
 
-starts_from : (race : Race) → IsRace race → (done : List Attempt) (t : ℕ) (last : Option Attempt) → IsFree race t → Reaches (start_after race done last) t → MatchOption last (MayBegin race t) (MayFollow race done t)
+pub starts_from : (race : Race) → IsRace race → (done : List Attempt) (t : ℕ) (last : Option Attempt) → IsFree race t → Reaches (start_after race done last) t → MatchOption last (MayBegin race t) (MayFollow race done t)
 starts_from race r done t None free h = (free, begins_from race t (SeesOwn-free race r t free) race.aaaa race.a h)
 starts_from race r done t (Some last) free h = follows_from race t (SeesOwn-free race r t free) free done last h
 

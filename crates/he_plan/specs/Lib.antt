@@ -1,5 +1,7 @@
+pub mod Agreement
 pub mod Attempts
 pub mod Building
+pub mod Due
 pub mod Equality
 pub mod Finish
 pub mod Interlacing

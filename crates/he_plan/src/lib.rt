@@ -26,8 +26,10 @@
 //! Tested only: that a call succeeds where memory is granted.
 #![tactic(auto)]
 
+pub mod agreement;
 pub mod attempts;
 pub mod builder;
+pub mod due;
 mod fates;
 pub mod finish;
 pub mod interlacing;

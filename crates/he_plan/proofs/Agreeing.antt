@@ -1,0 +1,188 @@
+-- What two races share: at a tick at which both are free the same may start, and below a tick up to which they are free at
+-- the same ticks the same happens.
+use Rattle.std.proofs.Common.{◌≡◌, ℕ, ◌+◌, ◌≤◌, ◌<◌, ◌↔◌, ◌++◌, Bool, true, false, List, [], ◌∷◌, if◌then◌else◌, find, filter, Option, Some, None, MatchOption, IsSomeAnd, nat_le, nat_lt, refl, sym, ◌∙◌, ap, subst, arith, inl, inr}
+use Rattle.std.specs.List.{list_all, list_any}
+use Rattle.std.proofs.lemmas.Bool.{cases_lt}
+use Rattle.he_addr.specs.declared.ip.Ip.{Ip}
+use Rattle.he_addr.specs.Ip.{is_usable}
+use Rattle.he_plan.specs.declared.attempts.Attempt.{Attempt}
+use Rattle.he_plan.specs.declared.finish.Fate.{Fate}
+use Rattle.he_plan.specs.declared.finish.Fate.TheVariants.{Succeeded, Failed, Running}
+use Rattle.he_plan.specs.declared.outcome.Outcome.{Outcome}
+use Rattle.he_plan.specs.declared.outcome.Outcome.TheVariants as outcomes
+use Rattle.he_plan.specs.Agreement.{AgreeBelow, AreAlike}
+use Rattle.he_plan.specs.Attempts.{Follow, IsAnswered, IsFree, IsNext, IsPositive, IsSeen, MayBegin, MayFollow, MayStart, is_untried, last_of, order, order_at, received, received_of, seen}
+use Rattle.he_plan.specs.Finish.{fate_by, finish_of, known_at, known_by, outcome_of}
+use Rattle.he_plan.specs.Interlacing.{interlace}
+use Rattle.he_plan.specs.Race.{Race, Reply}
+use Rattle.he_plan.specs.Timeline.{IsRace}
+use Rattle.he_plan.proofs.Bools.{and_left, and_right, le_test, lt_from, not_le}
+use Rattle.he_plan.proofs.Starting.{IsSeen-seen, SeesOwn, SeesOwn-free, StartsAt, StartsAt-MayStart}
+
+-- the race with these outcomes and pauses
+abbrev but : Race → List (Ip × Outcome) → List (ℕ × ℕ) → Race
+but race outcomes pauses = record race { outcomes = outcomes; pauses = pauses }
+
+same_test : (a b t : ℕ) → (a ≤ t → b ≤ t) → (b ≤ t → a ≤ t) → nat_le a t ≡ nat_le b t
+same_test a b t to from = elim (cases_lt t a) [
+  | inl late ↦ elim (cases_lt t b) [
+    | inl later ↦ not_le a t late ∙ sym (not_le b t later)
+    | inr early ↦ absurd (let k : a ≤ t = from (omega arith) in omega arith)
+  ]
+  | inr early ↦ le_test a t (omega arith) ∙ sym (le_test b t (to (omega arith)))
+]
+
+-- at a tick at which both races are free a tick is seen in both or in none
+sees_same : (x y : Race) (t : ℕ) → SeesOwn x t → SeesOwn y t → (k : ℕ) → nat_le (seen x k) t ≡ nat_le (seen y k) t
+sees_same x y t sx sy k = same_test (seen x k) (seen y k) t (λ h. sy.back k (sx.own k h)) (λ h. sx.back k (sy.own k h))
+
+received_of-same : (x y : Race) (t : ℕ) → SeesOwn x t → SeesOwn y t → (reply : Option Reply) → received_of x t reply ≡ received_of y t reply
+received_of-same x y t sx sy None = refl
+received_of-same x y t sx sy (Some reply) =
+    let f : Bool → List Ip = λ b. if b then filter is_usable reply.addresses else [] in
+    ap f (sees_same x y t sx sy reply.tick)
+
+received-same : (x : Race) (o : List (Ip × Outcome)) (p : List (ℕ × ℕ)) (t : ℕ) → SeesOwn x t → SeesOwn (but x o p) t → received x t ≡ received (but x o p) t
+received-same x o p t sx sy =
+    let f : List Ip → List Ip = λ ips. ips ++ received_of x t x.a in
+    let g : List Ip → List Ip = λ ips. received_of (but x o p) t x.aaaa ++ ips in
+    ap f (received_of-same x (but x o p) t sx sy x.aaaa) ∙ ap g (received_of-same x (but x o p) t sx sy x.a)
+
+order-same : (x : Race) (o : List (Ip × Outcome)) (p : List (ℕ × ℕ)) (t : ℕ) → SeesOwn x t → SeesOwn (but x o p) t → order_at x t ≡ order_at (but x o p) t
+order-same x o p t sx sy =
+    let f : List Ip → List Ip = λ ips. interlace (order x ips) x.settings.count in
+    ap f (received-same x o p t sx sy)
+
+positive_same : (x y : Race) (t : ℕ) → SeesOwn x t → SeesOwn y t → (reply : Option Reply) → IsPositive x t reply → IsPositive y t reply
+positive_same x y t sx sy None h = absurd h
+positive_same x y t sx sy (Some reply) h = (h.0, sy.back reply.tick (sx.own reply.tick h.1))
+
+answered_same : (x y : Race) (t : ℕ) → SeesOwn x t → SeesOwn y t → (reply : Option Reply) → IsAnswered x t reply → IsAnswered y t reply
+answered_same x y t sx sy None h = absurd h
+answered_same x y t sx sy (Some reply) h = sy.back reply.tick (sx.own reply.tick h)
+
+delay_same : (x y : Race) (t delay : ℕ) → SeesOwn x t → SeesOwn y t → (reply : Option Reply) → IsSomeAnd reply (λ r. seen x (r.tick + delay) ≤ t) → IsSomeAnd reply (λ r. seen y (r.tick + delay) ≤ t)
+delay_same x y t delay sx sy None h = absurd h
+delay_same x y t delay sx sy (Some reply) h = sy.back (reply.tick + delay) (sx.own (reply.tick + delay) h)
+
+-- what may start in a race may start in one that is alike, where both are free
+starts_by : (x : Race) (o : List (Ip × Outcome)) (p : List (ℕ × ℕ)) (t : ℕ) → SeesOwn x t → SeesOwn (but x o p) t → IsFree (but x o p) t → (done : List Attempt) (last : Option Attempt) → MatchOption last (MayBegin x t) (MayFollow x done t) → MatchOption last (MayBegin (but x o p) t) (MayFollow (but x o p) done t)
+starts_by x o p t sx sy free done None m = (
+  free,
+  elim m.1 [
+    | inl six ↦ inl (positive_same x (but x o p) t sx sy x.aaaa six)
+    | inr four ↦ inr (
+      positive_same x (but x o p) t sx sy x.a four.0,
+      elim four.1 [
+        | inl answered ↦ inl (answered_same x (but x o p) t sx sy x.aaaa answered)
+        | inr over ↦ inr (delay_same x (but x o p) t x.settings.resolution sx sy x.a over)
+      ],
+    )
+  ],
+)
+starts_by x o p t sx sy free done (Some last) m =
+    record { free = free; delay = m.delay; some = subst (λ (ips : List Ip). list_any (is_untried done) ips ≡ true) (received-same x o p t sx sy) m.some }
+
+starts_same : (x : Race) (o : List (Ip × Outcome)) (p : List (ℕ × ℕ)) → IsRace x → IsRace (but x o p) → (done : List Attempt) (t : ℕ) → IsFree x t → IsFree (but x o p) t → MayStart x done t → MayStart (but x o p) done t
+starts_same x o p rx ry done t fx fy m = (m.0, starts_by x o p t (SeesOwn-free x rx t fx) (SeesOwn-free (but x o p) ry t fy) fy done (last_of done) m.1)
+
+starts_both : (x : Race) (o : List (Ip × Outcome)) (p : List (ℕ × ℕ)) → IsRace x → IsRace (but x o p) → (done : List Attempt) (t : ℕ) → IsFree x t → IsFree (but x o p) t → MayStart x done t ↔ MayStart (but x o p) done t
+starts_both x o p rx ry done t fx fy = (starts_same x o p rx ry done t fx fy, starts_same (but x o p) x.outcomes x.pauses ry rx done t fy fx)
+
+-- of two races that are alike, by the equation that says so
+by_alike : (P : Race → Type 0) (x y : Race) → AreAlike x y → P (but x y.outcomes y.pauses) → P y
+by_alike P x y e h = subst P (sym e) h
+
+of_alike : (P : Race → Type 0) (x y : Race) → AreAlike x y → P y → P (but x y.outcomes y.pauses)
+of_alike P x y e h = subst P e h
+
+pub starts-shared : (x y : Race) → IsRace x → IsRace y → AreAlike x y → (done : List Attempt) (t : ℕ) → IsFree x t → IsFree y t → MayStart x done t ↔ MayStart y done t
+starts-shared x y rx ry e done t fx fy =
+    by_alike (λ z. MayStart x done t ↔ MayStart z done t) x y e (starts_both x y.outcomes y.pauses rx (of_alike IsRace x y e ry) done t fx fy)
+
+pub order-shared : (x y : Race) → IsRace x → IsRace y → AreAlike x y → (t : ℕ) → IsFree x t → IsFree y t → order_at x t ≡ order_at y t
+order-shared x y rx ry e t fx fy =
+    by_alike (λ z. order_at x t ≡ order_at z t) x y e (order-same x y.outcomes y.pauses t (SeesOwn-free x rx t fx) (SeesOwn-free (but x y.outcomes y.pauses) (of_alike IsRace x y e ry) t fy))
+
+-- what starts, starts at a free tick
+start_free : (race : Race) → IsRace race → (done : List Attempt) (t : ℕ) → MayStart race done t → IsFree race t
+start_free race r done t m = let s : StartsAt race done t = StartsAt-MayStart race r done t m in s.free
+
+pub starts-below : (tick : ℕ) (x y : Race) → IsRace x → IsRace y → AgreeBelow tick x y → (done : List Attempt) (t : ℕ) → t < tick → MayStart x done t ↔ MayStart y done t
+starts-below tick x y rx ry a done t below = (
+  λ m. let fx : IsFree x t = start_free x rx done t m in (starts-shared x y rx ry a.alike done t fx ((a.free t below).0 fx)).0 m,
+  λ m. let fy : IsFree y t = start_free y ry done t m in (starts-shared x y rx ry a.alike done t ((a.free t below).1 fy) fy).1 m,
+)
+
+next_below : (tick : ℕ) (x y : Race) → IsRace x → IsRace y → AgreeBelow tick x y → (done : List Attempt) (next : Attempt) → next.tick < tick → IsNext x done next → IsNext y done next
+next_below tick x y rx ry a done next below is =
+    let fx : IsFree x next.tick = start_free x rx done next.tick is.tick.holds in
+    record {
+      place = is.place;
+      tick = record {
+        holds = (starts-below tick x y rx ry a done next.tick below).0 is.tick.holds;
+        least = λ t m. elim (cases_lt t next.tick) [
+          | inl sooner ↦ is.tick.least t ((starts-below tick x y rx ry a done t (omega arith)).1 m)
+          | inr later ↦ omega arith
+        ];
+      };
+      ip = subst (λ (ips : List Ip). find (is_untried done) ips ≡ Some next.ip) (order-shared x y rx ry a.alike next.tick fx ((a.free next.tick below).0 fx)) is.ip;
+    }
+
+follow_below : (tick : ℕ) (x y : Race) → IsRace x → IsRace y → AgreeBelow tick x y → (done xs : List Attempt) → list_all (λ (z : Attempt). nat_lt z.tick tick) xs ≡ true → Follow x done xs → Follow y done xs
+follow_below tick x y rx ry a done [] below f = tt
+follow_below tick x y rx ry a done (next ∷ xs) below f =
+    (next_below tick x y rx ry a done next (lt_from _ _ (and_left _ _ below)) f.0, follow_below tick x y rx ry a (done ++ next ∷ []) xs (and_right _ _ below) f.1)
+
+pub follow-below : (tick : ℕ) (x y : Race) → IsRace x → IsRace y → AgreeBelow tick x y → (xs : List Attempt) → list_all (λ (z : Attempt). nat_lt z.tick tick) xs ≡ true → Follow x [] xs → Follow y [] xs
+follow-below tick x y rx ry a xs below f = follow_below tick x y rx ry a [] xs below f
+
+-- a tick that is seen below the tick is seen there in both
+seen_below : (tick : ℕ) (x y : Race) → IsRace x → IsRace y → ((t : ℕ) → t < tick → IsFree x t ↔ IsFree y t) → (k : ℕ) → seen x k < tick → seen y k ≡ seen x k
+seen_below tick x y rx ry free k below =
+    let sx : IsSeen x k (seen x k) = IsSeen-seen x rx k in
+    let sy : IsSeen y k (seen y k) = IsSeen-seen y ry k in
+    let first : seen y k ≤ seen x k = sy.least (seen x k) (sx.holds.0, (free (seen x k) below).0 sx.holds.1) in
+    let second : seen x k ≤ seen y k = sx.least (seen y k) (sy.holds.0, (free (seen y k) (omega arith)).1 sy.holds.1) in
+    omega arith
+
+pub seen-below : (tick : ℕ) (x y : Race) → IsRace x → IsRace y → AgreeBelow tick x y → (k : ℕ) → seen x k < tick → seen y k ≡ seen x k
+seen-below tick x y rx ry a k below = seen_below tick x y rx ry a.free k below
+
+-- an attempt that finishes after a tick still runs there
+known_late : (result : ℕ → Fate) (t limit finish : ℕ) → ((b : Bool) → nat_le finish t ≡ b → known_by t (result finish) ≡ (if b then result finish else Running)) → t < finish → known_by t (if nat_le finish limit then result finish else Running) ≡ Running
+known_late result t limit finish own late = by_limit (nat_le finish limit)
+  where
+    by_limit : (b : Bool) → known_by t (if b then result finish else Running) ≡ Running
+    by_limit true = own false (not_le finish t late)
+    by_limit false = refl
+
+known_both : (result : ℕ → Fate) (t limit f g : ℕ) → ((finish : ℕ) (b : Bool) → nat_le finish t ≡ b → known_by t (result finish) ≡ (if b then result finish else Running)) → (f ≤ t → g ≡ f) → (g ≤ t → f ≡ g) → known_by t (if nat_le g limit then result g else Running) ≡ known_by t (if nat_le f limit then result f else Running)
+known_both result t limit f g own to from = elim (cases_lt t f) [
+  | inl late ↦ known_late result t limit g (own g) (elim (cases_lt t g) [ inl k ↦ k | inr k ↦ absurd (let e : f ≡ g = from (omega arith) in omega arith) ]) ∙ sym (known_late result t limit f (own f) late)
+  | inr early ↦ ap (λ h. known_by t (if nat_le h limit then result h else Running)) (to (omega arith))
+]
+
+known_ok : (t finish : ℕ) (b : Bool) → nat_le finish t ≡ b → known_by t (Succeeded finish) ≡ (if b then Succeeded finish else Running)
+known_ok t finish b e = rw e
+
+known_fail : (t finish : ℕ) (b : Bool) → nat_le finish t ≡ b → known_by t (Failed finish) ≡ (if b then Failed finish else Running)
+known_fail t finish b e = rw e
+
+known_outcome : (x : Race) (o : List (Ip × Outcome)) (p : List (ℕ × ℕ)) (t start : ℕ) → ((k : ℕ) → seen x k ≤ t → seen (but x o p) k ≡ seen x k) → ((k : ℕ) → seen (but x o p) k ≤ t → seen x k ≡ seen (but x o p) k) → (outcome : Option Outcome) → known_by t (fate_by (but x o p) start outcome) ≡ known_by t (fate_by x start outcome)
+known_outcome x o p t start to from None = refl
+known_outcome x o p t start to from (Some (outcomes.Ok duration)) =
+    known_both Succeeded t x.settings.limit (finish_of x start duration) (finish_of (but x o p) start duration) (known_ok t) (to (start + duration)) (from (start + duration))
+known_outcome x o p t start to from (Some (outcomes.Fail duration)) =
+    known_both Failed t x.settings.limit (finish_of x start duration) (finish_of (but x o p) start duration) (known_fail t) (to (start + duration)) (from (start + duration))
+
+known_same : (tick : ℕ) (x : Race) (o : List (Ip × Outcome)) (p : List (ℕ × ℕ)) → IsRace x → IsRace (but x o p) → ((t : ℕ) → t < tick → IsFree x t ↔ IsFree (but x o p) t) → (a : Attempt) (t : ℕ) → t < tick → outcome_of (but x o p) a.ip ≡ outcome_of x a.ip → known_at (but x o p) t a ≡ known_at x t a
+known_same tick x o p rx ry free a t below same =
+    let turned : (s : ℕ) → s < tick → IsFree (but x o p) s ↔ IsFree x s = λ s lt. ((free s lt).1, (free s lt).0) in
+    ap (λ outcome. known_by t (fate_by (but x o p) a.tick outcome)) same
+    ∙ known_outcome x o p t a.tick (λ k h. seen_below tick x (but x o p) rx ry free k (omega arith)) (λ k h. seen_below tick (but x o p) x ry rx turned k (omega arith)) (outcome_of x a.ip)
+
+pub known-below : (tick : ℕ) (x y : Race) → IsRace x → IsRace y → AgreeBelow tick x y → (a : Attempt) (t : ℕ) → t < tick → outcome_of y a.ip ≡ outcome_of x a.ip → known_at y t a ≡ known_at x t a
+known-below tick x y rx ry agree a t below same =
+    by_alike (λ z. known_at z t a ≡ known_at x t a) x y agree.alike
+    (known_same tick x y.outcomes y.pauses rx (of_alike IsRace x y agree.alike ry) agree.free a t below same)

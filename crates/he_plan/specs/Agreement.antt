@@ -1,0 +1,13 @@
+-- What two races have in common: a script and its record, or a race before and after something was added to it.
+use Rattle.std.specs.Prelude.{ℕ, ◌≡◌, ◌<◌, ◌↔◌}
+use Rattle.he_plan.specs.Attempts.{IsFree}
+use Rattle.he_plan.specs.Race.{Race}
+
+-- the second race differs from the first in its outcomes and pauses alone
+abbrev pub AreAlike : Race → Race → Type 0
+AreAlike x y = y ≡ record x { outcomes = y.outcomes; pauses = y.pauses }
+
+-- and below the tick the client may act at the same ticks
+pub record AgreeBelow (tick : ℕ) (x y : Race) : Type 0 where
+  pub alike : AreAlike x y
+  pub free : (t : ℕ) → t < tick → IsFree x t ↔ IsFree y t

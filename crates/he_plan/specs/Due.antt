@@ -1,0 +1,44 @@
+-- The due tick of a race that is being run: the least tick at which something is to be done after its last turn, pauses not
+-- looked at (RFC 8305 sections 3 and 5).
+use Rattle.std.specs.Prelude.{ℕ, ◌≡◌, ◌+◌, ◌<◌, ◌≤◌, ◌⊎◌, ◌&&◌, List, [], Option, IfSome, IsSomeAnd, IsTrue}
+use Rattle.std.specs.List.{list_any}
+use Rattle.he_addr.specs.Ip.{is_usable}
+use Rattle.he_plan.specs.declared.attempts.Attempt.{Attempt}
+use Rattle.he_plan.specs.Attempts.{IsFree, IsLeast, MayStart, is_untried, last_of}
+use Rattle.he_plan.specs.Race.{Race, Reply}
+
+-- the answer was taken by the last turn; none was before the first one
+abbrev pub IsTaken : Option ℕ → Reply → Type 0
+IsTaken turn reply = IsSomeAnd turn (λ tick. reply.tick ≤ tick)
+
+-- an answer that was not taken is due at its tick
+abbrev pub IsAnswerDue : Option ℕ → Option Reply → ℕ → Type 0
+IsAnswerDue turn reply t = IsSomeAnd reply (λ r. ¬ IsTaken turn r × (r.tick ≡ t))
+
+-- the end of the Resolution Delay is due where a positive A answer was taken, no AAAA answer was and no attempt was made
+pub record IsDelayDue (race : Race) (turn : Option ℕ) (done : List Attempt) (t : ℕ) : Type 0 where
+  pub none : done ≡ []
+  pub aaaa : ¬ IsSomeAnd race.aaaa (IsTaken turn)
+  pub a : IsSomeAnd race.a (λ r. IsTrue (list_any is_usable r.addresses) × IsTaken turn r × (r.tick + race.settings.resolution ≡ t))
+
+-- an address of the answer, which was taken, is untried
+abbrev pub IsWaiting : Option ℕ → List Attempt → Option Reply → Type 0
+IsWaiting turn done reply = IsSomeAnd reply (λ r. IsTaken turn r × IsTrue (list_any (λ ip. is_usable ip && is_untried done ip) r.addresses))
+
+-- a start is due when the Connection Attempt Delay after the last one is over, where an address is untried
+pub record IsStartDue (race : Race) (turn : Option ℕ) (done : List Attempt) (t : ℕ) : Type 0 where
+  pub delay : IsSomeAnd (last_of done) (λ last. last.tick + race.settings.attempt ≡ t)
+  pub some : IsWaiting turn done race.aaaa ⊎ IsWaiting turn done race.a
+
+-- an answer, the end of the Resolution Delay, a start or the limit is due at the tick
+abbrev pub IsDue : Race → Option ℕ → List Attempt → ℕ → Type 0
+IsDue race turn done t =
+    IsAnswerDue turn race.aaaa t ⊎ (IsAnswerDue turn race.a t
+    ⊎ (IsDelayDue race turn done t ⊎ (IsStartDue race turn done t ⊎ (t ≡ race.settings.limit))))
+
+abbrev pub IsDueTick : Race → Option ℕ → List Attempt → ℕ → Type 0
+IsDueTick race turn done = IsLeast (IsDue race turn done)
+
+-- the last turn was at a free tick below the limit, and left no attempt to start there
+abbrev pub IsAfterTurn : Race → Option ℕ → List Attempt → Type 0
+IsAfterTurn race turn done = IfSome turn (λ t. IsFree race t × (t < race.settings.limit) × ¬ MayStart race done t)
