@@ -34,9 +34,10 @@ impl<'a, A: Allocator, B: Allocator> Model for WheelTicker<'a, A, B> {
 }
 
 impl<'a, A: Allocator, B: Allocator> WheelTicker<'a, A, B> {
-    /// The ticker that stands at the first tick that no pause covers, with no tick asked for.
+    /// The ticker that stands at the first tick that no pause covers, with no tick asked for. It takes no memory.
     pub fn new(alloc: A, timeline: &'a Timeline<B>) -> Result<WheelTicker<'a, A, B>, Memory>
-        ensures { IfOk result (λ w. w ≡ record { race = timeline.now; at = seen timeline.now 0; asked = [] }) }
+        ensures never_fails { IsOk result }
+        ensures start { IfOk result (λ w. w ≡ record { race = timeline.now; at = seen timeline.now 0; asked = [] }) }
     {
         Ok(WheelTicker {
             timeline,
@@ -46,9 +47,10 @@ impl<'a, A: Allocator, B: Allocator> WheelTicker<'a, A, B> {
     }
 
     /// Goes on to the least tick asked for, or to the end of the pause that covers it, and drops the requests up to there;
-    /// where none is asked for, answers false.
+    /// where none is asked for, answers false. It takes no memory.
     pub fn jump(&mut self) -> Result<bool, Memory>
-        ensures { IfOk result (λ moved. Jumps self.old moved self.new) }
+        ensures never_fails { IsOk result }
+        ensures goes { IfOk result (λ went. Jumps self.old went self.new) }
     {
         let Some(tick) = self.asked.first() else {
             return Ok(false);

@@ -7,6 +7,7 @@ use std::alloc::Global;
 use std::test::Fail;
 
 /// A race, the place of an attempt, and what becomes of it.
+#[derive(Clone, Copy)]
 struct Case {
     given: Given,
     place: usize,

@@ -1,11 +1,9 @@
 // A connector of a user's own: it refuses every address but one, which answers at the third poll, whatever the tick.
 
-ghost use Rattle.std.specs.Prelude.{◌≡◌, ⊤};
-
 use crate::homes::{V4_A, V6_A};
 use futures::task::{Context, Doorbell, Poll, Solo};
 use he_addr::Ip;
-use he_race::{AttemptFuture, ConnectFault, Connector, Trial};
+use he_race::{AttemptFuture, ConnectFault, Connector, Finish, Trial};
 use std::test::Fail;
 
 #[derive(Drop)]
@@ -58,18 +56,25 @@ impl Connector for OneAddress {
     }
 }
 
-// The tick and the answer of the attempt's finish, polled at every tick from 1 to 9, or none.
-fn finish(solo: &Solo, ip: Ip) -> Option<(u64, Result<u8, ConnectFault>)> {
-    let mut connector = OneAddress { ip: V6_A };
+// The tick and the answer of the attempt's finish, polled at every tick from 1 to 9, or none. It starts at 4.
+fn finish<C: Connector>(
+    solo: &Solo,
+    mut connector: C,
+    ip: Ip,
+) -> Option<(u64, Result<C::Conn, ConnectFault>)> {
     let mut future = AttemptFuture::new(0, ip, 4);
     for tick in 1..10 {
-        if !future.is_done() {
-            let mut cx = solo.begin();
-            let polled = future.poll_attempt(&mut connector, tick, &mut cx);
-            cx.cancel();
-            if let Poll::Ready(finish) = polled {
-                return Some((finish.tick, finish.result));
-            }
+        let mut cx = solo.begin();
+        let polled = future.poll_attempt(&mut connector, tick, &mut cx);
+        cx.cancel();
+        if let Poll::Ready(
+            Finish {
+                tick,
+                result: answer,
+            },
+        ) = polled
+        {
+            return Some((tick, answer));
         }
     }
     None
@@ -77,8 +82,14 @@ fn finish(solo: &Solo, ip: Ip) -> Option<(u64, Result<u8, ConnectFault>)> {
 
 #[test]
 fn connector_of_ones_own(rt: HostRuntime) -> Result<(), Fail> {
-    let solo = Solo::new(rt, Doorbell::spinning())?;
-    assert_eq!(rt; finish(&solo, V6_A), Some((7, Ok(3))));
-    assert_eq!(rt; finish(&solo, V4_A), Some((5, Err(ConnectFault::Begin))));
+    let solo = Solo::new(&rt, Doorbell::spinning())?;
+    assert_eq!(rt;
+        finish(&solo, OneAddress { ip: V6_A }, V6_A),
+        Some((7, Ok(3)))
+    );
+    assert_eq!(rt;
+        finish(&solo, OneAddress { ip: V6_A }, V4_A),
+        Some((5, Err(ConnectFault::Begin)))
+    );
     Ok(())
 }

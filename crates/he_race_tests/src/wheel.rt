@@ -46,7 +46,7 @@ fn ticker_goes_where_it_was_asked(rt: HostRuntime) -> Result<(), Fail> {
             pause: Some((30, 400)),
         },
     )?;
-    let solo = Solo::new(rt, Doorbell::spinning())?;
+    let solo = Solo::new(&rt, Doorbell::spinning())?;
     let visited = visited(&solo, alloc, &timeline)?;
     assert_eq!(rt; visited, [5, 10, 11, 400]);
     Ok(())
