@@ -159,3 +159,16 @@ abbrev pub last_failure : ℕ → List Fate → ℕ
 last_failure tick [] = tick
 last_failure tick (Failed finish ∷ told) = last_failure (max tick finish) told
 last_failure tick (_ ∷ told) = last_failure tick told
+
+-- what is kept of a race that is being run: its attempts start by the greatest limit, and the queue is theirs
+pub record IsPlanned (race : Race) (done : List Attempt) (v6 v4 : Bool) (ips : List Ip) (next : ℕ) : Type 0 where
+  pub in_range : IfSome (last_of done) (λ last. last.tick ≤ MAX_LIMIT)
+  pub queue : IsQueue race done v6 v4 ips next
+
+-- one more attempt, at the tick and the first untried address
+pub record PlansNext (race : Race) (done all : List Attempt) (tick : ℕ) : Type 0 where
+  pub next : Attempt
+  pub more : all ≡ done ++ next ∷ []
+  pub place : next.place ≡ length done
+  pub at : next.tick ≡ tick
+  pub ip : find (is_untried done) (order_at race tick) ≡ Some next.ip

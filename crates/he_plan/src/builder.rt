@@ -135,6 +135,13 @@ impl<A: Allocator + Copy> TimelineBuilder<A> {
             .map_err(|_| BuildFault::Memory)
     }
 
+    /// What was collected so far.
+    pub fn timeline(&self) -> &Timeline<A>
+        ensures { result.now ≡ self.now }
+    {
+        &self.timeline
+    }
+
     /// The timeline of what was collected.
     pub fn finish(self) -> Timeline<A>
         ensures value { result ≡ self }

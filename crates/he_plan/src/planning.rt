@@ -40,7 +40,7 @@ pub fn plan<A: Allocator + Copy, B: Allocator>(
 
 // The queue for a start at the tick, at the address that is tried then. What was received stays received, so the queue
 // is made anew at most twice in a race.
-fn advance<A: Allocator + Copy, B: Allocator>(
+pub(crate) fn advance<A: Allocator + Copy, B: Allocator>(
     alloc: A,
     timeline: &Timeline<B>,
     done: &[Attempt],

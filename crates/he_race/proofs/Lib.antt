@@ -1,0 +1,4 @@
+pub mod Runs
+pub mod Scripts
+pub mod Waits
+pub mod Wheels

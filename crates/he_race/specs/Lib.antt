@@ -1,0 +1,5 @@
+pub mod Attempt
+pub mod Running
+pub mod Scripted
+pub mod Waiting
+pub mod Wheel

@@ -1,0 +1,25 @@
+// What connecting and telling time can fail with.
+
+use thiserror::Error;
+
+/// Why an address has no connection.
+#[derive(Clone, Copy, Debug, PartialEq, Eq, Error)]
+pub enum ConnectFault {
+    /// The attempt could not be begun.
+    #[error("the attempt could not begin")]
+    Begin,
+    /// The attempt was begun, and failed.
+    #[error("the attempt failed")]
+    Failed,
+}
+
+/// Why a ticker cannot wake.
+#[derive(Clone, Copy, Debug, PartialEq, Eq, Error)]
+pub enum TickFault {
+    /// An allocation was refused.
+    #[error("out of memory")]
+    Memory,
+    /// The clock is lost: no later tick can be waited for.
+    #[error("the clock is lost")]
+    Lost,
+}

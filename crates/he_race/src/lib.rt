@@ -1,0 +1,85 @@
+//! A race of connection attempts (RFC 8305 section 5) as futures, apart from sockets and clocks: what connects and what
+//! tells time are traits, so that the same machine runs over real sockets and over recorded races. A tick is a millisecond
+//! since the race's start.
+//!
+//! # The parts
+//!
+//! - [`Connector`] begins the connection of an attempt, [`Trial`] is that connection while it is being made, and
+//!   [`Ticker`] tells the tick and wakes at one.
+//! - [`AttemptFuture`] is one attempt: it sleeps until its start, then begins, and from the next tick on polls its trial.
+//! - [`Scripted`] and [`WheelTicker`] are the connector and the ticker of a recorded race, and [`run_attempt`] drives one
+//!   attempt over them to its fate.
+//!
+//! No call takes a handle: nothing here waits, starts a thread or reads a clock. Whoever polls does.
+//!
+//! # A connector and a trial of your own
+//!
+//! ```text
+//! impl Trial for Handshake {
+//!     type Conn = Session;
+//!
+//!     ghost polls = { λ _ _ _ _. ⊤ };  // nothing is promised of its answers
+//!     ghost due_tick = { λ _. None };
+//!
+//!     fn poll_trial(&mut self, now: u64, cx: &mut Context<'_>) -> Poll<Result<Session, ConnectFault>> {
+//!         match self.io.poll(cx) {                      // registers in `cx` where it is pending
+//!             Poll::Pending => Poll::Pending,
+//!             Poll::Ready(Ok(session)) => Poll::Ready(Ok(session)),
+//!             Poll::Ready(Err(_)) => Poll::Ready(Err(ConnectFault::Failed)),
+//!         }
+//!     }
+//!
+//!     fn due(&self) -> Option<u64> { None }
+//! }
+//!
+//! let mut attempt = AttemptFuture::new(0, ip, 20);
+//! attempt.poll_attempt(&mut connector, 19, &mut cx);   // Pending; attempt.due() is Some(20)
+//! attempt.poll_attempt(&mut connector, 20, &mut cx);   // begins; Pending; due at 21
+//! attempt.poll_attempt(&mut connector, 21, &mut cx);   // polls the trial
+//! ```
+//!
+//! | Trait | Owes |
+//! |---|---|
+//! | `Trial` | a poll that is pending has registered in `cx`, or `due` names a tick before which every poll is pending, or `due` is None and every later poll is pending |
+//! | `Connector` | a trial that may be polled, or a fault, which is the attempt's failure |
+//! | `Ticker` | a `wake_at` that answers Ok has registered in `cx` or yielded, so that the task is polled again |
+//!
+//! What each of them does to its own state is a relation that the implementation states (`polls`, `begins`, `tells`,
+//! `wakes`); the contracts here are said through these relations. The ticks handed to them are at most
+//! [`limits::MAX_POLL_TICK`]. An implementation may not assume in which order, or how often, attempts are polled, only that
+//! a trial isn't polled again once it has answered. A trial that isn't needed any more is dropped, with its connection:
+//! `Drop` is where a socket closes.
+//!
+//! # What is proved
+//!
+//! - `AttemptFuture` takes only the steps of `specs/Attempt.antt` between its three states; a finish has the tick of its
+//!   poll and the trial's own answer, or the fault of its connector. Where a poll is pending, the trial has registered, or
+//!   `due` is at most the next tick at which anything can change (`specs/Waiting.antt`).
+//! - A trial of `Scripted` that begins at `s` answers its address's outcome, of duration `d`, at polls from `s + d` on,
+//!   and is pending before; a silent one always is.
+//! - `WheelTicker` starts at the first tick that no pause covers, goes on to the least tick asked for, moved by the
+//!   pauses, and a refused request leaves it as it was (`specs/Wheel.antt`).
+//! - `run_attempt` answers the fate that `he_plan` defines (`Finish`).
+//!
+//! Tested only: that calls succeed where memory is granted, and a connector of a user's own.
+#![tactic(auto)]
+
+mod alone;
+pub mod attempt;
+pub mod connector;
+pub mod faults;
+pub mod limits;
+pub mod run;
+pub mod scripted;
+pub mod ticker;
+pub mod trial;
+pub mod wheel;
+
+pub use attempt::{AttemptFuture, Finish};
+pub use connector::Connector;
+pub use faults::{ConnectFault, TickFault};
+pub use run::run_attempt;
+pub use scripted::{Scripted, ScriptedTrial};
+pub use ticker::Ticker;
+pub use trial::Trial;
+pub use wheel::WheelTicker;

@@ -1,0 +1,49 @@
+// A connection that is being made.
+
+ghost use Rattle.std.specs.Prelude.{◌≡◌, ◌≤◌, ℕ, ⊤, Option, Result, ◌⊎◌};
+ghost use Rattle.futures.specs.Poll.{OnPending};
+ghost use Rattle.futures.specs.Task.{IsArmed, Keeps};
+ghost use Rattle.futures.specs.declared.task.Poll.{Poll};
+ghost use Rattle.he_race.specs.declared.faults.ConnectFault.{ConnectFault};
+ghost use Rattle.he_race.specs.declared.limits.TheConstants.{MAX_POLL_TICK};
+ghost use Rattle.he_race.specs.Waiting.{WaitsForTick};
+
+use crate::faults::ConnectFault;
+use crate::limits::MAX_POLL_TICK;
+use futures::task::{Context, Poll};
+
+/// A connection that is being made, polled with the tick of the poll.
+///
+/// A poll that is pending owes one of three: it has registered in `cx`, so that the task is polled again once something
+/// happened; or `due` names a tick before which every poll is pending; or `due` is None, and every later poll is pending. A
+/// trial is dropped where its attempt is, answered or not: its `Drop` closes what it opened.
+pub trait Trial: Drop {
+    /// The connection.
+    type Conn: Drop;
+
+    // Holds of the states at which `poll_trial` may be called.
+    ghost can_poll: { Self → Type 0 } = { λ _. ⊤ };
+
+    // What a poll at a tick may answer, and the state that it leaves.
+    ghost polls: { Self → ℕ → Poll (Result Self.Conn ConnectFault) → Self → Type 0 };
+
+    ghost due_tick: { Self → Option ℕ };
+
+    /// Polls at the tick `now`, at most `MAX_POLL_TICK`. It answers the connection or why there is none; after an answer it
+    /// isn't called again.
+    fn poll_trial(
+        &mut self,
+        now: u64,
+        cx: &mut Context<'_>,
+    ) -> Poll<Result<Self::Conn, ConnectFault>>
+        requires can { can_poll self.old }
+        requires in_time { now ≤ MAX_POLL_TICK }
+        ensures step { polls self.old now result self.new }
+        ensures again { OnPending result (can_poll self.new) }
+        ensures waits { OnPending result (IsArmed cx.new ⊎ WaitsForTick polls self.new (due_tick self.new)) }
+        ensures kept { Keeps cx.old cx.new };
+
+    /// The tick before which nothing changes, where the trial knows it.
+    fn due(&self) -> Option<u64>
+        ensures { result ≡ due_tick self.now };
+}

@@ -1,0 +1,87 @@
+// A ticker that goes from one tick that was asked for to the next.
+
+ghost use Rattle.std.specs.Prelude.{◌≡◌, ◌<◌, ◌≤◌, IfOk, IsOk, [], Result};
+ghost use Rattle.futures.specs.Task.{IsArmed, Keeps};
+ghost use Rattle.he_plan.specs.Attempts.{seen};
+ghost use Rattle.he_race.specs.Wheel.{Jumps};
+
+use crate::faults::TickFault;
+use crate::ticker::Ticker;
+use futures::task::Context;
+use he_addr::Memory;
+use he_plan::Timeline;
+use std::alloc::{Allocator, Global};
+use std::collections::BTreeSet;
+use std::marker::Model;
+
+/// A timer wheel's part in a recorded race: it stands at a tick, keeps the ticks that it was asked for, and `jump` goes on
+/// to the least of them. The timeline's pauses move it: it never stands at a tick that a pause covers.
+#[derive(Drop)]
+pub struct WheelTicker<'a, A: Allocator = Global, B: Allocator = Global> {
+    timeline: &'a Timeline<B>,
+    asked: BTreeSet<u64, A>,
+    at: u64,
+}
+
+impl<'a, A: Allocator, B: Allocator> Model for WheelTicker<'a, A, B> {
+    ghost use Rattle.he_race.specs.Wheel.{Wheel, AreLater};
+
+    ghost Value = { Wheel };
+
+    ghost view = { λ w. record { race = w.timeline.now; at = w.at; asked = w.asked.keys } };
+
+    ghost invariant = { λ w. AreLater w.at w.asked.keys };
+}
+
+impl<'a, A: Allocator, B: Allocator> WheelTicker<'a, A, B> {
+    /// The ticker that stands at the first tick that no pause covers, with no tick asked for. It takes no memory.
+    pub fn new(alloc: A, timeline: &'a Timeline<B>) -> Result<WheelTicker<'a, A, B>, Memory>
+        ensures never_fails { IsOk result }
+        ensures start { IfOk result (λ w. w ≡ record { race = timeline.now; at = seen timeline.now 0; asked = [] }) }
+    {
+        Ok(WheelTicker {
+            timeline,
+            asked: BTreeSet::new(alloc),
+            at: timeline.seen(0),
+        })
+    }
+
+    /// Goes on to the least tick asked for, or to the end of the pause that covers it, and drops the requests up to there;
+    /// where none is asked for, answers false. It takes no memory.
+    pub fn jump(&mut self) -> Result<bool, Memory>
+        ensures never_fails { IsOk result }
+        ensures goes { IfOk result (λ went. Jumps self.old went self.new) }
+    {
+        let Some(tick) = self.asked.first() else {
+            return Ok(false);
+        };
+        let at = self.timeline.seen(*tick);
+        self.asked.retain(|tick| *tick > at);
+        self.at = at;
+        Ok(true)
+    }
+}
+
+impl<'a, A: Allocator + Clone, B: Allocator> Ticker for WheelTicker<'a, A, B> {
+    ghost use Rattle.std.specs.Prelude.{◌≡◌};
+    ghost use Rattle.he_race.specs.Wheel.{Asks};
+
+    ghost tells = { λ w tick left. (tick ≡ w.at) × (left ≡ w) };
+
+    ghost wakes = { Asks };
+
+    fn now(&mut self) -> u64 {
+        self.at
+    }
+
+    fn wake_at(&mut self, tick: u64, cx: &mut Context<'_>) -> Result<(), TickFault> {
+        let next = tick.max(self.at.saturating_add(1));
+        match self.asked.insert(next) {
+            Ok(_) => {
+                let _ = cx.yield_now::<()>();
+                Ok(())
+            }
+            Err(_) => Err(TickFault::Memory),
+        }
+    }
+}

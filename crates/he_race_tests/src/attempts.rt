@@ -1,0 +1,114 @@
+// One attempt at a time: what it comes to by the rules of a race.
+
+use crate::homes::{Given, race};
+use he_plan::{Fate, Outcome, plan};
+use he_race::run_attempt;
+use std::alloc::Global;
+use std::test::Fail;
+
+/// A race, the place of an attempt, and what becomes of it.
+#[derive(Clone, Copy)]
+struct Case {
+    given: Given,
+    place: usize,
+    fate: Fate,
+}
+
+const fn plain(limit: u64, v6: Option<Outcome>, v4: Option<Outcome>) -> Given {
+    Given {
+        limit,
+        v6,
+        v4,
+        pause: None,
+    }
+}
+
+// The attempts start at 20 and 270; with the pause from 30 on at 400, with the later one at 60 and 310.
+fn cases() -> [Case; 9] {
+    let tie = plain(30_000, Some(Outcome::Ok(300)), Some(Outcome::Ok(50)));
+    let fails = plain(30_000, Some(Outcome::Fail(5)), Some(Outcome::Fail(5)));
+    let silent = plain(30_000, None, None);
+    let paused = Given {
+        limit: 30_000,
+        v6: Some(Outcome::Ok(20)),
+        v4: None,
+        pause: Some((30, 400)),
+    };
+    let slept = Given {
+        pause: Some((320, 500)),
+        ..paused
+    };
+    [
+        Case {
+            given: tie,
+            place: 0,
+            fate: Fate::Succeeded(320),
+        },
+        Case {
+            given: tie,
+            place: 1,
+            fate: Fate::Succeeded(320),
+        },
+        Case {
+            given: fails,
+            place: 0,
+            fate: Fate::Failed(25),
+        },
+        Case {
+            given: fails,
+            place: 1,
+            fate: Fate::Failed(275),
+        },
+        Case {
+            given: silent,
+            place: 0,
+            fate: Fate::Running,
+        },
+        Case {
+            given: paused,
+            place: 0,
+            fate: Fate::Succeeded(420),
+        },
+        Case {
+            given: slept,
+            place: 1,
+            fate: Fate::Succeeded(500),
+        },
+        Case {
+            given: plain(100, Some(Outcome::Ok(80)), None),
+            place: 0,
+            fate: Fate::Succeeded(100),
+        },
+        Case {
+            given: plain(100, Some(Outcome::Ok(81)), None),
+            place: 0,
+            fate: Fate::Running,
+        },
+    ]
+}
+
+fn is_right(alloc: Global, case: &Case) -> Result<bool, Fail> {
+    let timeline = race(alloc, &case.given)?;
+    let plan = plan(alloc, &timeline)?;
+    if case.place >= plan.attempts().len() {
+        return Ok(false);
+    }
+    Ok(run_attempt(alloc, &timeline, &plan, case.place)? == case.fate)
+}
+
+fn right_cases(alloc: Global) -> Result<usize, Fail> {
+    let mut right: usize = 0;
+    for case in &cases() {
+        if !is_right(alloc, case)? {
+            return Ok(right);
+        }
+        right = right.saturating_add(1);
+    }
+    Ok(right)
+}
+
+#[test]
+fn attempts_come_to_their_fates(rt: HostRuntime) -> Result<(), Fail> {
+    assert_eq!(rt; right_cases(rt.alloc())?, 9);
+    Ok(())
+}

@@ -1,0 +1,75 @@
+// The host and the addresses of the worked races.
+
+use he_addr::{Family, Ip, Prefix};
+use he_plan::{Outcome, Settings, Timeline, TimelineBuilder};
+use he_select::{Host, Policy, Route, Source};
+use std::alloc::Global;
+use std::test::Fail;
+
+/// 2001:db8:1::1
+pub const V6_A: Ip = Ip::V6(0x2001_0db8_0001_0000_0000_0000_0000_0001);
+
+/// 198.51.100.1
+pub const V4_A: Ip = Ip::V4(0xc633_6401);
+
+fn source(ip: Ip, plen: u8) -> Source {
+    Source {
+        ip,
+        plen,
+        interface: 1,
+        deprecated: false,
+        temporary: false,
+    }
+}
+
+fn route(prefix: Prefix) -> Route {
+    Route {
+        prefix,
+        interface: 1,
+        tunnel: false,
+    }
+}
+
+// 2001:db8::2/64, 192.0.2.2/24, ::/0 and 0.0.0.0/0
+fn host(alloc: Global) -> Result<Host, Fail> {
+    let sources = [
+        source(Ip::V6(0x2001_0db8_0000_0000_0000_0000_0000_0002), 64),
+        source(Ip::V4(0xc000_0202), 24),
+    ];
+    let routes = [
+        route(Prefix::new(0, 0)),
+        route(Prefix::new(0xffff_0000_0000, 96)),
+    ];
+    Ok(Host::new(alloc, &sources, &routes)?)
+}
+
+/// A race whose answers come at 20 and 20, or at 90 and 10 where it has a pause, with these outcomes of its two addresses.
+#[derive(Clone, Copy)]
+pub struct Given {
+    pub limit: u64,
+    pub v6: Option<Outcome>,
+    pub v4: Option<Outcome>,
+    pub pause: Option<(u64, u64)>,
+}
+
+pub fn race(alloc: Global, given: &Given) -> Result<Timeline, Fail> {
+    let settings = Settings::new(50, 250, 1, given.limit)?;
+    let policy = Policy::standard(alloc)?;
+    let mut builder = TimelineBuilder::new(alloc, settings, policy, host(alloc)?);
+    let (aaaa, a) = match given.pause {
+        Some(_) => (90, 10),
+        None => (20, 20),
+    };
+    builder.answer(Family::V6, aaaa, &[V6_A])?;
+    builder.answer(Family::V4, a, &[V4_A])?;
+    if let Some(outcome) = given.v6 {
+        builder.outcome(V6_A, outcome)?;
+    }
+    if let Some(outcome) = given.v4 {
+        builder.outcome(V4_A, outcome)?;
+    }
+    if let Some((from, to)) = given.pause {
+        builder.pause(from, to)?;
+    }
+    Ok(builder.finish())
+}

@@ -1,0 +1,12 @@
+//! Tests of `he_race` that no file of races can hold: what one attempt comes to, a ticker that jumps, and a connector of a
+//! user's own.
+#![tactic(auto)]
+
+#[cfg(test)]
+mod attempts;
+#[cfg(test)]
+mod homes;
+#[cfg(test)]
+mod own;
+#[cfg(test)]
+mod wheel;

@@ -1,0 +1,53 @@
+// A ticker over a race that sleeps from 30 to 399.
+
+use crate::homes::{Given, race};
+use futures::task::{Doorbell, Solo};
+use he_plan::Timeline;
+use he_race::{Ticker, WheelTicker};
+use std::alloc::Global;
+use std::test::Fail;
+
+static ASKED: [u64; 4] = [60, 10, 5, 60];
+
+// Asks for 60, 10, 5 and 60 again at tick 0, and for 3 once it stands at 10.
+fn visited(solo: &Solo, alloc: Global, timeline: &Timeline) -> Result<[u64; 4], Fail> {
+    let mut ticker = WheelTicker::new(alloc, timeline)?;
+    for tick in &ASKED {
+        let mut cx = solo.begin();
+        let asked = ticker.wake_at(*tick, &mut cx);
+        cx.cancel();
+        asked?;
+    }
+    ticker.jump()?;
+    let first = ticker.now();
+    ticker.jump()?;
+    let second = ticker.now();
+    let mut cx = solo.begin();
+    let asked = ticker.wake_at(3, &mut cx);
+    cx.cancel();
+    asked?;
+    ticker.jump()?;
+    let third = ticker.now();
+    ticker.jump()?;
+    let went = ticker.jump()?;
+    let last = if went { 0 } else { ticker.now() };
+    Ok([first, second, third, last])
+}
+
+#[test]
+fn ticker_goes_where_it_was_asked(rt: HostRuntime) -> Result<(), Fail> {
+    let alloc: Global = rt.alloc();
+    let timeline = race(
+        alloc,
+        &Given {
+            limit: 30_000,
+            v6: None,
+            v4: None,
+            pause: Some((30, 400)),
+        },
+    )?;
+    let solo = Solo::new(&rt, Doorbell::spinning())?;
+    let visited = visited(&solo, alloc, &timeline)?;
+    assert_eq!(rt; visited, [5, 10, 11, 400]);
+    Ok(())
+}
