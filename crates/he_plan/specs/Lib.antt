@@ -1,6 +1,7 @@
 pub mod Agreement
 pub mod Attempts
 pub mod Building
+pub mod Continuing
 pub mod Due
 pub mod Equality
 pub mod EqualityLaws
