@@ -14,7 +14,7 @@ use Rattle.he_plan.specs.Agreement.{AgreeBelow, AreAlike}
 use Rattle.he_plan.specs.Attempts.{AreNextInTurn, IsAnswered, IsFree, IsNext, IsPositive, IsSeen, MayBegin, MayFollow, MayStart, is_untried, last_of, order, order_at, received, received_of, seen}
 use Rattle.he_plan.specs.Continuing.{Follow}
 use Rattle.he_plan.specs.Finish.{fate_by, finish_of, known_at, known_by, outcome_of}
-use Rattle.he_plan.specs.Interlacing.{interlace}
+use Rattle.he_plan.specs.Alternating.{interlace}
 use Rattle.he_plan.specs.Race.{Race, Reply}
 use Rattle.he_plan.specs.Timeline.{IsRace}
 use Rattle.he_plan.proofs.Bools.{and_left, and_right, le_test, lt_from, not_le}

@@ -4,7 +4,7 @@ use Rattle.std.specs.List.{list_any}
 use Rattle.he_addr.specs.declared.ip.Ip.{Ip}
 use Rattle.he_addr.specs.Ip.{is_usable, same_ip}
 use Rattle.he_plan.specs.declared.attempts.Attempt.{Attempt}
-use Rattle.he_plan.specs.Interlacing.{interlace}
+use Rattle.he_plan.specs.Alternating.{interlace}
 use Rattle.he_plan.specs.Race.{Race, Reply}
 use Rattle.he_select.specs.Preference.{order_of}
 use Rattle.he_select.specs.Selection.{world_of}

@@ -1,4 +1,5 @@
 pub mod Agreement
+pub mod Alternating
 pub mod Attempts
 pub mod Building
 pub mod Continuing
