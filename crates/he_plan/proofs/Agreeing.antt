@@ -11,12 +11,14 @@ use Rattle.he_plan.specs.declared.finish.Fate.TheVariants.{Succeeded, Failed, Ru
 use Rattle.he_plan.specs.declared.outcome.Outcome.{Outcome}
 use Rattle.he_plan.specs.declared.outcome.Outcome.TheVariants as outcomes
 use Rattle.he_plan.specs.Agreement.{AgreeBelow, AreAlike}
-use Rattle.he_plan.specs.Attempts.{Follow, IsAnswered, IsFree, IsNext, IsPositive, IsSeen, MayBegin, MayFollow, MayStart, is_untried, last_of, order, order_at, received, received_of, seen}
+use Rattle.he_plan.specs.Attempts.{AreNextInTurn, IsAnswered, IsFree, IsNext, IsPositive, IsSeen, MayBegin, MayFollow, MayStart, is_untried, last_of, order, order_at, received, received_of, seen}
+use Rattle.he_plan.specs.Continuing.{Follow}
 use Rattle.he_plan.specs.Finish.{fate_by, finish_of, known_at, known_by, outcome_of}
-use Rattle.he_plan.specs.Interlacing.{interlace}
+use Rattle.he_plan.specs.Alternating.{interlace}
 use Rattle.he_plan.specs.Race.{Race, Reply}
 use Rattle.he_plan.specs.Timeline.{IsRace}
 use Rattle.he_plan.proofs.Bools.{and_left, and_right, le_test, lt_from, not_le}
+use Rattle.he_plan.proofs.InTurn.{follow-in_turn, in_turn-follow}
 use Rattle.he_plan.proofs.Starting.{IsSeen-seen, SeesOwn, SeesOwn-free, StartsAt, StartsAt-MayStart}
 
 -- the race with these outcomes and pauses
@@ -134,8 +136,8 @@ follow_below tick x y rx ry a done [] below f = tt
 follow_below tick x y rx ry a done (next ∷ xs) below f =
     (next_below tick x y rx ry a done next (lt_from _ _ (and_left _ _ below)) f.0, follow_below tick x y rx ry a (done ++ next ∷ []) xs (and_right _ _ below) f.1)
 
-pub follow-below : (tick : ℕ) (x y : Race) → IsRace x → IsRace y → AgreeBelow tick x y → (xs : List Attempt) → list_all (λ (z : Attempt). nat_lt z.tick tick) xs ≡ true → Follow x [] xs → Follow y [] xs
-follow-below tick x y rx ry a xs below f = follow_below tick x y rx ry a [] xs below f
+pub in_turn-below : (tick : ℕ) (x y : Race) → IsRace x → IsRace y → AgreeBelow tick x y → (xs : List Attempt) → list_all (λ (z : Attempt). nat_lt z.tick tick) xs ≡ true → AreNextInTurn x xs → AreNextInTurn y xs
+in_turn-below tick x y rx ry a xs below f = follow-in_turn y xs (follow_below tick x y rx ry a [] xs below (in_turn-follow x xs f))
 
 -- a tick that is seen below the tick is seen there in both
 seen_below : (tick : ℕ) (x y : Race) → IsRace x → IsRace y → ((t : ℕ) → t < tick → IsFree x t ↔ IsFree y t) → (k : ℕ) → seen x k < tick → seen y k ≡ seen x k

@@ -1,5 +1,5 @@
 -- Interlacing two lists: a step of it, its end, and what it keeps.
-use Rattle.std.proofs.Common.{◌≡◌, ℕ, ◌≤◌, ◌⊎◌, ◌||◌, ◌++◌, Bool, true, false, not, List, [], ◌∷◌, filter, take, drop, length, refl, sym, ◌∙◌, ap, arith, inl, inr}
+use Rattle.std.proofs.Common.{◌≡◌, ℕ, ◌≤◌, ◌⊎◌, ◌||◌, ◌++◌, Bool, true, false, not, List, [], ◌∷◌, filter, take, drop, length, refl, sym, ◌∙◌, ap, arith, inl, inr, append_assoc}
 use Rattle.std.specs.List.{list_any}
 use Rattle.std.proofs.lemmas.Grind.{common_steps}
 use Rattle.std.proofs.lemmas.List.{drop_all, append-nil, take-append-drop}
@@ -8,7 +8,7 @@ use Rattle.std.proofs.lemmas.List.Sorted.{IsPermutation-filter_both, list_any-Is
 use Rattle.he_addr.specs.declared.ip.Family.{Family}
 use Rattle.he_addr.specs.declared.ip.Ip.{Ip}
 use Rattle.he_addr.specs.Ip.{family_of}
-use Rattle.he_plan.specs.Interlacing.{alternate, interlace_by, interlace}
+use Rattle.he_plan.specs.Alternating.{alternate, interlace_by, interlace}
 use Rattle.he_plan.specs.Timeline.{is_of}
 
 pub alternate-nil : (xs : List Ip) → alternate xs [] ≡ xs
@@ -19,9 +19,16 @@ alternate-either : (xs ys : List Ip) → (xs ≡ []) ⊎ (ys ≡ []) → alterna
 alternate-either xs ys (inl e) = rw e refl
 alternate-either xs ys (inr e) = rw e (alternate-nil xs ∙ sym (append-nil xs))
 
-pub alternate-end : (xs ys : List Ip) (i : ℕ) → (length xs ≤ i) ⊎ (length ys ≤ i) → alternate (drop i xs) (drop i ys) ≡ drop i xs ++ drop i ys
+alternate-end : (xs ys : List Ip) (i : ℕ) → (length xs ≤ i) ⊎ (length ys ≤ i) → alternate (drop i xs) (drop i ys) ≡ drop i xs ++ drop i ys
 alternate-end xs ys i (inl h) = alternate-either (drop i xs) (drop i ys) (inl (drop_all i xs h))
 alternate-end xs ys i (inr h) = alternate-either (drop i xs) (drop i ys) (inr (drop_all i ys h))
+
+-- what is put together where one list has run out
+pub alternate-whole : (done whole xs ys : List Ip) (i : ℕ) → (length xs ≤ i) ⊎ (length ys ≤ i) → done ++ alternate (drop i xs) (drop i ys) ≡ whole → (done ++ drop i xs) ++ drop i ys ≡ whole
+alternate-whole done whole xs ys i out is =
+    append_assoc done (drop i xs) (drop i ys)
+    ∙ ap (λ zs. done ++ zs) (sym (alternate-end xs ys i out))
+    ∙ is
 
 -- four tests in another order
 or_across : (a b c d : Bool) → (a || (b || (c || d))) ≡ ((a || c) || (b || d))

@@ -13,7 +13,7 @@ use Rattle.he_addr.specs.declared.ip.Family.TheVariants as families
 use Rattle.he_addr.specs.declared.ip.Ip.{Ip}
 use Rattle.he_addr.specs.declared.ip.Ip.TheVariants.{V4, V6}
 use Rattle.he_plan.specs.Attempts.{order}
-use Rattle.he_plan.specs.Interlacing.{alternate, interlace_by, interlace}
+use Rattle.he_plan.specs.Alternating.{alternate, interlace_by, interlace}
 use Rattle.he_plan.specs.Planning.{part_of, parts_of, interlaced_list}
 use Rattle.he_plan.specs.Race.{Race, Reply, has_ip}
 use Rattle.he_plan.specs.Timeline.{IsRace, is_of, are_of, are_distinct, is_answer}

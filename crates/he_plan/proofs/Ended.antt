@@ -6,18 +6,13 @@ use Rattle.std.proofs.lemmas.List.Folds.{list_any-append}
 use Rattle.he_addr.specs.declared.ip.Ip.{Ip}
 use Rattle.he_addr.specs.Ip.{is_usable}
 use Rattle.he_plan.specs.declared.attempts.Attempt.{Attempt}
-use Rattle.he_plan.specs.Attempts.{AreAttempts, Continues, IsFree, IsSeen, MayBegin, MayFollow, MayStart, is_tried, is_untried, last_of, received, received_of, seen}
+use Rattle.he_plan.specs.Attempts.{AreAttempts, IsFree, IsSeen, MayBegin, MayFollow, MayStart, is_tried, is_untried, last_of, received, received_of, seen}
 use Rattle.he_plan.specs.Planning.{has_room}
 use Rattle.he_plan.specs.Race.{Race, Reply}
 use Rattle.he_plan.specs.Timeline.{IsRace}
 use Rattle.he_plan.specs.Transcript.{is_tried_out}
 use Rattle.he_plan.proofs.Bools.{le_test, lt_from, or_left_none, or_right_none}
 use Rattle.he_plan.proofs.Starting.{SeesOwn, SeesOwn-free, IsSeen-seen, any_filter}
-
--- no attempt may start after the last one
-none_follows : (race : Race) (done xs : List Attempt) → Continues race done xs → (t : ℕ) → ¬ MayStart race (done ++ xs) t
-none_follows race done [] c t = subst (λ (d : List Attempt). ¬ MayStart race d t) (sym (append-nil done)) (c t)
-none_follows race done (x ∷ xs) c t = subst (λ (d : List Attempt). ¬ MayStart race d t) (append_assoc done (x ∷ []) xs) (none_follows race (done ++ x ∷ []) xs c.1 t)
 
 none_left : (attempts : List Attempt) (ips : List Ip) → list_any (λ ip. is_usable ip && is_untried attempts ip) ips ≡ false → list_all (λ ip. not (is_usable ip) || is_tried attempts ip) ips ≡ true
 none_left attempts [] none = refl
@@ -42,7 +37,7 @@ none_untried race attempts last t are is early free delay = none_by (list_any (i
   where
     none_by : (b : Bool) → list_any (is_untried attempts) (received race t) ≡ b → b ≡ false
     none_by false e = refl
-    none_by true e = absurd (none_follows race [] attempts are t (early, subst (λ (o : Option Attempt). MatchOption o (MayBegin race t) (MayFollow race attempts t)) (sym is) (record { free = free; delay = delay; some = e })))
+    none_by true e = absurd (are.no_more t (early, subst (λ (o : Option Attempt). MatchOption o (MayBegin race t) (MayFollow race attempts t)) (sym is) (record { free = free; delay = delay; some = e })))
 
 pub all_tried : (race : Race) → IsRace race → (attempts : List Attempt) (aaaa a : Reply) (answered : ℕ) → aaaa.tick ≤ answered → a.tick ≤ answered → AreAttempts race attempts → race.aaaa ≡ Some aaaa → race.a ≡ Some a → has_room race answered (last_of attempts) ≡ true → true ≡ (is_tried_out attempts aaaa && is_tried_out attempts a)
 all_tried race r attempts aaaa a answered after6 after4 are six four room = tried_by (last_of attempts) refl room

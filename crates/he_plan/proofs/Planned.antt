@@ -7,7 +7,8 @@ use Rattle.he_addr.specs.declared.ip.Ip.{Ip}
 use Rattle.he_addr.specs.Ip.{is_usable}
 use Rattle.he_plan.specs.declared.attempts.Attempt.{Attempt}
 use Rattle.he_plan.specs.declared.limits.TheConstants.{MAX_LIMIT}
-use Rattle.he_plan.specs.Attempts.{IsNext, IsPositive, MayBegin, MayFollow, MayStart, Continues, received_of, received, is_untried, last_of, seen}
+use Rattle.he_plan.specs.Attempts.{IsNext, IsPositive, MayBegin, MayFollow, MayStart, received_of, received, is_untried, last_of, seen}
+use Rattle.he_plan.specs.Continuing.{Continues}
 use Rattle.he_plan.specs.Planning.{IsLater}
 use Rattle.he_plan.specs.Race.{Race, Reply}
 use Rattle.he_plan.specs.Timeline.{IsRace}

@@ -12,7 +12,7 @@ use Rattle.he_addr.specs.declared.ip.Family.TheVariants as families
 use Rattle.he_addr.specs.declared.ip.Ip.{Ip}
 use Rattle.he_plan.specs.declared.attempts.Attempt.{Attempt}
 use Rattle.he_plan.specs.Attempts.{MayStart, is_tried, is_untried, last_of, order, order_at, received, received_of, seen}
-use Rattle.he_plan.specs.Interlacing.{interlace}
+use Rattle.he_plan.specs.Alternating.{interlace}
 use Rattle.he_plan.specs.Planning.{IsLater, IsOwn, IsRest, IsQueue, IsAtNext, is_received, was_received, part_of, parts_of, interlaced_list}
 use Rattle.he_plan.specs.Race.{Race, Reply}
 use Rattle.he_plan.specs.Timeline.{IsRace, is_of}

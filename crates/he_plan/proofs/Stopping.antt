@@ -13,7 +13,7 @@ use Rattle.he_plan.specs.declared.finish.Fate.TheVariants.{Succeeded, Failed, Ru
 use Rattle.he_plan.specs.declared.transcript.Line.{Line}
 use Rattle.he_plan.specs.declared.transcript.Mark.{Mark}
 use Rattle.he_plan.specs.declared.transcript.Mark.TheVariants as marks
-use Rattle.he_plan.specs.Attempts.{AreAttempts, Continues, Follow, MayStart, is_tried, is_untried, received, received_of, seen}
+use Rattle.he_plan.specs.Attempts.{AreAttempts, MayStart, is_tried, is_untried, received, received_of, seen}
 use Rattle.he_plan.specs.Finish.{fate_of, outcome_of, known_at, known_by, IsWinner}
 use Rattle.he_plan.specs.Planning.{told_line, told_lines}
 use Rattle.he_plan.specs.Race.{Race, Reply, addresses_of}
@@ -25,11 +25,6 @@ use Rattle.he_plan.proofs.Finishing.{success-in_range, failure-in_range, not_ski
 use Rattle.he_plan.proofs.Lawful.{attempts-prefix}
 use Rattle.he_plan.proofs.Planned.{starts_any}
 use Rattle.he_plan.proofs.Starting.{any_filter}
-
--- attempts that follow one another, with none after the last, are all
-continue_from : (race : Race) (done xs : List Attempt) → Follow race done xs → ((t : ℕ) → ¬ MayStart race (done ++ xs) t) → Continues race done xs
-continue_from race done [] f none = λ t m. none t (subst (λ (d : List Attempt). MayStart race d t) (sym (append-nil done)) m)
-continue_from race done (x ∷ xs) f none = (f.0, continue_from race (done ++ x ∷ []) xs f.1 (λ t m. none t (subst (λ (d : List Attempt). MayStart race d t) (append_assoc done (x ∷ []) xs) m)))
 
 -- a success that is known is one, by the stop
 known_is : (stop finish : ℕ) (fate : Fate) → known_by stop fate ≡ Succeeded finish → fate ≡ Succeeded finish
@@ -136,7 +131,7 @@ limit_fates race r (x ∷ xs) = rw (limit_fate race r x, limit_fates race r xs)
 
 -- at the limit the attempts that are known are all
 known_all : (race : Race) (attempts : List Attempt) (known : List Fate) → AreKnown race attempts known None → AreAttempts race attempts
-known_all race attempts known k = continue_from race [] attempts k.follow (λ t m. let late : race.settings.limit ≤ t = k.stops t m in omega (arith, m.0))
+known_all race attempts known k = record { in_turn = k.in_turn; no_more = λ t m. let late : race.settings.limit ≤ t = k.stops t m in omega (arith, m.0) }
 
 pub known-all : (race : Race) (attempts : List Attempt) (known : List Fate) (winner : Option (ℕ × ℕ)) → AreKnown race attempts known winner → IfNone winner (AreAttempts race attempts)
 known-all race attempts known None k = known_all race attempts known k
@@ -159,7 +154,7 @@ at_limit race r attempts known k =
 
 at_win : (race : Race) → IsRace race → (plan : (attempts : List Attempt) × AreAttempts race attempts) (attempts : List Attempt) (known : List Fate) (w : ℕ × ℕ) → AreKnown race attempts known (Some w) → IsTranscript race (record { lines = told_lines w.0 (Some w) attempts known; result = result_of race attempts known (Some w) })
 at_win race r plan attempts known w k =
-    let rest : (later : List Attempt) × (plan.0 ≡ attempts ++ later) × (list_all (λ (x : Attempt). nat_le w.0 x.tick) later ≡ true) = attempts-prefix race w.0 attempts plan.0 k.follow k.stops plan.1 in
+    let rest : (later : List Attempt) × (plan.0 ≡ attempts ++ later) × (list_all (λ (x : Attempt). nat_le w.0 x.tick) later ≡ true) = attempts-prefix race w.0 attempts plan.0 k.in_turn k.stops plan.1 in
     record {
       attempts = attempts ++ rest.0;
       winner = Some w;

@@ -1,10 +1,10 @@
 -- Which attempts a race makes, and when (RFC 8305 sections 3 to 5): its plan, in which every attempt still runs.
-use Rattle.std.specs.Prelude.{ℕ, ◌≡◌, ◌+◌, ◌-◌, ◌<◌, ◌≤◌, ◌⊎◌, ◌&&◌, ◌++◌, Bool, false, not, if◌then◌else◌, List, [], ◌∷◌, length, filter, find, Option, Some, None, MatchOption, IsSomeAnd, slice_get, IsTrue, nat_le, nat_lt}
+use Rattle.std.specs.Prelude.{ℕ, ◌≡◌, ◌+◌, ◌-◌, ◌<◌, ◌≤◌, ◌⊎◌, ◌&&◌, ◌++◌, Bool, false, not, if◌then◌else◌, List, [], ◌∷◌, length, filter, find, take, Option, Some, None, MatchOption, IsSomeAnd, slice_get, IsTrue, nat_le, nat_lt}
 use Rattle.std.specs.List.{list_any}
 use Rattle.he_addr.specs.declared.ip.Ip.{Ip}
 use Rattle.he_addr.specs.Ip.{is_usable, same_ip}
 use Rattle.he_plan.specs.declared.attempts.Attempt.{Attempt}
-use Rattle.he_plan.specs.Interlacing.{interlace}
+use Rattle.he_plan.specs.Alternating.{interlace}
 use Rattle.he_plan.specs.Race.{Race, Reply}
 use Rattle.he_select.specs.Preference.{order_of}
 use Rattle.he_select.specs.Selection.{world_of}
@@ -95,16 +95,12 @@ pub record IsNext (race : Race) (done : List Attempt) (next : Attempt) : Type 0 
   pub tick : IsLeast (MayStart race done) next.tick
   pub ip : find (is_untried done) (order_at race next.tick) ≡ Some next.ip
 
--- each of these attempts is the next one after those before it, from `done` on
-abbrev pub Follow : Race → List Attempt → List Attempt → Type 0
-Follow race done [] = Unit {0}
-Follow race done (next ∷ more) = IsNext race done next × Follow race (done ++ next ∷ []) more
+-- each of these attempts is the one that comes after those before it
+abbrev pub AreNextInTurn : Race → List Attempt → Type 0
+AreNextInTurn race attempts =
+    (n : ℕ) (next : Attempt) → slice_get attempts n ≡ Some next → IsNext race (take n attempts) next
 
--- and none follows the last
-abbrev pub Continues : Race → List Attempt → List Attempt → Type 0
-Continues race done [] = (t : ℕ) → ¬ MayStart race done t
-Continues race done (next ∷ more) = IsNext race done next × Continues race (done ++ next ∷ []) more
-
--- the attempts of the race, in order
-abbrev pub AreAttempts : Race → List Attempt → Type 0
-AreAttempts race attempts = Continues race [] attempts
+-- the attempts of the race, in order: and none may start after them
+pub record AreAttempts (race : Race) (attempts : List Attempt) : Type 0 where
+  pub in_turn : AreNextInTurn race attempts
+  pub no_more : (t : ℕ) → ¬ MayStart race attempts t

@@ -1,28 +1,9 @@
 -- Interlacing two families (RFC 8305 section 4).
-use Rattle.std.specs.Prelude.{ℕ, ◌+◌, ◌-◌, ◌*◌, ◌≡◌, ◌==◌, ◌&&◌, ◌||◌, ◌++◌, Bool, false, not, cond, nat_lt, List, [], ◌∷◌, map, filter, take, drop, count_by, slice_get, AllPairs, IsPermutation, IsTrue}
+use Rattle.std.specs.Prelude.{ℕ, ◌+◌, ◌-◌, ◌*◌, ◌≡◌, ◌==◌, ◌&&◌, ◌||◌, ◌++◌, Bool, false, cond, nat_lt, List, [], ◌∷◌, map, count_by, slice_get, AllPairs, IsPermutation, IsTrue}
 use Rattle.std.specs.Option.{option_map_or}
-use Rattle.he_addr.specs.declared.ip.Family.{Family}
 use Rattle.he_addr.specs.declared.ip.Ip.{Ip}
 use Rattle.he_addr.specs.Ip.{family_of}
 use Rattle.he_plan.specs.Timeline.{is_of}
-
--- one of each in turn; when one has run out, the rest of the other follows
-abbrev pub alternate : {X : Type 0} → List X → List X → List X
-alternate [] ys = ys
-alternate (x ∷ xs) [] = x ∷ xs
-alternate (x ∷ xs) (y ∷ ys) = x ∷ y ∷ alternate xs ys
-
--- the leading family's first `count` members come first; from there the families alternate, the other one next, each in the
--- order of the list
-abbrev pub interlace_by : Family → List Ip → ℕ → List Ip
-interlace_by family ips count =
-    take count (filter (is_of family) ips)
-    ++ alternate (filter (λ ip. not (is_of family ip)) ips) (drop count (filter (is_of family) ips))
-
--- the family of the first address leads
-abbrev pub interlace : List Ip → ℕ → List Ip
-interlace [] count = []
-interlace (first ∷ ips) count = interlace_by (family_of first) (first ∷ ips) count
 
 -- an address of a list, and how many addresses of its family stand before it
 pub record Numbered : Type 0 where

@@ -1,6 +1,8 @@
 pub mod Agreement
+pub mod Alternating
 pub mod Attempts
 pub mod Building
+pub mod Continuing
 pub mod Due
 pub mod Equality
 pub mod EqualityLaws

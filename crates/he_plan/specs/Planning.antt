@@ -15,7 +15,7 @@ use Rattle.he_plan.specs.declared.transcript.Line.{Line}
 use Rattle.he_plan.specs.Timeline.{is_of, are_pauses}
 use Rattle.he_plan.specs.Transcript.{mark_at}
 use Rattle.he_plan.specs.Attempts.{is_untried, last_of, order, order_at, seen}
-use Rattle.he_plan.specs.Interlacing.{interlace}
+use Rattle.he_plan.specs.Alternating.{interlace}
 use Rattle.he_plan.specs.Finish.{fate_of}
 
 -- pauses in order, of which the first ends after the tick

@@ -9,7 +9,7 @@ ghost use Rattle.he_addr.specs.Ip.{same_ip};
 ghost use Rattle.he_plan.specs.declared.attempts.Attempt.{Attempt};
 ghost use Rattle.he_plan.specs.declared.outcome.Outcome.{Outcome};
 ghost use Rattle.he_plan.specs.Agreement.{AgreeBelow, AreAlike};
-ghost use Rattle.he_plan.specs.Attempts.{Follow, IsFree, MayStart, is_paused, order_at, seen};
+ghost use Rattle.he_plan.specs.Attempts.{AreNextInTurn, IsFree, MayStart, is_paused, order_at, seen};
 ghost use Rattle.he_plan.specs.Building.{add_answer, add_outcome, add_pause, empty_race, last_end, with_outcome, with_pause};
 ghost use Rattle.he_plan.specs.Finish.{known_at, outcome_of};
 ghost use Rattle.he_plan.specs.Race.{Race, has_outcome};
@@ -30,7 +30,7 @@ pub fn starts_at_a_shared_tick()
 /// that are seen, and of an attempt whose address has the same outcome what is known of it.
 pub fn agreement_below_a_tick()
     ensures starts { (tick : ℕ) (x y : Race) → IsRace x → IsRace y → AgreeBelow tick x y → (done : List Attempt) (t : ℕ) → t < tick → MayStart x done t ↔ MayStart y done t }
-    ensures attempts { (tick : ℕ) (x y : Race) → IsRace x → IsRace y → AgreeBelow tick x y → (attempts : List Attempt) → IsTrue (list_all (λ z. nat_lt z.tick tick) attempts) → Follow x [] attempts → Follow y [] attempts }
+    ensures attempts { (tick : ℕ) (x y : Race) → IsRace x → IsRace y → AgreeBelow tick x y → (attempts : List Attempt) → IsTrue (list_all (λ z. nat_lt z.tick tick) attempts) → AreNextInTurn x attempts → AreNextInTurn y attempts }
     ensures seen { (tick : ℕ) (x y : Race) → IsRace x → IsRace y → AgreeBelow tick x y → (k : ℕ) → seen x k < tick → seen y k ≡ seen x k }
     ensures known { (tick : ℕ) (x y : Race) → IsRace x → IsRace y → AgreeBelow tick x y → (attempt : Attempt) (t : ℕ) → t < tick → outcome_of y attempt.ip ≡ outcome_of x attempt.ip → known_at y t attempt ≡ known_at x t attempt }
 {}

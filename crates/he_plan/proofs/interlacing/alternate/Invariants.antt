@@ -1,5 +1,5 @@
 use Rattle.std.proofs.Common.{◌≡◌, ◌-◌, ◌≤◌, ◌++◌, drop, length}
-use Rattle.he_plan.specs.Interlacing.{alternate}
+use Rattle.he_plan.specs.Alternating.{alternate}
 use Rattle.he_plan.proofs.interlacing.alternate.Given as goal
 
 abbrev pub invariant-loop-i : goal.invariant-loop-i

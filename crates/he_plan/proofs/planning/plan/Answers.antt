@@ -2,8 +2,10 @@ use Rattle.std.proofs.Common.{◌≡◌, ◌++◌, [], ◌∷◌, List, Some, le
 use Rattle.std.proofs.lemmas.List.{append-nil}
 use Rattle.std.proofs.lemmas.Grind.{common_steps}
 use Rattle.he_plan.specs.declared.attempts.Attempt.{Attempt}
-use Rattle.he_plan.specs.Attempts.{AreAttempts, Continues, IsLeast, IsNext, MayStart}
+use Rattle.he_plan.specs.Attempts.{AreAttempts, IsLeast, IsNext, MayStart}
+use Rattle.he_plan.specs.Continuing.{Continues}
 use Rattle.he_plan.specs.Planning.{IsAtNext, IsLater}
+use Rattle.he_plan.proofs.InTurn.{continues-are}
 use Rattle.he_plan.proofs.Planned.{AreFirst-more, last_in_range, ticks_left-more}
 use Rattle.he_plan.proofs.Queued.{IsQueue-more, IsQueue-new}
 use Rattle.he_plan.proofs.planning.plan.Goals as goal
@@ -41,4 +43,4 @@ pub returns : goal.returns
 returns g c =
     let none : Continues c.args.timeline.now c.loop-tick.attempts.items [] = subst (λ (done : List Attempt). Continues c.args.timeline.now done []) c.deref.ensures.value c.in_default.ensures.none in
     let whole : Continues c.args.timeline.now [] (c.loop-tick.attempts.items ++ []) = c.loop-tick.invariant.first [] none in
-    rw c.new.ensures (subst (λ (done : List Attempt). AreAttempts c.args.timeline.now done) (append-nil c.loop-tick.attempts.items) whole)
+    rw c.new.ensures (continues-are c.args.timeline.now c.loop-tick.attempts.items (subst (λ (done : List Attempt). Continues c.args.timeline.now [] done) (append-nil c.loop-tick.attempts.items) whole))
