@@ -30,6 +30,16 @@ in_turn-follow race xs each = follow_in race [] xs each
 pub follow-in_turn : (race : Race) (xs : List Attempt) → Follow race [] xs → AreNextInTurn race xs
 follow-in_turn race xs f = next_in race [] xs f
 
+follow_more : (race : Race) (done xs : List Attempt) (next : Attempt) → Follow race done xs → IsNext race (done ++ xs) next → Follow race done (xs ++ next ∷ [])
+follow_more race done [] next f is = (subst (λ (d : List Attempt). IsNext race d next) (append-nil done) is, tt)
+follow_more race done (x ∷ xs) next f is = (f.0, follow_more race (done ++ x ∷ []) xs next f.1 (subst (λ (d : List Attempt). IsNext race d next) (sym (append_assoc done (x ∷ []) xs)) is))
+
+pub in_turn-none : (race : Race) → AreNextInTurn race []
+in_turn-none race = follow-in_turn race [] tt
+
+pub in_turn-more : (race : Race) (xs : List Attempt) (next : Attempt) → AreNextInTurn race xs → IsNext race xs next → AreNextInTurn race (xs ++ next ∷ [])
+in_turn-more race xs next each is = follow-in_turn race (xs ++ next ∷ []) (follow_more race [] xs next (in_turn-follow race xs each) is)
+
 -- attempts that follow one another, with none after the last, are all
 continue_from : (race : Race) (done xs : List Attempt) → Follow race done xs → ((t : ℕ) → ¬ MayStart race (done ++ xs) t) → Continues race done xs
 continue_from race done [] f none = λ t m. none t (subst (λ (d : List Attempt). MayStart race d t) (sym (append-nil done)) m)
