@@ -1,12 +1,11 @@
 -- Where a race's attempts leave room for one more, no address that is received is left.
-use Rattle.std.proofs.Common.{◌≡◌, ℕ, ◌+◌, ◌≤◌, ◌<◌, ◌&&◌, ◌||◌, ◌++◌, Bool, true, false, not, List, [], ◌∷◌, max, Option, Some, None, MatchOption, nat_le, refl, sym, ◌∙◌, subst, arith, append_assoc}
+use Rattle.std.proofs.Common.{◌≡◌, ℕ, ◌+◌, ◌≤◌, ◌<◌, ◌&&◌, ◌||◌, Bool, true, false, not, List, [], ◌∷◌, max, Option, Some, None, MatchOption, nat_le, refl, sym, ◌∙◌, subst, arith}
 use Rattle.std.specs.List.{list_any, list_all}
-use Rattle.std.proofs.lemmas.List.{append-nil}
 use Rattle.std.proofs.lemmas.List.Folds.{list_any-append}
 use Rattle.he_addr.specs.declared.ip.Ip.{Ip}
 use Rattle.he_addr.specs.Ip.{is_usable}
 use Rattle.he_plan.specs.declared.attempts.Attempt.{Attempt}
-use Rattle.he_plan.specs.Attempts.{AreAttempts, IsFree, IsSeen, MayBegin, MayFollow, MayStart, is_tried, is_untried, last_of, received, received_of, seen}
+use Rattle.he_plan.specs.Attempts.{AreAttempts, IsFree, IsSeen, MayBegin, MayFollow, is_tried, is_untried, last_of, received, received_of, seen}
 use Rattle.he_plan.specs.Planning.{has_room}
 use Rattle.he_plan.specs.Race.{Race, Reply}
 use Rattle.he_plan.specs.Timeline.{IsRace}

@@ -2,7 +2,7 @@ use Rattle.std.proofs.Common.{◌≡◌, ◌++◌, [], ◌∷◌, List, Some, le
 use Rattle.std.proofs.lemmas.List.{append-nil}
 use Rattle.std.proofs.lemmas.Grind.{common_steps}
 use Rattle.he_plan.specs.declared.attempts.Attempt.{Attempt}
-use Rattle.he_plan.specs.Attempts.{AreAttempts, IsLeast, IsNext, MayStart}
+use Rattle.he_plan.specs.Attempts.{IsLeast, IsNext, MayStart}
 use Rattle.he_plan.specs.Continuing.{Continues}
 use Rattle.he_plan.specs.Planning.{IsAtNext, IsLater}
 use Rattle.he_plan.proofs.InTurn.{continues-are}
