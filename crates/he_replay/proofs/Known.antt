@@ -6,7 +6,7 @@ use Rattle.he_text.specs.declared.fault.TextFault.{TextFault}
 use Rattle.he_text.specs.declared.fault.TextKind.{TextKind}
 use Rattle.he_text.specs.declared.fault.TextKind.TheVariants as kinds
 use Rattle.he_text.specs.Beginnings.{FaultStands, IsTableFault, MayChange}
-use Rattle.he_text.specs.Faults.{fault_of}
+use Rattle.he_text.specs.FaultSearch.{fault_of}
 use Rattle.he_text.specs.Parts.{lines_of}
 use Rattle.he_replay.specs.declared.output.InputFault.{InputFault}
 use Rattle.he_replay.specs.declared.output.InputFault.TheVariants.{Text, Read}

@@ -5,7 +5,7 @@ use Rattle.std.proofs.lemmas.List.{take-append-drop, append-nil}
 use Rattle.std.proofs.lemmas.List.Sums.{sum_by-append}
 use Rattle.std.proofs.Math.Seq.{take-add}
 use Rattle.he_plan.specs.Race.{Race}
-use Rattle.he_text.specs.Faults.{fault_of}
+use Rattle.he_text.specs.FaultSearch.{fault_of}
 use Rattle.he_text.specs.Text.{IsRaceText}
 use Rattle.he_text.specs.declared.fault.TextFault.{TextFault}
 use Rattle.he_replay.specs.Limits.{most_races}

@@ -1,7 +1,7 @@
 -- Mirrors the code: one step through an input. It helps the proofs; what is written for an input stands in `Output`.
 use Rattle.std.specs.Prelude.{ℕ, ◌≡◌, ◌<◌, ◌≤◌, ◌+◌, ◌++◌, List, length, drop, take, slice_range, Some}
 use Rattle.he_plan.specs.Race.{Race}
-use Rattle.he_text.specs.Faults.{fault_of}
+use Rattle.he_text.specs.FaultSearch.{fault_of}
 use Rattle.he_text.specs.Text.{IsRaceText}
 use Rattle.he_replay.specs.declared.output.Step.{Step}
 use Rattle.he_replay.specs.declared.output.Step.TheVariants as steps

@@ -13,12 +13,13 @@ use Rattle.he_text.specs.declared.fault.TextKind.TheVariants as kinds
 use Rattle.he_text.specs.declared.limits.TheConstants.{MAX_LINE}
 use Rattle.he_text.specs.declared.words.Word.{Word}
 use Rattle.he_text.specs.declared.words.Word.TheVariants as words
-use Rattle.he_text.specs.Faults.{first_fault, test, group_on, last_group, known_to, said_before, too_long, unfinished, wrong_header, wrong_word, too_often, wrong_bounds, repeated, is_policy_next, wrong_table, line_fault, at_line_number, ends_by, ends, fault_from, fault_in}
+use Rattle.he_text.specs.Faults.{first_fault, test, group_on, last_group, known_to, said_before, too_long, unfinished, wrong_header, wrong_word, too_often, wrong_bounds, repeated, is_policy_next, wrong_table, line_fault, ends_by, ends}
+use Rattle.he_text.specs.FaultSearch.{at_line_number, fault_from, fault_in}
 use Rattle.he_text.specs.Forms.{◌>>=◌, word_of, said_by}
 use Rattle.he_text.specs.Parts.{tokens_of}
-use Rattle.he_text.specs.Reading.{at_line, ended_by, wholeness, admit, take_told, take_line, read_body, HeadGiven, head_part, head_of, take_given, take_head, policy_from, read_head, read_lines, order_at_start, no_head}
+use Rattle.he_text.specs.Reading.{at_line, ended_by, wholeness, admit, take_told, take_line, read_body, HeadGiven, head_part, head_of, take_given, take_head, policy_from, read_head, read_lines, order_at_start, no_head, is_head_word}
 use Rattle.he_text.specs.Said.{Said, rows_given, settings_given, table_of_rows, host_given, race_of}
-use Rattle.he_text.specs.Words.{word_in, group_of, is_head_word, is_policy, is_end}
+use Rattle.he_text.specs.Words.{word_in, group_of, is_policy, is_end}
 use Rattle.he_text.proofs.Checks.{taken_in_order, line_checks, line_fault_is, in_order, checks_passed}
 use Rattle.he_text.proofs.GivenLaws.{AllFit, none_fits, is_head}
 use Rattle.he_text.proofs.HeadLaws.{head_given, given_agrees}

@@ -9,11 +9,13 @@ use Rattle.std.proofs.lemmas.List.Splits.{length-slice_split}
 use Rattle.he_plan.specs.Race.{Race}
 use Rattle.he_select.specs.declared.policy.PolicyFault.{PolicyFault}
 use Rattle.he_select.specs.TableFaults.{table_fault}
+use Rattle.std.specs.Result.{result_err}
 use Rattle.he_text.specs.declared.fault.TextKind.{TextKind}
 use Rattle.he_text.specs.declared.fault.TextKind.TheVariants as kinds
 use Rattle.he_text.specs.declared.limits.TheConstants.{MAX_LINE}
 use Rattle.he_text.specs.Beginnings.{FaultStands, IsTableFault, MayChange}
-use Rattle.he_text.specs.Faults.{test, first_fault, last_group, known_to, said_before, too_long, unfinished, wrong_header, wrong_word, too_often, wrong_form, wrong_bounds, repeated, is_policy_next, wrong_table, of_said, header_fault, line_fault, at_line_number, ends, fault_from, fault_in, fault_of}
+use Rattle.he_text.specs.Faults.{test, first_fault, last_group, known_to, said_before, too_long, unfinished, wrong_header, wrong_word, too_often, wrong_bounds, repeated, is_policy_next, wrong_table, of_said, header_fault, line_fault, ends}
+use Rattle.he_text.specs.FaultSearch.{at_line_number, fault_from, fault_in, fault_of}
 use Rattle.he_text.specs.Forms.{word_of, said_in}
 use Rattle.he_text.specs.Parts.{pieces_of, lines_of, tokens_of}
 use Rattle.he_text.specs.Said.{Said, Setting, PolicyRow, HostSource, HostRoute, Answer, Told, Paused, Ended, rows_given}
@@ -129,7 +131,7 @@ row_known (line ∷ next ∷ lines) (other ∷ more ∷ others) h = inl (ap (λ 
 abbrev early : List (List ℕ) → List ℕ → List (List ℕ) → List (Option TextKind)
 early before line after =
     too_long line ∷ unfinished after ∷ wrong_word (last_group 0 before) (word_of (tokens_of line)) ∷ too_often before (word_of (tokens_of line))
-    ∷ wrong_form (said_in (known_to (said_before before)) line) ∷ of_said (wrong_bounds (said_before before)) (said_in (known_to (said_before before)) line)
+    ∷ result_err (said_in (known_to (said_before before)) line) ∷ of_said (wrong_bounds (said_before before)) (said_in (known_to (said_before before)) line)
     ∷ of_said (repeated (said_before before)) (said_in (known_to (said_before before)) line) ∷ []
 
 abbrev table_of_line : List (List ℕ) → List ℕ → List (List ℕ) → Option TextKind
@@ -174,7 +176,7 @@ line_passes before line after longer on h =
 abbrev later_checks : List (List ℕ) → List ℕ → List (List ℕ) → List (Option TextKind)
 later_checks before line after =
     wrong_word (last_group 0 before) (word_of (tokens_of line)) ∷ too_often before (word_of (tokens_of line))
-    ∷ wrong_form (said_in (known_to (said_before before)) line) ∷ of_said (wrong_bounds (said_before before)) (said_in (known_to (said_before before)) line)
+    ∷ result_err (said_in (known_to (said_before before)) line) ∷ of_said (wrong_bounds (said_before before)) (said_in (known_to (said_before before)) line)
     ∷ of_said (repeated (said_before before)) (said_in (known_to (said_before before)) line) ∷ table_of_line before line after ∷ []
 
 -- the line that the text ends in

@@ -1,10 +1,11 @@
 -- The checks of a line behind the first one, from the fourth on.
 use Rattle.std.proofs.Common.{◌≡◌, ℕ, Bool, true, false, ltb, List, [], ◌∷◌, Option, Some, None, Result, Ok, Err, refl, sym, ◌∙◌, ap}
 use Rattle.he_text.specs.declared.draft.Order.{Order}
+use Rattle.std.specs.Result.{result_err}
 use Rattle.he_text.specs.declared.fault.TextKind.{TextKind}
 use Rattle.he_text.specs.declared.fault.TextKind.TheVariants as kinds
 use Rattle.he_text.specs.declared.words.Word.{Word}
-use Rattle.he_text.specs.Faults.{first_fault, test, last_group, known_to, said_before, too_long, unfinished, wrong_word, too_often, wrong_form, wrong_bounds, repeated, wrong_table, of_said, line_fault}
+use Rattle.he_text.specs.Faults.{first_fault, test, last_group, known_to, said_before, too_long, unfinished, wrong_word, too_often, wrong_bounds, repeated, wrong_table, of_said, line_fault}
 use Rattle.he_text.specs.Forms.{◌>>=◌, word_of, said_by}
 use Rattle.he_text.specs.Parts.{tokens_of}
 use Rattle.he_text.specs.Said.{Said}
@@ -13,7 +14,7 @@ use Rattle.he_text.proofs.ToldLaws.{outcome}
 
 -- checks 4 to 10
 abbrev pub later_checks : Option TextKind → Option TextKind → Result Said TextKind → (Said → Option TextKind) → (Said → Option TextKind) → (Said → Option TextKind) → Option TextKind
-later_checks word often said bounds again table = first_fault (word ∷ often ∷ wrong_form said ∷ of_said bounds said ∷ of_said again said ∷ of_said table said ∷ [])
+later_checks word often said bounds again table = first_fault (word ∷ often ∷ result_err said ∷ of_said bounds said ∷ of_said again said ∷ of_said table said ∷ [])
 
 -- an order and what is told, taken one after the other, fail as the checks do
 pub taken_in_order : {S T : Type 0} (word often : Option TextKind) (said : Result Said TextKind) (bounds again table : Said → Option TextKind) (order : Order) (admitted : Result Order TextKind) (told : Result S TextKind) (after : Said → S) (final : S) (give : Order → S → T)
@@ -58,12 +59,12 @@ pub line_fault_is : (before : List (List ℕ)) (line : List ℕ) (after : List (
 unfolding line_fault
 line_fault_is before line after word is =
     let at : Result (Word × List (List ℕ)) TextKind → Option TextKind = λ w. first_fault (too_long line ∷ unfinished after ∷ wrong_word (last_group 0 before) w ∷ too_often before w
-    ∷ wrong_form (w >>= λ parts. said_by (known_to (said_before before)) parts.0 parts.1)
+    ∷ result_err (w >>= λ parts. said_by (known_to (said_before before)) parts.0 parts.1)
     ∷ of_said (wrong_bounds (said_before before)) (w >>= λ parts. said_by (known_to (said_before before)) parts.0 parts.1)
     ∷ of_said (repeated (said_before before)) (w >>= λ parts. said_by (known_to (said_before before)) parts.0 parts.1)
     ∷ of_said (wrong_table (said_before before) after) (w >>= λ parts. said_by (known_to (said_before before)) parts.0 parts.1) ∷ []) in
     let bound : Result Said TextKind = word >>= λ parts. said_by (known_to (said_before before)) parts.0 parts.1 in
-    ap at is ∙ first_again (too_long line) (unfinished after) (wrong_word (last_group 0 before) word) (too_often before word) (wrong_form bound) (of_said (wrong_bounds (said_before before)) bound) (of_said (repeated (said_before before)) bound) (of_said (wrong_table (said_before before) after) bound)
+    ap at is ∙ first_again (too_long line) (unfinished after) (wrong_word (last_group 0 before) word) (too_often before word) (result_err bound) (of_said (wrong_bounds (said_before before)) bound) (of_said (repeated (said_before before)) bound) (of_said (wrong_table (said_before before) after) bound)
 
 is_fault : Some kinds.Word ≡ None → ⊥
 is_fault e = cc

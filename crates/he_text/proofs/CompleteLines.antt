@@ -4,12 +4,14 @@ use Rattle.std.specs.Prelude.{codes}
 use Rattle.std.specs.List.{AllZip, AllByRecursion}
 use Rattle.std.proofs.lemmas.Bool.{le-ltb}
 use Rattle.he_addr.specs.declared.ip.Family.TheVariants as families
+use Rattle.std.specs.Result.{result_err}
 use Rattle.he_text.specs.declared.fault.TextKind.{TextKind}
 use Rattle.he_text.specs.declared.fault.TextKind.TheVariants as kinds
 use Rattle.he_text.specs.declared.limits.TheConstants.{MAX_LINE}
 use Rattle.he_text.specs.declared.words.Word.{Word}
 use Rattle.he_text.specs.declared.words.Word.TheVariants as words
-use Rattle.he_text.specs.Faults.{test, first_fault, last_group, known_to, too_long, unfinished, wrong_word, too_often, wrong_form, wrong_bounds, repeated, wrong_table, of_said, line_fault, at_line_number, ends, fault_from}
+use Rattle.he_text.specs.Faults.{test, first_fault, last_group, known_to, too_long, unfinished, wrong_word, too_often, wrong_bounds, repeated, wrong_table, of_said, line_fault, ends}
+use Rattle.he_text.specs.FaultSearch.{at_line_number, fault_from}
 use Rattle.he_text.specs.Forms.{◌>>=◌, word_of, said_by}
 use Rattle.he_text.specs.Parts.{tokens_of}
 use Rattle.he_text.specs.Said.{Said, Setting, PolicyRow, HostSource, HostRoute, Answer, Told, Paused, Ended}
@@ -34,7 +36,7 @@ lines_are told (line ∷ lines) (s ∷ said) says whole =
 
 all_none : (long fin word often : Option TextKind) (r : Result Said TextKind) (bounds again table : Said → Option TextKind) (s : Said)
     → long ≡ None → fin ≡ None → word ≡ None → often ≡ None → r ≡ Ok s → bounds s ≡ None → again s ≡ None → table s ≡ None
-    → first_fault (long ∷ fin ∷ word ∷ often ∷ wrong_form r ∷ of_said bounds r ∷ of_said again r ∷ of_said table r ∷ []) ≡ None
+    → first_fault (long ∷ fin ∷ word ∷ often ∷ result_err r ∷ of_said bounds r ∷ of_said again r ∷ of_said table r ∷ []) ≡ None
 all_none long fin word often r bounds again table s h1 h2 h3 h4 h5 h6 h7 h8 = rw (h1, h2, h3, h4, h5, h6, h7, h8) refl
 
 short_enough : (line : List ℕ) → length line ≤ MAX_LINE → too_long line ≡ None
@@ -55,7 +57,7 @@ comes_next before told later s tokens whole are =
 abbrev checked : List (List ℕ) → List ℕ → List (List ℕ) → List Said → Result (Word × List (List ℕ)) TextKind → Option TextKind
 checked before line after told word =
     first_fault (too_long line ∷ unfinished after ∷ wrong_word (last_group 0 before) word ∷ too_often before word
-    ∷ wrong_form (word >>= λ parts. said_by (known_to told) parts.0 parts.1)
+    ∷ result_err (word >>= λ parts. said_by (known_to told) parts.0 parts.1)
     ∷ of_said (wrong_bounds told) (word >>= λ parts. said_by (known_to told) parts.0 parts.1)
     ∷ of_said (repeated told) (word >>= λ parts. said_by (known_to told) parts.0 parts.1)
     ∷ of_said (wrong_table told after) (word >>= λ parts. said_by (known_to told) parts.0 parts.1) ∷ [])

@@ -7,7 +7,7 @@ use Rattle.std.proofs.Math.Seq.{take-add}
 use Rattle.he_plan.specs.Race.{Race}
 use Rattle.he_text.specs.declared.fault.TextKind.{TextKind}
 use Rattle.he_text.specs.declared.fault.TextKind.TheVariants as kinds
-use Rattle.he_text.specs.Faults.{fault_of}
+use Rattle.he_text.specs.FaultSearch.{fault_of}
 use Rattle.he_text.specs.Text.{IsRaceText, TellsFault}
 use Rattle.he_text.proofs.CompleteTexts.{no_longer, nothing_wrong, not_empty}
 

@@ -6,7 +6,8 @@ use Rattle.std.proofs.lemmas.List.{append-nil}
 use Rattle.std.proofs.lemmas.List.Splits.{join_with_byte-slice_split, length-slice_split}
 use Rattle.he_plan.specs.Race.{Race}
 use Rattle.he_plan.specs.Timeline.{IsRace}
-use Rattle.he_text.specs.Faults.{ends, first_fault, too_long, unfinished, wrong_header, at_line_number, fault_from, fault_in, fault_of, said_before}
+use Rattle.he_text.specs.Faults.{ends, first_fault, too_long, unfinished, wrong_header, said_before}
+use Rattle.he_text.specs.FaultSearch.{at_line_number, fault_from, fault_in, fault_of}
 use Rattle.he_text.specs.Parts.{lines_of}
 use Rattle.he_text.specs.Said.{Said, race_of}
 use Rattle.he_text.specs.Text.{IsRaceText}

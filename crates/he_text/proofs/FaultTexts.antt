@@ -5,7 +5,7 @@ use Rattle.std.proofs.lemmas.List.{length-drop}
 use Rattle.he_plan.specs.Race.{Race}
 use Rattle.he_plan.specs.Timeline.{IsRace}
 use Rattle.he_text.specs.declared.fault.TextKind.{TextKind}
-use Rattle.he_text.specs.Faults.{fault_in}
+use Rattle.he_text.specs.FaultSearch.{fault_in}
 use Rattle.he_text.specs.Parts.{lines_of}
 use Rattle.he_text.specs.Reading.{FailsAt, read_lines}
 use Rattle.he_text.specs.Text.{IsRaceText, TellsFault}

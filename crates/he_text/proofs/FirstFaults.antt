@@ -4,7 +4,8 @@ use Rattle.std.specs.Prelude.{◌⊎◌}
 use Rattle.std.proofs.lemmas.List.{append-nil, length-append}
 use Rattle.std.proofs.lemmas.List.Splits.{length-slice_split}
 use Rattle.he_text.specs.declared.fault.TextKind.{TextKind}
-use Rattle.he_text.specs.Faults.{first_fault, unfinished, header_fault, line_fault, at_line_number, ends, fault_from, fault_in, fault_of}
+use Rattle.he_text.specs.Faults.{first_fault, unfinished, header_fault, line_fault, ends}
+use Rattle.he_text.specs.FaultSearch.{at_line_number, fault_from, fault_in, fault_of}
 use Rattle.he_text.specs.FirstFault.{fault_on, ends_race, GoOnRight, IsFirstFault, IsFirstFaultOf}
 use Rattle.he_text.specs.Parts.{lines_of}
 use Rattle.he_text.proofs.Beginnings.{number_is}

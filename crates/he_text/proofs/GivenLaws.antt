@@ -19,9 +19,8 @@ use Rattle.he_text.specs.declared.words.Word.{Word}
 use Rattle.he_text.specs.declared.words.Word.TheVariants as words
 use Rattle.he_text.specs.Faults.{first_fault, test, wrong_bounds, repeated}
 use Rattle.he_text.specs.Forms.{◌>>=◌, setting_in, row_in, host_source_in, host_route_in, said_by, least_value, most_value}
-use Rattle.he_text.specs.Reading.{once, put, ranged, settings_from}
+use Rattle.he_text.specs.Reading.{once, put, ranged, settings_from, is_head_word}
 use Rattle.he_text.specs.Said.{Said, Setting, PolicyRow, HostSource, HostRoute, same_name, setting_said, at_front, setting_given, settings_given}
-use Rattle.he_text.specs.Words.{is_head_word}
 use Rattle.he_text.proofs.FormFacts.{setting_ok}
 use Rattle.he_text.proofs.Results.{bind_ok}
 use Rattle.he_text.proofs.SaidLaws.{one_more, first_more, setting_kept, IsQuiet, quiet_more}

@@ -19,9 +19,9 @@ use Rattle.he_text.specs.declared.words.Word.{Word}
 use Rattle.he_text.specs.declared.words.Word.TheVariants as words
 use Rattle.he_text.specs.Faults.{first_fault, test, wrong_bounds, repeated, is_policy_next, wrong_table}
 use Rattle.he_text.specs.Forms.{◌>>=◌, setting_in, row_in, host_source_in, host_route_in, said_by}
-use Rattle.he_text.specs.Reading.{HeadGiven, add_setting, with_row, add_row, add_source, add_route, take_given}
+use Rattle.he_text.specs.Reading.{HeadGiven, add_setting, with_row, add_row, add_source, add_route, take_given, is_head_word}
 use Rattle.he_text.specs.Said.{Said, Setting, PolicyRow, HostSource, HostRoute, row_said, source_said, route_said, rows_given, sources_given, routes_given}
-use Rattle.he_text.specs.Words.{is_head_word, is_policy}
+use Rattle.he_text.specs.Words.{is_policy}
 use Rattle.he_text.proofs.GivenLaws.{given_of, given_kept, put_agrees}
 use Rattle.he_text.proofs.SaidLaws.{none_more, one_more}
 use Rattle.he_text.proofs.ToldLaws.{outcome}

@@ -26,9 +26,9 @@ use Rattle.he_text.specs.declared.words.Word.TheVariants as words
 use Rattle.he_text.specs.Faults.{test, repeated, begins_policy, is_policy_next, wrong_table}
 use Rattle.he_text.specs.Forms.{◌>>=◌, setting_in, row_in, host_source_in, host_route_in, word_of, said_by}
 use Rattle.he_text.specs.Parts.{tokens_of}
-use Rattle.he_text.specs.Reading.{table_kind, host_kind, told_by, policy_from, host_from, race_begun}
+use Rattle.he_text.specs.Reading.{table_kind, host_kind, told_by, policy_from, host_from, race_begun, is_head_word}
 use Rattle.he_text.specs.Said.{Said, Setting, PolicyRow, HostSource, HostRoute, row_said, source_said, route_said, rows_given, sources_given, routes_given, settings_given, table_of_rows, host_given}
-use Rattle.he_text.specs.Words.{is_head_word, is_policy}
+use Rattle.he_text.specs.Words.{is_policy}
 use Rattle.he_text.proofs.GivenLaws.{AllFit, settings_agree}
 use Rattle.he_text.proofs.HeadLaws.{head_given}
 use Rattle.he_text.proofs.NextLines.{next_word}

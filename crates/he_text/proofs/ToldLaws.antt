@@ -19,9 +19,8 @@ use Rattle.he_text.specs.declared.words.Word.{Word}
 use Rattle.he_text.specs.declared.words.Word.TheVariants as words
 use Rattle.he_text.specs.Faults.{first_fault, test, wrong_bounds, repeated, wrong_table, known_to}
 use Rattle.he_text.specs.Forms.{◌>>=◌, answer_in, connect_in, pause_in, end_in, said_by}
-use Rattle.he_text.specs.Reading.{built, take_answer, take_told}
+use Rattle.he_text.specs.Reading.{built, take_answer, take_told, is_head_word}
 use Rattle.he_text.specs.Said.{Said, Answer, Told, Paused, Ended, sources_given, routes_given, outcomes_given, pauses_given, race_of}
-use Rattle.he_text.specs.Words.{is_head_word}
 use Rattle.he_text.proofs.FormFacts.{IsAnswer, IsTold, IsPause, answer_ok, connect_ok, pause_ok}
 use Rattle.he_text.proofs.SaidLaws.{race_answered, race_told, race_paused, race_ended}
 

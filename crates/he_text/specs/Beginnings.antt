@@ -3,7 +3,7 @@ use Rattle.std.specs.Prelude.{ℕ, ◌≡◌, ◌⊎◌, ◌+◌, ◌++◌, List
 use Rattle.he_select.specs.declared.policy.PolicyFault.{PolicyFault}
 use Rattle.he_text.specs.declared.fault.TextKind.{TextKind}
 use Rattle.he_text.specs.declared.fault.TextKind.TheVariants as kinds
-use Rattle.he_text.specs.Faults.{fault_of}
+use Rattle.he_text.specs.FaultSearch.{fault_of}
 use Rattle.he_text.specs.Parts.{lines_of}
 
 -- the fault of every text that begins with these bytes

@@ -1,9 +1,9 @@
 -- What is wrong with a text. A line undergoes the checks in the order in which they stand here; each is a condition on the line,
 -- on the lines before it (which are right, since the least faulty line decides), and for the second and the last check on what
 -- follows it.
-use Rattle.std.specs.Prelude.{ℕ, ◌+◌, ◌==◌, ◌&&◌, Bool, true, false, not, List, [], ◌∷◌, ◌++◌, length, Option, Some, None, option_map, is_some, Result, Ok, Err, if◌then◌else◌, nat_le, nat_lt, count_by, codes}
+use Rattle.std.specs.Prelude.{ℕ, ◌==◌, ◌&&◌, Bool, true, false, not, List, [], ◌∷◌, ◌++◌, length, Option, Some, None, option_map, is_some, Result, Ok, Err, if◌then◌else◌, nat_le, nat_lt, count_by, codes}
 use Rattle.std.specs.List.{filter_map, list_any}
-use Rattle.std.specs.Result.{result_ok}
+use Rattle.std.specs.Result.{result_ok, result_err}
 use Rattle.std.specs.Str.{bytes_eq}
 use Rattle.he_addr.specs.declared.ip.Ip.{Ip}
 use Rattle.he_plan.specs.Building.{last_end}
@@ -17,7 +17,7 @@ use Rattle.he_select.specs.TableFaults.{table_fault}
 use Rattle.he_select.specs.Tables.{same_row}
 use Rattle.he_text.specs.declared.words.Word.{Word}
 use Rattle.he_text.specs.Forms.{word_of, said_in}
-use Rattle.he_text.specs.Parts.{lines_of, tokens_of}
+use Rattle.he_text.specs.Parts.{tokens_of}
 use Rattle.he_text.specs.Said.{Said, Setting, PolicyRow, HostSource, HostRoute, Answer, Told, Paused, setting_given, rows_given, sources_given, routes_given, outcomes_given, pauses_given, race_of}
 use Rattle.he_text.specs.Words.{group_of, most_lines, is_policy, is_end}
 
@@ -86,11 +86,6 @@ abbrev pub too_often : List (List ℕ) → Result (Word × List (List ℕ)) Text
 too_often before (Err kind) = None
 too_often before (Ok parts) = excess (most_lines parts.0) (lines_with (group_of parts.0) before)
 
--- 6 and 7: the number of tokens, then each of them from left to right
-abbrev pub wrong_form : Result Said TextKind → Option TextKind
-wrong_form (Ok said) = None
-wrong_form (Err kind) = Some kind
-
 -- 8: a pause that doesn't end after it begins, or begins before the end of the one before it
 abbrev pub wrong_bounds : List Said → Said → Option TextKind
 wrong_bounds before (Paused from to) = test (not (nat_le (last_end (pauses_given before)) from && nat_lt from to)) kinds.Range
@@ -127,7 +122,8 @@ abbrev pub of_said : (Said → Option TextKind) → Result Said TextKind → Opt
 of_said check (Ok said) = check said
 of_said check (Err kind) = None
 
--- the fault of a line behind the first one
+-- the fault of a line behind the first one. The sixth and the seventh check are those of what the line says by itself (`Forms`): the
+-- number of tokens, then each of them from left to right.
 unfoldable pub line_fault : List (List ℕ) → List ℕ → List (List ℕ) → Option TextKind
 line_fault before line after =
     let word = word_of (tokens_of line) in
@@ -138,15 +134,11 @@ line_fault before line after =
     ∷ unfinished after
     ∷ wrong_word (last_group 0 before) word
     ∷ too_often before word
-    ∷ wrong_form said
+    ∷ result_err said
     ∷ of_said (wrong_bounds told) said
     ∷ of_said (repeated told) said
     ∷ of_said (wrong_table told after) said
     ∷ [])
-
-abbrev pub at_line_number : ℕ → Option TextKind → Option (ℕ × TextKind) → Option (ℕ × TextKind)
-at_line_number n (Some kind) later = Some (n, kind)
-at_line_number n None later = later
 
 -- whether a line ends the race
 abbrev pub ends_by : Result (Word × List (List ℕ)) TextKind → Bool
@@ -156,22 +148,6 @@ ends_by (Err kind) = false
 unfoldable pub ends : List ℕ → Bool
 ends line = ends_by (word_of (tokens_of line))
 
--- the least faulty line from line n on, behind these lines, with its first fault; none if a line ends the race before
-unfoldable pub fault_from : ℕ → List (List ℕ) → List (List ℕ) → Option (ℕ × TextKind)
-fault_from n before [] = Some (n, kinds.Unfinished)
-fault_from n before (line ∷ after) =
-    at_line_number n (line_fault before line after) (if ends line then None else fault_from (n + 1) (before ++ line ∷ []) after)
-
 -- the fault of the first line
 abbrev pub header_fault : List ℕ → List (List ℕ) → Option TextKind
 header_fault line after = first_fault (too_long line ∷ unfinished after ∷ wrong_header line ∷ [])
-
--- the same from the first line on
-unfoldable pub fault_in : List (List ℕ) → Option (ℕ × TextKind)
-fault_in [] = Some (1, kinds.Unfinished)
-fault_in (line ∷ after) =
-    at_line_number 1 (header_fault line after) (fault_from 2 [] after)
-
--- the fault of a text: its least faulty line, counted from 1, and the first check that fails on it
-abbrev pub fault_of : List ℕ → Option (ℕ × TextKind)
-fault_of text = fault_in (lines_of text)

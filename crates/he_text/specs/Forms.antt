@@ -12,7 +12,7 @@ use Rattle.he_plan.specs.Race.{Reply}
 use Rattle.he_plan.specs.Timeline.{is_of}
 use Rattle.he_select.specs.Ranges.{least_interface}
 use Rattle.he_plan.specs.declared.limits.TheConstants.{MAX_ADDRESSES, MAX_RESOLUTION, MIN_ATTEMPT, MAX_ATTEMPT, MIN_COUNT, MAX_COUNT, MIN_LIMIT, MAX_LIMIT, MAX_TICK, MIN_DURATION, MAX_DURATION, MAX_PAUSE_END}
-use Rattle.he_text.specs.Ranges.{most_source_marks, most_route_marks, most_precedence, most_label, most_interface, least_pause_end}
+use Rattle.he_text.specs.Ranges.{most_source_marks, most_route_marks, most_u16, least_pause_end}
 use Rattle.he_text.specs.declared.fault.TextKind.{TextKind}
 use Rattle.he_text.specs.declared.fault.TextKind.TheVariants as kinds
 use Rattle.he_text.specs.declared.words.Name.{Name}
@@ -65,8 +65,8 @@ setting_in _ = Err kinds.Word
 unfoldable pub row_in : List (List ℕ) → Result Row TextKind
 row_in (first ∷ second ∷ third ∷ []) = do
   prefix ← ok_or (prefix_in first) kinds.Prefix
-  precedence ← number_from 0 most_precedence second
-  label ← number_from 0 most_label third
+  precedence ← number_from 0 most_u16 second
+  label ← number_from 0 most_u16 third
   Ok (record { prefix = prefix; precedence = precedence; label = label })
 row_in _ = Err kinds.Word
 
@@ -78,7 +78,7 @@ source_address_in token = do
 
 -- the number of an interface
 abbrev pub interface_in : List ℕ → Result ℕ TextKind
-interface_in token = number_from least_interface most_interface token
+interface_in token = number_from least_interface most_u16 token
 
 -- whether a source is deprecated, and whether it is temporary: the marks stand in this order
 unfoldable pub source_marks_in : List (List ℕ) → Result (Bool × Bool) TextKind

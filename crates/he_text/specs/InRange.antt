@@ -8,16 +8,16 @@ use Rattle.he_plan.specs.Race.{Race, addresses_of}
 use Rattle.he_select.specs.declared.policy.Row.{Row}
 use Rattle.he_select.specs.declared.host.Source.{Source}
 use Rattle.he_select.specs.declared.host.Route.{Route}
-use Rattle.he_text.specs.Ranges.{most_precedence, most_label, most_interface}
+use Rattle.he_text.specs.Ranges.{most_u16}
 
 abbrev pub RowInRange : Row → Type 0
-RowInRange row = IsPrefix row.prefix.bits row.prefix.len × (row.precedence ≤ most_precedence) × (row.label ≤ most_label)
+RowInRange row = IsPrefix row.prefix.bits row.prefix.len × (row.precedence ≤ most_u16) × (row.label ≤ most_u16)
 
 abbrev pub SourceInRange : Source → Type 0
-SourceInRange source = InRange source.ip × (source.interface ≤ most_interface)
+SourceInRange source = InRange source.ip × (source.interface ≤ most_u16)
 
 abbrev pub RouteInRange : Route → Type 0
-RouteInRange route = IsPrefix route.prefix.bits route.prefix.len × (route.interface ≤ most_interface)
+RouteInRange route = IsPrefix route.prefix.bits route.prefix.len × (route.interface ≤ most_u16)
 
 -- the race's prefixes, addresses and 16-bit numbers are in their ranges
 pub record RaceInRange (race : Race) : Type 0 where

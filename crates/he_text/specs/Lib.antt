@@ -1,4 +1,5 @@
 pub mod Beginnings
+pub mod FaultSearch
 pub mod Faults
 pub mod FirstFault
 pub mod Forms

@@ -24,15 +24,9 @@ most_source_marks = 2
 abbrev pub most_route_marks : ℕ
 most_route_marks = 1
 
--- the numbers of a row, and of an interface
-abbrev pub most_precedence : ℕ
-most_precedence = 65535
-
-abbrev pub most_label : ℕ
-most_label = 65535
-
-abbrev pub most_interface : ℕ
-most_interface = 65535
+-- the greatest precedence, label and number of an interface: they have 16 bits
+abbrev pub most_u16 : ℕ
+most_u16 = 65535
 
 -- the least first tick behind a pause
 abbrev pub least_pause_end : ℕ

@@ -37,7 +37,7 @@ use Rattle.he_text.specs.declared.words.Word.TheVariants as words
 use Rattle.he_text.specs.Faults.{is_policy_next}
 use Rattle.he_text.specs.Forms.{◌>>=◌, word_of, setting_in, row_in, host_source_in, host_route_in, answer_in, connect_in, pause_in, end_in}
 use Rattle.he_text.specs.Parts.{tokens_of}
-use Rattle.he_text.specs.Words.{group_of, most_lines, is_head_word, is_policy, is_end}
+use Rattle.he_text.specs.Words.{group_of, most_lines, is_policy, is_end}
 
 -- a call that failed did so as `read` does, or was refused memory where `read` finds nothing wrong
 abbrev pub Fails : {B : Type 0} → TextKind → Result B TextKind → Type 0
@@ -214,6 +214,10 @@ read_body n order race (line ∷ after) =
     at_line n (wholeness (line ∷ after)) >>= λ _.
     at_line n (take_line (tokens_of line) order race) >>= λ next.
     if is_end next.0 then Ok (next.2, after) else read_body (n + 1) next.1 next.2 after
+
+-- the words of the first four groups
+abbrev pub is_head_word : Word → Bool
+is_head_word word = nat_le (group_of word) 4
 
 abbrev pub head_part : Result (Word × List (List ℕ)) TextKind → Option (Word × List (List ℕ))
 head_part (Ok parts) = if is_head_word parts.0 then Some parts else None

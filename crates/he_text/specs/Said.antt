@@ -1,6 +1,7 @@
 -- What the lines of a race say, and the race that they make.
-use Rattle.std.specs.Prelude.{ℕ, Bool, true, false, List, [], ◌∷◌, Option, Some, None, if◌then◌else◌, unwrap_or}
+use Rattle.std.specs.Prelude.{ℕ, Bool, List, [], ◌∷◌, Option, Some, None, if◌then◌else◌, unwrap_or}
 use Rattle.std.specs.List.{filter_map}
+use Rattle.std.specs.Str.{bytes_eq}
 use Rattle.he_addr.specs.declared.ip.Family.{Family}
 use Rattle.he_addr.specs.declared.ip.Family.TheVariants as families
 use Rattle.he_addr.specs.declared.ip.Ip.{Ip}
@@ -10,6 +11,7 @@ use Rattle.he_plan.specs.Race.{Race, Reply}
 use Rattle.he_plan.specs.declared.limits.TheConstants.{DEFAULT_RESOLUTION, DEFAULT_ATTEMPT, DEFAULT_COUNT, DEFAULT_LIMIT}
 use Rattle.he_text.specs.declared.words.Name.{Name}
 use Rattle.he_text.specs.declared.words.Name.TheVariants.{Resolution, Attempt, Count, Limit}
+use Rattle.he_text.specs.Words.{name_spelling}
 use Rattle.he_select.specs.declared.policy.Row.{Row}
 use Rattle.he_select.specs.declared.host.Source.{Source}
 use Rattle.he_select.specs.declared.host.Route.{Route}
@@ -29,11 +31,7 @@ pub data Said : Type 0 where
   Ended : Said
 
 abbrev pub same_name : Name → Name → Bool
-same_name Resolution Resolution = true
-same_name Attempt Attempt = true
-same_name Count Count = true
-same_name Limit Limit = true
-same_name _ _ = false
+same_name name other = bytes_eq (name_spelling name) (name_spelling other)
 
 abbrev pub setting_said : Name → Said → Option ℕ
 setting_said name (Setting other value) = if same_name name other then Some value else None

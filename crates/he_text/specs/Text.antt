@@ -14,7 +14,7 @@ use Rattle.he_plan.specs.Race.{Race}
 use Rattle.he_plan.specs.Timeline.{IsRace, are_of, duration_of}
 use Rattle.he_select.specs.Ranges.{least_interface}
 use Rattle.he_plan.specs.declared.limits.TheConstants.{MAX_ADDRESSES, MAX_TICK, MIN_DURATION, MAX_DURATION, MAX_PAUSE_END}
-use Rattle.he_text.specs.Ranges.{most_line_bytes, most_precedence, most_label, most_interface, least_pause_end}
+use Rattle.he_text.specs.Ranges.{most_line_bytes, most_u16, least_pause_end}
 use Rattle.he_text.specs.declared.fault.TextKind.{TextKind}
 use Rattle.he_text.specs.declared.fault.TextKind.TheVariants as kinds
 use Rattle.he_text.specs.declared.words.Name.{Name}
@@ -59,13 +59,13 @@ Says line (Setting name value) =
     (number : List ℕ) × (tokens_of line ≡ spelling_of words.Set ∷ name_spelling name ∷ number ∷ []) × IsNumber (least_value name) (most_value name) number value
 Says line (PolicyRow row) =
     (first : List ℕ) × (second : List ℕ) × (third : List ℕ) × (tokens_of line ≡ spelling_of words.Policy ∷ first ∷ second ∷ third ∷ [])
-    × SpellsPrefix first row.prefix × IsNumber 0 most_precedence second row.precedence × IsNumber 0 most_label third row.label
+    × SpellsPrefix first row.prefix × IsNumber 0 most_u16 second row.precedence × IsNumber 0 most_u16 third row.label
 Says line (HostSource source) =
     (first : List ℕ) × (second : List ℕ) × (tokens_of line ≡ spelling_of words.Source ∷ first ∷ second ∷ source_marks source)
-    × SpellsSource first source.ip source.plen × IsNumber least_interface most_interface second source.interface
+    × SpellsSource first source.ip source.plen × IsNumber least_interface most_u16 second source.interface
 Says line (HostRoute route) =
     (first : List ℕ) × (second : List ℕ) × (tokens_of line ≡ spelling_of words.Route ∷ first ∷ second ∷ route_marks route)
-    × SpellsPrefix first route.prefix × IsNumber least_interface most_interface second route.interface
+    × SpellsPrefix first route.prefix × IsNumber least_interface most_u16 second route.interface
 Says line (Answer family reply) =
     (number : List ℕ) × (tokens : List (List ℕ)) × (tokens_of line ≡ spelling_of (answer_word family) ∷ number ∷ tokens)
     × IsNumber 0 MAX_TICK number reply.tick × Lists tokens reply.addresses × (length tokens ≤ MAX_ADDRESSES)

@@ -1,5 +1,5 @@
 -- The words of timeline texts: how they are spelled, and the groups in which their lines stand.
-use Rattle.std.specs.Prelude.{ℕ, List, Bool, true, false, Option, Some, None, if◌then◌else◌, nat_le, codes}
+use Rattle.std.specs.Prelude.{ℕ, List, [], ◌∷◌, Bool, true, false, Option, Some, None, find, codes}
 use Rattle.std.specs.Str.{bytes_eq}
 use Rattle.he_select.specs.Ranges.{most_rows, most_sources, most_routes}
 use Rattle.he_plan.specs.declared.limits.TheConstants.{MAX_PAUSES}
@@ -40,10 +40,6 @@ name_spelling Attempt = codes "attempt"
 name_spelling Count = codes "count"
 name_spelling Limit = codes "limit"
 
--- the words of the first four groups
-abbrev pub is_head_word : Word → Bool
-is_head_word word = nat_le (group_of word) 4
-
 -- the word of a row of the policy table
 abbrev pub is_policy : Word → Bool
 is_policy Policy = true
@@ -67,22 +63,8 @@ most_lines _ = None
 -- the word that a token spells
 unfoldable pub word_in : List ℕ → Option Word
 word_in token =
-    if bytes_eq token (spelling_of Set) then Some Set
-    else if bytes_eq token (spelling_of Policy) then Some Policy
-    else if bytes_eq token (spelling_of Source) then Some Source
-    else if bytes_eq token (spelling_of Route) then Some Route
-    else if bytes_eq token (spelling_of Aaaa) then Some Aaaa
-    else if bytes_eq token (spelling_of A) then Some A
-    else if bytes_eq token (spelling_of Connect) then Some Connect
-    else if bytes_eq token (spelling_of Pause) then Some Pause
-    else if bytes_eq token (spelling_of End) then Some End
-    else None
+    find (λ word. bytes_eq token (spelling_of word)) (Set ∷ Policy ∷ Source ∷ Route ∷ Aaaa ∷ A ∷ Connect ∷ Pause ∷ End ∷ [])
 
 -- the setting that a token names
 unfoldable pub name_in : List ℕ → Option Name
-name_in token =
-    if bytes_eq token (name_spelling Resolution) then Some Resolution
-    else if bytes_eq token (name_spelling Attempt) then Some Attempt
-    else if bytes_eq token (name_spelling Count) then Some Count
-    else if bytes_eq token (name_spelling Limit) then Some Limit
-    else None
+name_in token = find (λ name. bytes_eq token (name_spelling name)) (Resolution ∷ Attempt ∷ Count ∷ Limit ∷ [])

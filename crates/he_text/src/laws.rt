@@ -9,10 +9,10 @@ ghost use Rattle.he_text.specs.declared.limits.TheConstants.{MAX_LINE, MAX_ANSWE
 ghost use Rattle.he_text.specs.declared.parts.TheConstants.{LINE_END, TOKEN_END};
 ghost use Rattle.he_select.specs.Ranges.{least_interface};
 ghost use Rattle.he_text.specs.Beginnings.{FaultStands, MayChange};
-ghost use Rattle.he_text.specs.Faults.{fault_of};
+ghost use Rattle.he_text.specs.FaultSearch.{fault_of};
 ghost use Rattle.he_text.specs.FirstFault.{IsFirstFaultOf};
 ghost use Rattle.he_text.specs.InRange.{RaceInRange};
-ghost use Rattle.he_text.specs.Ranges.{line_end, token_end, most_line_bytes, most_answers, most_source_marks, most_route_marks, most_precedence, most_label, most_interface};
+ghost use Rattle.he_text.specs.Ranges.{line_end, token_end, most_line_bytes, most_answers, most_source_marks, most_route_marks, most_u16};
 ghost use Rattle.he_text.specs.Forms.{said_in};
 ghost use Rattle.he_text.specs.Said.{Said, Ended};
 ghost use Rattle.he_text.specs.Text.{Says, IsAllowed, IsRaceText, BeginsWithRace, TellsFault};
@@ -78,7 +78,7 @@ pub fn ranges()
     ensures bytes { (LINE_END ≡ line_end) × (TOKEN_END ≡ token_end) }
     ensures lines { (MAX_LINE ≡ most_line_bytes) × (MAX_ANSWERS ≡ most_answers) }
     ensures marks { (SOURCE_MARKS ≡ most_source_marks) × (ROUTE_MARKS ≡ most_route_marks) }
-    ensures selection { (MAX_PRECEDENCE ≡ most_precedence) × (MAX_LABEL ≡ most_label) × (MIN_INTERFACE ≡ least_interface) × (MAX_INTERFACE ≡ most_interface) }
+    ensures selection { (MAX_PRECEDENCE ≡ most_u16) × (MAX_LABEL ≡ most_u16) × (MIN_INTERFACE ≡ least_interface) × (MAX_INTERFACE ≡ most_u16) }
 {}
 
 /// What is written of a race is a text of this race, so it is read as this race, whatever follows it. Runs nothing.

@@ -4,7 +4,8 @@ ghost use Rattle.std.specs.Prelude.{◌≡◌, ◌+◌, ◌≤◌, ◌<◌, ◌�
 ghost use Rattle.he_plan.specs.Race.{Race};
 ghost use Rattle.he_plan.specs.Timeline.{IsRace};
 ghost use Rattle.he_text.specs.declared.fault.TextKind.TheVariants as kinds;
-ghost use Rattle.he_text.specs.Faults.{fault_of, is_policy_next};
+ghost use Rattle.he_text.specs.Faults.{is_policy_next};
+ghost use Rattle.he_text.specs.FaultSearch.{fault_of};
 ghost use Rattle.he_text.specs.Forms.{word_of};
 ghost use Rattle.he_text.specs.declared.draft.Order.{Order};
 ghost use Rattle.he_text.specs.Left.{lines_left, tokens_left, HasRoom, IsAmong};

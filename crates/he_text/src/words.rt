@@ -1,7 +1,8 @@
 // The words of timeline texts.
 
 ghost use Rattle.std.specs.Prelude.{◌≡◌};
-ghost use Rattle.he_text.specs.Words.{word_in, name_in, group_of, is_head_word, is_policy, is_end, most_lines};
+ghost use Rattle.he_text.specs.Words.{word_in, name_in, group_of, is_policy, is_end, most_lines};
+ghost use Rattle.he_text.specs.Reading.{is_head_word};
 
 use crate::fault::TextKind;
 use crate::limits::MAX_ANSWERS;

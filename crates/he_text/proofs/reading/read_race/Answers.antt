@@ -1,7 +1,7 @@
 use Rattle.std.proofs.Common.{rules, ◌≡◌, ℕ, ◌-◌, List, length, drop, sym, ◌∙◌, ap, subst}
 use Rattle.std.proofs.lemmas.List.{take_rest}
 use Rattle.he_text.specs.declared.fault.TextKind.TheVariants as kinds
-use Rattle.he_text.specs.Faults.{fault_of}
+use Rattle.he_text.specs.FaultSearch.{fault_of}
 use Rattle.he_text.specs.Parts.{lines_of}
 use Rattle.he_text.specs.Reading.{FailsAt, read_lines}
 use Rattle.he_text.specs.Text.{TellsFault}
