@@ -3,12 +3,13 @@
 use crate::homes::{Home, V4_A, V4_B, V6_A, builder};
 use he_addr::{Family, Ip};
 use he_plan::limits::{MAX_ADDRESSES, MAX_DURATION, MAX_PAUSE_END, MAX_TICK};
-use he_plan::{BuildFault, Outcome, Range, Settings};
-use std::alloc::Global;
+use he_plan::{BuildFault, Outcome, Range, Settings, TimelineBuilder};
+use std::alloc::{Allocator, Global};
 use std::test::Fail;
 
+/// A call of a builder.
 #[derive(Clone, Copy)]
-enum Call {
+pub(crate) enum Call {
     Answer(Family, u64, &'static [Ip]),
     Outcome(Ip, Outcome),
     Pause(u64, u64),
@@ -108,17 +109,24 @@ static CALLS: [(Call, Result<(), BuildFault>); 28] = [
     ),
 ];
 
+/// Makes the call.
+pub(crate) fn make<A: Allocator + Copy>(
+    builder: &mut TimelineBuilder<A>,
+    call: Call,
+) -> Result<(), BuildFault> {
+    match call {
+        Call::Answer(family, tick, ips) => builder.answer(family, tick, ips),
+        Call::Outcome(ip, outcome) => builder.outcome(ip, outcome),
+        Call::Pause(from, to) => builder.pause(from, to),
+    }
+}
+
 // The number of the first call of the table that does not answer as it must, or how many calls there are.
 fn right_calls(alloc: Global) -> Result<usize, Fail> {
     let settings = Settings::new(50, 250, 1, 30_000)?;
     let mut builder = builder(alloc, settings, Home::Usual)?;
     for (number, (call, wanted)) in CALLS.iter().enumerate() {
-        let got = match *call {
-            Call::Answer(family, tick, ips) => builder.answer(family, tick, ips),
-            Call::Outcome(ip, outcome) => builder.outcome(ip, outcome),
-            Call::Pause(from, to) => builder.pause(from, to),
-        };
-        if got != *wanted {
+        if make(&mut builder, *call) != *wanted {
             return Ok(number);
         }
     }

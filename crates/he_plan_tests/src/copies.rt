@@ -75,10 +75,13 @@ fn answer(alloc: Global, builder: &mut TimelineBuilder, family: Family) -> Resul
     Ok(())
 }
 
-// The most pauses.
+// The most pauses, each of ten ticks behind ten free ones, the first from 100.
 fn pause(builder: &mut TimelineBuilder) -> Result<(), BuildFault> {
-    for number in 0..MAX_PAUSES as u64 {
-        builder.pause(100 + 20 * number, 110 + 20 * number)?;
+    let mut end: u64 = 90;
+    for _ in 0..MAX_PAUSES {
+        let from = end.saturating_add(10);
+        end = from.saturating_add(10);
+        builder.pause(from, end)?;
     }
     Ok(())
 }

@@ -1,5 +1,6 @@
 // Each growth refused in turn: a refused call answers `Memory`, and made again it answers what ample memory gives.
 
+use crate::calls::{Call, make};
 use crate::homes::{V4_A, V6_A, V6_B, usual_routes, usual_sources};
 use he_addr::{Family, Ip, Memory};
 use he_plan::{
@@ -10,30 +11,12 @@ use refusing::{MOST_RUNS, Refusing};
 use std::alloc::Allocator;
 use std::test::Fail;
 
-#[derive(Clone, Copy)]
-enum Call {
-    Answer(Family, u64, &'static [Ip]),
-    Outcome(Ip, Outcome),
-    Pause(u64, u64),
-}
-
 static CALLS: [Call; 4] = [
     Call::Answer(Family::V6, 20, &[V6_A, V6_B]),
     Call::Answer(Family::V4, 200, &[V4_A]),
     Call::Outcome(V4_A, Outcome::Ok(30)),
     Call::Pause(100, 110),
 ];
-
-fn make<A: Allocator + Copy>(
-    builder: &mut TimelineBuilder<A>,
-    call: Call,
-) -> Result<(), BuildFault> {
-    match call {
-        Call::Answer(family, tick, ips) => builder.answer(family, tick, ips),
-        Call::Outcome(ip, outcome) => builder.outcome(ip, outcome),
-        Call::Pause(from, to) => builder.pause(from, to),
-    }
-}
 
 fn begun<A: Allocator + Copy>(alloc: A) -> Result<TimelineBuilder<A>, Fail> {
     let settings = Settings::new(50, 250, 1, 30_000)?;
@@ -81,6 +64,14 @@ fn is_told<A: Allocator + Copy>(
     Ok(transcript.attempts() == wanted.attempts() && transcript.result() == wanted.result())
 }
 
+fn is_built<A: Allocator + Copy>(
+    builder: TimelineBuilder<A>,
+    wanted: &Timeline<A>,
+) -> Result<bool, BuildFault> {
+    let timeline = built(builder)?;
+    Ok(timeline == *wanted)
+}
+
 // Whether all is as with ample memory.
 fn is_well<A: Allocator + Copy>(
     alloc: A,
@@ -88,17 +79,11 @@ fn is_well<A: Allocator + Copy>(
     wanted: &Timeline<A>,
     transcript: &Transcript<A>,
 ) -> Result<bool, Fail> {
-    let timeline = built(builder)?;
-    if timeline != *wanted {
-        return Ok(false);
-    }
-    if !is_copied(alloc, &timeline)? {
-        return Ok(false);
-    }
-    if !is_interlaced(alloc)? {
-        return Ok(false);
-    }
-    Ok(is_told(alloc, &timeline, transcript)?)
+    let is_built = is_built(builder, wanted)?;
+    let is_copied = is_copied(alloc, wanted)?;
+    let is_interlaced = is_interlaced(alloc)?;
+    let is_told = is_told(alloc, wanted, transcript)?;
+    Ok(is_built && is_copied && is_interlaced && is_told)
 }
 
 fn is_well_at<'h>(
@@ -124,7 +109,7 @@ fn refused_in_turn<'h>(
             return Ok(0);
         }
         if !heap.has_refused() {
-            return Ok(nth - 1);
+            return Ok(nth.saturating_sub(1));
         }
     }
     Ok(0)

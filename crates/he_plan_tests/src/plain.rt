@@ -169,7 +169,17 @@ fn address(family: Family, number: u32, is_usable: bool) -> Ip {
     }
 }
 
-// An answer of up to eleven addresses, of which about one in four is unusable; one answer in eight never comes.
+// Up to eleven addresses, of which about one in four is unusable.
+fn draw_addresses(alloc: Global, family: Family, drawn: &mut Drawn) -> Result<Vec<Ip>, Fail> {
+    let mut ips = Vec::new(alloc);
+    for number in 0..drawn.below(12) as u32 {
+        let is_usable = drawn.below(4) > 0;
+        ips.push(address(family, number, is_usable))?;
+    }
+    Ok(ips)
+}
+
+// An answer; one in eight never comes.
 fn draw_answer(
     alloc: Global,
     builder: &mut TimelineBuilder,
@@ -179,11 +189,7 @@ fn draw_answer(
     if drawn.below(8) == 0 {
         return Ok(());
     }
-    let mut ips = Vec::new(alloc);
-    for number in 0..drawn.below(12) as u32 {
-        let is_usable = drawn.below(4) > 0;
-        ips.push(address(family, number, is_usable))?;
-    }
+    let ips = draw_addresses(alloc, family, drawn)?;
     builder.answer(family, drawn.below(300), &ips)?;
     Ok(())
 }
