@@ -185,9 +185,9 @@ mark_ok : (token : List ℕ) (succeeds : Bool) (ticks : ℕ) → mark_in token �
 unfolding mark_in
 mark_ok token succeeds ticks h = mark_by token (bytes_eq token (codes "ok")) (bytes_eq token (codes "fail")) succeeds ticks refl refl h
 
-duration_is : (succeeds : Bool) (ticks : ℕ) → duration_of (outcome_of succeeds ticks) ≡ ticks
-duration_is true ticks = refl
-duration_is false ticks = refl
+timed : (succeeds : Bool) (token : List ℕ) (ticks : ℕ) → ReadsNumber MIN_DURATION MAX_DURATION token ticks → ReadsNumber MIN_DURATION MAX_DURATION token (duration_of (outcome_of succeeds ticks))
+timed true token ticks read = read
+timed false token ticks read = read
 
 pub connect_ok : (known : Ip → Bool) (tokens : List (List ℕ)) (told : Ip × Outcome) → connect_in known tokens ≡ Ok told → IsTold known tokens told.0 told.1
 unfolding connect_in
@@ -200,17 +200,17 @@ connect_ok known (a ∷ b ∷ c ∷ []) told h =
     let mark = bind_ok (mark_in b) (λ succeeds. number_from MIN_DURATION MAX_DURATION c >>= λ ticks. Ok (ip.0, outcome_of succeeds ticks)) told ip.2 in
     let ticks = bind_ok (number_from MIN_DURATION MAX_DURATION c) (λ ticks. Ok (ip.0, outcome_of mark.0 ticks)) told mark.2 in
     let is = known_ok known a ip.0 ip.1 in
-    let same : (ip.0, outcome_of mark.0 ticks.0) ≡ told = cc (ticks.2) in
+    let made : Ip × Outcome = (ip.0, outcome_of mark.0 ticks.0) in
+    let same : made ≡ told = cc (ticks.2) in
     let number = number_ok MIN_DURATION MAX_DURATION c ticks.0 ticks.1 in
-    let N : ℕ → Type 0 = ReadsNumber MIN_DURATION MAX_DURATION c in
     let P : Ip × Outcome → Type 0 = λ told. IsTold known (a ∷ b ∷ c ∷ []) told.0 told.1 in
-    subst P same (record {
+    subst P {x = made} same (record {
       first = a;
       last = c;
       tokens_are = ap (λ m. a ∷ m ∷ c ∷ []) (mark_ok b mark.0 ticks.0 mark.1);
       ip_is = is.0;
       known_is = is.1;
-      ticks = subst N (sym (duration_is mark.0 ticks.0)) number;
+      ticks = timed mark.0 c ticks.0 number;
     })
 
 -- pause FROM TO
