@@ -21,7 +21,7 @@ use Rattle.he_plan.proofs.Lawful.{is_paused-more}
 use Rattle.he_plan.proofs.Seen.{IsFirst, first}
 use Rattle.he_plan.proofs.Ranges.{IsRace-with_answer, IsRace-with_outcome, IsRace-with_pause, end_from, end_from-is}
 use Rattle.he_select.specs.declared.policy.Row.{Row}
-use Rattle.he_select.specs.Hosts.{Interfaces, IsHost}
+use Rattle.he_select.specs.Hosts.{HostLists, IsHost}
 use Rattle.he_select.specs.Tables.{IsAdmitted}
 
 -- a tick that one more pause does not cover is covered as before
@@ -88,7 +88,7 @@ others_in (p ∷ told) ip other outcome apart = by_head (same_ip p.0 other) (oth
 pub outcome-others : (race : Race) (ip other : Ip) (outcome : Outcome) → same_ip ip other ≡ false → outcome_of (with_outcome race ip outcome) other ≡ outcome_of race other
 outcome-others race ip other outcome apart = others_in race.outcomes ip other outcome apart
 
-pub empty-grows : (settings : SettingValues) (policy : List Row) (host : Interfaces) → IsSettings settings → IsAdmitted policy → IsHost host → IsRace (empty_race settings policy host)
+pub empty-grows : (settings : SettingValues) (policy : List Row) (host : HostLists) → IsSettings settings → IsAdmitted policy → IsHost host → IsRace (empty_race settings policy host)
 empty-grows settings policy host s p h = record { settings = s; policy = p; host = h; aaaa = refl; a = refl; outcomes = refl; once = refl; pauses = refl; few = omega arith }
 
 -- a choice that answers Ok was not the fault

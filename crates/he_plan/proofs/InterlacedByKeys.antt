@@ -13,7 +13,7 @@ use Rattle.he_addr.specs.declared.ip.Ip.{Ip}
 use Rattle.he_addr.specs.declared.ip.Ip.TheVariants.{V4, V6}
 use Rattle.he_addr.specs.Ip.{family_of}
 use Rattle.he_plan.specs.Alternating.{alternate, interlace, interlace_by}
-use Rattle.he_plan.specs.Interlacing.{IsInterlaced, Numbered, comes_before, key_of, numbered_after}
+use Rattle.he_plan.specs.Interlacing.{IsInterlaced, Numbered, comes_before, interlacing_key, numbered_after}
 use Rattle.he_plan.specs.Timeline.{is_of}
 use Rattle.he_plan.proofs.StrictlySorted.{Rises, count_cons, one_if, one_sorted, pairs_from}
 
@@ -283,7 +283,7 @@ interlaced (first ∷ rest) count =
     }
 
 one_way : (ips : List Ip) (count : ℕ) (a b : Numbered) → comes_before ips count a b ≡ true → comes_before ips count b a ≡ false
-one_way ips count a b = numbers (key_of ips count a) (key_of ips count b) a.number b.number
+one_way ips count a b = numbers (interlacing_key ips count a) (interlacing_key ips count b) a.number b.number
   where
     numbers : (k l m n : ℕ) → (nat_lt k l || (k == l && nat_lt m n)) ≡ true → (nat_lt l k || (l == k && nat_lt n m)) ≡ false
     numbers k l m n h = grind (arith, nat_tests)

@@ -11,7 +11,7 @@ use Rattle.he_addr.specs.declared.ip.Ip.{Ip}
 use Rattle.he_addr.specs.declared.ip.Ip.TheVariants.{V4, V6}
 use Rattle.he_plan.specs.declared.outcome.Outcome.{Outcome}
 use Rattle.he_plan.specs.declared.limits.TheConstants.{MAX_TICK, MAX_ADDRESSES, MAX_PAUSES, MAX_PAUSE_END}
-use Rattle.he_plan.specs.Race.{Race, Reply, reply_of, addresses_of, has_ip, has_outcome, stands}
+use Rattle.he_plan.specs.Race.{Race, Reply, reply_of, addresses_of, has_ip, has_outcome, is_in_answer}
 use Rattle.he_plan.specs.Timeline.{IsRace, is_outcome, is_duration, duration_of, are_told_once, are_of, are_distinct, are_pauses}
 use Rattle.he_plan.proofs.Bools.{and_left, and_right, and_both}
 use Rattle.he_plan.specs.Building.{with_answer, with_outcome, with_pause, last_end}
@@ -39,7 +39,7 @@ once_more (q ∷ told) p once new =
     let none : has_outcome q.0 (told ++ p ∷ []) ≡ false = rw (list_any-append (λ (x : Ip × Outcome). same_ip x.0 q.0) told (p ∷ [])) (grind (arith, common_steps)) in
     grind (arith, common_steps)
 
-pub IsRace-with_outcome : (race : Race) (ip : Ip) (outcome : Outcome) → IsRace race → is_duration (duration_of outcome) ≡ true → stands race ip ≡ true → has_outcome ip race.outcomes ≡ false → IsRace (with_outcome race ip outcome)
+pub IsRace-with_outcome : (race : Race) (ip : Ip) (outcome : Outcome) → IsRace race → is_duration (duration_of outcome) ≡ true → is_in_answer race ip ≡ true → has_outcome ip race.outcomes ≡ false → IsRace (with_outcome race ip outcome)
 IsRace-with_outcome race ip outcome r lasts known new = record {
   settings = r.settings;
   policy = r.policy;

@@ -10,12 +10,12 @@ use Rattle.he_plan.specs.declared.outcome.Outcome.{Outcome}
 use Rattle.he_plan.specs.declared.limits.TheConstants.{MAX_TICK, MAX_ADDRESSES, MAX_PAUSES, MAX_PAUSE_END}
 use Rattle.he_plan.specs.Settings.{SettingValues}
 use Rattle.he_select.specs.declared.policy.Row.{Row}
-use Rattle.he_select.specs.Hosts.{Interfaces}
-use Rattle.he_plan.specs.Race.{Race, Reply, reply_of, has_outcome, stands}
+use Rattle.he_select.specs.Hosts.{HostLists}
+use Rattle.he_plan.specs.Race.{Race, Reply, reply_of, has_outcome, is_in_answer}
 use Rattle.he_plan.specs.Timeline.{are_of, are_distinct, is_duration, duration_of}
 
 -- a race with these settings, this policy and this host, in which nothing happens
-abbrev pub empty_race : SettingValues → List Row → Interfaces → Race
+abbrev pub empty_race : SettingValues → List Row → HostLists → Race
 empty_race settings policy host =
     record { settings = settings; policy = policy; host = host; aaaa = None; a = None; outcomes = []; pauses = [] }
 
@@ -38,7 +38,7 @@ with_outcome race ip outcome = record race { outcomes = race.outcomes ++ (ip, ou
 abbrev pub add_outcome : Ip → Outcome → Race → Result Race BuildFault
 add_outcome ip outcome race =
     if not (is_duration (duration_of outcome)) then Err faults.Range
-    else if not (stands race ip) then Err faults.Stranger
+    else if not (is_in_answer race ip) then Err faults.Stranger
     else if has_outcome ip race.outcomes then Err faults.Repeated
     else Ok (with_outcome race ip outcome)
 

@@ -15,7 +15,7 @@ use Rattle.he_plan.specs.Equality.{same_outcome, same_told, same_pause, same_rep
 use Rattle.he_plan.specs.Race.{Race, Reply}
 use Rattle.he_plan.specs.Settings.{SettingValues}
 use Rattle.he_select.specs.declared.policy.Row.{Row}
-use Rattle.he_select.specs.Hosts.{Interfaces}
+use Rattle.he_select.specs.Hosts.{HostLists}
 use Rattle.he_select.proofs.Equality.{hosts_decide, tables_decide}
 
 is_true : Bool → Type 0
@@ -119,7 +119,7 @@ race_from x y h =
     let but_host = and_left _ _ but_aaaa in
     let e : SettingValues → Race = λ v. record x { settings = v } in
     let f : List Row → Race = λ v. record x { settings = y.settings; policy = v } in
-    let g : Interfaces → Race = λ v. record x { settings = y.settings; policy = y.policy; host = v } in
+    let g : HostLists → Race = λ v. record x { settings = y.settings; policy = y.policy; host = v } in
     let k : Option Reply → Race = λ v. record y { aaaa = v; a = x.a; outcomes = x.outcomes; pauses = x.pauses } in
     let l : Option Reply → Race = λ v. record y { a = v; outcomes = x.outcomes; pauses = x.pauses } in
     let m : List (Ip × Outcome) → Race = λ v. record y { outcomes = v; pauses = x.pauses } in

@@ -20,12 +20,12 @@ abbrev pub is_leading : List Ip → Ip → Bool
 is_leading ips ip = option_map_or (λ first. is_of (family_of first) ip) (slice_get ips 0) false
 
 -- the turn: the leading family's first `count` members have 0 and its others 2, 4, 6 .., the other family's members 1, 3, 5 ..
-abbrev pub key_of : List Ip → ℕ → Numbered → ℕ
-key_of ips count item = cond (is_leading ips item.ip) (2 * (item.number + 1 - count)) (2 * item.number + 1)
+abbrev pub interlacing_key : List Ip → ℕ → Numbered → ℕ
+interlacing_key ips count item = cond (is_leading ips item.ip) (2 * (item.number + 1 - count)) (2 * item.number + 1)
 
 -- by key, then by number
 abbrev pub comes_before : List Ip → ℕ → Numbered → Numbered → Bool
-comes_before ips count a b = nat_lt (key_of ips count a) (key_of ips count b) || (key_of ips count a == key_of ips count b && nat_lt a.number b.number)
+comes_before ips count a b = nat_lt (interlacing_key ips count a) (interlacing_key ips count b) || (interlacing_key ips count a == interlacing_key ips count b && nat_lt a.number b.number)
 
 -- the result has the addresses of the list, by key, then by number
 pub record IsInterlaced (ips : List Ip) (count : ℕ) (result : List Ip) : Type 0 where

@@ -9,7 +9,7 @@ use Rattle.he_addr.specs.declared.ip.Ip.{Ip}
 use Rattle.he_plan.specs.declared.outcome.Outcome.{Outcome}
 use Rattle.he_plan.specs.Settings.{SettingValues}
 use Rattle.he_select.specs.declared.policy.Row.{Row}
-use Rattle.he_select.specs.Hosts.{Interfaces}
+use Rattle.he_select.specs.Hosts.{HostLists}
 
 -- one family's answer: the tick at which it comes, and the addresses as written
 pub record Reply : Type 0 where
@@ -20,7 +20,7 @@ pub record Reply : Type 0 where
 pub record Race : Type 0 where
   pub settings : SettingValues
   pub policy : List Row
-  pub host : Interfaces
+  pub host : HostLists
   pub aaaa : Option Reply
   pub a : Option Reply
   pub outcomes : List (Ip × Outcome)
@@ -38,8 +38,8 @@ abbrev pub has_ip : Ip → List Ip → Bool
 has_ip ip ips = list_any (λ other. same_ip other ip) ips
 
 -- the address stands in one of the answers, usable or not
-abbrev pub stands : Race → Ip → Bool
-stands race ip = has_ip ip (addresses_of race.aaaa) || has_ip ip (addresses_of race.a)
+abbrev pub is_in_answer : Race → Ip → Bool
+is_in_answer race ip = has_ip ip (addresses_of race.aaaa) || has_ip ip (addresses_of race.a)
 
 -- an outcome is given for the address
 abbrev pub has_outcome : Ip → List (Ip × Outcome) → Bool

@@ -9,7 +9,7 @@ use Rattle.he_plan.specs.declared.outcome.Outcome.{Outcome}
 use Rattle.he_plan.specs.declared.outcome.Outcome.TheVariants as outcomes
 use Rattle.he_plan.specs.declared.limits.TheConstants.{MAX_TICK, MAX_ADDRESSES, MIN_DURATION, MAX_DURATION, MAX_PAUSES, MAX_PAUSE_END}
 use Rattle.he_plan.specs.Settings.{IsSettings}
-use Rattle.he_plan.specs.Race.{Race, Reply, has_ip, has_outcome, stands}
+use Rattle.he_plan.specs.Race.{Race, Reply, has_ip, has_outcome, is_in_answer}
 use Rattle.he_select.specs.Hosts.{IsHost}
 use Rattle.he_select.specs.Tables.{IsAdmitted}
 
@@ -40,7 +40,7 @@ is_duration duration = nat_le MIN_DURATION duration && nat_le duration MAX_DURAT
 
 -- an outcome's duration is in range, and its address stands in an answer
 abbrev pub is_outcome : Race → Ip × Outcome → Bool
-is_outcome race p = is_duration (duration_of p.1) && stands race p.0
+is_outcome race p = is_duration (duration_of p.1) && is_in_answer race p.0
 
 -- no address has two outcomes
 abbrev pub are_told_once : List (Ip × Outcome) → Bool

@@ -16,7 +16,7 @@ ghost use Rattle.he_plan.specs.Race.{Race, has_outcome};
 ghost use Rattle.he_plan.specs.Settings.{IsSettings, SettingValues};
 ghost use Rattle.he_plan.specs.Timeline.{IsRace};
 ghost use Rattle.he_select.specs.declared.policy.Row.{Row};
-ghost use Rattle.he_select.specs.Hosts.{Interfaces, IsHost};
+ghost use Rattle.he_select.specs.Hosts.{HostLists, IsHost};
 ghost use Rattle.he_select.specs.Tables.{IsAdmitted};
 
 /// At a tick at which two races are free that differ in outcomes and pauses alone, an attempt may start in both or in
@@ -51,7 +51,7 @@ pub fn one_more_outcome()
 
 /// An answer, an outcome or a pause that the builder takes leaves a race within its ranges.
 pub fn races_grow()
-    ensures empty { (settings : SettingValues) (policy : List Row) (host : Interfaces) → IsSettings settings → IsAdmitted policy → IsHost host → IsRace (empty_race settings policy host) }
+    ensures empty { (settings : SettingValues) (policy : List Row) (host : HostLists) → IsSettings settings → IsAdmitted policy → IsHost host → IsRace (empty_race settings policy host) }
     ensures answer { (race new : Race) (family : Family) (tick : ℕ) (addresses : List Ip) → IsRace race → add_answer family tick addresses race ≡ Ok new → IsRace new }
     ensures outcome { (race new : Race) (ip : Ip) (outcome : Outcome) → IsRace race → add_outcome ip outcome race ≡ Ok new → IsRace new }
     ensures pause { (race new : Race) (from to : ℕ) → IsRace race → add_pause from to race ≡ Ok new → IsRace new }

@@ -2,7 +2,7 @@
 
 ghost use Rattle.std.specs.Prelude.{◌≡◌};
 ghost use Rattle.he_plan.specs.Building.{empty_race, add_answer, add_outcome, add_pause, last_end, Becomes};
-ghost use Rattle.he_plan.specs.Race.{has_ip, stands};
+ghost use Rattle.he_plan.specs.Race.{has_ip, is_in_answer};
 ghost use Rattle.he_plan.specs.Timeline.{are_of, are_distinct, IsRace};
 
 use crate::limits::{
@@ -70,7 +70,7 @@ impl<A: Allocator + Copy> TimelineBuilder<A> {
 
     /// Whether the address stands in one of the answers, usable or not, so that it may have an outcome.
     pub fn stands(&self, ip: Ip) -> bool
-        ensures value { result ≡ stands self.now ip }
+        ensures value { result ≡ is_in_answer self.now ip }
         ensures race { IsRace self.now }
     {
         self.timeline.stands(ip)

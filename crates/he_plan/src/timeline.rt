@@ -3,7 +3,7 @@
 ghost use Rattle.std.specs.Prelude.{All, ◌≡◌, ◌≤◌, drop, length, option_map, max, IfOk, IfSome, IsTrue, OnOk, OnErr};
 ghost use Rattle.std.specs.Cmp.Lexicographic.{pointwise};
 ghost use Rattle.he_addr.specs.Ip.{same_ip, InRange};
-ghost use Rattle.he_plan.specs.Race.{Race, Reply, reply_of, addresses_of, has_ip, has_outcome, stands};
+ghost use Rattle.he_plan.specs.Race.{Race, Reply, reply_of, addresses_of, has_ip, has_outcome, is_in_answer};
 ghost use Rattle.he_plan.specs.Equality.{same_pause, same_reply, same_race};
 ghost use Rattle.he_select.specs.Equality.{equal_hosts, equal_tables};
 ghost use Rattle.he_plan.specs.Timeline.{IsRace, are_pauses, duration_of};
@@ -130,7 +130,7 @@ impl<A: Allocator + Copy> Timeline<A> {
 impl<A: Allocator> Timeline<A> {
     /// Whether the address stands in one of the answers, usable or not.
     pub fn stands(&self, ip: Ip) -> bool
-        ensures value { result ≡ stands self.now ip }
+        ensures value { result ≡ is_in_answer self.now ip }
         ensures race { IsRace self.now }
     {
         stands_in(&self.aaaa, ip) || stands_in(&self.a, ip)

@@ -5,7 +5,7 @@ use Rattle.he_plan.specs.Race.{Race}
 use Rattle.he_text.specs.declared.fault.TextFault.{TextFault}
 use Rattle.he_text.specs.declared.fault.TextKind.{TextKind}
 use Rattle.he_text.specs.declared.fault.TextKind.TheVariants as kinds
-use Rattle.he_text.specs.Beginnings.{FaultStands, IsTableFault, MayChange}
+use Rattle.he_text.specs.Beginnings.{FaultStands, IsPolicyFault, MayChange}
 use Rattle.he_text.specs.FaultSearch.{fault_of}
 use Rattle.he_text.specs.Parts.{lines_of}
 use Rattle.he_replay.specs.declared.output.InputFault.{InputFault}
@@ -42,7 +42,7 @@ line_in None = 0
 
 -- a fault that what follows may mend is a policy table's, on the last line
 table_behind : (lines : ℕ) (rest : List ℕ) (n : ℕ) (kind : TextKind) (fault : TextFault) → Some (Text fault) ≡ Some (fault_behind true lines (n, kind)) → MayChange rest n kind
-    → IsTableFault fault.kind × (fault.line ≡ lines + line_count rest)
+    → IsPolicyFault fault.kind × (fault.line ≡ lines + line_count rest)
 unfolding line_in kind_in
 table_behind lines rest n kind fault told (inl unfinished) =
     let bad : Some (Text fault) ≡ Some Read = told ∙ ap (λ k. Some (fault_behind true lines (n, k))) unfinished in cc
@@ -57,7 +57,7 @@ module _
   where
     -- a fault of what stands behind whole races of a broken input stands whatever follows, or is a policy table's
     known_behind : (count lines : ℕ) (rest : List ℕ) (fault : TextFault) → IsFault true count lines rest (Some (Text fault))
-        → ((more : List ℕ) (is_broken : Bool) → IsFault is_broken count lines (rest ++ more) (Some (Text fault))) ⊎ (IsTableFault fault.kind × (fault.line ≡ lines + line_count rest))
+        → ((more : List ℕ) (is_broken : Bool) → IsFault is_broken count lines (rest ++ more) (Some (Text fault))) ⊎ (IsPolicyFault fault.kind × (fault.line ≡ lines + line_count rest))
     known_behind count lines [] fault is = cc
     known_behind count lines (byte ∷ rest) fault (inl most) = inl (λ more is_broken. inl most)
     known_behind count lines (byte ∷ rest) fault (inr (few, (n, kind), is, told)) =

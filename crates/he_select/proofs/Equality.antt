@@ -11,7 +11,7 @@ use Rattle.he_addr.specs.Prefix.{PrefixBits}
 use Rattle.he_select.specs.declared.host.Route.{Route}
 use Rattle.he_select.specs.declared.host.Source.{Source}
 use Rattle.he_select.specs.declared.policy.Row.{Row}
-use Rattle.he_select.specs.Hosts.{Interfaces}
+use Rattle.he_select.specs.Hosts.{HostLists}
 use Rattle.he_select.specs.Tables.{same_prefix}
 use Rattle.he_select.specs.Equality.{equal_row, equal_source, equal_route, equal_tables, equal_hosts}
 
@@ -123,16 +123,16 @@ sources_decide xs ys = slice_eq-Decides (λ x y. decides_by equal_source x y (so
 routes_decide : (xs ys : List Route) → Decides (pointwise equal_route xs ys) (xs ≡ ys)
 routes_decide xs ys = slice_eq-Decides (λ x y. decides_by equal_route x y (route_from x y) (route_self x)) xs ys (pointwise equal_route xs ys) refl
 
-host_from : (x y : Interfaces) → equal_hosts x y ≡ true → x ≡ y
+host_from : (x y : HostLists) → equal_hosts x y ≡ true → x ≡ y
 host_from x y h =
-    let f : List Source → Interfaces = λ v. record { sources = v; routes = x.routes } in
-    let g : List Route → Interfaces = λ v. record { sources = y.sources; routes = v } in
+    let f : List Source → HostLists = λ v. record { sources = v; routes = x.routes } in
+    let g : List Route → HostLists = λ v. record { sources = y.sources; routes = v } in
     ap f ((sources_decide x.sources y.sources).0 (and_left _ _ h)) ∙ ap g ((routes_decide x.routes y.routes).0 (and_right _ _ h))
 
-host_self : (x : Interfaces) → equal_hosts x x ≡ true
+host_self : (x : HostLists) → equal_hosts x x ≡ true
 host_self x = and_both _ _ ((sources_decide x.sources x.sources).1 refl) ((routes_decide x.routes x.routes).1 refl)
 
-pub hosts_decide : (x y : Interfaces) → Decides (equal_hosts x y) (x ≡ y)
+pub hosts_decide : (x y : HostLists) → Decides (equal_hosts x y) (x ≡ y)
 hosts_decide x y = decides_by equal_hosts x y (host_from x y) (host_self x)
 
 -- what is told by the same test is decided by it

@@ -14,7 +14,7 @@ use Rattle.he_select.specs.declared.host.Route.{Route}
 use Rattle.he_select.specs.declared.host.Source.{Source}
 use Rattle.he_select.specs.Faults.{IsHostFault}
 use Rattle.he_select.specs.HostFaults.{host_causes, host_fault, is_sound_route, is_sound_source}
-use Rattle.he_select.specs.Hosts.{AddressesDiffer, HasHostSize, Interfaces, IsHost, IsSoundRoute, IsSoundSource, RoutesDiffer, same_route, same_source}
+use Rattle.he_select.specs.Hosts.{AddressesDiffer, HasHostSize, HostLists, IsHost, IsSoundRoute, IsSoundSource, RoutesDiffer, same_route, same_source}
 use Rattle.he_select.specs.Ranges.{least_interface, most_routes, most_sources}
 use Rattle.he_select.specs.Refusals.{cause_if, first_repeat}
 use Rattle.he_select.specs.Tables.{same_prefix}
@@ -72,25 +72,25 @@ few_from m n h = (grind (arith, nat_tests), grind (arith, nat_tests))
 from_few : (m n : ℕ) → (m ≤ most_sources) × (n ≤ most_routes) → (nat_lt SOURCES m || nat_lt ROUTES n) ≡ false
 from_few m n h = let few : m ≤ 64 = h.0 in let also : n ≤ 64 = h.1 in grind (arith, nat_tests)
 
-abbrev is_much : Interfaces → Bool
+abbrev is_much : HostLists → Bool
 is_much host = nat_lt SOURCES (length host.sources) || nat_lt ROUTES (length host.routes)
 
-abbrev size_cause : Interfaces → Option HostFault
+abbrev size_cause : HostLists → Option HostFault
 size_cause host = cause_if (is_much host) faults.TooMany
 
-abbrev source_cause : Interfaces → Option HostFault
+abbrev source_cause : HostLists → Option HostFault
 source_cause host = option_map faults.RepeatedSource (first_repeat same_source host.sources)
 
-abbrev route_cause : Interfaces → Option HostFault
+abbrev route_cause : HostLists → Option HostFault
 route_cause host = option_map faults.RepeatedRoute (first_repeat same_route host.routes)
 
-abbrev bad_source_cause : Interfaces → Option HostFault
+abbrev bad_source_cause : HostLists → Option HostFault
 bad_source_cause host = option_map faults.BadSource (position_from (λ source. not (is_sound_source source)) 0 host.sources)
 
-abbrev bad_route_cause : Interfaces → Option HostFault
+abbrev bad_route_cause : HostLists → Option HostFault
 bad_route_cause host = option_map faults.BadRoute (position_from (λ route. not (is_sound_route route)) 0 host.routes)
 
-pub no_fault_from : (host : Interfaces) → IsHost host → host_fault host.sources host.routes ≡ None
+pub no_fault_from : (host : HostLists) → IsHost host → host_fault host.sources host.routes ≡ None
 unfolding host_fault
 no_fault_from host h =
     none_of_five (size_cause host) (source_cause host) (route_cause host) (bad_source_cause host) (bad_route_cause host)
@@ -100,22 +100,22 @@ no_fault_from host h =
     (ap (option_map faults.BadSource) (all_pass IsSoundSource is_sound_source source_sound sound_source host.sources h.sound_sources))
     (ap (option_map faults.BadRoute) (all_pass IsSoundRoute is_sound_route route_sound sound_route host.routes h.sound_routes))
 
-sized : (host : Interfaces) → size_cause host ≡ None → HasHostSize host
+sized : (host : HostLists) → size_cause host ≡ None → HasHostSize host
 sized host e = few_from (length host.sources) (length host.routes) (cause_none (is_much host) faults.TooMany e)
 
-addresses_differ : (host : Interfaces) → source_cause host ≡ None → AddressesDiffer host
+addresses_differ : (host : HostLists) → source_cause host ≡ None → AddressesDiffer host
 addresses_differ host e = apart (λ (source : Source). source.ip) same_source source_equal source_itself host.sources (no_repeat same_source host.sources (map_none faults.RepeatedSource (first_repeat same_source host.sources) e))
 
-routes_differ : (host : Interfaces) → route_cause host ≡ None → RoutesDiffer host
+routes_differ : (host : HostLists) → route_cause host ≡ None → RoutesDiffer host
 routes_differ host e = apart (λ (route : Route). route.prefix) same_route route_equal route_itself host.routes (no_repeat same_route host.routes (map_none faults.RepeatedRoute (first_repeat same_route host.routes) e))
 
-sources_sound : (host : Interfaces) → bad_source_cause host ≡ None → All IsSoundSource host.sources
+sources_sound : (host : HostLists) → bad_source_cause host ≡ None → All IsSoundSource host.sources
 sources_sound host e = none_failing IsSoundSource is_sound_source source_sound sound_source host.sources (map_none faults.BadSource (position_from (λ source. not (is_sound_source source)) 0 host.sources) e)
 
-routes_sound : (host : Interfaces) → bad_route_cause host ≡ None → All IsSoundRoute host.routes
+routes_sound : (host : HostLists) → bad_route_cause host ≡ None → All IsSoundRoute host.routes
 routes_sound host e = none_failing IsSoundRoute is_sound_route route_sound sound_route host.routes (map_none faults.BadRoute (position_from (λ route. not (is_sound_route route)) 0 host.routes) e)
 
-pub host_from : (host : Interfaces) → IsTrue (is_none (host_fault host.sources host.routes)) → IsHost host
+pub host_from : (host : HostLists) → IsTrue (is_none (host_fault host.sources host.routes)) → IsHost host
 unfolding host_fault
 host_from host h =
     let n = none_stands (host_causes host.sources host.routes) h in
@@ -127,7 +127,7 @@ host_from host h =
       sound_routes = routes_sound host (none_is (bad_route_cause host) n.1.1.1.1.0);
     }
 
-pub first_host_fault : (host : Interfaces) (fault : HostFault) → host_fault host.sources host.routes ≡ Some fault → IsHostFault host fault
+pub first_host_fault : (host : HostLists) (fault : HostFault) → host_fault host.sources host.routes ≡ Some fault → IsHostFault host fault
 unfolding host_fault
 first_host_fault host fault e =
     let P : HostFault → Type 0 = IsHostFault host in
@@ -145,14 +145,14 @@ first_host_fault host fault e =
     subst P is.2 (sized host a, addresses_differ host b, routes_differ host c, sources_sound host d, first_failing IsSoundRoute is_sound_route route_sound sound_route host.routes is.0 is.1))
 
 -- each source of a host is sound
-pub all_sound : (host : Interfaces) → IsHost host → IsTrue (list_all is_sound_source host.sources)
+pub all_sound : (host : HostLists) → IsHost host → IsTrue (list_all is_sound_source host.sources)
 unfolding host_fault
 all_sound host h =
     all_from_none is_sound_source host.sources 0 (ap is_none (all_pass IsSoundSource is_sound_source source_sound sound_source host.sources h.sound_sources))
 
-pub no_fault : (host : Interfaces) → IsHost host → IsTrue (is_none (host_fault host.sources host.routes))
+pub no_fault : (host : HostLists) → IsHost host → IsTrue (is_none (host_fault host.sources host.routes))
 no_fault host h = ap is_none (no_fault_from host h)
 
 -- what the search answers, as a host is made of it
-pub host_by : (host : Interfaces) (answer : Option HostFault) → answer ≡ host_fault host.sources host.routes → answer ≡ None → IsHost host
+pub host_by : (host : HostLists) (answer : Option HostFault) → answer ≡ host_fault host.sources host.routes → answer ≡ None → IsHost host
 host_by host answer is none = host_from host (ap is_none (sym is ∙ none))

@@ -17,7 +17,7 @@ use Rattle.he_select.specs.declared.ranking.Key.{Key}
 use Rattle.he_select.specs.DestinationKeys.{destination_key, key_cmp}
 use Rattle.he_select.specs.Preference.{Member, common_with_source, destination_rules, has_current_source, has_like_label, has_like_scope, is_native}
 use Rattle.he_select.specs.Rules.{first_of}
-use Rattle.he_select.specs.Selection.{World, is_reachable, source_of}
+use Rattle.he_select.specs.Selection.{SelectionInput, is_reachable, source_of}
 use Rattle.he_select.specs.Tables.{precedence_of}
 use Rattle.he_select.proofs.Orders.{alike, sourced, sourced_common, step, then_equal, tied_numbers, yes_as_less}
 
@@ -67,22 +67,22 @@ same_family true false e = cc
 same_family false true e = cc
 same_family false false e = refl
 
-pub by_keys : (world : World) → PartsFamilies world.rows → (a b : Member) → IsUsable a.ip → IsUsable b.ip
-    → first_of (destination_rules world) a b ≡ key_cmp (destination_key world a) (destination_key world b)
+pub by_keys : (input : SelectionInput) → PartsFamilies input.rows → (a b : Member) → IsUsable a.ip → IsUsable b.ip
+    → first_of (destination_rules input) a b ≡ key_cmp (destination_key input a) (destination_key input b)
 unfolding destination_rules destination_key key_cmp
-by_keys world parts a b ua ub =
-    let ra : Bool = is_reachable world a.ip in
-    let rb : Bool = is_reachable world b.ip in
+by_keys input parts a b ua ub =
+    let ra : Bool = is_reachable input a.ip in
+    let rb : Bool = is_reachable input b.ip in
     step (yes_as_less ra rb) (λ tied.
     let both : ra ≡ rb = alike ra rb tied in
-    step (sourced ra rb (has_like_scope world a.ip) (has_like_scope world b.ip) both) (λ _.
-    step (sourced ra rb (has_current_source world a.ip) (has_current_source world b.ip) both) (λ _.
-    step (sourced ra rb (has_like_label world a.ip) (has_like_label world b.ip) both) (λ _.
-    step {o = nat_cmp (precedence_of world.rows b.ip) (precedence_of world.rows a.ip)} refl (λ even.
-    step (yes_as_less (is_native world a.ip) (is_native world b.ip)) (λ _.
+    step (sourced ra rb (has_like_scope input a.ip) (has_like_scope input b.ip) both) (λ _.
+    step (sourced ra rb (has_current_source input a.ip) (has_current_source input b.ip) both) (λ _.
+    step (sourced ra rb (has_like_label input a.ip) (has_like_label input b.ip) both) (λ _.
+    step {o = nat_cmp (precedence_of input.rows b.ip) (precedence_of input.rows a.ip)} refl (λ even.
+    step (yes_as_less (is_native input a.ip) (is_native input b.ip)) (λ _.
     step {o = nat_cmp (scope_of a.ip) (scope_of b.ip)} refl (λ _.
-    step (sourced_common ra rb (beq (is_v6 a.ip) (is_v6 b.ip)) (common_with_source world a.ip) (common_with_source world b.ip) both
+    step (sourced_common ra rb (beq (is_v6 a.ip) (is_v6 b.ip)) (common_with_source input a.ip) (common_with_source input b.ip) both
     (same_family (is_v6 a.ip) (is_v6 b.ip) (parts a.ip b.ip ua ub (sym (tied_numbers _ _ even))))
-    (nothing_common (source_of world a.ip) (λ s. common_of s.ip s.plen a.ip))
-    (nothing_common (source_of world b.ip) (λ s. common_of s.ip s.plen b.ip))) (λ _.
+    (nothing_common (source_of input a.ip) (λ s. common_of s.ip s.plen a.ip))
+    (nothing_common (source_of input b.ip) (λ s. common_of s.ip s.plen b.ip))) (λ _.
     then_equal (nat_cmp a.place b.place)))))))))

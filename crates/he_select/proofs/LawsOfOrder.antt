@@ -20,7 +20,7 @@ use Rattle.he_select.specs.declared.host.Source.{Source}
 use Rattle.he_select.specs.DestinationKeys.{key_cmp, destination_key}
 use Rattle.he_select.specs.Laws.{EveryAddressHasRow, PreferenceIsByKeys, PreferenceIsStrictTotalOrder, ReachableWhereCandidates}
 use Rattle.he_select.specs.Rules.{best_by}
-use Rattle.he_select.specs.Selection.{World, candidates, is_better, is_candidate, route_of, source_of}
+use Rattle.he_select.specs.Selection.{SelectionInput, candidates, is_better, is_candidate, route_of, source_of}
 use Rattle.he_select.specs.TableFaults.{has_row, table_causes, table_fault}
 use Rattle.he_select.specs.Tables.{any_address}
 use Rattle.he_select.proofs.Admitted.{no_fault}
@@ -32,7 +32,7 @@ use Rattle.he_select.proofs.Orders.{was_less}
 use Rattle.he_select.proofs.Sources.{by_source_keys, key_for, source_keys_total}
 
 pub preference_by_keys : PreferenceIsByKeys
-preference_by_keys world admitted a b ua ub = ap is_lt (by_keys world (parts_families world.rows admitted) a b ua ub)
+preference_by_keys input admitted a b ua ub = ap is_lt (by_keys input (parts_families input.rows admitted) a b ua ub)
 
 one_first : (o p : Ordering) → p ≡ ordering_reverse o → (o ≡ Equal → ⊥) → (is_lt o ≡ true) ⊎ (is_lt p ≡ true)
 one_first Less p e h = inl refl
@@ -41,14 +41,14 @@ one_first Greater p e h = inr (ap is_lt e)
 
 pub preference_orders : PreferenceIsStrictTotalOrder
 unfolding destination_key
-preference_orders world admitted =
-    let keyed = preference_by_keys world admitted in
+preference_orders input admitted =
+    let keyed = preference_by_keys input admitted in
     record {
-      irreflexive = λ a ua. keyed a a ua ua ∙ ap is_lt (tied_itself keys_total (destination_key world a));
+      irreflexive = λ a ua. keyed a a ua ua ∙ ap is_lt (tied_itself keys_total (destination_key input a));
       transitive = λ a b c ua ub uc ab bc.
-          keyed a c ua uc ∙ ap is_lt (keys_total.trans (destination_key world a) (destination_key world b) (destination_key world c) (was_less _ (sym (keyed a b ua ub) ∙ ab)) (was_less _ (sym (keyed b c ub uc) ∙ bc)));
+          keyed a c ua uc ∙ ap is_lt (keys_total.trans (destination_key input a) (destination_key input b) (destination_key input c) (was_less _ (sym (keyed a b ua ub) ∙ ab)) (was_less _ (sym (keyed b c ub uc) ∙ bc)));
       total = λ a b ua ub apart.
-          elim (one_first (key_cmp (destination_key world a) (destination_key world b)) (key_cmp (destination_key world b) (destination_key world a)) (keys_total.antisymm (destination_key world b) (destination_key world a)) (λ tied. apart (same_place (destination_key world a) (destination_key world b) tied))) [
+          elim (one_first (key_cmp (destination_key input a) (destination_key input b)) (key_cmp (destination_key input b) (destination_key input a)) (keys_total.antisymm (destination_key input b) (destination_key input a)) (λ tied. apart (same_place (destination_key input a) (destination_key input b) tied))) [
             | inl ab ↦ inl (keyed a b ua ub ∙ ab)
             | inr ba ↦ inr (keyed b a ub ua ∙ ba)
           ];
@@ -60,28 +60,28 @@ ranks_alike lt other e o = record {
   chain = λ x y z h k. e x z ∙ o.chain x y z (sym (e x y) ∙ h) (sym (e y z) ∙ k);
 }
 
-better_ranks : (world : World) (ip : Ip) (route : Route) → route_of world ip ≡ Some route → IsStrictWeakOrder (is_better world ip)
-better_ranks world ip route e =
-    ranks_alike _ (is_better world ip) (λ a b. ap is_lt (by_source_keys world ip route e a b)) (ranks_by source_keys_total (key_for world ip route))
+better_ranks : (input : SelectionInput) (ip : Ip) (route : Route) → route_of input ip ≡ Some route → IsStrictWeakOrder (is_better input ip)
+better_ranks input ip route e =
+    ranks_alike _ (is_better input ip) (λ a b. ap is_lt (by_source_keys input ip route e a b)) (ranks_by source_keys_total (key_for input ip route))
 
-reached : (world : World) (ip : Ip) (list : List Source) → candidates world ip ≡ list → (route : Option Route) → route_of world ip ≡ route → 0 < length list → is_some (source_of world ip) ≡ true
+reached : (input : SelectionInput) (ip : Ip) (list : List Source) → candidates input ip ≡ list → (route : Option Route) → route_of input ip ≡ route → 0 < length list → is_some (source_of input ip) ≡ true
 unfolding source_of candidates
-reached world ip [] is route e some = absurd (omega arith)
-reached world ip (s ∷ ss) is None e some =
-    let none : candidates world ip ≡ [] = ap (λ o. option_map_or (λ r. filter (is_candidate r ip) world.sources) o []) e in
+reached input ip [] is route e some = absurd (omega arith)
+reached input ip (s ∷ ss) is None e some =
+    let none : candidates input ip ≡ [] = ap (λ o. option_map_or (λ r. filter (is_candidate r ip) input.sources) o []) e in
     let clash : s ∷ ss ≡ [] = sym is ∙ none in
     cc
-reached world ip (s ∷ ss) is (Some route) e some =
-    let best = best_is (is_better world ip) (better_ranks world ip route e) (s ∷ ss) s (inl refl) in
-    ap (λ l. is_some (best_by (is_better world ip) l)) is ∙ ap is_some best.1
+reached input ip (s ∷ ss) is (Some route) e some =
+    let best = best_is (is_better input ip) (better_ranks input ip route e) (s ∷ ss) s (inl refl) in
+    ap (λ l. is_some (best_by (is_better input ip) l)) is ∙ ap is_some best.1
 
-some_candidate : (world : World) (ip : Ip) (list : List Source) → candidates world ip ≡ list → is_some (source_of world ip) ≡ true → 0 < length list
+some_candidate : (input : SelectionInput) (ip : Ip) (list : List Source) → candidates input ip ≡ list → is_some (source_of input ip) ≡ true → 0 < length list
 unfolding source_of
-some_candidate world ip [] is h = absurd (false≢true (sym (ap (λ l. is_some (best_by (is_better world ip) l)) is) ∙ h))
-some_candidate world ip (s ∷ ss) is h = omega arith
+some_candidate input ip [] is h = absurd (false≢true (sym (ap (λ l. is_some (best_by (is_better input ip) l)) is) ∙ h))
+some_candidate input ip (s ∷ ss) is h = omega arith
 
 pub reachable_law : ReachableWhereCandidates
-reachable_law world ip = (some_candidate world ip (candidates world ip) refl, reached world ip (candidates world ip) refl (route_of world ip) refl)
+reachable_law input ip = (some_candidate input ip (candidates input ip) refl, reached input ip (candidates input ip) refl (route_of input ip) refl)
 
 starts_anything : (ip : Ip) → InRange ip → contains any_address ip ≡ true
 starts_anything (V4 n) small = eq-eqb ((65535 * 2 ^ 32 + n) / 2 ^ 128) 0 (div-eq_of_lt (omega arith))

@@ -15,7 +15,7 @@ use Rattle.he_select.specs.declared.selection.Candidate.{Candidate}
 use Rattle.he_select.specs.declared.selection.SourceKey.{SourceKey}
 use Rattle.he_select.specs.Keys.{admits, candidate_of, is_better_candidate, destination_of, labelled_of, source_key, source_key_cmp}
 use Rattle.he_select.specs.Rules.{first_of, best_by}
-use Rattle.he_select.specs.Selection.{World, candidates, is_better, is_candidate, route_of, source_of, source_rules}
+use Rattle.he_select.specs.Selection.{SelectionInput, candidates, is_better, is_candidate, route_of, source_of, source_rules}
 use Rattle.he_select.specs.Tables.{label_of}
 use Rattle.he_select.specs.Walking.{walk_fitting}
 use Rattle.he_select.proofs.Listing.{best_by-map, best_by-same, filter-map}
@@ -34,8 +34,8 @@ source_keys_total =
     (then_total (on_total (λ (k : SourceKey). k.lasting) bool_cmp_total)
     (back_total (on_total (λ (k : SourceKey). k.common.0) nat_cmp_total))))))))
 
-abbrev pub key_for : World → Ip → Route → Source → SourceKey
-key_for world ip route source = source_key (destination_of ip (label_of world.rows ip) route) (labelled_of world.rows source)
+abbrev pub key_for : SelectionInput → Ip → Route → Source → SourceKey
+key_for input ip route source = source_key (destination_of ip (label_of input.rows ip) route) (labelled_of input.rows source)
 
 -- a route that there is decides rule 5 by its interface
 by_interface : (o : Option Route) (route : Route) (a b : Source) → o ≡ Some route
@@ -45,50 +45,50 @@ by_interface o route a b e =
     ap (λ t. bool_cmp (option_map_or (λ r. nat_eq b.interface r.interface) t false) (option_map_or (λ r. nat_eq a.interface r.interface) t false)) e
     ∙ yes_as_less (nat_eq a.interface route.interface) (nat_eq b.interface route.interface)
 
-pub by_source_keys : (world : World) (ip : Ip) (route : Route) → route_of world ip ≡ Some route → (a b : Source)
-    → first_of (source_rules world ip) a b ≡ source_key_cmp (key_for world ip route a) (key_for world ip route b)
+pub by_source_keys : (input : SelectionInput) (ip : Ip) (route : Route) → route_of input ip ≡ Some route → (a b : Source)
+    → first_of (source_rules input ip) a b ≡ source_key_cmp (key_for input ip route a) (key_for input ip route b)
 unfolding source_rules source_key source_key_cmp
-by_source_keys world ip route e a b =
+by_source_keys input ip route e a b =
     then_same (yes_as_less (same_ip a.ip ip) (same_ip b.ip ip))
     (scope_then (scope_of ip) (scope_of a.ip) (scope_of b.ip)
     (then_same (no_as_less a.deprecated b.deprecated)
-    (then_same (by_interface (route_of world ip) route a b e)
-    (then_same (yes_as_less (nat_eq (label_of world.rows a.ip) (label_of world.rows ip)) (nat_eq (label_of world.rows b.ip) (label_of world.rows ip)))
+    (then_same (by_interface (route_of input ip) route a b e)
+    (then_same (yes_as_less (nat_eq (label_of input.rows a.ip) (label_of input.rows ip)) (nat_eq (label_of input.rows b.ip) (label_of input.rows ip)))
     (then_same (yes_as_less a.temporary b.temporary)
     (then_equal (nat_cmp (common_of b.ip b.plen ip) (common_of a.ip a.plen ip))))))))
 
-abbrev pub made : World → Ip → Route → Source → Candidate
-made world ip route source = candidate_of (destination_of ip (label_of world.rows ip) route) (labelled_of world.rows source)
+abbrev pub made : SelectionInput → Ip → Route → Source → Candidate
+made input ip route source = candidate_of (destination_of ip (label_of input.rows ip) route) (labelled_of input.rows source)
 
 keys_rank : IsStrictWeakOrder is_better_candidate
 keys_rank = ranks_by source_keys_total (λ (c : Candidate). c.key)
 
 -- the loop over the candidates' keys finds the source
-pub source_walked : (world : World) (ip : Ip) (route : Route) → route_of world ip ≡ Some route
-    → walk_fitting (λ candidate. admits (destination_of ip (label_of world.rows ip) route) candidate.source) is_better_candidate None (map (made world ip route) world.sources)
-    ≡ option_map (made world ip route) (source_of world ip)
+pub source_walked : (input : SelectionInput) (ip : Ip) (route : Route) → route_of input ip ≡ Some route
+    → walk_fitting (λ candidate. admits (destination_of ip (label_of input.rows ip) route) candidate.source) is_better_candidate None (map (made input ip route) input.sources)
+    ≡ option_map (made input ip route) (source_of input ip)
 unfolding source_of candidates
-source_walked world ip route e =
-    let to : Source → Candidate = made world ip route in
-    let fits : Candidate → Bool = λ c. admits (destination_of ip (label_of world.rows ip) route) c.source in
-    best_fitting is_better_candidate keys_rank fits (map to world.sources)
-    ∙ ap (best_by is_better_candidate) (filter-map to fits world.sources)
-    ∙ best_by-map to is_better_candidate (filter (is_candidate route ip) world.sources)
-    ∙ ap (option_map to) (best_by-same (λ a b. is_better_candidate (to a) (to b)) (is_better world ip) (λ a b. sym (ap is_lt (by_source_keys world ip route e a b))) (filter (is_candidate route ip) world.sources))
-    ∙ ap (λ o. option_map to (best_by (is_better world ip) (option_map_or (λ r. filter (is_candidate r ip) world.sources) o []))) (sym e)
+source_walked input ip route e =
+    let to : Source → Candidate = made input ip route in
+    let fits : Candidate → Bool = λ c. admits (destination_of ip (label_of input.rows ip) route) c.source in
+    best_fitting is_better_candidate keys_rank fits (map to input.sources)
+    ∙ ap (best_by is_better_candidate) (filter-map to fits input.sources)
+    ∙ best_by-map to is_better_candidate (filter (is_candidate route ip) input.sources)
+    ∙ ap (option_map to) (best_by-same (λ a b. is_better_candidate (to a) (to b)) (is_better input ip) (λ a b. sym (ap is_lt (by_source_keys input ip route e a b))) (filter (is_candidate route ip) input.sources))
+    ∙ ap (λ o. option_map to (best_by (is_better input ip) (option_map_or (λ r. filter (is_candidate r ip) input.sources) o []))) (sym e)
 
 -- without a route there is no source
-pub no_source : (world : World) (ip : Ip) → route_of world ip ≡ None → source_of world ip ≡ None
+pub no_source : (input : SelectionInput) (ip : Ip) → route_of input ip ≡ None → source_of input ip ≡ None
 unfolding source_of candidates
-no_source world ip e = ap (λ o. best_by (is_better world ip) (option_map_or (λ r. filter (is_candidate r ip) world.sources) o [])) e
+no_source input ip e = ap (λ o. best_by (is_better input ip) (option_map_or (λ r. filter (is_candidate r ip) input.sources) o [])) e
 
-mapped_ip : (world : World) (ip : Ip) (route : Route) (o : Option Source) → option_map (λ (c : Candidate). c.source.ip) (option_map (made world ip route) o) ≡ option_map (λ (s : Source). s.ip) o
-mapped_ip world ip route None = refl
-mapped_ip world ip route (Some source) = refl
+mapped_ip : (input : SelectionInput) (ip : Ip) (route : Route) (o : Option Source) → option_map (λ (c : Candidate). c.source.ip) (option_map (made input ip route) o) ≡ option_map (λ (s : Source). s.ip) o
+mapped_ip input ip route None = refl
+mapped_ip input ip route (Some source) = refl
 
 -- the address of what the loop finds
-pub walked_ip : (world : World) (ip : Ip) (route : Route) → route_of world ip ≡ Some route → (best : Option Candidate)
-    → best ≡ walk_fitting (λ candidate. admits (destination_of ip (label_of world.rows ip) route) candidate.source) is_better_candidate None (map (made world ip route) world.sources)
-    → option_map (λ (c : Candidate). c.source.ip) best ≡ option_map (λ (s : Source). s.ip) (source_of world ip)
-walked_ip world ip route e best is =
-    ap (option_map (λ (c : Candidate). c.source.ip)) (is ∙ source_walked world ip route e) ∙ mapped_ip world ip route (source_of world ip)
+pub walked_ip : (input : SelectionInput) (ip : Ip) (route : Route) → route_of input ip ≡ Some route → (best : Option Candidate)
+    → best ≡ walk_fitting (λ candidate. admits (destination_of ip (label_of input.rows ip) route) candidate.source) is_better_candidate None (map (made input ip route) input.sources)
+    → option_map (λ (c : Candidate). c.source.ip) best ≡ option_map (λ (s : Source). s.ip) (source_of input ip)
+walked_ip input ip route e best is =
+    ap (option_map (λ (c : Candidate). c.source.ip)) (is ∙ source_walked input ip route e) ∙ mapped_ip input ip route (source_of input ip)

@@ -5,20 +5,20 @@ use Rattle.std.specs.Ordering.{nat_cmp, bool_cmp, ordering_then}
 use Rattle.he_addr.specs.Ip.{scope_of}
 use Rattle.he_select.specs.declared.ranking.Key.{Key}
 use Rattle.he_select.specs.Preference.{Member, common_with_source, has_current_source, has_like_label, has_like_scope, is_native}
-use Rattle.he_select.specs.Selection.{World, is_reachable}
+use Rattle.he_select.specs.Selection.{SelectionInput, is_reachable}
 use Rattle.he_select.specs.Tables.{precedence_of}
 
 -- the destination rules as numbers; 0 in those about the source, where there is none
-unfoldable pub destination_key : World → Member → Key
-destination_key world m = record {
-  unreachable = not (is_reachable world m.ip);
-  other_scope = is_reachable world m.ip && not (has_like_scope world m.ip);
-  deprecated = is_reachable world m.ip && not (has_current_source world m.ip);
-  other_label = is_reachable world m.ip && not (has_like_label world m.ip);
-  precedence = record { 0 = precedence_of world.rows m.ip };
-  tunnel = not (is_native world m.ip);
+unfoldable pub destination_key : SelectionInput → Member → Key
+destination_key input m = record {
+  unreachable = not (is_reachable input m.ip);
+  other_scope = is_reachable input m.ip && not (has_like_scope input m.ip);
+  deprecated = is_reachable input m.ip && not (has_current_source input m.ip);
+  other_label = is_reachable input m.ip && not (has_like_label input m.ip);
+  precedence = record { 0 = precedence_of input.rows m.ip };
+  tunnel = not (is_native input m.ip);
   scope = scope_of m.ip;
-  common = record { 0 = common_with_source world m.ip };
+  common = record { 0 = common_with_source input m.ip };
   place = m.place;
 }
 

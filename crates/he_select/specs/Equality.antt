@@ -6,7 +6,7 @@ use Rattle.he_addr.specs.Ip.{same_ip}
 use Rattle.he_select.specs.declared.host.Route.{Route}
 use Rattle.he_select.specs.declared.host.Source.{Source}
 use Rattle.he_select.specs.declared.policy.Row.{Row}
-use Rattle.he_select.specs.Hosts.{Interfaces}
+use Rattle.he_select.specs.Hosts.{HostLists}
 use Rattle.he_select.specs.Tables.{same_prefix}
 
 abbrev pub equal_row : Row → Row → Bool
@@ -22,5 +22,5 @@ equal_route a b = same_prefix a.prefix b.prefix && a.interface == b.interface &&
 abbrev pub equal_tables : List Row → List Row → Bool
 equal_tables x y = pointwise equal_row x y
 
-abbrev pub equal_hosts : Interfaces → Interfaces → Bool
+abbrev pub equal_hosts : HostLists → HostLists → Bool
 equal_hosts x y = pointwise equal_source x.sources y.sources && pointwise equal_route x.routes y.routes

@@ -6,7 +6,7 @@ use Rattle.he_select.specs.declared.host.HostFault.TheVariants as hosts
 use Rattle.he_select.specs.declared.policy.PolicyFault.{PolicyFault}
 use Rattle.he_select.specs.declared.policy.PolicyFault.TheVariants as tables
 use Rattle.he_select.specs.declared.policy.Row.{Row}
-use Rattle.he_select.specs.Hosts.{AddressesDiffer, HasHostSize, Interfaces, IsSoundRoute, IsSoundSource, RoutesDiffer, same_route, same_source}
+use Rattle.he_select.specs.Hosts.{AddressesDiffer, HasHostSize, HostLists, IsSoundRoute, IsSoundSource, RoutesDiffer, same_route, same_source}
 use Rattle.he_select.specs.Places.{FailsFirst, IsFirstPair, IsLeast, repeats_at}
 use Rattle.he_select.specs.Tables.{HasPrefix, HasTableSize, PrefixesDiffer, any_address, any_v4_address, same_row, shares_precedence}
 
@@ -21,7 +21,7 @@ IsTableFault rows (tables.SharedPrecedence i j) =
     × IsFirstPair shares_precedence rows i j
 IsTableFault rows tables.Memory = ⊥
 
-abbrev pub IsHostFault : Interfaces → HostFault → Type 0
+abbrev pub IsHostFault : HostLists → HostFault → Type 0
 IsHostFault host hosts.TooMany = HasHostSize host → ⊥
 IsHostFault host (hosts.RepeatedSource i) = HasHostSize host × IsLeast (repeats_at same_source host.sources) i
 IsHostFault host (hosts.RepeatedRoute i) = HasHostSize host × AddressesDiffer host × IsLeast (repeats_at same_route host.routes) i

@@ -9,7 +9,7 @@ use Rattle.he_select.specs.declared.host.Source.{Source}
 use Rattle.he_select.specs.declared.host.Route.{Route}
 use Rattle.he_select.specs.declared.host.HostFault.{HostFault}
 use Rattle.he_select.specs.declared.host.HostFault.TheVariants as faults
-use Rattle.he_select.specs.Hosts.{Interfaces, same_route, same_source}
+use Rattle.he_select.specs.Hosts.{HostLists, same_route, same_source}
 use Rattle.he_select.specs.Refusals.{first_repeat, cause_if, first_cause}
 
 -- a usable address, a prefix no longer than it, and an interface, which are numbered from 1
@@ -34,5 +34,5 @@ unfoldable pub host_fault : List Source → List Route → Option HostFault
 host_fault sources routes = first_cause (host_causes sources routes)
 
 -- the host of these lists, or why there is none
-abbrev pub host_of : List Source → List Route → Result Interfaces HostFault
+abbrev pub host_of : List Source → List Route → Result HostLists HostFault
 host_of sources routes = option_map_or Err (host_fault sources routes) (Ok (record { sources = sources; routes = routes }))

@@ -8,7 +8,7 @@ use Rattle.he_select.specs.Tables.{same_prefix}
 use Rattle.he_select.specs.Ranges.{least_interface, most_routes, most_sources}
 
 -- what a host has
-pub record Interfaces : Type 0 where
+pub record HostLists : Type 0 where
   pub sources : List Source
   pub routes : List Route
 
@@ -27,17 +27,17 @@ pub record IsSoundSource (source : Source) : Type 0 where
 abbrev pub IsSoundRoute : Route → Type 0
 IsSoundRoute route = least_interface ≤ route.interface
 
-abbrev pub HasHostSize : Interfaces → Type 0
+abbrev pub HasHostSize : HostLists → Type 0
 HasHostSize host = (length host.sources ≤ most_sources) × (length host.routes ≤ most_routes)
 
-abbrev pub AddressesDiffer : Interfaces → Type 0
+abbrev pub AddressesDiffer : HostLists → Type 0
 AddressesDiffer host = AllPairs (λ a b. a.ip ≢ b.ip) host.sources
 
-abbrev pub RoutesDiffer : Interfaces → Type 0
+abbrev pub RoutesDiffer : HostLists → Type 0
 RoutesDiffer host = AllPairs (λ a b. a.prefix ≢ b.prefix) host.routes
 
 -- lists are a host's: at most 64 sources and 64 routes, addresses and prefixes pairwise different, and each member sound
-pub record IsHost (host : Interfaces) : Type 0 where
+pub record IsHost (host : HostLists) : Type 0 where
   pub size : HasHostSize host
   pub different_sources : AddressesDiffer host
   pub different_routes : RoutesDiffer host

@@ -9,7 +9,7 @@ use Rattle.he_select.specs.Refusals.{cause_if, first_repeat}
 use Rattle.std.specs.List.{list_any}
 use Rattle.std.specs.Option.{option_or}
 use Rattle.std.specs.Prelude.{◌+◌, [], ◌∷◌, ◌++◌, None, Some}
-use Rattle.he_select.specs.Selection.{World, candidates, is_reachable}
+use Rattle.he_select.specs.Selection.{SelectionInput, candidates, is_reachable}
 use Rattle.he_select.specs.Tables.{IsAdmitted, row_of}
 use Rattle.he_select.specs.declared.policy.Row.{Row}
 use Rattle.he_select.specs.declared.policy.PolicyFault.{PolicyFault}
@@ -17,7 +17,7 @@ use Rattle.he_select.specs.declared.host.HostFault.{HostFault}
 use Rattle.he_select.specs.declared.limits.TheConstants.{ROWS, SOURCES, ROUTES, NO_INTERFACE}
 use Rattle.he_select.specs.Faults.{IsTableFault, IsHostFault}
 use Rattle.he_select.specs.HostFaults.{host_fault}
-use Rattle.he_select.specs.Hosts.{Interfaces, IsHost}
+use Rattle.he_select.specs.Hosts.{HostLists, IsHost}
 use Rattle.he_select.specs.Ranges.{least_interface, most_routes, most_rows, most_sources}
 use Rattle.he_select.specs.TableFaults.{table_fault}
 
@@ -32,25 +32,25 @@ pub record IsStrictTotalOrderOn (P : Member → Type 0) (before : Member → Mem
 -- each rule
 abbrev pub PreferenceIsByKeys : Type 0
 PreferenceIsByKeys =
-    (world : World) → IsAdmitted world.rows → (a b : Member) → IsUsable a.ip → IsUsable b.ip
-    → prefers world a b ≡ is_lt (key_cmp (destination_key world a) (destination_key world b))
+    (input : SelectionInput) → IsAdmitted input.rows → (a b : Member) → IsUsable a.ip → IsUsable b.ip
+    → prefers input a b ≡ is_lt (key_cmp (destination_key input a) (destination_key input b))
 
 -- hence it is a strict total order on the members of a list
 abbrev pub PreferenceIsStrictTotalOrder : Type 0
-PreferenceIsStrictTotalOrder = (world : World) → IsAdmitted world.rows → IsStrictTotalOrderOn (λ m. IsUsable m.ip) (prefers world)
+PreferenceIsStrictTotalOrder = (input : SelectionInput) → IsAdmitted input.rows → IsStrictTotalOrderOn (λ m. IsUsable m.ip) (prefers input)
 
 -- a list has one order of preference, and that is the one that `order_of` names
-pub record IsOneOrder (world : World) (ips : List Ip) : Type 0 where
-  pub is : IsOrder world ips (order_of world ips)
-  pub only : (other : List Ip) → IsOrder world ips other → other ≡ order_of world ips
+pub record IsOneOrder (input : SelectionInput) (ips : List Ip) : Type 0 where
+  pub is : IsOrder input ips (order_of input ips)
+  pub only : (other : List Ip) → IsOrder input ips other → other ≡ order_of input ips
 
 -- so it is for usable addresses under an admitted table
 abbrev pub EachListHasOneOrder : Type 0
-EachListHasOneOrder = (world : World) → IsAdmitted world.rows → (ips : List Ip) → All IsUsable ips → IsOneOrder world ips
+EachListHasOneOrder = (input : SelectionInput) → IsAdmitted input.rows → (ips : List Ip) → All IsUsable ips → IsOneOrder input ips
 
 -- an address is reachable where it has a route and a candidate: there is a best candidate where there is any
 abbrev pub ReachableWhereCandidates : Type 0
-ReachableWhereCandidates = (world : World) (ip : Ip) → IsTrue (is_reachable world ip) ↔ (0 < length (candidates world ip))
+ReachableWhereCandidates = (input : SelectionInput) (ip : Ip) → IsTrue (is_reachable input ip) ↔ (0 < length (candidates input ip))
 
 -- every address has a row of an admitted table
 abbrev pub EveryAddressHasRow : Type 0
@@ -71,10 +71,10 @@ TableFaultsAreFirst = (rows : List Row) (fault : PolicyFault) → table_fault ro
 
 -- so it is with a host's lists
 abbrev pub HostWhereNoFault : Type 0
-HostWhereNoFault = (host : Interfaces) → IsHost host ↔ (host_fault host.sources host.routes ≡ None)
+HostWhereNoFault = (host : HostLists) → IsHost host ↔ (host_fault host.sources host.routes ≡ None)
 
 abbrev pub HostFaultsAreFirst : Type 0
-HostFaultsAreFirst = (host : Interfaces) (fault : HostFault) → host_fault host.sources host.routes ≡ Some fault → IsHostFault host fault
+HostFaultsAreFirst = (host : HostLists) (fault : HostFault) → host_fault host.sources host.routes ≡ Some fault → IsHostFault host fault
 
 -- the limits of the code are the numbers of Ranges
 abbrev pub LimitsAreStated : Type 0

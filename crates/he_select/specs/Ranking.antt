@@ -12,13 +12,13 @@ use Rattle.he_select.specs.declared.ranking.Key.{Key}
 use Rattle.he_select.specs.declared.ranking.Ranked.{Ranked}
 use Rattle.he_select.specs.Keys.{admits, candidate_of, is_better_candidate, destination_of}
 use Rattle.he_select.specs.Preference.{Member}
-use Rattle.he_select.specs.Selection.{World, longest_route}
+use Rattle.he_select.specs.Selection.{SelectionInput, longest_route}
 use Rattle.he_select.specs.Tables.{label_of, precedence_of}
 use Rattle.he_select.specs.Walking.{walk_fitting}
 use Rattle.he_select.specs.DestinationKeys.{destination_key}
 
-abbrev pub ranked_of : World → Member → Ranked
-ranked_of world m = record { key = destination_key world m; ip = m.ip }
+abbrev pub ranked_of : SelectionInput → Member → Ranked
+ranked_of input m = record { key = destination_key input m; ip = m.ip }
 
 -- what the rules look at of a destination, with no regard to sources
 abbrev pub attributes_of : List Row → List Route → Ip → Attributes

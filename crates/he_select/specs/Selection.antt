@@ -12,16 +12,16 @@ use Rattle.he_select.specs.declared.host.Source.{Source}
 use Rattle.he_select.specs.declared.host.Route.{Route}
 use Rattle.he_select.specs.Rules.{Rule, yes_first, higher_first, first_of, best_by}
 use Rattle.he_select.specs.Tables.{label_of}
-use Rattle.he_select.specs.Hosts.{Interfaces}
+use Rattle.he_select.specs.Hosts.{HostLists}
 
 -- what the rules look at
-pub record World : Type 0 where
+pub record SelectionInput : Type 0 where
   pub rows : List Row
   pub sources : List Source
   pub routes : List Route
 
-abbrev pub world_of : List Row → Interfaces → World
-world_of rows host = record { rows = rows; sources = host.sources; routes = host.routes }
+abbrev pub selection_input : List Row → HostLists → SelectionInput
+selection_input rows host = record { rows = rows; sources = host.sources; routes = host.routes }
 
 abbrev pub is_longer_route : Route → Route → Bool
 is_longer_route a b = nat_lt b.prefix.len a.prefix.len
@@ -34,8 +34,8 @@ serves ip route = contains route.prefix ip && beq (is_inside_mapped route.prefix
 unfoldable pub longest_route : List Route → Ip → Option Route
 longest_route routes ip = best_by is_longer_route (filter (serves ip) routes)
 
-abbrev pub route_of : World → Ip → Option Route
-route_of world ip = longest_route world.routes ip
+abbrev pub route_of : SelectionInput → Ip → Option Route
+route_of input ip = longest_route input.routes ip
 
 -- the scope of a link, whose addresses are reached from that link alone
 abbrev pub link_scope : ℕ
@@ -49,8 +49,8 @@ is_candidate route ip source =
     beq (is_v6 source.ip) (is_v6 ip) && (not (scope_of ip == link_scope) || source.interface == route.interface)
 
 -- the candidate set of a destination (RFC 6724 section 4); none where there is no route
-unfoldable pub candidates : World → Ip → List Source
-candidates world ip = option_map_or (λ route. filter (is_candidate route ip) world.sources) (route_of world ip) []
+unfoldable pub candidates : SelectionInput → Ip → List Source
+candidates input ip = option_map_or (λ route. filter (is_candidate route ip) input.sources) (route_of input ip) []
 
 -- Rule 1: prefer same address
 abbrev pub prefers_same_address : Ip → Rule Source
@@ -72,15 +72,15 @@ avoids_deprecated = yes_first (λ source. not source.deprecated)
 -- Rule 4, prefer home addresses, never decides: there are no home addresses here
 
 -- Rule 5: prefer outgoing interface
-abbrev pub prefers_outgoing_interface : World → Ip → Rule Source
-prefers_outgoing_interface world ip =
-    yes_first (λ source. option_map_or (λ route. source.interface == route.interface) (route_of world ip) false)
+abbrev pub prefers_outgoing_interface : SelectionInput → Ip → Rule Source
+prefers_outgoing_interface input ip =
+    yes_first (λ source. option_map_or (λ route. source.interface == route.interface) (route_of input ip) false)
 
 -- Rule 5.5, prefer addresses in a prefix advertised by the next hop, is left out: a host doesn't tell it
 
 -- Rule 6: prefer matching label
-abbrev pub prefers_matching_label : World → Ip → Rule Source
-prefers_matching_label world ip = yes_first (λ source. label_of world.rows source.ip == label_of world.rows ip)
+abbrev pub prefers_matching_label : SelectionInput → Ip → Rule Source
+prefers_matching_label input ip = yes_first (λ source. label_of input.rows source.ip == label_of input.rows ip)
 
 -- Rule 7: prefer temporary addresses
 abbrev pub prefers_temporary : Rule Source
@@ -91,26 +91,26 @@ abbrev pub prefers_longest_match : Ip → Rule Source
 prefers_longest_match ip = higher_first (λ source. common_of source.ip source.plen ip)
 
 -- the rules of source selection (RFC 6724 section 5), used for both families
-unfoldable pub source_rules : World → Ip → List (Rule Source)
-source_rules world ip =
+unfoldable pub source_rules : SelectionInput → Ip → List (Rule Source)
+source_rules input ip =
     prefers_same_address ip
     ∷ prefers_appropriate_scope ip
     ∷ avoids_deprecated
-    ∷ prefers_outgoing_interface world ip
-    ∷ prefers_matching_label world ip
+    ∷ prefers_outgoing_interface input ip
+    ∷ prefers_matching_label input ip
     ∷ prefers_temporary
     ∷ prefers_longest_match ip
     ∷ []
 
 -- one source is better than another for a destination: the first rule that decides prefers it
-abbrev pub is_better : World → Ip → Source → Source → Bool
-is_better world ip a b = is_lt (first_of (source_rules world ip) a b)
+abbrev pub is_better : SelectionInput → Ip → Source → Source → Bool
+is_better input ip a b = is_lt (first_of (source_rules input ip) a b)
 
 -- Source(D): the candidate than which no candidate is better, of several the one that was given first; none where there is
 -- no candidate
-unfoldable pub source_of : World → Ip → Option Source
-source_of world ip = best_by (is_better world ip) (candidates world ip)
+unfoldable pub source_of : SelectionInput → Ip → Option Source
+source_of input ip = best_by (is_better input ip) (candidates input ip)
 
 -- an address is reachable if it has a route and a candidate
-abbrev pub is_reachable : World → Ip → Bool
-is_reachable world ip = is_some (source_of world ip)
+abbrev pub is_reachable : SelectionInput → Ip → Bool
+is_reachable input ip = is_some (source_of input ip)

@@ -6,7 +6,7 @@ ghost use Rattle.std.specs.List.{list_all, list_any, position_from};
 ghost use Rattle.he_select.specs.Equality.{equal_hosts};
 ghost use Rattle.he_select.specs.HostFaults.{is_sound_source, is_sound_route, host_fault, host_of};
 ghost use Rattle.he_select.specs.Hosts.{same_source, same_route, IsHost};
-ghost use Rattle.he_select.specs.Selection.{source_of, world_of};
+ghost use Rattle.he_select.specs.Selection.{source_of, selection_input};
 
 use crate::distinct::{Distinct, first_repeated, stands_in};
 use crate::limits::{NO_INTERFACE, ROUTES, SOURCES};
@@ -189,9 +189,9 @@ pub struct Host<A: Allocator = Global> {
 }
 
 impl<A: Allocator> Model for Host<A> {
-    ghost use Rattle.he_select.specs.Hosts.{Interfaces, IsHost};
+    ghost use Rattle.he_select.specs.Hosts.{HostLists, IsHost};
 
-    ghost Value = { Interfaces };
+    ghost Value = { HostLists };
 
     ghost view = { λ h. record { sources = h.sources.items; routes = h.routes.items } };
 
@@ -202,13 +202,13 @@ impl<A: Allocator> PartialEq for Host<A> {
     ghost use Rattle.std.specs.Prelude.{◌≡◌, ◌&&◌, ◌↔◌, IsTrue};
     ghost use Rattle.std.specs.Cmp.{and_per, on_per};
     ghost use Rattle.std.specs.Cmp.Lexicographic.{pointwise, lists_per};
-    ghost use Rattle.he_select.specs.Hosts.{Interfaces};
+    ghost use Rattle.he_select.specs.Hosts.{HostLists};
     ghost use Rattle.he_select.specs.contracts.host.SourcePartialEq.TheImpl.Laws as of_sources;
     ghost use Rattle.he_select.specs.contracts.host.RoutePartialEq.TheImpl.Laws as of_routes;
 
     ghost eq = { λ a b. pointwise ⟦<Source as PartialEq>⟧.eq a.sources b.sources && pointwise ⟦<Route as PartialEq>⟧.eq a.routes b.routes };
 
-    ghost laws = { and_per (on_per (λ (h : Interfaces). h.sources) (lists_per of_sources.laws-law)) (on_per (λ (h : Interfaces). h.routes) (lists_per of_routes.laws-law)) };
+    ghost laws = { and_per (on_per (λ (h : HostLists). h.sources) (lists_per of_sources.laws-law)) (on_per (λ (h : HostLists). h.routes) (lists_per of_routes.laws-law)) };
 
     /// Whether both hosts have the same sources and the same routes, each list in its order.
     fn eq(&self, other: &Host<A>) -> bool
@@ -222,11 +222,11 @@ impl<A: Allocator> PartialEq for Host<A> {
 impl<A: Allocator> Eq for Host<A> {
     ghost use Rattle.std.specs.Cmp.{and_equiv, on_equiv};
     ghost use Rattle.std.specs.Cmp.Lexicographic.{lists_equiv};
-    ghost use Rattle.he_select.specs.Hosts.{Interfaces};
+    ghost use Rattle.he_select.specs.Hosts.{HostLists};
     ghost use Rattle.he_select.specs.contracts.host.SourceEq.TheImpl.Laws as of_sources;
     ghost use Rattle.he_select.specs.contracts.host.RouteEq.TheImpl.Laws as of_routes;
 
-    ghost laws = { and_equiv (on_equiv (λ (h : Interfaces). h.sources) (lists_equiv of_sources.laws-law)) (on_equiv (λ (h : Interfaces). h.routes) (lists_equiv of_routes.laws-law)) };
+    ghost laws = { and_equiv (on_equiv (λ (h : HostLists). h.sources) (lists_equiv of_sources.laws-law)) (on_equiv (λ (h : HostLists). h.routes) (lists_equiv of_routes.laws-law)) };
 }
 
 impl<A: Allocator + Copy> Host<A> {
@@ -276,7 +276,7 @@ impl<A: Allocator> Host<A> {
     /// `None` where the destination has no route or no candidate.
     #[tactic(auto, using(crate::proofs::Hosted::all_sound))]
     pub fn source<B: Allocator>(&self, policy: &Policy<B>, ip: Ip) -> Option<Ip>
-        ensures { result ≡ option_map (λ source. source.ip) (source_of (world_of policy.now self.now) ip) }
+        ensures { result ≡ option_map (λ source. source.ip) (source_of (selection_input policy.now self.now) ip) }
     {
         source_ip(policy.rows(), self.sources(), self.routes(), ip)
     }

@@ -8,7 +8,7 @@ ghost use Rattle.he_select.specs.Ranking.{ranked_by};
 ghost use Rattle.he_select.specs.HostFaults.{is_sound_source};
 ghost use Rattle.he_select.specs.Keys.{labelled_of};
 ghost use Rattle.he_select.specs.Preference.{IsOrder, members_from, order_of};
-ghost use Rattle.he_select.specs.Selection.{world_of};
+ghost use Rattle.he_select.specs.Selection.{selection_input};
 ghost use Rattle.he_select.specs.Tables.{IsAdmitted};
 
 use crate::host::{Host, Route, Source};
@@ -28,8 +28,8 @@ pub fn order<A: Allocator + Copy, P: Allocator, H: Allocator>(
     addresses: &[Ip],
 ) -> Result<Vec<Ip, A>, Memory>
     requires { IsTrue (list_all is_usable addresses.now) }
-    ensures order { IfOk result (λ sorted. IsOrder (world_of policy.now host.now) addresses.now sorted.items) }
-    ensures value { IfOk result (λ sorted. sorted.items ≡ order_of (world_of policy.now host.now) addresses.now) }
+    ensures order { IfOk result (λ sorted. IsOrder (selection_input policy.now host.now) addresses.now sorted.items) }
+    ensures value { IfOk result (λ sorted. sorted.items ≡ order_of (selection_input policy.now host.now) addresses.now) }
 {
     sort_addresses(
         alloc,

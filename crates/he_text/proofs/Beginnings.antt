@@ -13,7 +13,7 @@ use Rattle.std.specs.Result.{result_err}
 use Rattle.he_text.specs.declared.fault.TextKind.{TextKind}
 use Rattle.he_text.specs.declared.fault.TextKind.TheVariants as kinds
 use Rattle.he_text.specs.declared.limits.TheConstants.{MAX_LINE}
-use Rattle.he_text.specs.Beginnings.{FaultStands, IsTableFault, MayChange}
+use Rattle.he_text.specs.Beginnings.{FaultStands, IsPolicyFault, MayChange}
 use Rattle.he_text.specs.Faults.{test, first_fault, last_group, known_to, said_before, too_long, unfinished, wrong_header, wrong_word, too_often, wrong_bounds, repeated, is_policy_next, wrong_table, of_said, header_fault, line_fault, ends}
 use Rattle.he_text.specs.FaultSearch.{at_line_number, fault_from, fault_in, fault_of}
 use Rattle.he_text.specs.Forms.{word_of, said_in}
@@ -72,13 +72,13 @@ last_passes (Some k ∷ checks) one other same h = cc
 table_check : Bool → Option PolicyFault → Option TextKind
 table_check more fault = cond more None (option_map kinds.Policy fault)
 
-is_table_fault : (more : Bool) (fault : Option PolicyFault) (kind : TextKind) → table_check more fault ≡ Some kind → IsTableFault kind
+is_table_fault : (more : Bool) (fault : Option PolicyFault) (kind : TextKind) → table_check more fault ≡ Some kind → IsPolicyFault kind
 unfolding table_check
 is_table_fault true fault kind h = cc
 is_table_fault false None kind h = cc
 is_table_fault false (Some fault) kind h = (fault, cc)
 
-table_fault_is : (told : List Said) (after : List (List ℕ)) (said : Result Said TextKind) (kind : TextKind) → of_said (wrong_table told after) said ≡ Some kind → IsTableFault kind
+table_fault_is : (told : List Said) (after : List (List ℕ)) (said : Result Said TextKind) (kind : TextKind) → of_said (wrong_table told after) said ≡ Some kind → IsPolicyFault kind
 unfolding table_check
 table_fault_is told after (Err k) kind h = cc
 table_fault_is told after (Ok (Setting name value)) kind h = cc
@@ -144,7 +144,7 @@ same_early before line (next ∷ other ∷ lines) [] h = absurd h
 same_early before line (next ∷ lines) (other ∷ more) h = refl
 
 line_stands : (before : List (List ℕ)) (line : List ℕ) (after longer : List (List ℕ)) (kind : TextKind) → GoOn after longer → line_fault before line after ≡ Some kind
-    → (line_fault before line longer ≡ Some kind) ⊎ (IsTableFault kind × ((last : List ℕ) × (after ≡ last ∷ [])))
+    → (line_fault before line longer ≡ Some kind) ⊎ (IsPolicyFault kind × ((last : List ℕ) × (after ≡ last ∷ [])))
 unfolding line_fault
 line_stands before line after longer kind on h =
     let early_is : early before line after ≡ early before line longer = same_early before line after longer on in
@@ -200,7 +200,7 @@ last_line before last line more longer = elim (long_or_open (ltb MAX_LINE (lengt
 
 -- a fault on a line that what follows may mend, among the lines from line n on
 abbrev MayBeMended : ℕ → List (List ℕ) → ℕ → TextKind → Type 0
-MayBeMended n lines m kind = (kind ≡ kinds.Unfinished) ⊎ (IsTableFault kind × (n + length lines ≡ m + 2))
+MayBeMended n lines m kind = (kind ≡ kinds.Unfinished) ⊎ (IsPolicyFault kind × (n + length lines ≡ m + 2))
 
 pub number_is : (n m : ℕ) (k kind : TextKind) → ◌≡◌ {A = Option (ℕ × TextKind)} (Some (n, k)) (Some (m, kind)) → (n ≡ m) × (k ≡ kind)
 number_is n m k kind h =
@@ -247,7 +247,7 @@ from_stands n before (line ∷ next ∷ lines) (other ∷ more) m kind on h =
       | inr table ↦
           let is = number_is n m k kind found in
           let size : length lines ≡ 0 = ended table.1.0 table.1.1 in
-          let T : TextKind → Type 0 = IsTableFault in
+          let T : TextKind → Type 0 = IsPolicyFault in
           inl (inr (subst T is.1 table.0, omega arith))
     ]
 
@@ -360,7 +360,7 @@ in_later (line ∷ next ∷ lines) (other ∷ more) m kind on h =
     by_fault None found = from_later 2 [] (next ∷ lines) more m kind on.1 found
 
 -- whether what follows may mend the fault
-by_kind : (kind : TextKind) → ((kind ≡ kinds.Unfinished) ⊎ IsTableFault kind) ⊎ ((kind ≡ kinds.Unfinished → ⊥) × (IsTableFault kind → ⊥))
+by_kind : (kind : TextKind) → ((kind ≡ kinds.Unfinished) ⊎ IsPolicyFault kind) ⊎ ((kind ≡ kinds.Unfinished → ⊥) × (IsPolicyFault kind → ⊥))
 by_kind kinds.Header = inr (λ e. cc, λ t. let e = t.1 in cc)
 by_kind kinds.Word = inr (λ e. cc, λ t. let e = t.1 in cc)
 by_kind kinds.Number = inr (λ e. cc, λ t. let e = t.1 in cc)

@@ -11,7 +11,7 @@ use Rattle.he_addr.specs.Ip.{is_usable}
 use Rattle.he_addr.specs.Prefix.{width_of}
 use Rattle.he_plan.specs.declared.limits.TheConstants.{MAX_TICK, MAX_ADDRESSES}
 use Rattle.he_plan.specs.declared.outcome.Outcome.{Outcome}
-use Rattle.he_plan.specs.Race.{Reply, addresses_of, has_ip, stands}
+use Rattle.he_plan.specs.Race.{Reply, addresses_of, has_ip, is_in_answer}
 use Rattle.he_plan.specs.Timeline.{IsRace, are_of, are_distinct, is_answer, is_outcome, is_duration, duration_of}
 use Rattle.he_select.proofs.Admitted.{no_fault as no_table_fault}
 use Rattle.he_select.proofs.Causes.{none_stands, unmapped, not_caused}
@@ -159,7 +159,7 @@ outcomes_fit : (said : List Said) → IsWhole said → list_all (is_outcome (rac
 unfolding race_of
 outcomes_fit said whole = whole.fits.outcomes
 
-stands_by : (said : List Said) (ip : Ip) → stands (race_of said) ip ≡ (has_ip ip (addresses_of (answer_given families.V6 said)) || has_ip ip (addresses_of (answer_given families.V4 said)))
+stands_by : (said : List Said) (ip : Ip) → is_in_answer (race_of said) ip ≡ (has_ip ip (addresses_of (answer_given families.V6 said)) || has_ip ip (addresses_of (answer_given families.V4 said)))
 unfolding race_of
 stands_by said ip = refl
 
@@ -173,7 +173,7 @@ knows told later (Told ip outcome) whole =
     let all : List Said = told ++ Told ip outcome ∷ later in
     let split = given_split outcome_said told later (Told ip outcome) (ip, outcome) refl in
     let passes = passes_at (is_outcome (race_of all)) (outcomes_given told) (outcomes_given later) (ip, outcome) (ap (list_all (is_outcome (race_of all))) (sym split) ∙ outcomes_fit all whole) in
-    let parts = and_parts (is_duration (duration_of outcome)) (stands (race_of all) ip) passes in
+    let parts = and_parts (is_duration (duration_of outcome)) (is_in_answer (race_of all) ip) passes in
     stands_by told ip
     ∙ ap (λ o. has_ip ip (addresses_of o) || has_ip ip (addresses_of (answer_given families.V4 told))) (sym (answers_before families.V6 told later ip outcome whole))
     ∙ ap (λ o. has_ip ip (addresses_of (answer_given families.V6 all)) || has_ip ip (addresses_of o)) (sym (answers_before families.V4 told later ip outcome whole))

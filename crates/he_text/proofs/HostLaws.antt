@@ -14,7 +14,7 @@ use Rattle.he_select.specs.declared.host.Source.{Source}
 use Rattle.he_select.specs.declared.host.Route.{Route}
 use Rattle.he_select.specs.declared.host.HostFault.TheVariants as hosts
 use Rattle.he_select.specs.HostFaults.{is_sound_source, is_sound_route, host_fault}
-use Rattle.he_select.specs.Hosts.{Interfaces, same_source, same_route}
+use Rattle.he_select.specs.Hosts.{HostLists, same_source, same_route}
 use Rattle.he_select.specs.Refusals.{cause_if, first_cause, first_repeat}
 use Rattle.he_select.specs.TableFaults.{table_fault}
 use Rattle.he_select.proofs.Repeats.{repeats_law}
@@ -64,7 +64,7 @@ pub record AreHosts (sources : List Source) (routes : List Route) : Type 0 where
 pub no_hosts : AreHosts [] []
 no_hosts = record { few_sources = omega arith; few_routes = omega arith; sources_once = refl; routes_once = refl; sources_sound = refl; routes_sound = refl }
 
-no_cause : (b1 b2 : Bool) (o1 o2 o3 o4 : Option ℕ) (lists : Interfaces) → b1 ≡ false → b2 ≡ false → o1 ≡ None → o2 ≡ None → o3 ≡ None → o4 ≡ None
+no_cause : (b1 b2 : Bool) (o1 o2 o3 o4 : Option ℕ) (lists : HostLists) → b1 ≡ false → b2 ≡ false → o1 ≡ None → o2 ≡ None → o3 ≡ None → o4 ≡ None
     → told_by host_kind (option_map_or Err (first_cause (cause_if (b1 || b2) hosts.TooMany ∷ option_map hosts.RepeatedSource o1 ∷ option_map hosts.RepeatedRoute o2 ∷ option_map hosts.BadSource o3 ∷ option_map hosts.BadRoute o4 ∷ [])) (Ok lists)) ≡ Ok lists
 no_cause b1 b2 o1 o2 o3 o4 lists h1 h2 h3 h4 h5 h6 = rw (h1, h2, h3, h4, h5, h6) refl
 

@@ -14,7 +14,7 @@ use Rattle.he_plan.specs.declared.limits.TheConstants.{MAX_TICK, MAX_ADDRESSES, 
 use Rattle.he_plan.specs.declared.outcome.Outcome.{Outcome}
 use Rattle.he_plan.specs.declared.settings.Range.TheVariants as ranges
 use Rattle.he_plan.specs.Building.{add_answer, add_outcome, add_pause, empty_race, with_answer, with_outcome, with_pause, last_end}
-use Rattle.he_plan.specs.Race.{Race, Reply, reply_of, stands, has_outcome}
+use Rattle.he_plan.specs.Race.{Race, Reply, reply_of, is_in_answer, has_outcome}
 use Rattle.he_plan.specs.Settings.{SettingValues, IsSettings, settings_of}
 use Rattle.he_plan.specs.Timeline.{IsRace, are_of, are_distinct, is_duration, duration_of}
 use Rattle.he_plan.proofs.Ranges.{IsRace-with_answer, IsRace-with_outcome, IsRace-with_pause}
@@ -24,7 +24,7 @@ use Rattle.he_select.specs.declared.host.Source.{Source}
 use Rattle.he_select.specs.declared.policy.PolicyFault.{PolicyFault}
 use Rattle.he_select.specs.declared.policy.Row.{Row}
 use Rattle.he_select.specs.HostFaults.{host_fault}
-use Rattle.he_select.specs.Hosts.{IsHost, Interfaces}
+use Rattle.he_select.specs.Hosts.{IsHost, HostLists}
 use Rattle.he_select.specs.Standard.{standard_rows}
 use Rattle.he_select.specs.TableFaults.{table_fault}
 use Rattle.he_select.specs.Tables.{IsAdmitted}
@@ -75,7 +75,7 @@ outcome_checks true true false made race h = (refl, refl, refl, cc)
 
 outcome_fits : (ip : Ip) (outcome : Outcome) (race new : Race) → IsRace race → add_outcome ip outcome race ≡ Ok new → IsRace new
 outcome_fits ip outcome race new fits h =
-    let checks = outcome_checks (is_duration (duration_of outcome)) (stands race ip) (has_outcome ip race.outcomes) (with_outcome race ip outcome) new h in
+    let checks = outcome_checks (is_duration (duration_of outcome)) (is_in_answer race ip) (has_outcome ip race.outcomes) (with_outcome race ip outcome) new h in
     subst IsRace checks.3 (IsRace-with_outcome race ip outcome fits checks.0 checks.1 checks.2)
 
 pause_checks : (b few : Bool) (made race : Race) → cond (not b) (Err faults.Range) (cond few (Err faults.TooMany) (Ok made)) ≡ Ok race → (b ≡ true) × (few ≡ false) × (made ≡ race)
@@ -102,7 +102,7 @@ unfolding take_told
 told_fits words.Aaaa tokens race new fits h = reply_fits families.V6 tokens race new fits h
 told_fits words.A tokens race new fits h = reply_fits families.V4 tokens race new fits h
 told_fits words.Connect tokens race new fits h =
-    let read = bind_ok (connect_in (stands race) tokens) (λ told. built (add_outcome told.0 told.1 race)) new h in
+    let read = bind_ok (connect_in (is_in_answer race) tokens) (λ told. built (add_outcome told.0 told.1 race)) new h in
     outcome_fits read.0.0 read.0.1 race new fits (was_ok (add_outcome read.0.0 read.0.1 race) new read.2)
 told_fits words.Pause tokens race new fits h =
     let read = bind_ok (pause_in tokens) (λ pause. built (add_pause pause.0 pause.1 race)) new h in
@@ -171,14 +171,14 @@ policy_fits (row ∷ rows) policy h = by_fault (table_fault (row ∷ rows)) refl
         subst P same fits
     by_fault (Some fault) e h = cc
 
-host_fits : (sources : List Source) (routes : List Route) (host : Interfaces) → host_from sources routes ≡ Ok host → IsHost host
+host_fits : (sources : List Source) (routes : List Route) (host : HostLists) → host_from sources routes ≡ Ok host → IsHost host
 unfolding host_from
 host_fits sources routes host h = by_fault (host_fault sources routes) refl h
   where
     by_fault : (fault : Option HostFault) → host_fault sources routes ≡ fault → told_by host_kind (option_map_or Err fault (Ok (record { sources = sources; routes = routes }))) ≡ Ok host → IsHost host
     by_fault None e h =
         let same : record { sources = sources; routes = routes } ≡ host = cc (h) in
-        let P : Interfaces → Type 0 = IsHost in
+        let P : HostLists → Type 0 = IsHost in
         subst P same (is_host (record { sources = sources; routes = routes }) (ap is_none e))
     by_fault (Some fault) e h = cc
 

@@ -15,7 +15,7 @@ use Rattle.he_plan.specs.Settings.{SettingValues}
 use Rattle.he_select.specs.declared.policy.Row.{Row}
 use Rattle.he_select.specs.declared.host.Source.{Source}
 use Rattle.he_select.specs.declared.host.Route.{Route}
-use Rattle.he_select.specs.Hosts.{Interfaces}
+use Rattle.he_select.specs.Hosts.{HostLists}
 use Rattle.he_select.specs.TableFaults.{table_fault}
 use Rattle.he_select.specs.Tables.{IsAdmitted}
 use Rattle.he_text.specs.declared.words.Name.{Name}
@@ -216,10 +216,10 @@ table_back (row ∷ rows) admitted = refl
 abbrev made_settings : ℕ → ℕ → ℕ → ℕ → SettingValues
 made_settings r a c l = record { resolution = r; attempt = a; count = c; limit = l }
 
-abbrev made_host : List Source → List Route → Interfaces
+abbrev made_host : List Source → List Route → HostLists
 made_host sources routes = record { sources = sources; routes = routes }
 
-abbrev made : SettingValues → List Row → Interfaces → Option Reply → Option Reply → List (Ip × Outcome) → List (ℕ × ℕ) → Race
+abbrev made : SettingValues → List Row → HostLists → Option Reply → Option Reply → List (Ip × Outcome) → List (ℕ × ℕ) → Race
 made s t h aaaa a o p = record { settings = s; policy = t; host = h; aaaa = aaaa; a = a; outcomes = o; pauses = p }
 
 setting_back : (name : Name) (race : Race) (default : ℕ) → unwrap_or (setting_given name (race_said race)) default ≡ value_of name race.settings

@@ -12,7 +12,7 @@ use Rattle.he_addr.specs.Ip.{InRange, is_usable, same_ip}
 use Rattle.he_addr.specs.Prefix.{width_of}
 use Rattle.he_plan.specs.declared.limits.TheConstants.{MAX_TICK, MAX_ADDRESSES, MAX_PAUSE_END, MIN_DURATION, MAX_DURATION}
 use Rattle.he_plan.specs.declared.outcome.Outcome.{Outcome}
-use Rattle.he_plan.specs.Race.{Race, Reply, addresses_of, has_ip, stands}
+use Rattle.he_plan.specs.Race.{Race, Reply, addresses_of, has_ip, is_in_answer}
 use Rattle.he_plan.specs.Settings.{SettingValues, IsSettings}
 use Rattle.he_plan.specs.Timeline.{IsRace, are_of, are_distinct, is_answer, is_outcome, is_duration, duration_of, are_pauses}
 use Rattle.he_select.proofs.Causes.{none_stands, unmapped}
@@ -101,7 +101,7 @@ listed_small ip (other ∷ ips) h small = by_test (same_ip other ip) refl h (λ 
     by_test true e h later = subst InRange (same_ip_is other ip e) small.0
     by_test false e h later = later h
 
-stands_small : (race : Race) (ip : Ip) → RaceInRange race → stands race ip ≡ true → InRange ip
+stands_small : (race : Race) (ip : Ip) → RaceInRange race → is_in_answer race ip ≡ true → InRange ip
 stands_small race ip small h = by_test (has_ip ip (addresses_of race.aaaa)) refl h
   where
     by_test : (b : Bool) → has_ip ip (addresses_of race.aaaa) ≡ b → (b || has_ip ip (addresses_of race.a)) ≡ true → InRange ip
@@ -112,7 +112,7 @@ outcomes_can : (race : Race) (told : List (Ip × Outcome)) → RaceInRange race 
 outcomes_can race [] small h = tt
 outcomes_can race (p ∷ told) small h =
     let parts = and_parts (is_outcome race p) (list_all (is_outcome race) told) h in
-    let one = and_parts (is_duration (duration_of p.1)) (stands race p.0) parts.0 in
+    let one = and_parts (is_duration (duration_of p.1)) (is_in_answer race p.0) parts.0 in
     let lasts = and_parts (leb MIN_DURATION (duration_of p.1)) (leb (duration_of p.1) MAX_DURATION) one.0 in
     ((stands_small race p.0 small one.1, leb-true MIN_DURATION (duration_of p.1) lasts.0, leb-true (duration_of p.1) MAX_DURATION lasts.1), outcomes_can race told small parts.1)
 

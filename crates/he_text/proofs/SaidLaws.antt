@@ -15,7 +15,7 @@ use Rattle.he_plan.specs.Settings.{SettingValues}
 use Rattle.he_select.specs.declared.policy.Row.{Row}
 use Rattle.he_select.specs.declared.host.Source.{Source}
 use Rattle.he_select.specs.declared.host.Route.{Route}
-use Rattle.he_select.specs.Hosts.{Interfaces}
+use Rattle.he_select.specs.Hosts.{HostLists}
 use Rattle.he_text.specs.declared.words.Name.{Name}
 use Rattle.he_text.specs.declared.words.Name.TheVariants.{Resolution, Attempt, Count, Limit}
 use Rattle.he_text.specs.Said.{Said, Answer, Told, Paused, Ended, setting_said, row_said, source_said, route_said, answer_said, outcome_said, pause_said, at_front, setting_given, rows_given, sources_given, routes_given, answer_given, outcomes_given, pauses_given, settings_given, table_of_rows, host_given, race_of}
@@ -37,13 +37,13 @@ settings_same : (r r' a a' c c' l l' : ℕ) → r ≡ r' → a ≡ a' → c ≡ 
 settings_same r r' a a' c c' l l' er ea ec el =
     ap (λ x. made_settings x a c l) er ∙ ap (λ x. made_settings r' x c l) ea ∙ ap (λ x. made_settings r' a' x l) ec ∙ ap (made_settings r' a' c') el
 
-abbrev made_host : List Source → List Route → Interfaces
+abbrev made_host : List Source → List Route → HostLists
 made_host sources routes = record { sources = sources; routes = routes }
 
-abbrev made : SettingValues → List Row → Interfaces → Option Reply → Option Reply → List (Ip × Outcome) → List (ℕ × ℕ) → Race
+abbrev made : SettingValues → List Row → HostLists → Option Reply → Option Reply → List (Ip × Outcome) → List (ℕ × ℕ) → Race
 made s t h aaaa a o p = record { settings = s; policy = t; host = h; aaaa = aaaa; a = a; outcomes = o; pauses = p }
 
-race_same : (s s' : SettingValues) (t t' : List Row) (h h' : Interfaces) (aaaa aaaa' a a' : Option Reply) (o o' : List (Ip × Outcome)) (p p' : List (ℕ × ℕ))
+race_same : (s s' : SettingValues) (t t' : List Row) (h h' : HostLists) (aaaa aaaa' a a' : Option Reply) (o o' : List (Ip × Outcome)) (p p' : List (ℕ × ℕ))
     → s ≡ s' → t ≡ t' → h ≡ h' → aaaa ≡ aaaa' → a ≡ a' → o ≡ o' → p ≡ p' → made s t h aaaa a o p ≡ made s' t' h' aaaa' a' o' p'
 race_same s s' t t' h h' aaaa aaaa' a a' o o' p p' es et eh eaaaa ea eo ep =
     ap (λ x. made x t h aaaa a o p) es ∙ ap (λ x. made s' x h aaaa a o p) et ∙ ap (λ x. made s' t' x aaaa a o p) eh

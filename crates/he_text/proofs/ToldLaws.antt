@@ -11,7 +11,7 @@ use Rattle.he_plan.specs.declared.builder.BuildFault.TheVariants as faults
 use Rattle.he_plan.specs.declared.limits.TheConstants.{MAX_TICK, MIN_DURATION, MAX_DURATION, MAX_PAUSE_END, MAX_PAUSES, MAX_ADDRESSES}
 use Rattle.he_plan.specs.declared.outcome.Outcome.{Outcome}
 use Rattle.he_select.specs.declared.limits.TheConstants.{SOURCES, ROUTES}
-use Rattle.he_plan.specs.Race.{Race, Reply, reply_of, stands, has_outcome}
+use Rattle.he_plan.specs.Race.{Race, Reply, reply_of, is_in_answer, has_outcome}
 use Rattle.he_plan.specs.Timeline.{are_of, are_distinct, is_duration, duration_of}
 use Rattle.he_text.specs.declared.fault.TextKind.{TextKind}
 use Rattle.he_text.specs.declared.fault.TextKind.TheVariants as kinds
@@ -92,7 +92,7 @@ told_judged after said tokens ip o is =
     let least : MIN_DURATION ≤ duration_of o = is.ticks.least in
     let most : duration_of o ≤ MAX_DURATION = is.ticks.most in
     let lasts : is_duration (duration_of o) ≡ true = and_from _ _ (le-leb MIN_DURATION (duration_of o) least) (le-leb (duration_of o) MAX_DURATION most) in
-    told_checked (is_duration (duration_of o)) (stands (race_of said) ip) (has_outcome ip (race_of said).outcomes) _ (race_of (said ++ Told ip o ∷ [])) lasts is.known_is (sym (race_told said ip o))
+    told_checked (is_duration (duration_of o)) (is_in_answer (race_of said) ip) (has_outcome ip (race_of said).outcomes) _ (race_of (said ++ Told ip o ∷ [])) lasts is.known_is (sym (race_told said ip o))
     ∙ ap (λ os. outcome (first_fault (None ∷ test (has_outcome ip os) kinds.Repeated ∷ None ∷ [])) (race_of (said ++ Told ip o ∷ []))) (outcomes_of said)
 
 by_told : (after : List (List ℕ)) (said : List Said) (tokens : List (List ℕ)) (read : Result (Ip × Outcome) TextKind) → ((told : Ip × Outcome) → read ≡ Ok told → IsTold (known_to said) tokens told.0 told.1)

@@ -10,12 +10,12 @@ use Rattle.he_text.specs.Parts.{lines_of}
 abbrev pub FaultStands : List ℕ → ℕ → TextKind → Type 0
 FaultStands text n kind = (more : List ℕ) → fault_of (text ++ more) ≡ Some (n, kind)
 
-abbrev pub IsTableFault : TextKind → Type 0
-IsTableFault kind = (fault : PolicyFault) × (kind ≡ kinds.Policy fault)
+abbrev pub IsPolicyFault : TextKind → Type 0
+IsPolicyFault kind = (fault : PolicyFault) × (kind ≡ kinds.Policy fault)
 
 -- the fault of a policy table on the last line that has a line end: more rows may follow and mend the table
 abbrev pub IsTableFaultAtEnd : List ℕ → ℕ → TextKind → Type 0
-IsTableFaultAtEnd text n kind = IsTableFault kind × (length (lines_of text) ≡ n + 1)
+IsTableFaultAtEnd text n kind = IsPolicyFault kind × (length (lines_of text) ≡ n + 1)
 
 -- a fault that what follows may mend
 abbrev pub MayChange : List ℕ → ℕ → TextKind → Type 0

@@ -7,7 +7,7 @@ use Rattle.std.specs.Result.{result_ok, result_err}
 use Rattle.std.specs.Str.{bytes_eq}
 use Rattle.he_addr.specs.declared.ip.Ip.{Ip}
 use Rattle.he_plan.specs.Building.{last_end}
-use Rattle.he_plan.specs.Race.{stands, has_outcome}
+use Rattle.he_plan.specs.Race.{is_in_answer, has_outcome}
 use Rattle.he_plan.specs.Timeline.{are_distinct}
 use Rattle.he_text.specs.Ranges.{most_line_bytes}
 use Rattle.he_text.specs.declared.fault.TextKind.{TextKind}
@@ -57,7 +57,7 @@ said_before lines = filter_map (λ line. result_ok (said_in anyone line)) lines
 
 -- an address that stands in an answer of the lines
 abbrev pub known_to : List Said → Ip → Bool
-known_to said ip = stands (race_of said) ip
+known_to said ip = is_in_answer (race_of said) ip
 
 -- 1: more bytes than a line may have
 abbrev pub too_long : List ℕ → Option TextKind

@@ -6,7 +6,7 @@ use Rattle.he_addr.specs.Printing.{printed}
 use Rattle.he_plan.specs.Attempts.{order}
 use Rattle.he_plan.specs.Race.{Race, addresses_of}
 use Rattle.he_select.specs.declared.host.Source.{Source}
-use Rattle.he_select.specs.Selection.{World, world_of, source_of}
+use Rattle.he_select.specs.Selection.{SelectionInput, selection_input, source_of}
 use Rattle.he_text.specs.Written.{written_line}
 
 -- the source that the host uses for an address, if it reaches it
@@ -15,13 +15,13 @@ from_text None = codes "none"
 from_text (Some source) = printed source.ip
 
 -- N ADDRESS from SOURCE, or N ADDRESS from none
-abbrev pub order_line : World → ℕ → Ip → List ℕ
-order_line world place ip = written_line (decimal place ∷ printed ip ∷ codes "from" ∷ from_text (source_of world ip) ∷ [])
+abbrev pub order_line : SelectionInput → ℕ → Ip → List ℕ
+order_line input place ip = written_line (decimal place ∷ printed ip ∷ codes "from" ∷ from_text (source_of input ip) ∷ [])
 
 -- the lines of the addresses, counted from `place`
-abbrev pub order_lines : World → ℕ → List Ip → List ℕ
-order_lines world place [] = []
-order_lines world place (ip ∷ ips) = order_line world place ip ++ order_lines world (place + 1) ips
+abbrev pub order_lines : SelectionInput → ℕ → List Ip → List ℕ
+order_lines input place [] = []
+order_lines input place (ip ∷ ips) = order_line input place ip ++ order_lines input (place + 1) ips
 
 -- the usable addresses of both answers, whatever their ticks
 abbrev pub usable_addresses : Race → List Ip
@@ -29,4 +29,4 @@ usable_addresses race = filter is_usable (addresses_of race.aaaa) ++ filter is_u
 
 -- the addresses in sorted order, not interlaced, each with its source; then `end`
 abbrev pub order_text : Race → List ℕ
-order_text race = order_lines (world_of race.policy race.host) 0 (order race (usable_addresses race)) ++ written_line (codes "end" ∷ [])
+order_text race = order_lines (selection_input race.policy race.host) 0 (order race (usable_addresses race)) ++ written_line (codes "end" ∷ [])

@@ -11,7 +11,7 @@ use Rattle.he_plan.specs.declared.builder.BuildFault.{BuildFault}
 use Rattle.he_plan.specs.declared.builder.BuildFault.TheVariants as faults
 use Rattle.he_plan.specs.declared.limits.TheConstants.{DEFAULT_RESOLUTION, DEFAULT_ATTEMPT, DEFAULT_COUNT, DEFAULT_LIMIT}
 use Rattle.he_plan.specs.Building.{add_answer, add_outcome, add_pause, empty_race}
-use Rattle.he_plan.specs.Race.{Race, stands}
+use Rattle.he_plan.specs.Race.{Race, is_in_answer}
 use Rattle.he_plan.specs.Settings.{SettingValues, settings_of}
 use Rattle.he_select.specs.declared.policy.Row.{Row}
 use Rattle.he_select.specs.declared.policy.PolicyFault.{PolicyFault}
@@ -21,7 +21,7 @@ use Rattle.he_select.specs.declared.host.Route.{Route}
 use Rattle.he_select.specs.declared.host.HostFault.{HostFault}
 use Rattle.he_select.specs.declared.host.HostFault.TheVariants as hosts
 use Rattle.he_select.specs.HostFaults.{host_of}
-use Rattle.he_select.specs.Hosts.{Interfaces, same_source, same_route}
+use Rattle.he_select.specs.Hosts.{HostLists, same_source, same_route}
 use Rattle.he_select.specs.Standard.{standard_rows}
 use Rattle.he_select.specs.TableFaults.{table_fault, table_of}
 use Rattle.he_select.specs.Tables.{same_row}
@@ -163,7 +163,7 @@ unfoldable pub policy_from : List Row → Result (List Row) TextKind
 policy_from [] = Ok standard_rows
 policy_from (row ∷ rows) = told_by table_kind (table_of (row ∷ rows))
 
-unfoldable pub host_from : List Source → List Route → Result Interfaces TextKind
+unfoldable pub host_from : List Source → List Route → Result HostLists TextKind
 host_from sources routes = told_by host_kind (host_of sources routes)
 
 -- the race in which nothing happens yet
@@ -181,7 +181,7 @@ take_answer family tokens race = answer_in family tokens >>= λ reply. built (ad
 unfoldable pub take_told : Word → List (List ℕ) → Race → Result Race TextKind
 take_told words.Aaaa tokens race = take_answer families.V6 tokens race
 take_told words.A tokens race = take_answer families.V4 tokens race
-take_told words.Connect tokens race = connect_in (stands race) tokens >>= λ told. built (add_outcome told.0 told.1 race)
+take_told words.Connect tokens race = connect_in (is_in_answer race) tokens >>= λ told. built (add_outcome told.0 told.1 race)
 take_told words.Pause tokens race = pause_in tokens >>= λ pause. built (add_pause pause.0 pause.1 race)
 take_told words.End tokens race = end_in tokens >>= λ _. Ok race
 take_told _ tokens race = Err kinds.Word

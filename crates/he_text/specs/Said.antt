@@ -15,7 +15,7 @@ use Rattle.he_text.specs.Words.{name_spelling}
 use Rattle.he_select.specs.declared.policy.Row.{Row}
 use Rattle.he_select.specs.declared.host.Source.{Source}
 use Rattle.he_select.specs.declared.host.Route.{Route}
-use Rattle.he_select.specs.Hosts.{Interfaces}
+use Rattle.he_select.specs.Hosts.{HostLists}
 use Rattle.he_select.specs.Standard.{standard_rows}
 
 -- what a line says: a setting, a row of the policy table, a source or a route of the host, an answer, an outcome, a pause, or
@@ -102,7 +102,7 @@ abbrev pub table_of_rows : List Row → List Row
 table_of_rows [] = standard_rows
 table_of_rows (row ∷ rows) = row ∷ rows
 
-abbrev pub host_given : List Said → Interfaces
+abbrev pub host_given : List Said → HostLists
 host_given said = record { sources = sources_given said; routes = routes_given said }
 
 unfoldable pub race_of : List Said → Race

@@ -15,7 +15,7 @@ use Rattle.he_plan.specs.Timeline.{duration_of}
 use Rattle.he_select.specs.declared.policy.Row.{Row}
 use Rattle.he_select.specs.declared.host.Source.{Source}
 use Rattle.he_select.specs.declared.host.Route.{Route}
-use Rattle.he_select.specs.Hosts.{Interfaces}
+use Rattle.he_select.specs.Hosts.{HostLists}
 use Rattle.he_text.specs.Ranges.{line_end, token_end}
 use Rattle.he_text.specs.Text.{mark_text, source_marks, route_marks}
 use Rattle.he_addr.specs.Printing.{printed, source_text, prefix_text}
@@ -73,7 +73,7 @@ host_source_text source = written_line (codes "source" ∷ source_text source.ip
 abbrev pub host_route_text : Route → List ℕ
 host_route_text route = written_line (codes "route" ∷ prefix_text true route.prefix ∷ decimal route.interface ∷ route_marks route)
 
-abbrev pub host_text : Interfaces → List ℕ
+abbrev pub host_text : HostLists → List ℕ
 host_text host = flat_map host_source_text host.sources ++ flat_map host_route_text host.routes
 
 -- what address selection looks at: the policy table, all its rows, and the host

@@ -4,7 +4,7 @@ ghost use Rattle.std.specs.Prelude.{◌≡◌, ◌++◌, filter, IsTrue, IfOk, O
 ghost use Rattle.std.specs.List.{list_all};
 ghost use Rattle.he_addr.specs.Ip.{is_usable};
 ghost use Rattle.he_plan.specs.Race.{reply_of, addresses_of};
-ghost use Rattle.he_select.specs.Selection.{world_of};
+ghost use Rattle.he_select.specs.Selection.{selection_input};
 ghost use Rattle.he_text.specs.Orders.{order_line, order_lines, order_text, usable_addresses};
 ghost use Rattle.he_text.specs.Writing.{AppendsText};
 
@@ -60,7 +60,7 @@ fn write_place<A: Allocator + Copy, B: Allocator>(
     ip: Ip,
     out: &mut Vec<u8, A>,
 ) -> Result<(), Memory>
-    ensures { AppendsText result out.old.items out.new.items (order_line (world_of policy.now host.now) place ip) }
+    ensures { AppendsText result out.old.items out.new.items (order_line (selection_input policy.now host.now) place ip) }
 {
     let source = match host.source(policy, ip) {
         Some(source) => Token::Address(source),
@@ -76,7 +76,7 @@ fn write_places<A: Allocator + Copy, B: Allocator>(
     ips: &[Ip],
     out: &mut Vec<u8, A>,
 ) -> Result<(), Memory>
-    ensures { AppendsText result out.old.items out.new.items (order_lines (world_of policy.now host.now) 0 ips.now) }
+    ensures { AppendsText result out.old.items out.new.items (order_lines (selection_input policy.now host.now) 0 ips.now) }
 {
     for (place, ip) in ips.iter().enumerate() {
         write_place(policy, host, place, *ip, out)?;

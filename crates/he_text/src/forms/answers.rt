@@ -2,7 +2,7 @@
 
 ghost use Rattle.std.specs.Prelude.{◌≡◌, ◌<◌, ◌≤◌, ◌++◌, [], ◌∷◌, Ok, Err, length, MatchResult};
 ghost use Rattle.he_plan.specs.declared.limits.TheConstants.{MAX_ADDRESSES};
-ghost use Rattle.he_plan.specs.Race.{stands};
+ghost use Rattle.he_plan.specs.Race.{is_in_answer};
 ghost use Rattle.he_text.specs.Forms.{address_in, addresses_in, listed_in, answer_in, known_in, mark_in, connect_in};
 ghost use Rattle.he_text.specs.Left.{tokens_left};
 
@@ -120,7 +120,7 @@ pub(crate) fn answer(family: Family, tokens: Tokens) -> Result<(u64, IpList), Te
 
 #[tactic(auto, unfolding(crate::specs::Forms::known_in))]
 fn known<A: Allocator + Copy>(token: &[u8], race: &TimelineBuilder<A>) -> Result<Ip, TextKind>
-    ensures { result ≡ known_in (stands race.now) token.now }
+    ensures { result ≡ known_in (is_in_answer race.now) token.now }
 {
     let ip = read_ip(token).ok_or(TextKind::Address)?;
     if race.stands(ip) {
@@ -149,7 +149,7 @@ pub(crate) fn connect<A: Allocator + Copy>(
     tokens: Tokens,
     race: &TimelineBuilder<A>,
 ) -> Result<(Ip, Outcome), TextKind>
-    ensures { result ≡ connect_in (stands race.now) (tokens_left tokens.entry) }
+    ensures { result ≡ connect_in (is_in_answer race.now) (tokens_left tokens.entry) }
 {
     let mut left = tokens;
     let (Some(address), Some(mark), Some(ticks), None) = (

@@ -5,4 +5,4 @@ use Rattle.he_select.proofs.Ordered.{one_order}
 use Rattle.he_select.proofs.laws.each_list_has_one_order.Goals as goal
 
 pub returns : goal.returns
-returns c = λ world admitted ips usable. one_order world (parts_families world.rows admitted) ips (each-get IsUsable ips (λ i d lt. usable i d lt))
+returns c = λ input admitted ips usable. one_order input (parts_families input.rows admitted) ips (each-get IsUsable ips (λ i d lt. usable i d lt))
