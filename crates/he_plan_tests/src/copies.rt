@@ -1,55 +1,11 @@
-// The readers of a copy give what those of the original give.
+// A copy of a timeline at full size is equal to it. What its readers give follows from their clauses.
 
-use crate::homes::{Home, V4_A, V6_A, V6_B, builder};
+use crate::homes::{Home, builder};
 use he_addr::{Family, Ip};
 use he_plan::limits::{MAX_ADDRESSES, MAX_PAUSES};
 use he_plan::{BuildFault, Outcome, Settings, Timeline, TimelineBuilder};
-use he_select::{Host, Policy};
 use std::alloc::Global;
 use std::test::Fail;
-
-fn same_settings(copy: &Timeline, timeline: &Timeline) -> bool {
-    copy.settings() == timeline.settings()
-}
-
-fn same_answers(copy: &Timeline, timeline: &Timeline) -> bool {
-    copy.answer(Family::V6) == timeline.answer(Family::V6)
-        && copy.answer(Family::V4) == timeline.answer(Family::V4)
-        && copy.stands(V4_A) == timeline.stands(V4_A)
-        && copy.stands(V6_B) == timeline.stands(V6_B)
-}
-
-fn same_events(copy: &Timeline, timeline: &Timeline) -> bool {
-    copy.outcomes() == timeline.outcomes()
-        && copy.outcome(V6_A) == timeline.outcome(V6_A)
-        && copy.outcome(V6_B) == timeline.outcome(V6_B)
-        && copy.pauses() == timeline.pauses()
-        && copy.seen(105) == timeline.seen(105)
-}
-
-fn same_policy(copy: &Policy, policy: &Policy) -> bool {
-    copy.rows() == policy.rows()
-        && copy.precedence(V4_A) == policy.precedence(V4_A)
-        && copy.label(V4_A) == policy.label(V4_A)
-}
-
-fn same_lists(copy: &Host, host: &Host) -> bool {
-    copy.sources() == host.sources() && copy.routes() == host.routes()
-}
-
-fn same_source(copy: &Timeline, timeline: &Timeline) -> bool {
-    let copied = copy.host().source(copy.policy(), V6_A);
-    copied == timeline.host().source(timeline.policy(), V6_A)
-}
-
-fn is_read(copy: &Timeline, timeline: &Timeline) -> bool {
-    same_settings(copy, timeline)
-        && same_answers(copy, timeline)
-        && same_events(copy, timeline)
-        && same_policy(copy.policy(), timeline.policy())
-        && same_lists(copy.host(), timeline.host())
-        && same_source(copy, timeline)
-}
 
 // So many addresses of the family, one after the other from its first one.
 fn addresses(alloc: Global, family: Family) -> Result<Vec<Ip>, Fail> {
@@ -102,6 +58,6 @@ fn copies(rt: HostRuntime) -> Result<(), Fail> {
     let copy = timeline.copy(rt.alloc())?;
     let sizes = (copy.outcomes().len(), copy.pauses().len(), copy.seen(105));
     assert_eq!(rt; sizes, (128, 136, 110));
-    assert!(rt; is_read(&copy, &timeline));
+    assert!(rt; copy == timeline);
     Ok(())
 }

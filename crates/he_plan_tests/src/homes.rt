@@ -6,12 +6,10 @@ use he_select::{Host, Policy, Route, Source};
 use std::alloc::Global;
 use std::test::Fail;
 
-// 2001:db8:1::1 to 2001:db8:1::3
+// 2001:db8:1::1 and 2001:db8:1::2
 pub const V6_A: Ip = Ip::V6(0x2001_0db8_0001_0000_0000_0000_0000_0001);
 
 pub const V6_B: Ip = Ip::V6(0x2001_0db8_0001_0000_0000_0000_0000_0002);
-
-pub const V6_C: Ip = Ip::V6(0x2001_0db8_0001_0000_0000_0000_0000_0003);
 
 // 198.51.100.1 and 198.51.100.2
 pub const V4_A: Ip = Ip::V4(0xc633_6401);

@@ -1,5 +1,5 @@
-//! Tests of `he_plan` that no file of races can hold: what each call of a builder answers, copies, interlaced lists,
-//! want of memory, and a second, plain computation of plans.
+//! Tests of `he_plan` that no file of races can hold: what each call of a builder answers, copies, want of memory, and a
+//! second, plain computation of plans.
 #![tactic(auto)]
 
 #[cfg(test)]
@@ -8,8 +8,6 @@ mod calls;
 mod copies;
 #[cfg(test)]
 mod homes;
-#[cfg(test)]
-mod lists;
 #[cfg(test)]
 mod memory;
 #[cfg(test)]
