@@ -1,6 +1,6 @@
 // What each call of a builder answers: one table, one builder, so that what a refused call had changed would show.
 
-use crate::homes::{Home, V4_A, V4_B, V6_A, builder};
+use crate::homes::{HostKind, V4_A, V4_B, V6_A, builder};
 use he_addr::{Family, Ip};
 use he_plan::limits::{MAX_ADDRESSES, MAX_DURATION, MAX_PAUSE_END, MAX_TICK};
 use he_plan::{BuildFault, Outcome, Range, Settings, TimelineBuilder};
@@ -124,7 +124,7 @@ pub(crate) fn make<A: Allocator + Copy>(
 // The number of the first call of the table that does not answer as it must, or how many calls there are.
 fn right_calls(alloc: Global) -> Result<usize, Fail> {
     let settings = Settings::new(50, 250, 1, 30_000)?;
-    let mut builder = builder(alloc, settings, Home::Usual)?;
+    let mut builder = builder(alloc, settings, HostKind::Usual)?;
     for (number, (call, wanted)) in CALLS.iter().enumerate() {
         if make(&mut builder, *call) != *wanted {
             return Ok(number);

@@ -1,6 +1,6 @@
 // A copy of a timeline at full size is equal to it. What its readers give follows from their clauses.
 
-use crate::homes::{Home, builder};
+use crate::homes::{HostKind, builder};
 use he_addr::{Family, Ip};
 use he_plan::limits::{MAX_ADDRESSES, MAX_PAUSES};
 use he_plan::{BuildFault, Outcome, Settings, Timeline, TimelineBuilder};
@@ -45,7 +45,7 @@ fn pause(builder: &mut TimelineBuilder) -> Result<(), BuildFault> {
 // A timeline at full size.
 fn full(alloc: Global) -> Result<Timeline, Fail> {
     let settings = Settings::new(40, 300, 2, 20_000)?;
-    let mut builder = builder(alloc, settings, Home::Usual)?;
+    let mut builder = builder(alloc, settings, HostKind::Usual)?;
     answer(alloc, &mut builder, Family::V6)?;
     answer(alloc, &mut builder, Family::V4)?;
     pause(&mut builder)?;

@@ -18,7 +18,7 @@ pub const V4_B: Ip = Ip::V4(0xc633_6402);
 
 /// A host by what is special about it.
 #[derive(Clone, Copy)]
-pub enum Home {
+pub enum HostKind {
     /// One source and one route of each family.
     Usual,
     /// The IPv6 source is of link scope.
@@ -71,17 +71,17 @@ pub fn usual_routes() -> [Route; 2] {
     [route(Prefix::new(0, 0)), route(any_v4())]
 }
 
-fn host(alloc: Global, home: Home) -> Result<Host, Fail> {
+fn host(alloc: Global, home: HostKind) -> Result<Host, Fail> {
     let host = match home {
-        Home::Usual => Host::new(alloc, &usual_sources(), &usual_routes())?,
-        Home::LinkLocal => Host::new(alloc, &link_local_sources(), &usual_routes())?,
-        Home::WithoutV6 => Host::new(alloc, &usual_sources(), &[route(any_v4())])?,
+        HostKind::Usual => Host::new(alloc, &usual_sources(), &usual_routes())?,
+        HostKind::LinkLocal => Host::new(alloc, &link_local_sources(), &usual_routes())?,
+        HostKind::WithoutV6 => Host::new(alloc, &usual_sources(), &[route(any_v4())])?,
     };
     Ok(host)
 }
 
 /// A builder over the standard policy table and this host.
-pub fn builder(alloc: Global, settings: Settings, home: Home) -> Result<TimelineBuilder, Fail> {
+pub fn builder(alloc: Global, settings: Settings, home: HostKind) -> Result<TimelineBuilder, Fail> {
     let policy = Policy::standard(alloc)?;
     Ok(TimelineBuilder::new(alloc, settings, policy, host(alloc, home)?))
 }

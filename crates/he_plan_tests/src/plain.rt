@@ -5,7 +5,7 @@ ghost use Rattle.std.specs.Prelude.{◌≡◌, ◌<◌, max};
 ghost use Rattle.std.specs.List.{list_all};
 ghost use Rattle.he_addr.specs.Ip.{is_usable};
 
-use crate::homes::{Home, builder};
+use crate::homes::{HostKind, builder};
 use he_addr::{Family, Ip, Memory};
 use he_plan::{Attempt, Settings, Timeline, TimelineBuilder, interlace, plan};
 use he_select::order;
@@ -217,9 +217,9 @@ fn draw(alloc: Global, drawn: &mut Drawn) -> Result<Timeline, Fail> {
     let limit = 1 + drawn.below(1_500);
     let settings = Settings::new(resolution, attempt, count, limit)?;
     let home = match drawn.below(3) {
-        0 => Home::Usual,
-        1 => Home::LinkLocal,
-        _ => Home::WithoutV6,
+        0 => HostKind::Usual,
+        1 => HostKind::LinkLocal,
+        _ => HostKind::WithoutV6,
     };
     let mut builder = builder(alloc, settings, home)?;
     draw_answer(alloc, &mut builder, Family::V6, drawn)?;
