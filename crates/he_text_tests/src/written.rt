@@ -1,11 +1,16 @@
-// Timelines written: the text of a race that was read, with all that the reader filled in.
+// Texts that are read and written again, with each growth refused in turn: what is refused is told as want of memory, and
+// what isn't writes the same as ever.
 
-use he_text::{TextKind, read_race, write_timeline};
-use std::alloc::Global;
+use he_addr::Memory;
+use he_plan::{Timeline, Transcript, transcript_of};
+use he_text::{TextKind, read_race, write_order, write_timeline, write_transcript};
+use refusing::{MOST_RUNS, Refusing};
 use std::test::Fail;
 
-/// A race with all kinds of lines, as it is written.
-pub const RACE: &str = "race 1
+// A race with all kinds of lines, as it is written, and behind it its order and its transcript. For 2001:db8:1::1 and 192.0.2.9
+// the source has the label of the destination, for 198.51.100.1 it hasn't (RFC 6724 section 6, rule 5), and the first has the
+// higher precedence. Its connection is still on its way at the limit.
+const FULL: &str = "race 1
 set resolution 0
 set attempt 10
 set count 8
@@ -27,10 +32,15 @@ connect 192.0.2.9 fail 3600000
 pause 30 40
 pause 40 3600001
 end
+0 2001:db8:1::1 from 2001:db8::2
+1 192.0.2.9 from 192.0.2.2
+2 198.51.100.1 from 192.0.2.2
+end
+attempt 0 0 2001:db8:1::1 cancelled 3600000
+limit 3600000
 ";
 
-// The shortest race but for its limit and its answers, and what is written of it: the standard settings and table
-// (RFC 8305 section 8, RFC 6724 section 2.1).
+// The shortest race but for its limit and its answers.
 const SHORT: &str = "race 1
 set limit 9
 aaaa 20 2001:DB8:1:0::1
@@ -38,6 +48,8 @@ a 25 none
 end
 ";
 
+// What is written of it: the standard settings and table (RFC 8305 section 8, RFC 6724 section 2.1), the order of an address
+// that can't be reached, and the transcript of a race that ends before its first answer.
 const SHORT_WRITTEN: &str = "race 1
 set resolution 50
 set attempt 250
@@ -55,22 +67,88 @@ policy 3ffe::/16 1 12
 aaaa 20 2001:db8:1::1
 a 25 none
 end
+0 2001:db8:1::1 from none
+end
+limit 9
 ";
 
-fn is_written(alloc: Global, text: &str, wanted: &str) -> Result<bool, Fail> {
-    let (race, behind) = read_race(alloc, text.as_bytes(), 0)?.ok_or("a race")?;
-    let mut written = Vec::new(alloc);
-    write_timeline(&race, &mut written)?;
-    Ok(written.as_slice() == wanted.as_bytes() && behind == text.len())
+// Each function below holds at most one value that has to be dropped, and returns at one place while it does: where such a
+// value is live, each place at which a function returns is dear to prove.
+
+// Appends a race's text, its order and its transcript, up to the first of them that is refused.
+fn append<'h>(
+    heap: &'h Refusing,
+    race: &Timeline<&'h Refusing>,
+    transcript: &Transcript<&'h Refusing>,
+    out: &mut Vec<u8, &'h Refusing>,
+) -> Result<(), Memory> {
+    write_timeline(race, out)?;
+    write_order(heap, race, out)?;
+    write_transcript(transcript, out)
+}
+
+// Whether these texts are the wanted ones; none where memory was refused.
+fn is_written<'h>(
+    heap: &'h Refusing,
+    race: &Timeline<&'h Refusing>,
+    transcript: &Transcript<&'h Refusing>,
+    wanted: &str,
+) -> Option<bool> {
+    let mut out = Vec::new(heap);
+    match append(heap, race, transcript, &mut out) {
+        Ok(()) => Some(out.as_slice() == wanted.as_bytes()),
+        Err(Memory) => None,
+    }
+}
+
+fn is_told<'h>(heap: &'h Refusing, race: &Timeline<&'h Refusing>, wanted: &str) -> Option<bool> {
+    match transcript_of(heap, race) {
+        Ok(transcript) => is_written(heap, race, &transcript, wanted),
+        Err(_) => None,
+    }
+}
+
+// The same of the race with which the text begins.
+fn is_right(heap: &Refusing, text: &str, wanted: &str) -> Option<bool> {
+    match read_race(heap, text.as_bytes(), 0) {
+        Ok(Some(read)) => is_told(heap, &read.0, wanted),
+        Ok(None) => Some(false),
+        Err(fault) => {
+            if fault.kind == TextKind::Memory {
+                None
+            } else {
+                Some(false)
+            }
+        }
+    }
+}
+
+// How many growths were refused one after the other, up to the first run that is granted all; none if a run wrote something
+// else, or wrote nothing though all was granted.
+fn refused_in_turn(heap: &Refusing, text: &str, wanted: &str) -> u64 {
+    for nth in 1..=MOST_RUNS {
+        heap.refuse(nth);
+        let is_well = match is_right(heap, text, wanted) {
+            Some(is_right) => is_right,
+            None => heap.has_refused(),
+        };
+        if !is_well {
+            return 0;
+        }
+        if !heap.has_refused() {
+            return nth - 1;
+        }
+    }
+    0
 }
 
 #[test]
-fn timelines(rt: HostRuntime) -> Result<(), Fail> {
-    for (text, wanted) in [(RACE, RACE), (SHORT, SHORT_WRITTEN)] {
-        let written = is_written(rt.alloc(), text, wanted)?;
-        assert!(rt; written, "{text}");
+fn races(rt: HostRuntime) {
+    let heap = Refusing::new(rt.alloc());
+    for (text, wanted) in [(FULL, FULL), (SHORT, SHORT_WRITTEN)] {
+        let refused = refused_in_turn(&heap, text, wanted);
+        assert!(rt; refused > 0, "{text}");
     }
-    Ok(())
 }
 
 #[test]
