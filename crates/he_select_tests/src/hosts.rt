@@ -1,129 +1,100 @@
-// The faults of a host's lists (`host-faults`), and copies (`copies`).
+// The faults of a host's lists (`host-faults`).
 
-use crate::given::State::Plain;
-use crate::given::{State, host, routes, rows, sources};
-use he_select::{Host, HostFault, Policy, PolicyFault};
-use std::alloc::Global;
-use std::test::Fail;
+use he_addr::{Ip, read_prefix};
+use he_select::limits::SOURCES;
+use he_select::{Host, HostFault, Route, Source};
+use refusing::Refusing;
 
-static FAULTS: [(
-    &[(&str, u8, u16, State)],
-    &[(&str, u16, bool)],
-    Option<HostFault>,
-); 10] = [
-    (
-        &[("10.0.0.1", 24, 1, Plain), ("10.0.0.1", 25, 2, Plain)],
-        &[],
-        Some(HostFault::RepeatedSource(1)),
-    ),
-    (
-        &[],
-        &[("::/0", 1, false), ("::/0", 2, false)],
-        Some(HostFault::RepeatedRoute(1)),
-    ),
-    (
-        &[("2001:db8::2", 64, 1, Plain), ("ff02::1", 64, 1, Plain)],
-        &[],
-        Some(HostFault::BadSource(1)),
-    ),
-    (
-        &[("2001:db8::2", 129, 1, Plain)],
-        &[],
-        Some(HostFault::BadSource(0)),
-    ),
-    (
-        &[("2001:db8::2", 64, 1, Plain), ("10.0.0.1", 33, 1, Plain)],
-        &[],
-        Some(HostFault::BadSource(1)),
-    ),
-    (
-        &[("10.0.0.1", 24, 0, Plain)],
-        &[],
-        Some(HostFault::BadSource(0)),
-    ),
-    (
-        &[],
-        &[("10.0.0.0/8", 1, false), ("::/0", 0, false)],
-        Some(HostFault::BadRoute(1)),
-    ),
-    (
-        &[("ff02::1", 64, 1, Plain), ("ff02::1", 64, 1, Plain)],
-        &[],
-        Some(HostFault::RepeatedSource(1)),
-    ),
-    (
-        &[("10.0.0.1", 33, 1, Plain)],
-        &[("::/0", 1, false), ("::/0", 1, false)],
-        Some(HostFault::RepeatedRoute(1)),
-    ),
-    (
-        &[
-            ("10.0.0.1", 32, 65535, Plain),
-            ("2001:db8::2", 128, 1, Plain),
-        ],
-        &[("::/0", 1, true)],
-        None,
-    ),
+pub const V4: Ip = Ip::V4(0x0a00_0001);
+
+pub const V6: Ip = Ip::V6(0x2001_0db8_0000_0000_0000_0000_0000_0002);
+
+const MULTICAST: Ip = Ip::V6(0xff02_0000_0000_0000_0000_0000_0000_0001);
+
+pub fn source(ip: Ip, plen: u8, interface: u16) -> Source {
+    Source {
+        ip,
+        plen,
+        interface,
+        deprecated: false,
+        temporary: false,
+    }
+}
+
+pub fn route(text: &str, interface: u16) -> Option<Route> {
+    let prefix = read_prefix(text.as_bytes())?;
+    Some(Route {
+        prefix,
+        interface,
+        tunnel: false,
+    })
+}
+
+// Sources and routes of which the hosts below are made.
+fn sources() -> [Source; 10] {
+    [
+        source(V4, 24, 1),
+        source(V4, 25, 2),
+        source(V6, 64, 1),
+        source(MULTICAST, 64, 1),
+        source(MULTICAST, 64, 1),
+        source(V6, 64, 1),
+        source(V4, 33, 1),
+        source(V6, 129, 1),
+        source(V4, 32, 65_535),
+        source(V6, 128, 1),
+    ]
+}
+
+fn routes() -> Option<[Route; 4]> {
+    Some([
+        route("::/0", 1)?,
+        route("::/0", 1)?,
+        route("10.0.0.0/8", 1)?,
+        route("::/0", 0)?,
+    ])
+}
+
+// The places of a host's first source and route and the ones behind its last, and the fault of the host.
+static HOSTS: [(usize, usize, usize, usize, Option<HostFault>); 10] = [
+    (0, 2, 0, 0, Some(HostFault::RepeatedSource(1))),
+    (0, 0, 0, 2, Some(HostFault::RepeatedRoute(1))),
+    (2, 4, 0, 0, Some(HostFault::BadSource(1))),
+    (7, 8, 0, 0, Some(HostFault::BadSource(0))),
+    (5, 7, 0, 0, Some(HostFault::BadSource(1))),
+    (0, 0, 2, 4, Some(HostFault::BadRoute(1))),
+    (3, 5, 0, 0, Some(HostFault::RepeatedSource(1))),
+    (6, 7, 0, 2, Some(HostFault::RepeatedRoute(1))),
+    (6, 7, 2, 4, Some(HostFault::BadSource(0))),
+    (8, 10, 1, 3, None),
 ];
 
-// How many lists are refused as they must be, up to the first that isn't.
-fn right_faults(alloc: Global) -> usize {
+// How many hosts are refused as they must be, up to the first that isn't.
+fn right_hosts(heap: &Refusing) -> Option<usize> {
+    let sources = sources();
+    let routes = routes()?;
     let mut right: usize = 0;
-    for (sources_said, routes_said, wanted) in &FAULTS {
-        let (Some(sources), Some(routes)) = (
-            sources(alloc, *sources_said),
-            routes(alloc, *routes_said),
-        ) else {
-            return right;
-        };
-        if Host::new(alloc, &sources, &routes).err() != *wanted {
-            return right;
+    for (from, to, first, behind, wanted) in &HOSTS {
+        let some_sources = sources.get(*from..*to)?;
+        let some_routes = routes.get(*first..*behind)?;
+        if Host::new(heap, some_sources, some_routes).err() != *wanted {
+            break;
         }
         right = right.saturating_add(1);
     }
-    right
+    Some(right)
+}
+
+// Whether a source on no interface is refused, and one source more than there may be, each the same.
+fn are_others_refused(heap: &Refusing) -> bool {
+    let nowhere = Host::new(heap, &[source(V4, 24, 0)], &[]).err();
+    let many = Host::new(heap, &[source(V4, 24, 1); SOURCES + 1], &[]).err();
+    nowhere == Some(HostFault::BadSource(0)) && many == Some(HostFault::TooMany)
 }
 
 #[test]
-fn host_faults(rt: HostRuntime) -> Result<(), Fail> {
-    assert_eq!(rt; right_faults(rt.alloc()), FAULTS.len());
-    Ok(())
-}
-
-// More members than there may be.
-fn is_crowd_refused(alloc: Global) -> Option<bool> {
-    let one = sources(alloc, &[("10.0.0.1", 24, 1, Plain)])?;
-    let mut many = Vec::new(alloc);
-    let mut table = Vec::new(alloc);
-    let row = rows(alloc, &[("::/0", 40)])?;
-    for _ in 0..65u8 {
-        many.extend_from_slice(&one).ok()?;
-        table.extend_from_slice(&row).ok()?;
-    }
-    let host = Host::new(alloc, &many, &[]).err() == Some(HostFault::TooMany);
-    Some(host && Policy::from_rows(alloc, &table).err() == Some(PolicyFault::Size))
-}
-
-#[test]
-fn too_many(rt: HostRuntime) -> Result<(), Fail> {
-    assert_eq!(rt; is_crowd_refused(rt.alloc()), Some(true));
-    Ok(())
-}
-
-// Whether copies are equal to what they are of, and another host isn't; the readers give what was handed in.
-fn are_copies(alloc: Global) -> Option<bool> {
-    let policy = Policy::standard(alloc).ok()?;
-    let said = [("2001:db8::2", 64, 1, Plain)];
-    let one = host(alloc, &said, &[("::/0", 1, false), ("0.0.0.0/0", 1, false)])?;
-    let other = host(alloc, &said, &[("::/0", 1, false)])?;
-    let copied = one.copy(alloc).ok()? == one && policy.copy(alloc).ok()? == policy;
-    let read = one.sources() == sources(alloc, &said)?.as_slice()
-        && other.routes() == routes(alloc, &[("::/0", 1, false)])?.as_slice();
-    Some(copied && read && one != other)
-}
-
-#[test]
-fn copies(rt: HostRuntime) -> Result<(), Fail> {
-    assert_eq!(rt; are_copies(rt.alloc()), Some(true));
-    Ok(())
+fn host_faults(rt: HostRuntime) {
+    let heap = Refusing::new(rt.alloc());
+    assert!(rt; right_hosts(&heap) == Some(HOSTS.len()));
+    assert!(rt; are_others_refused(&heap));
 }

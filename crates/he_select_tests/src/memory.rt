@@ -1,62 +1,97 @@
-// Each growth refused in turn: what is refused answers Memory, and what isn't answers as ever.
+// Each growth refused in turn: what is refused answers Memory, and what isn't answers as ever. And copies (`copies`).
 
-use crate::given::State::Plain;
-use crate::given::{host, ips};
-use crate::orders::all_usable;
+ghost use Rattle.std.specs.Prelude.{◌≡◌, IsTrue};
+ghost use Rattle.std.specs.List.{list_all};
+ghost use Rattle.he_addr.specs.Ip.{is_usable};
+
+use crate::hosts::{V4, V6, route, source};
 use he_addr::Ip;
-use he_select::{Host, HostFault, Policy, PolicyFault, order};
-use refusing::{Refusing, each_growth_refused};
-use std::alloc::Allocator;
-use std::test::Fail;
+use he_select::{Host, Policy, Route, Source, order};
+use refusing::{MOST_RUNS, Refusing};
 
-// Whether each answer is the one that ample memory gives; none where a growth was refused.
-fn is_well<A: Allocator + Copy>(
-    alloc: A,
-    host: &Host,
-    given: &[Ip],
-    wanted: &[Ip],
+fn all_usable(addresses: &[Ip]) -> bool
+    ensures { result ≡ list_all is_usable addresses.now }
+{
+    addresses.iter().all(|ip| ip.is_usable())
+}
+
+// Whether a copy of the table, and the table made again of its rows, are equal to it; none where a growth was refused.
+fn is_policy_copied<'h>(heap: &'h Refusing, policy: &Policy<&'h Refusing>) -> Option<bool> {
+    let copy = policy.copy(heap).ok()?;
+    Some(copy == *policy && copy.rows() == policy.rows())
+}
+
+fn is_policy_made<'h>(heap: &'h Refusing, policy: &Policy<&'h Refusing>) -> Option<bool> {
+    let again = Policy::from_rows(heap, policy.rows()).ok()?;
+    Some(again == *policy)
+}
+
+fn is_host_copied<'h>(heap: &'h Refusing, host: &Host<&'h Refusing>) -> Option<bool> {
+    let copy = host.copy(heap).ok()?;
+    Some(copy == *host && copy.sources() == host.sources() && copy.routes() == host.routes())
+}
+
+// Whether the IPv6 address, which is preferred by the standard table, comes first.
+fn is_sorted<'h>(
+    heap: &'h Refusing,
+    policy: &Policy<&'h Refusing>,
+    host: &Host<&'h Refusing>,
 ) -> Option<bool> {
-    let policy = Policy::standard(alloc).ok()?;
-    let made = match Policy::from_rows(alloc, policy.rows()) {
-        Ok(made) => made == policy,
-        Err(PolicyFault::Memory) => return None,
-        Err(_) => false,
-    };
-    let hosted = match Host::new(alloc, host.sources(), host.routes()) {
-        Ok(hosted) => hosted.copy(alloc).ok()? == hosted && hosted.sources() == host.sources(),
-        Err(HostFault::Memory) => return None,
-        Err(_) => false,
-    };
-    let copied = policy.copy(alloc).ok()? == policy;
-    if !all_usable(given) {
+    let given = [V4, V6];
+    if !all_usable(&given) {
         return Some(false);
     }
-    let sorted = order(alloc, &policy, host, given).ok()?;
-    Some(made && hosted && copied && sorted.as_slice() == wanted)
+    let sorted = order(heap, policy, host, &given).ok()?;
+    Some(sorted.as_slice() == [V6, V4].as_slice())
+}
+
+fn is_host_well<'h>(
+    heap: &'h Refusing,
+    policy: &Policy<&'h Refusing>,
+    sources: &[Source],
+    routes: &[Route],
+) -> Option<bool> {
+    let host = Host::new(heap, sources, routes).ok()?;
+    let is_copied = is_host_copied(heap, &host)?;
+    let is_sorted = is_sorted(heap, policy, &host)?;
+    Some(is_copied && is_sorted && host.sources() == sources)
+}
+
+// Whether what all calls answer is right; none where one answered a fault, as none but `Memory` may be.
+fn is_well(heap: &Refusing, sources: &[Source], routes: &[Route]) -> Option<bool> {
+    let policy = Policy::standard(heap).ok()?;
+    let is_copied = is_policy_copied(heap, &policy)?;
+    let is_made = is_policy_made(heap, &policy)?;
+    let is_host_well = is_host_well(heap, &policy, sources, routes)?;
+    Some(is_copied && is_made && is_host_well)
+}
+
+// How many growths were refused one after the other, up to the first run that is granted all; none if a run wasn't well, or
+// answered Memory though all was granted.
+fn refused_in_turn(heap: &Refusing, sources: &[Source], routes: &[Route]) -> u64 {
+    for nth in 1..=MOST_RUNS {
+        heap.refuse(nth);
+        let is_right = match is_well(heap, sources, routes) {
+            Some(is_well) => is_well,
+            None => heap.has_refused(),
+        };
+        if !is_right {
+            return 0;
+        }
+        if !heap.has_refused() {
+            return nth - 1;
+        }
+    }
+    0
 }
 
 #[test]
-fn refused_growths(rt: HostRuntime) -> Result<(), Fail> {
-    let host = host(
-        rt.alloc(),
-        &[
-            ("2001:db8:1::2", 64, 1, Plain),
-            ("198.51.100.117", 24, 1, Plain),
-        ],
-        &[("::/0", 1, false), ("0.0.0.0/0", 1, false)],
-    );
-    let given = ips(rt.alloc(), &["198.51.100.121", "2001:db8:1::1"]);
-    let wanted = ips(rt.alloc(), &["2001:db8:1::1", "198.51.100.121"]);
-    let (Some(host), Some(given), Some(wanted)) = (host, given, wanted) else {
-        assert!(rt; false);
-        return Ok(());
-    };
+fn refused_growths(rt: HostRuntime) {
     let heap = Refusing::new(rt.alloc());
-    let refused = each_growth_refused(&heap, || {
-        let well = is_well(&heap, &host, &given, &wanted);
-        assert!(rt; well != Some(false));
-        assert!(rt; well.is_some() || heap.has_refused());
-    });
-    assert_eq!(rt; refused, 10);
-    Ok(())
+    let sources = [source(V6, 64, 1), source(V4, 24, 1)];
+    let refused = match (route("::/0", 1), route("0.0.0.0/0", 1)) {
+        (Some(v6), Some(v4)) => refused_in_turn(&heap, &sources, &[v6, v4]),
+        _ => 0,
+    };
+    assert!(rt; refused > 0);
 }
