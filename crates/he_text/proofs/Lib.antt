@@ -20,6 +20,7 @@ mod HeadLaws
 mod HostLaws
 mod LineLaws
 mod LineReads
+mod LoopLaws
 mod NextLines
 mod OrderLaws
 mod OrderTexts
