@@ -1,5 +1,5 @@
-//! Tests of `he_select` that no file of races can hold: what a policy table says of an address, the faults of tables and hosts,
-//! copies, and want of memory. The rules of RFC 6724 are tried by files, in `crates/cases/data`.
+//! Tests of `he_select` that no file of races can hold: what a policy table says of an address, the faults of tables
+//! and hosts, copies, and want of memory. The rules of RFC 6724 are tried by files, in `crates/cases/data`.
 #![tactic(auto)]
 
 #[cfg(test)]

@@ -15,7 +15,8 @@ fn all_usable(addresses: &[Ip]) -> bool
     addresses.iter().all(|ip| ip.is_usable())
 }
 
-// Whether a copy of the table, and the table made again of its rows, are equal to it; none where a growth was refused.
+// Whether a copy of the table, and the table made again of its rows, are equal to it; none where a growth was
+// refused.
 fn is_policy_copied<'h>(heap: &'h Refusing, policy: &Policy<&'h Refusing>) -> Option<bool> {
     let copy = policy.copy(heap).ok()?;
     Some(copy == *policy && copy.rows() == policy.rows())
@@ -66,8 +67,8 @@ fn is_well(heap: &Refusing, sources: &[Source], routes: &[Route]) -> Option<bool
     Some(is_copied && is_made && is_host_well)
 }
 
-// How many growths were refused one after the other, up to the first run that is granted all; none if a run wasn't well, or
-// answered Memory though all was granted.
+// How many growths were refused one after the other, up to the first run that is granted all; none if a run wasn't
+// well, or answered Memory though all was granted.
 fn refused_in_turn(heap: &Refusing, sources: &[Source], routes: &[Route]) -> u64 {
     for nth in 1..=MOST_RUNS {
         heap.refuse(nth);
