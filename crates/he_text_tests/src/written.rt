@@ -1,5 +1,5 @@
-// Texts that are read and written again, with each growth refused in turn: what is refused is told as want of memory, and
-// what isn't writes the same as ever.
+// Texts that are read and written again, with each growth refused in turn: what is refused is told as want of memory,
+// and what isn't writes the same as ever.
 
 use he_addr::Memory;
 use he_plan::{Timeline, Transcript, transcript_of};
@@ -7,9 +7,9 @@ use he_text::{TextKind, read_race, write_order, write_timeline, write_transcript
 use refusing::{MOST_RUNS, Refusing};
 use std::test::Fail;
 
-// A race with all kinds of lines, as it is written, and behind it its order and its transcript. For 2001:db8:1::1 and 192.0.2.9
-// the source has the label of the destination, for 198.51.100.1 it hasn't (RFC 6724 section 6, rule 5), and the first has the
-// higher precedence. Its connection is still on its way at the limit.
+// A race with all kinds of lines, as it is written, and behind it its order and its transcript. For 2001:db8:1::1 and
+// 192.0.2.9 the source has the label of the destination, for 198.51.100.1 it hasn't (RFC 6724 section 6, rule 5), and
+// the first has the higher precedence. Its connection is still on its way at the limit.
 const FULL: &str = "race 1
 set resolution 0
 set attempt 10
@@ -48,8 +48,8 @@ a 25 none
 end
 ";
 
-// What is written of it: the standard settings and table (RFC 8305 section 8, RFC 6724 section 2.1), the order of an address
-// that can't be reached, and the transcript of a race that ends before its first answer.
+// What is written of it: the standard settings and table (RFC 8305 section 8, RFC 6724 section 2.1), the order of an
+// address that can't be reached, and the transcript of a race that ends before its first answer.
 const SHORT_WRITTEN: &str = "race 1
 set resolution 50
 set attempt 250
@@ -72,8 +72,8 @@ end
 limit 9
 ";
 
-// Each function below holds at most one value that has to be dropped, and returns at one place while it does: where such a
-// value is live, each place at which a function returns is dear to prove.
+// Each function below holds at most one value that has to be dropped, and returns at one place while it does: where
+// such a value is live, each place at which a function returns is dear to prove.
 
 // Appends a race's text, its order and its transcript, up to the first of them that is refused.
 fn append<'h>(
@@ -123,8 +123,8 @@ fn is_right(heap: &Refusing, text: &str, wanted: &str) -> Option<bool> {
     }
 }
 
-// How many growths were refused one after the other, up to the first run that is granted all; none if a run wrote something
-// else, or wrote nothing though all was granted.
+// How many growths were refused one after the other, up to the first run that is granted all; none if a run wrote
+// something else, or wrote nothing though all was granted.
 fn refused_in_turn(heap: &Refusing, text: &str, wanted: &str) -> u64 {
     for nth in 1..=MOST_RUNS {
         heap.refuse(nth);
