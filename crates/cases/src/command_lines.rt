@@ -248,8 +248,8 @@ fn is_right(rt: &HostRuntime, row: &Row, faults_room: usize) -> bool {
     got == *status && written.writer().held().starts_with(output) && is_told && is_quiet
 }
 
-/// Runs each command line of the table, once more with a writer of faults that takes nothing, and counts the runs. A line
-/// is printed for each that ends otherwise than it must, with its place in the table, from 0 on.
+/// Runs each command line of the table, once more with a writer of faults that takes nothing, and counts the runs. A
+/// line is printed for each that ends otherwise than it must, with its place in the table, from 0 on.
 ///
 /// # Errors
 ///
