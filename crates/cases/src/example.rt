@@ -19,8 +19,18 @@ pub struct Counts {
 }
 
 impl Counts {
-    // Counts a run, and tells of it where it differs.
-    fn count(&mut self, rt: &HostRuntime, name: &str, what: &str, is_same: bool) -> io::Result<()> {
+    /// Counts a run, and prints a line for it where it differs.
+    ///
+    /// # Errors
+    ///
+    /// A line that cannot be written.
+    pub fn count(
+        &mut self,
+        rt: &HostRuntime,
+        name: &str,
+        what: &str,
+        is_same: bool,
+    ) -> io::Result<()> {
         self.ran = self.ran.saturating_add(1);
         if !is_same {
             self.differ = self.differ.saturating_add(1);

@@ -1,14 +1,17 @@
 //! Runs the worked examples of the folder in which it is started, and tells which of them come out otherwise.
 //!
-//! An example is a text of timelines, `NAME.timeline`. Beside it stand what `replay` writes for it, `NAME.transcript`,
-//! what `orders` writes, `NAME.order`, or both. `NAME.fault` is there where the text is faulty: the line that the
-//! program prints after either of the two. Each example is run in pieces of 1 byte, of 7 bytes and whole, and
-//! `replay` with 1, 2 and 7 workers. A line names each run that differs, and the last line says how many there were.
-//! Nothing is proved of this program but that it is safe and ends.
+//! An example is a text of timelines, `NAME.timeline`. Beside it stand what `replay` writes for it,
+//! `NAME.transcript`, what `orders` writes, `NAME.order`, or both. `NAME.fault` is there where the text is faulty:
+//! the line that the program prints after either of the two. Each example is run in pieces of 1 byte, of 7 bytes and
+//! whole, and `replay` with 1, 2 and 7 workers. Command lines are run beside them, over streams that may fail
+//! (`command_lines.rt`). A line names each run that differs, and the last two say how many there were. Nothing is
+//! proved of this program but that it is safe and ends.
 #![tactic(auto)]
 
+mod command_lines;
 mod example;
 
+use command_lines::run_command_lines;
 use example::{Counts, run_example};
 use std::{fs, io};
 
@@ -20,7 +23,9 @@ fn main(rt: HostRuntime) -> io::Result<()> {
     }
     let examples = names.len();
     let Counts { ran, differ } = counts;
-    println!(rt; "{examples} examples: {ran} runs, {differ} differ")
+    println!(rt; "{examples} examples: {ran} runs, {differ} differ")?;
+    let Counts { ran, differ } = run_command_lines(&rt)?;
+    println!(rt; "{ran} runs of command lines, {differ} differ")
 }
 
 // The names of the examples, in order.

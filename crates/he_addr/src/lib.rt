@@ -46,6 +46,3 @@ pub use memory::Memory;
 pub use prefix::Prefix;
 pub use reading::{read_ip, read_prefix, read_source};
 pub use writing::{write_ip, write_prefix, write_source};
-
-#[cfg(test)]
-mod tests;

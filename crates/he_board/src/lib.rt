@@ -27,7 +27,7 @@
 //! ```
 //!
 //! Threads of your own need no more than this: fork a pass for each, lend them the board, and rejoin what they hand
-//! back. `tests.rt` does so with two threads and with four. A call on a pass asks for a pass of that same board.
+//! back. The crate `he_board_tests` does so with two threads. A call on a pass asks for a pass of that same board.
 //!
 //! What is proved, in every order in which the steps of all passes may come:
 //!
@@ -55,8 +55,6 @@ mod limits;
 mod pass;
 mod rule;
 mod steps;
-#[cfg(test)]
-mod tests;
 mod view;
 
 pub use board::Board;

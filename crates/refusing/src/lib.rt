@@ -38,7 +38,7 @@
 //!
 //! Proved: what `Allocator` asks, so that a granted block is the inner allocator's, and each block goes back to it; and
 //! that `each_growth_refused` runs the closure more often than it says. Which growth is refused stands in an atomic
-//! word, of which no contract can speak, so that is tested only.
+//! word, of which no contract can speak, so that is tested only, in the crate `he_board_tests`.
 #![tactic(auto)]
 
 mod countdown;
@@ -47,6 +47,3 @@ mod runs;
 
 pub use heap::Refusing;
 pub use runs::{MOST_RUNS, each_growth_refused};
-
-#[cfg(test)]
-mod tests;

@@ -6,9 +6,9 @@ use Rattle.clap.specs.declared.error.kind.ErrorKind.{ErrorKind}
 use Rattle.clap.specs.declared.error.kind.ErrorKind.TheVariants as kinds
 use Rattle.he_replay.specs.Stream.{Replays, Orders}
 use Rattle.he_replay.specs.declared.fault.ReplayFault.{ReplayFault}
-use Rattle.he_tool.specs.declared.command.Action.{Action}
-use Rattle.he_tool.specs.declared.command.Action.TheVariants.{Replay, Order}
-use Rattle.he_tool.specs.declared.run.TheConstants.{DONE, FAULT, USAGE}
+use Rattle.he_command.specs.declared.command.Action.{Action}
+use Rattle.he_command.specs.declared.command.Action.TheVariants.{Replay, Order}
+use Rattle.he_command.specs.declared.run.TheConstants.{DONE, FAULT, USAGE}
 
 -- the status that tells how a command ended
 abbrev pub status_of : Result (Unit {0}) ReplayFault → ℕ

@@ -1,7 +1,7 @@
 -- What a command line asks for.
 use Rattle.std.specs.Prelude.{◌≤◌}
-use Rattle.he_tool.specs.declared.command.Action.{Action}
-use Rattle.he_tool.specs.declared.command.Action.TheVariants.{Replay, Order}
+use Rattle.he_command.specs.declared.command.Action.{Action}
+use Rattle.he_command.specs.declared.command.Action.TheVariants.{Replay, Order}
 use Rattle.he_replay.specs.declared.limits.TheConstants.{LEAST_WORKERS, MOST_WORKERS}
 
 -- the number of workers, where there are any, is in its range

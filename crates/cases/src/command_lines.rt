@@ -1,8 +1,10 @@
-// Whole runs of the program, over a reader and two writers that may fail.
+//! Command lines of the program, over a reader and two writers that may fail.
 
-use crate::run::run_words;
+use crate::example::Counts;
+use he_command::run_words;
 use he_stream::{FromReader, ToWriter};
 use std::alloc::Global;
+use std::io;
 use stream_fakes::{FakeReader, FakeWriter};
 
 const TEXT: &[u8] = b"race 1
@@ -40,7 +42,16 @@ enum Streams {
 }
 
 // Words, input and streams of a run; its status, what its output begins with, and what is said of a fault.
-static RUNS: [(&[&str], &[u8], Streams, u8, &[u8], &[u8]); 24] = [
+type Row = (
+    &'static [&'static str],
+    &'static [u8],
+    Streams,
+    u8,
+    &'static [u8],
+    &'static [u8],
+);
+
+static ROWS: [Row; 24] = [
     (&["he", "replay"], TEXT, Streams::Whole, 0, TRANSCRIPT, b""),
     (
         &["he", "replay", "--workers", "1"],
@@ -225,32 +236,32 @@ fn writer_of(alloc: Global, streams: Streams) -> FakeWriter {
     }
 }
 
-// How many runs of the table end as they must, up to the first that does not. Each is made twice, the second time with a
-// writer of faults that takes nothing.
-fn right_runs<T>(rt: &T, alloc: Global) -> usize {
-    let mut right: usize = 0;
-    for (words, text, streams, status, output, fault) in &RUNS {
-        for faults_room in [usize::MAX, 0] {
-            let mut input = FromReader::new(reader_of(text, *streams));
-            let mut written = ToWriter::new(writer_of(alloc, *streams));
-            let mut faults = FakeWriter::new(alloc).with_room(faults_room);
-            let got = run_words(rt, alloc, words, &mut input, &mut written, &mut faults);
-            let is_told = faults_room == 0 || faults.held().starts_with(fault);
-            let is_quiet = *status != 0 || faults.calls() == 0;
-            if got != *status
-                || !written.writer().held().starts_with(output)
-                || !is_told
-                || !is_quiet
-            {
-                return right;
-            }
-        }
-        right = right.saturating_add(1);
-    }
-    right
+// Whether the line of this row ends as it must, with a writer of faults that takes so many bytes.
+fn is_right(rt: &HostRuntime, row: &Row, faults_room: usize) -> bool {
+    let (words, text, streams, status, output, fault) = row;
+    let mut input = FromReader::new(reader_of(text, *streams));
+    let mut written = ToWriter::new(writer_of(rt.alloc(), *streams));
+    let mut faults = FakeWriter::new(rt.alloc()).with_room(faults_room);
+    let got = run_words(rt, rt.alloc(), words, &mut input, &mut written, &mut faults);
+    let is_told = faults_room == 0 || faults.held().starts_with(fault);
+    let is_quiet = *status != 0 || faults.calls() == 0;
+    got == *status && written.writer().held().starts_with(output) && is_told && is_quiet
 }
 
-#[test]
-fn runs_end_as_they_must(rt: HostRuntime) {
-    assert_eq!(rt; right_runs(&rt, rt.alloc()), RUNS.len());
+/// Runs each command line of the table, once more with a writer of faults that takes nothing, and counts the runs. A
+/// line is printed for each that ends otherwise than it must, with its place in the table, from 0 on.
+///
+/// # Errors
+///
+/// A line that cannot be written.
+pub fn run_command_lines(rt: &HostRuntime) -> io::Result<Counts> {
+    let mut counts = Counts { ran: 0, differ: 0 };
+    for (at, row) in ROWS.iter().enumerate() {
+        let name = format!(in rt.alloc(); "command line {at}")?;
+        for faults_room in [usize::MAX, 0] {
+            let is_same = is_right(rt, row, faults_room);
+            counts.count(rt, name.as_str(), "it ends otherwise", is_same)?;
+        }
+    }
+    Ok(counts)
 }

@@ -1,5 +1,5 @@
 use Rattle.he_board.specs.Passes.{IsPassOf}
-use Rattle.he_board.proofs.tests.work.Given as goal
+use Rattle.he_board_tests.proofs.takers.work.Given as goal
 
 abbrev pub invariant-loop-job : goal.invariant-loop-job
 invariant-loop-job l = IsPassOf l.board l.pass

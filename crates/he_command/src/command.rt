@@ -1,6 +1,6 @@
 //! The command line.
 ghost use Rattle.std.specs.Prelude.{◌≤◌, IfOk};
-ghost use Rattle.he_tool.specs.Command.{HasWorkers};
+ghost use Rattle.he_command.specs.Command.{HasWorkers};
 
 use crate::limits::{DEFAULT_WORKERS, DEFAULT_WORKERS_TEXT};
 use clap::{Arg, ArgMatches, Command, Error, value_parser};

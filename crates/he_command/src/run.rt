@@ -3,8 +3,8 @@ ghost use Rattle.std.specs.Prelude.{◌≡◌, IfOk, Result};
 ghost use Rattle.clap.specs.Values.{kind_of};
 ghost use Rattle.he_stream.specs.Input.{Gives};
 ghost use Rattle.he_stream.specs.Output.{PutsPart, PutsWhole};
-ghost use Rattle.he_tool.specs.Command.{HasWorkers};
-ghost use Rattle.he_tool.specs.Run.{AnswersLine, RunsAction, RunsLine, Shows, status_of};
+ghost use Rattle.he_command.specs.Command.{HasWorkers};
+ghost use Rattle.he_command.specs.Run.{AnswersLine, RunsAction, RunsLine, Shows, status_of};
 
 use crate::command::{Action, read_words};
 use clap::Error;

@@ -1,0 +1,69 @@
+// Which growth the allocator of tests refuses: exactly the nth, of all threads' together.
+
+use refusing::{MOST_RUNS, Refusing, each_growth_refused};
+use std::alloc::AllocError;
+use std::thread;
+
+// One growth: whether it is granted.
+fn grow(heap: &Refusing) -> bool {
+    let grown: Result<Vec<u8, &Refusing>, AllocError> = Vec::with_capacity(heap, 1);
+    grown.is_ok()
+}
+
+// The third growth alone is refused, and none that is far off, nor the 0th, nor any before the first call of `refuse`.
+#[test]
+fn nth(rt: HostRuntime) {
+    let heap = Refusing::new(rt.alloc());
+    assert!(rt; grow(&heap) && !heap.has_refused());
+    heap.refuse(3);
+    for growth in 1..6u64 {
+        assert!(rt; grow(&heap) == (growth != 3) && heap.has_refused() == (growth >= 3));
+    }
+    for far in [0, u64::MAX] {
+        heap.refuse(far);
+        assert!(rt; grow(&heap) && !heap.has_refused());
+    }
+}
+
+// How many runs were refused a growth, and how many were made, of a code that grows so often in its first run, and so
+// much oftener in each later one.
+fn refused_runs(heap: &Refusing, growths: u64, more: u64) -> (u64, u64) {
+    let mut runs = 0u64;
+    let mut next = growths;
+    let refused = each_growth_refused(heap, || {
+        runs = runs.saturating_add(1);
+        for _ in 0..next {
+            grow(heap);
+        }
+        next = next.saturating_add(more);
+    });
+    (refused, runs)
+}
+
+// What grows twice is refused twice, what never grows is refused nothing, and what has no last growth answers 0 at the
+// bound. Each time the heap refuses nothing afterwards.
+#[test]
+fn refused_in_turn(rt: HostRuntime) {
+    let heap = Refusing::new(rt.alloc());
+    for (growths, more, wanted) in [(2, 0, (2, 3)), (0, 0, (0, 1)), (1, 1, (0, MOST_RUNS))] {
+        assert!(rt; refused_runs(&heap, growths, more) == wanted);
+        assert!(rt; grow(&heap) && !heap.has_refused());
+    }
+}
+
+// Two threads grow over one heap: of their two growths one is refused, and of more none.
+#[test]
+fn threads(rt: HostRuntime) {
+    let heap = Refusing::new(rt.alloc());
+    let shared = &heap;
+    for nth in 1..4u64 {
+        heap.refuse(nth);
+        let (first, second) = thread::join(&rt, move || grow(shared), move || grow(shared));
+        let is_refused = nth < 3;
+        assert!(rt;
+            (first || second) && (first && second) != is_refused,
+            "at {nth}"
+        );
+        assert!(rt; heap.has_refused() == is_refused, "at {nth}");
+    }
+}

@@ -1,0 +1,9 @@
+//! Tests of what threads share: a board, and the allocator of tests that refuses a growth.
+#![tactic(auto)]
+
+#[cfg(test)]
+mod heap;
+#[cfg(test)]
+mod takers;
+#[cfg(test)]
+mod walk;
