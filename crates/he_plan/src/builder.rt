@@ -3,7 +3,7 @@
 ghost use Rattle.std.specs.Prelude.{◌≡◌, true, false, IfOk, IfErr};
 ghost use Rattle.he_plan.specs.Building.{IsRefused, empty_race, add_answer, add_outcome, add_pause, last_end, Becomes};
 ghost use Rattle.he_plan.specs.Race.{has_ip, is_in_answer};
-ghost use Rattle.he_plan.specs.Timeline.{are_of, are_distinct, IsRace};
+ghost use Rattle.he_plan.specs.Timeline.{are_of, are_distinct, is_duration, IsRace};
 
 use crate::addresses::{Addresses, are_distinct};
 use crate::limits::{
@@ -102,8 +102,7 @@ impl<A: Allocator + Copy> TimelineBuilder<A> {
     pub fn outcome(&mut self, ip: Ip, outcome: Outcome) -> Result<(), BuildFault>
         ensures { Becomes result self.old self.new (add_outcome ip outcome self.old) }
     {
-        let duration = outcome.duration();
-        if duration < MIN_DURATION || duration > MAX_DURATION {
+        if !is_duration(outcome.duration()) {
             return Err(BuildFault::Range);
         }
         if !self.timeline.stands(ip) {
@@ -117,8 +116,7 @@ impl<A: Allocator + Copy> TimelineBuilder<A> {
         requires { is_in_answer self.old ip ≡ true }
         ensures { Becomes result self.old self.new (add_outcome ip outcome self.old) }
     {
-        let duration = outcome.duration();
-        if duration < MIN_DURATION || duration > MAX_DURATION {
+        if !is_duration(outcome.duration()) {
             return Err(BuildFault::Range);
         }
         if self.timeline.has_outcome(ip) {
@@ -160,6 +158,12 @@ impl<A: Allocator + Copy> TimelineBuilder<A> {
         let TimelineBuilder { alloc: _, timeline } = self;
         timeline
     }
+}
+
+fn is_duration(duration: u64) -> bool
+    ensures { result ≡ is_duration duration }
+{
+    MIN_DURATION <= duration && duration <= MAX_DURATION
 }
 
 fn last_end(pauses: &[(u64, u64)]) -> u64

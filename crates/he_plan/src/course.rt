@@ -9,7 +9,7 @@ ghost use Rattle.he_plan.specs.Transcript.{stop_of};
 use crate::attempts::Attempt;
 use crate::finish::{Fate, next_winner};
 use crate::limits::MAX_LIMIT;
-use crate::planning::{address_count, advance};
+use crate::planning::advance;
 use crate::queue::Queue;
 use crate::starts::next_tick;
 use crate::timeline::Timeline;
@@ -31,7 +31,7 @@ pub(crate) fn course_of<A: Allocator + Copy, B: Allocator>(
 ) -> Result<Course<A>, Memory>
     ensures { IfOk result (λ c. IsCourse timeline.now c.attempts.items c.fates.items c.winner) }
 {
-    let most = address_count(timeline);
+    let most = timeline.address_count();
     let mut attempts = Vec::with_capacity(alloc, most)?;
     let mut fates = Vec::with_capacity(alloc, most)?;
     let mut winner = None;

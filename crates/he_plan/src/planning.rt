@@ -126,23 +126,11 @@ pub(crate) fn interlaced_list<A: Allocator + Copy, B: Allocator>(
     ensures value { IfOk result (λ v. v.items ≡ interlaced_list timeline.now v6 v4) }
     ensures members { IfOk result (λ _. IsPermutation (parts_of timeline.now v6 v4) (order timeline.now (parts_of timeline.now v6 v4))) }
 {
-    let mut ips = Vec::with_capacity(alloc, address_count(timeline))?;
+    let mut ips = Vec::with_capacity(alloc, timeline.address_count())?;
     push_part(&mut ips, timeline, Family::V6, v6)?;
     push_part(&mut ips, timeline, Family::V4, v4)?;
     let sorted = order(alloc, timeline.policy(), timeline.host(), &ips)?;
     interlace(alloc, &sorted, timeline.settings().count())
-}
-
-// How many addresses both answers have, at least the number of attempts.
-pub(crate) fn address_count<A: Allocator>(timeline: &Timeline<A>) -> usize {
-    answered_count(timeline, Family::V6).saturating_add(answered_count(timeline, Family::V4))
-}
-
-fn answered_count<A: Allocator>(timeline: &Timeline<A>, family: Family) -> usize {
-    match timeline.answer(family) {
-        Some((_, ips)) => ips.len(),
-        None => 0,
-    }
 }
 
 fn push_part<A: Allocator, B: Allocator>(

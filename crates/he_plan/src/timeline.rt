@@ -97,6 +97,8 @@ impl<A: Allocator + Copy> Timeline<A> {
         ensures ok { OnOk result (self.new ≡ with_outcome self.old ip outcome) }
         ensures err { OnErr result (self.new ≡ self.old) }
     {
+        let most = self.address_count();
+        self.outcomes.make_room(most)?;
         self.outcomes.push(ip, outcome)
     }
 
@@ -111,6 +113,11 @@ impl<A: Allocator + Copy> Timeline<A> {
 }
 
 impl<A: Allocator> Timeline<A> {
+    // How many addresses the answers have: no race has more attempts or outcomes.
+    pub(crate) fn address_count(&self) -> usize {
+        answered_count(&self.aaaa).saturating_add(answered_count(&self.a))
+    }
+
     /// Whether the address stands in one of the answers, usable or not.
     pub fn stands(&self, ip: Ip) -> bool
         ensures value { result ≡ is_in_answer self.now ip }
@@ -246,6 +253,13 @@ impl<A: Allocator> Timeline<A> {
         ensures race { IsRace self.now }
     {
         self.pauses.as_slice()
+    }
+}
+
+fn answered_count<A: Allocator>(answer: &Option<Answer<A>>) -> usize {
+    match answer {
+        Some(answer) => answer.addresses.as_slice().len(),
+        None => 0,
     }
 }
 
