@@ -40,6 +40,17 @@ impl<A: Allocator + Copy> Outcomes<A> {
         }
     }
 
+    // Makes room for so many, if there are none yet, so that the first one doesn't make it for a few.
+    pub(crate) fn make_room(&mut self, count: usize) -> Result<(), AllocError>
+        ensures { self.new ≡ self.old }
+    {
+        if self.told.is_empty() {
+            self.told.reserve(count)
+        } else {
+            Ok(())
+        }
+    }
+
     pub(crate) fn push(&mut self, ip: Ip, outcome: Outcome) -> Result<(), AllocError>
         requires { has_outcome ip self.old ≡ false }
         ensures ok { OnOk result (self.new ≡ self.old ++ (ip, outcome) ∷ []) }
