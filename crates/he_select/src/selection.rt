@@ -1,6 +1,6 @@
 // The source that the host uses for a destination (RFC 6724 section 5).
 
-ghost use Rattle.std.specs.Prelude.{◌≡◌, None, map, IsTrue, IfSome};
+ghost use Rattle.std.specs.Prelude.{◌≡◌, None, map, option_map, IsTrue, IfSome};
 ghost use Rattle.std.specs.List.{list_all};
 ghost use Rattle.std.specs.Ordering.{is_lt};
 ghost use Rattle.he_addr.specs.Prefix.{common_of};
@@ -69,24 +69,38 @@ impl Destination {
         for labelled in sources {
             best = self.keep(best, labelled);
         }
-        best
+        best.copied()
     }
 
     /// The better one of the best so far and a source, if that may be used at all.
     #[inline(always)]
-    pub(crate) fn keep(&self, best: Option<Labelled>, labelled: &Labelled) -> Option<Labelled>
+    pub(crate) fn keep<'a>(
+        &self,
+        best: Option<&'a Labelled>,
+        labelled: &'a Labelled,
+    ) -> Option<&'a Labelled>
         requires sound { IsTrue (is_sound_source labelled.now.source) }
-        requires best { IfSome best (λ kept. IsTrue (is_sound_source kept.source)) }
-        ensures kept { result ≡ keep_fitting (admits self.now) (is_better_labelled self.now) best labelled.now }
-        ensures sound { IfSome result (λ kept. IsTrue (is_sound_source kept.source)) }
+        requires best { IfSome best (λ kept. IsTrue (is_sound_source kept.now.source)) }
+        ensures kept { option_map (λ kept. kept.now) result ≡ keep_fitting (admits self.now) (is_better_labelled self.now) (option_map (λ kept. kept.now) best.entry) labelled.now }
+        ensures sound { IfSome result (λ kept. IsTrue (is_sound_source kept.now.source)) }
     {
         if !self.admits(labelled) {
             return best;
         }
         match best {
-            Some(kept) if !self.is_better(labelled, &kept) => Some(kept),
-            _ => Some(*labelled),
+            Some(kept) if !self.is_better(labelled, kept) => best,
+            _ => Some(labelled),
         }
+    }
+
+    /// The same of a source that is at hand only for now.
+    fn keep_copy(&self, best: Option<Labelled>, labelled: Labelled) -> Option<Labelled>
+        requires sound { IsTrue (is_sound_source labelled.source) }
+        requires best { IfSome best (λ kept. IsTrue (is_sound_source kept.source)) }
+        ensures kept { result ≡ keep_fitting (admits self.now) (is_better_labelled self.now) best labelled }
+        ensures sound { IfSome result (λ kept. IsTrue (is_sound_source kept.source)) }
+    {
+        self.keep(best.as_ref(), &labelled).copied()
     }
 
     /// Whether the source may be used: one of the destination's family, for a destination of link scope only one on the
@@ -182,7 +196,7 @@ pub(crate) fn best_source(
 {
     let mut best = None;
     for source in sources {
-        best = destination.keep(best, &Labelled::new(rows, source));
+        best = destination.keep_copy(best, Labelled::new(rows, source));
     }
     best
 }
