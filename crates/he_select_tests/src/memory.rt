@@ -6,7 +6,7 @@ ghost use Rattle.he_addr.specs.Ip.{is_usable};
 
 use crate::hosts::{V4, V6, route, source};
 use he_addr::Ip;
-use he_select::{Host, Policy, Route, Source, order};
+use he_select::{Host, Policy, Route, Source, Sourced, order, order_with_sources};
 use refusing::{MOST_RUNS, Refusing};
 
 fn all_usable(addresses: &[Ip]) -> bool
@@ -46,6 +46,28 @@ fn is_sorted<'h>(
     Some(sorted.as_slice() == [V6, V4].as_slice())
 }
 
+// The destination with the host's own address of that family as its source, which is the same address here.
+fn sourced(ip: Ip) -> Sourced {
+    Sourced {
+        ip,
+        source: Some(ip),
+    }
+}
+
+// The same with the sources.
+fn is_sorted_with_sources<'h>(
+    heap: &'h Refusing,
+    policy: &Policy<&'h Refusing>,
+    host: &Host<&'h Refusing>,
+) -> Option<bool> {
+    let given = [V4, V6];
+    if !all_usable(&given) {
+        return Some(false);
+    }
+    let sorted = order_with_sources(heap, policy, host, &given).ok()?;
+    Some(sorted.as_slice() == [sourced(V6), sourced(V4)].as_slice())
+}
+
 fn is_host_well<'h>(
     heap: &'h Refusing,
     policy: &Policy<&'h Refusing>,
@@ -54,7 +76,7 @@ fn is_host_well<'h>(
 ) -> Option<bool> {
     let host = Host::new(heap, sources, routes).ok()?;
     let is_copied = is_host_copied(heap, &host)?;
-    let is_sorted = is_sorted(heap, policy, &host)?;
+    let is_sorted = is_sorted(heap, policy, &host)? && is_sorted_with_sources(heap, policy, &host)?;
     Some(is_copied && is_sorted && host.sources() == sources)
 }
 
