@@ -12,11 +12,17 @@ pub(crate) const LINE_END: u8 = b'\n';
 /// The byte between two tokens of a line.
 pub(crate) const TOKEN_END: u8 = b' ';
 
+// A shorter text is looked through here, since `memchr` looks at its bytes one by one too, and a call costs more.
+const SHORT: usize = 32;
+
 // The place of the first mark.
 #[inline(always)]
 pub(crate) fn find(text: &[u8], mark: u8) -> Option<usize>
     ensures { result ≡ position (λ b. b == mark) text.now }
 {
+    if text.len() < SHORT {
+        return text.iter().position(|byte| *byte == mark);
+    }
     memchr(mark, text)
 }
 

@@ -1,6 +1,6 @@
 // What happens in a race: the answers that come, and what becomes of a connect to an address.
 
-ghost use Rattle.std.specs.Prelude.{◌≡◌, ◌<◌, ◌≤◌, ◌++◌, [], ◌∷◌, Ok, Err, length, IfOk, MatchResult};
+ghost use Rattle.std.specs.Prelude.{◌≡◌, ◌<◌, ◌≤◌, ◌++◌, [], ◌∷◌, Ok, Err, true, length, IfOk, MatchResult};
 ghost use Rattle.he_addr.specs.declared.ip.Family.{Family};
 ghost use Rattle.he_plan.specs.declared.limits.TheConstants.{MAX_ADDRESSES};
 ghost use Rattle.he_plan.specs.Race.{is_in_answer};
@@ -146,7 +146,8 @@ pub(crate) fn answer(tokens: Tokens<'_>) -> Result<AnswerLine<'_>, TextKind>
 
 #[tactic(auto, unfolding(crate::specs::Forms::known_in))]
 fn known<A: Allocator + Copy>(token: &[u8], race: &TimelineBuilder<A>) -> Result<Ip, TextKind>
-    ensures { result ≡ known_in (is_in_answer race.now) token.now }
+    ensures value { result ≡ known_in (is_in_answer race.now) token.now }
+    ensures known { IfOk result (λ ip. is_in_answer race.now ip ≡ true) }
 {
     let ip = read_ip(token).ok_or(TextKind::Address)?;
     if race.stands(ip) {
@@ -175,7 +176,8 @@ pub(crate) fn connect<A: Allocator + Copy>(
     tokens: Tokens,
     race: &TimelineBuilder<A>,
 ) -> Result<(Ip, Outcome), TextKind>
-    ensures { result ≡ connect_in (is_in_answer race.now) (tokens_left tokens.entry) }
+    ensures value { result ≡ connect_in (is_in_answer race.now) (tokens_left tokens.entry) }
+    ensures known { IfOk result (λ told. is_in_answer race.now told.0 ≡ true) }
 {
     let mut left = tokens;
     let (Some(address), Some(mark), Some(ticks), None) = (
