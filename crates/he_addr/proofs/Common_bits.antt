@@ -1,11 +1,11 @@
 -- How many leading bits two numbers have in common: as many as their difference has leading zeros.
-use Rattle.std.proofs.Common.{ℕ, zero, suc, ◌+◌, ◌-◌, ◌*◌, ◌/◌, ◌^◌, ◌<◌, ◌≤◌, ◌≡◌, Bool, false, IsFalse, sym, ◌∙◌, ap, subst, arith, min, eq-eqb, nat_eq, inl, inr}
+use Rattle.std.proofs.Common.{ℕ, zero, suc, ◌+◌, ◌-◌, ◌*◌, ◌/◌, ◌^◌, ◌<◌, ◌≤◌, ◌≡◌, Bool, true, false, IsFalse, nat_le, sym, ◌∙◌, ap, subst, arith, min, eq-eqb, nat_eq, inl, inr}
 use Rattle.std.specs.Int.Bits.{bit_xor, xor_self, xor_assoc, xor_zero_l, xor_zero_r}
 use Rattle.std.specs.Int.Count.{count_leading_zeros}
 use Rattle.std.proofs.lemmas.Nat.{xor_shr, xor_lt, leading_length}
 use Rattle.std.proofs.Math.Nat.{pow-le-pow_right, div-eq_of_lt, lt-div-mul-add, two-pow-succ, one-le-pow}
 use Rattle.std.proofs.lemmas.Bool.{cases_lt, cases_Bool, true≢false}
-use Rattle.std.proofs.lemmas.Bool.Decides.{eqb_tells}
+use Rattle.std.proofs.lemmas.Bool.Decides.{eqb_tells, nat_tests}
 use Rattle.he_addr.specs.Bits.{agrees, greatest, IsCommon, IsGreatest, GreatestIsGreatest}
 
 -- numbers whose difference is nothing are equal
@@ -70,3 +70,17 @@ greatest_law p (suc most) first =
       | inr none ↦ let P : ℕ → Type 0 = λ n. IsGreatest p (suc most) n in
           subst P (sym (simp none)) (more p most (greatest p most) none (greatest_law p most first))
     ]
+
+-- just so many leading bits agree as are common
+pub agrees_within : (width a b n len : ℕ) → IsCommon width a b n → len ≤ width → nat_le len n ≡ agrees width a b len
+agrees_within width a b n len is le =
+    elim (cases_lt n len) [
+      | inl past ↦ above len n past ∙ sym (is.differ len past le)
+      | inr here ↦ upto len n here ∙ sym (is.agree len here)
+    ]
+  where
+    above : (m k : ℕ) → k < m → nat_le m k ≡ false
+    above m k lt = grind (arith, nat_tests)
+
+    upto : (m k : ℕ) → m ≤ k → nat_le m k ≡ true
+    upto m k below = grind (arith, nat_tests)

@@ -1,9 +1,11 @@
 // Address prefixes and the common part of two addresses.
 
 ghost use Rattle.std.specs.Prelude.{◌≡◌, ◌-◌, ◌%◌, ◌^◌, ◌≤◌, ◌==◌, IfSome, IfNone};
+ghost use Rattle.he_addr.specs.Bits.{agrees};
 ghost use Rattle.he_addr.specs.Ip.{family_of, is_v6};
 ghost use Rattle.he_addr.specs.Prefix.{PrefixBits, IsPrefix, contains, is_inside_mapped, common_of};
 
+use crate::common::agree_v6;
 use crate::ip::Ip;
 use std::marker::Model;
 
@@ -79,8 +81,15 @@ impl Prefix {
     pub fn contains(self, ip: Ip) -> bool
         ensures { result ≡ contains self ip }
     {
-        let free = V6_BITS - self.len;
-        free == V6_BITS || ip.mapped() >> free == self.bits >> free
+        self.begins(ip.mapped())
+    }
+
+    /// Whether the number, of an address as [`Ip::mapped`] gives it, begins with this prefix. Who asks many prefixes about one
+    /// address makes its number once.
+    pub fn begins(self, number: u128) -> bool
+        ensures { result ≡ agrees 128 number self.bits self.len }
+    {
+        agree_v6(number, self.bits, self.len)
     }
 
     /// Whether the prefix lies inside `::ffff:0:0/96`, so that it holds IPv4 addresses alone.

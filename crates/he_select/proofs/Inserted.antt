@@ -16,11 +16,11 @@ not_less Equal h = refl
 not_less Greater h = refl
 
 module _ {K : Type 0} (R : K → K → Ordering) (o : IsTotalOrder R) {X : Type 0} (key : X → K) where
-  put_in : X → List X → List X
+  unfoldable pub put_in : X → List X → List X
   put_in x [] = x ∷ []
   put_in x (y ∷ ys) = cond (is_lt (R (key x) (key y))) (x ∷ y ∷ ys) (y ∷ put_in x ys)
 
-  pub sorted_by : List X → List X
+  unfoldable pub sorted_by : List X → List X
   sorted_by [] = []
   sorted_by (x ∷ xs) = put_in x (sorted_by xs)
 

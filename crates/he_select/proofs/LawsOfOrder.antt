@@ -1,5 +1,5 @@
 -- The laws that src/laws.rt states.
-use Rattle.std.proofs.Common.{◌≡◌, ◌<◌, ◌⊎◌, Bool, true, List, [], ◌∷◌, length, refl, sym, ◌∙◌, ap, arith, inl, inr}
+use Rattle.std.proofs.Common.{◌≡◌, ◌<◌, ◌⊎◌, true, List, [], ◌∷◌, length, refl, sym, ◌∙◌, ap, arith, inl, inr}
 use Rattle.std.specs.Prelude.{Option, None, Some, filter, is_some}
 use Rattle.std.specs.Option.{option_map_or}
 use Rattle.std.specs.Cmp.{IsStrictWeakOrder}
@@ -29,7 +29,7 @@ use Rattle.std.proofs.lemmas.Bool.{not-false}
 use Rattle.he_select.proofs.Families.{best_is, parts_families, row_at, v6_starts}
 use Rattle.he_select.proofs.Keyed.{by_keys, keys_total, same_place}
 use Rattle.he_select.proofs.Orders.{was_less}
-use Rattle.he_select.proofs.Sources.{by_source_keys, key_for, source_keys_total}
+use Rattle.he_select.proofs.Sources.{by_source_keys, key_for, ranks_alike, source_keys_total}
 
 pub preference_by_keys : PreferenceIsByKeys
 preference_by_keys input admitted a b ua ub = ap is_lt (by_keys input (parts_families input.rows admitted) a b ua ub)
@@ -53,12 +53,6 @@ preference_orders input admitted =
             | inr ba ↦ inr (keyed b a ub ua ∙ ba)
           ];
     }
-
-ranks_alike : {X : Type 0} (lt other : X → X → Bool) → ((a b : X) → other a b ≡ lt a b) → IsStrictWeakOrder lt → IsStrictWeakOrder other
-ranks_alike lt other e o = record {
-  one_way = λ x y h. e y x ∙ o.one_way x y (sym (e x y) ∙ h);
-  chain = λ x y z h k. e x z ∙ o.chain x y z (sym (e x y) ∙ h) (sym (e y z) ∙ k);
-}
 
 better_ranks : (input : SelectionInput) (ip : Ip) (route : Route) → route_of input ip ≡ Some route → IsStrictWeakOrder (is_better input ip)
 better_ranks input ip route e =

@@ -6,6 +6,7 @@ pub mod Chosen
 pub mod Counting
 pub mod Equality
 pub mod Families
+pub mod Filtered
 pub mod Hosted
 pub mod Inserted
 pub mod Keyed
@@ -15,6 +16,7 @@ pub mod Listing
 pub mod LookUps
 pub mod Ordered
 pub mod Orders
+pub mod Picked
 pub mod Repeats
 pub mod Sources
 pub mod Standards

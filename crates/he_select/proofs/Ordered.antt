@@ -11,9 +11,7 @@ use Rattle.std.proofs.lemmas.List.{length-map}
 use Rattle.he_addr.specs.declared.ip.Ip.{Ip}
 use Rattle.he_addr.specs.Ip.{IsUsable}
 use Rattle.he_select.specs.declared.ranking.Key.{Key}
-use Rattle.he_select.specs.declared.ranking.Ranked.{Ranked}
-use Rattle.he_select.specs.DestinationKeys.{key_cmp, destination_key}
-use Rattle.he_select.specs.Ranking.{ranked_of}
+use Rattle.he_select.specs.DestinationKeys.{Keyed, destination_key, key_cmp, keyed_of}
 use Rattle.he_select.specs.Laws.{IsOneOrder}
 use Rattle.he_select.specs.Preference.{IsOrder, Member, member_at, members_from, order_of, prefers}
 use Rattle.he_select.specs.Selection.{SelectionInput}
@@ -84,14 +82,14 @@ member_found p (x ∷ xs) place z e =
     ]
 
 module _ (input : SelectionInput) where
-  abbrev ties : Key → Ranked → Bool
+  abbrev ties : Key → Keyed → Bool
   ties k r = is_eq (key_cmp r.key k)
 
   none_before : (ips : List Ip) (place : ℕ) (k : Key) → k.place < place → count_by (ties k) (keyed input place ips) ≡ 0
   unfolding destination_key
   none_before [] place k lt = refl
   none_before (x ∷ xs) place k lt =
-      let r : Ranked = ranked_of input (record { ip = x; place = place }) in
+      let r : Keyed = keyed_of input (record { ip = x; place = place }) in
       let apart : is_eq (key_cmp r.key k) ≡ false = not_equal (key_cmp r.key k) (λ tied. let same : place ≡ k.place = same_place r.key k tied in absurd (omega arith)) in
       count_cons (ties k) r (keyed input (place + 1) xs) ∙ ap (λ b. one_if b + count_by (ties k) (keyed input (place + 1) xs)) apart
       ∙ (let rest = none_before xs (place + 1) k (omega arith) in omega (arith, rest))
@@ -101,7 +99,7 @@ module _ (input : SelectionInput) where
   unfolding destination_key
   at_most_once [] place k = omega arith
   at_most_once (x ∷ xs) place k =
-      let r : Ranked = ranked_of input (record { ip = x; place = place }) in
+      let r : Keyed = keyed_of input (record { ip = x; place = place }) in
       let counted = count_cons (ties k) r (keyed input (place + 1) xs) in
       elim (cases_Bool (ties k r)) [
         | inl tied ↦
@@ -116,27 +114,27 @@ module _ (input : SelectionInput) where
       ]
 
   -- each has the key of the member that it names
-  own_keys : (ips : List Ip) (place : ℕ) → Each (λ (r : Ranked). r.key ≡ destination_key input (record { ip = r.ip; place = r.key.place })) (keyed input place ips)
+  own_keys : (ips : List Ip) (place : ℕ) → Each (λ (r : Keyed). r.key ≡ destination_key input (record { ip = r.ip; place = r.key.place })) (keyed input place ips)
   unfolding destination_key
   own_keys [] place = tt
   own_keys (x ∷ xs) place = (refl, own_keys xs (place + 1))
 
   -- the number of members preferred to the one that stands at a place of the sorted list
-  preferred_before : PartsFamilies input.rows → (ips : List Ip) → Each IsUsable ips → (ys : List Ranked)
-      → IsPermutation (keyed input 0 ips) ys → Rising key_cmp keys_total (λ (r : Ranked). r.key) ys → (k : ℕ) (y : Ranked) → slice_get ys k ≡ Some y
+  preferred_before : PartsFamilies input.rows → (ips : List Ip) → Each IsUsable ips → (ys : List Keyed)
+      → IsPermutation (keyed input 0 ips) ys → Rising key_cmp keys_total (λ (r : Keyed). r.key) ys → (k : ℕ) (y : Keyed) → slice_get ys k ≡ Some y
       → (slice_get ips y.key.place ≡ Some y.ip) × (count_by (λ other. prefers input other (record { ip = y.ip; place = y.key.place })) (members_from 0 ips) ≡ k)
   preferred_before parts ips usable ys moved sorted k y at =
       let m : Member = record { ip = y.ip; place = y.key.place } in
       let own : y.key ≡ destination_key input m = each_at _ ys (each-permutation _ (keyed input 0 ips) ys moved (own_keys ips 0)) k y at in
       let stands : slice_get ips y.key.place ≡ Some y.ip =
-      each_at (λ (r : Ranked). slice_get ips r.key.place ≡ Some r.ip) ys (each-permutation _ (keyed input 0 ips) ys moved (own_places input ips ips 0 (λ i. ap (slice_get ips) (omega arith)))) k y at in
-      let less : Key → Ranked → Bool = λ q r. is_lt (key_cmp r.key q) in
+      each_at (λ (r : Keyed). slice_get ips r.key.place ≡ Some r.ip) ys (each-permutation _ (keyed input 0 ips) ys moved (own_places input ips ips 0 (λ i. ap (slice_get ips) (omega arith)))) k y at in
+      let less : Key → Keyed → Bool = λ q r. is_lt (key_cmp r.key q) in
       let once : count_by (ties y.key) ys ≤ 1 = omega (arith, count-permutation (ties y.key) (keyed input 0 ips) ys moved, at_most_once ips 0 y.key) in
       let here : count_by (less y.key) ys ≡ k =
-      counted_at key_cmp keys_total (λ (r : Ranked). r.key) ys sorted k y at once in
+      counted_at key_cmp keys_total (λ (r : Keyed). r.key) ys sorted k y at once in
       let counts : count_by (less (destination_key input m)) ys ≡ count_by (λ other. prefers input other m) (members_from 0 ips) =
       count-permutation (less (destination_key input m)) (keyed input 0 ips) ys moved
-      ∙ count-map (less (destination_key input m)) (ranked_of input) (members_from 0 ips)
+      ∙ count-map (less (destination_key input m)) (keyed_of input) (members_from 0 ips)
       ∙ count-same _ _ (members_from 0 ips) (preferred_by_keys input parts ips 0 usable m (each_at IsUsable ips usable y.key.place y.ip stands)) in
       (stands, sym counts ∙ ap (λ q. count_by (less q) ys) (sym own) ∙ here)
 
@@ -156,11 +154,11 @@ module _ (input : SelectionInput) where
       ∙ ap (slice_get result) same
 
   -- a list in the order of preference is the one that the definition names, where there is a sorted list at all
-  pub is_order_of : PartsFamilies input.rows → (ips : List Ip) → Each IsUsable ips → (ys : List Ranked)
-      → IsPermutation (keyed input 0 ips) ys → Rising key_cmp keys_total (λ (r : Ranked). r.key) ys → (result : List Ip) → IsOrder input ips result → result ≡ order_of input ips
+  pub is_order_of : PartsFamilies input.rows → (ips : List Ip) → Each IsUsable ips → (ys : List Keyed)
+      → IsPermutation (keyed input 0 ips) ys → Rising key_cmp keys_total (λ (r : Keyed). r.key) ys → (result : List Ip) → IsOrder input ips result → result ≡ order_of input ips
   unfolding order_of
   is_order_of parts ips usable ys moved sorted result order =
-      let all : length (keyed input 0 ips) ≡ length ips = sym (length-map (keyed input 0 ips) (λ (r : Ranked). r.ip)) ∙ ap (λ (l : List Ip). length l) (ips_back input 0 ips) in
+      let all : length (keyed input 0 ips) ≡ length ips = sym (length-map (keyed input 0 ips) (λ (r : Keyed). r.ip)) ∙ ap (λ (l : List Ip). length l) (ips_back input 0 ips) in
       let same : length ys ≡ length ips = length_permutation (keyed input 0 ips) ys moved ∙ all in
       listed (member_at input (members_from 0 ips)) (λ m. m.ip) result 0 (length ips) (sym (length_permutation ips result order.members)) (λ k lt.
       let y = at_place ys k (omega arith) in
@@ -171,11 +169,20 @@ module _ (input : SelectionInput) where
   -- among usable addresses there is one such list, and only one
   pub one_order : PartsFamilies input.rows → (ips : List Ip) → Each IsUsable ips → IsOneOrder input ips
   one_order parts ips usable =
-      let ys : List Ranked = sorted_by key_cmp keys_total (λ (r : Ranked). r.key) (keyed input 0 ips) in
-      let moved : IsPermutation (keyed input 0 ips) ys = sorted_moves key_cmp keys_total (λ (r : Ranked). r.key) (keyed input 0 ips) in
-      let up : Rising key_cmp keys_total (λ (r : Ranked). r.key) ys = sorted_rises key_cmp keys_total (λ (r : Ranked). r.key) (keyed input 0 ips) in
-      let order : IsOrder input ips (map (λ (r : Ranked). r.ip) ys) = is_order input parts ips usable ys moved up in
+      let ys : List Keyed = sorted_by key_cmp keys_total (λ (r : Keyed). r.key) (keyed input 0 ips) in
+      let moved : IsPermutation (keyed input 0 ips) ys = sorted_moves key_cmp keys_total (λ (r : Keyed). r.key) (keyed input 0 ips) in
+      let up : Rising key_cmp keys_total (λ (r : Keyed). r.key) ys = sorted_rises key_cmp keys_total (λ (r : Keyed). r.key) (keyed input 0 ips) in
+      let order : IsOrder input ips (map (λ (r : Keyed). r.ip) ys) = is_order input parts ips usable ys moved up in
       record {
-        is = subst (IsOrder input ips) (is_order_of parts ips usable ys moved up (map (λ (r : Ranked). r.ip) ys) order) order;
+        is = subst (IsOrder input ips) (is_order_of parts ips usable ys moved up (map (λ (r : Keyed). r.ip) ys) order) order;
         only = is_order_of parts ips usable ys moved up;
       }
+
+  -- it is the sorted list of its members
+  pub sorted_order : PartsFamilies input.rows → (ips : List Ip) → Each IsUsable ips
+      → map (λ (r : Keyed). r.ip) (sorted_by key_cmp keys_total (λ (r : Keyed). r.key) (keyed input 0 ips)) ≡ order_of input ips
+  sorted_order parts ips usable =
+      let ys : List Keyed = sorted_by key_cmp keys_total (λ (r : Keyed). r.key) (keyed input 0 ips) in
+      let moved : IsPermutation (keyed input 0 ips) ys = sorted_moves key_cmp keys_total (λ (r : Keyed). r.key) (keyed input 0 ips) in
+      let up : Rising key_cmp keys_total (λ (r : Keyed). r.key) ys = sorted_rises key_cmp keys_total (λ (r : Keyed). r.key) (keyed input 0 ips) in
+      is_order_of parts ips usable ys moved up (map (λ (r : Keyed). r.ip) ys) (is_order input parts ips usable ys moved up)

@@ -16,7 +16,7 @@ then_equal Less = refl
 then_equal Equal = refl
 then_equal Greater = refl
 
-then_regrouped : (o p q : Ordering) → ordering_then (ordering_then o p) q ≡ ordering_then o (ordering_then p q)
+pub then_regrouped : (o p q : Ordering) → ordering_then (ordering_then o p) q ≡ ordering_then o (ordering_then p q)
 then_regrouped Less p q = refl
 then_regrouped Equal p q = refl
 then_regrouped Greater p q = refl

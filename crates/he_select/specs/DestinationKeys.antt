@@ -2,6 +2,7 @@
 use Rattle.std.specs.Prelude.{◌&&◌, not}
 use Rattle.std.specs.declared.cmp.Ordering.{Ordering}
 use Rattle.std.specs.Ordering.{nat_cmp, bool_cmp, ordering_then}
+use Rattle.he_addr.specs.declared.ip.Ip.{Ip}
 use Rattle.he_addr.specs.Ip.{scope_of}
 use Rattle.he_select.specs.declared.ranking.Key.{Key}
 use Rattle.he_select.specs.Preference.{Member, common_with_source, has_current_source, has_like_label, has_like_scope, is_native}
@@ -21,6 +22,14 @@ destination_key input m = record {
   common = record { 0 = common_with_source input m.ip };
   place = m.place;
 }
+
+-- a destination with its key
+pub record Keyed : Type 0 where
+  pub key : Key
+  pub ip : Ip
+
+abbrev pub keyed_of : SelectionInput → Member → Keyed
+keyed_of input m = record { key = destination_key input m; ip = m.ip }
 
 unfoldable pub key_cmp : Key → Key → Ordering
 key_cmp a b =

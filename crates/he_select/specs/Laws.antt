@@ -1,5 +1,5 @@
 -- What follows from the definitions, in words of its own.
-use Rattle.std.specs.Prelude.{All, ◌≡◌, ◌≢◌, ◌<◌, ◌⊎◌, ◌↔◌, Bool, List, length, IsTrue, IsFalse, IsSome}
+use Rattle.std.specs.Prelude.{All, ◌≡◌, ◌≢◌, ◌<◌, ◌⊎◌, ◌↔◌, Bool, List, filter, length, IsTrue, IsFalse, IsSome}
 use Rattle.std.specs.Ordering.{is_lt}
 use Rattle.he_addr.specs.declared.ip.Ip.{Ip}
 use Rattle.he_addr.specs.Ip.{InRange, IsUsable}
@@ -47,6 +47,12 @@ pub record IsOneOrder (input : SelectionInput) (ips : List Ip) : Type 0 where
 -- so it is for usable addresses under an admitted table
 abbrev pub EachListHasOneOrder : Type 0
 EachListHasOneOrder = (input : SelectionInput) → IsAdmitted input.rows → (ips : List Ip) → All IsUsable ips → IsOneOrder input ips
+
+-- the order of those addresses that pass a test is what passes it of the order of all
+abbrev pub OrderOfFilterIsFilterOfOrder : Type 0
+OrderOfFilterIsFilterOfOrder =
+    (input : SelectionInput) → IsAdmitted input.rows → (keep : Ip → Bool) (ips : List Ip) → All IsUsable ips
+    → order_of input (filter keep ips) ≡ filter keep (order_of input ips)
 
 -- an address is reachable where it has a route and a candidate: there is a best candidate where there is any
 abbrev pub ReachableWhereCandidates : Type 0

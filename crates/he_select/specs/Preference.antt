@@ -1,5 +1,5 @@
 -- Which of two destinations is preferred (RFC 6724 section 6), and a list in this order.
-use Rattle.std.specs.Prelude.{ℕ, ◌+◌, ◌≡◌, ◌==◌, Bool, true, false, not, cond, List, [], ◌∷◌, length, map, slice_get, count_by, find, filter_map, Option, Some, IsPermutation}
+use Rattle.std.specs.Prelude.{ℕ, ◌+◌, ◌≡◌, ◌==◌, Bool, true, false, not, cond, List, [], ◌∷◌, length, map, slice_get, count_by, find, filter_map, Option, Some, option_map, IsPermutation}
 use Rattle.std.specs.Bool.{beq}
 use Rattle.std.specs.List.{range_with_len}
 use Rattle.std.specs.Option.{option_map_or}
@@ -8,6 +8,7 @@ use Rattle.std.specs.Ordering.{is_lt}
 use Rattle.he_addr.specs.declared.ip.Ip.{Ip}
 use Rattle.he_addr.specs.Ip.{is_v6, scope_of}
 use Rattle.he_addr.specs.Prefix.{common_of}
+use Rattle.he_select.specs.declared.sorting.Sourced.{Sourced}
 use Rattle.he_select.specs.Rules.{Rule, yes_first, lower_first, higher_first, where_both, first_of}
 use Rattle.he_select.specs.Tables.{precedence_of, label_of}
 use Rattle.he_select.specs.Selection.{SelectionInput, route_of, source_of, is_reachable}
@@ -118,3 +119,7 @@ member_at input members n = find (λ member. count_by (λ other. prefers input o
 -- are places before it
 unfoldable pub order_of : SelectionInput → List Ip → List Ip
 order_of input ips = map (λ member. member.ip) (filter_map (member_at input (members_from 0 ips)) (range_with_len 0 (length ips)))
+
+-- a destination and the address of its source, Source(D); none where there is no source
+abbrev pub sourced_by : SelectionInput → Ip → Sourced
+sourced_by input ip = record { ip = ip; source = option_map (λ source. source.ip) (source_of input ip) }

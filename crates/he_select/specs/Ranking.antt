@@ -1,24 +1,21 @@
 -- Mirrors the code: what it computes of a destination, and the key that it makes of it.
-use Rattle.std.specs.Prelude.{ℕ, ◌==◌, false, not, List, map, None, Option, is_some, option_and_then}
+use Rattle.std.specs.Prelude.{ℕ, ◌==◌, false, not, List, None, Option, is_some, option_and_then, option_map}
 use Rattle.std.specs.Option.{option_map_or}
 use Rattle.he_addr.specs.declared.ip.Ip.{Ip}
 use Rattle.he_addr.specs.Ip.{scope_of}
+use Rattle.he_addr.specs.Prefix.{common_of}
 use Rattle.he_select.specs.declared.host.Route.{Route}
 use Rattle.he_select.specs.declared.policy.Row.{Row}
-use Rattle.he_select.specs.declared.selection.Candidate.{Candidate}
 use Rattle.he_select.specs.declared.selection.Labelled.{Labelled}
 use Rattle.he_select.specs.declared.ranking.Attributes.{Attributes}
 use Rattle.he_select.specs.declared.ranking.Key.{Key}
 use Rattle.he_select.specs.declared.ranking.Ranked.{Ranked}
-use Rattle.he_select.specs.Keys.{admits, candidate_of, is_better_candidate, destination_of}
+use Rattle.he_select.specs.declared.sorting.Sourced.{Sourced}
+use Rattle.he_select.specs.LabelledRules.{admits, destination_of, is_better_labelled}
 use Rattle.he_select.specs.Preference.{Member}
-use Rattle.he_select.specs.Selection.{SelectionInput, longest_route}
+use Rattle.he_select.specs.Selection.{longest_route}
 use Rattle.he_select.specs.Tables.{label_of, precedence_of}
 use Rattle.he_select.specs.Walking.{walk_fitting}
-use Rattle.he_select.specs.DestinationKeys.{destination_key}
-
-abbrev pub ranked_of : SelectionInput → Member → Ranked
-ranked_of input m = record { key = destination_key input m; ip = m.ip }
 
 -- what the rules look at of a destination, with no regard to sources
 abbrev pub attributes_of : List Row → List Route → Ip → Attributes
@@ -31,27 +28,33 @@ attributes_of rows routes ip = record {
 }
 
 -- what the code computes of them: the source that its loop finds ..
-unfoldable pub chosen_by : Attributes → List Labelled → Option Candidate
+unfoldable pub chosen_by : Attributes → List Labelled → Option Labelled
 chosen_by goal labelled =
     option_and_then
-    (λ route. walk_fitting (λ candidate. admits (destination_of goal.ip goal.label route) candidate.source) is_better_candidate None (map (candidate_of (destination_of goal.ip goal.label route)) labelled))
+    (λ route. walk_fitting (admits (destination_of goal.ip goal.label route)) (is_better_labelled (destination_of goal.ip goal.label route)) None labelled)
     goal.route
 
 -- .. and the key that it makes of it
-unfoldable pub key_by : Attributes → Option Candidate → ℕ → Key
+unfoldable pub key_by : Attributes → Option Labelled → ℕ → Key
 key_by goal chosen place = record {
   unreachable = not (is_some chosen);
-  other_scope = option_map_or (λ c. not (scope_of c.source.ip == goal.scope)) chosen false;
+  other_scope = option_map_or (λ c. not (c.scope == goal.scope)) chosen false;
   deprecated = option_map_or (λ c. c.source.deprecated) chosen false;
   other_label = option_map_or (λ c. not (c.label == goal.label)) chosen false;
   precedence = record { 0 = goal.precedence };
   tunnel = option_map_or (λ route. route.tunnel) goal.route false;
   scope = goal.scope;
-  common = record { 0 = option_map_or (λ c. c.key.common.0) chosen 0 };
+  common = record { 0 = option_map_or (λ c. common_of c.source.ip c.source.plen goal.ip) chosen 0 };
   place = place;
 }
 
-abbrev pub ranked_by : List Row → List Route → List Labelled → Member → Ranked
-ranked_by rows routes labelled m =
+abbrev pub key_from : List Row → List Route → List Labelled → Member → Key
+key_from rows routes labelled m =
     let goal = attributes_of rows routes m.ip in
-    record { key = key_by goal (chosen_by goal labelled) m.place; ip = m.ip }
+    key_by goal (chosen_by goal labelled) m.place
+
+abbrev pub sourced_from : List Row → List Route → List Labelled → Ip → Sourced
+sourced_from rows routes labelled ip = record { ip = ip; source = option_map (λ c. c.source.ip) (chosen_by (attributes_of rows routes ip) labelled) }
+
+abbrev pub ranked_from : List Row → List Route → List Labelled → Member → Ranked
+ranked_from rows routes labelled m = record { key = key_from rows routes labelled m; sourced = sourced_from rows routes labelled m.ip }

@@ -1,6 +1,6 @@
 // Laws of the definitions. Each is the contract of a function that does nothing.
 
-ghost use Rattle.he_select.specs.Laws.{AdmittedWhereNoFault, EachListHasOneOrder, EveryAddressHasRow, HostFaultsAreFirst, HostWhereNoFault, LimitsAreStated, PreferenceIsByKeys, PreferenceIsStrictTotalOrder, ReachableWhereCandidates, RepeatsByOneMore, TableFaultsAreFirst};
+ghost use Rattle.he_select.specs.Laws.{AdmittedWhereNoFault, EachListHasOneOrder, EveryAddressHasRow, HostFaultsAreFirst, HostWhereNoFault, LimitsAreStated, OrderOfFilterIsFilterOfOrder, PreferenceIsByKeys, PreferenceIsStrictTotalOrder, ReachableWhereCandidates, RepeatsByOneMore, TableFaultsAreFirst};
 ghost use Rattle.he_select.specs.Hosts.{same_route, same_source};
 ghost use Rattle.he_select.specs.Tables.{same_row};
 
@@ -14,6 +14,12 @@ pub fn preference_is_by_keys()
 /// Usable addresses have exactly one order of preference under an admitted table: the list that [`crate::order`] answers.
 pub fn each_list_has_one_order()
     ensures { EachListHasOneOrder }
+{}
+
+/// Usable addresses stand in one order to each other, whatever other ones are sorted with them: the order of those that pass a
+/// test is what passes it of the order of all.
+pub fn order_of_filter()
+    ensures { OrderOfFilterIsFilterOfOrder }
 {}
 
 /// An address is reachable exactly where it has a route and a candidate: of candidates there is always a best one.

@@ -1,7 +1,7 @@
 // The row of an address in a policy table, and its route: the longest prefix that contains it.
 
-ghost use Rattle.std.specs.Prelude.{◌≡◌, Option, None};
-ghost use Rattle.he_addr.specs.Prefix.{contains};
+ghost use Rattle.std.specs.Prelude.{◌≡◌, Option, None, option_map};
+ghost use Rattle.he_addr.specs.Bits.{agrees};
 ghost use Rattle.he_select.specs.Selection.{is_longer_route, longest_route, serves};
 ghost use Rattle.he_select.specs.Tables.{row_of, label_of, is_longer_row};
 ghost use Rattle.he_select.specs.Walking.{keep_fitting, walk_fitting};
@@ -14,22 +14,32 @@ use he_addr::{Family, Ip};
 pub(crate) fn find_row(rows: &[Row], ip: Ip) -> Option<Row>
     ensures { result ≡ row_of rows.now ip }
 {
-    let mut best = None;
-    for row in rows {
-        best = keep_row(best, *row, ip);
-    }
-    best
+    longest_row(rows, ip.mapped())
 }
 
-fn keep_row(best: Option<Row>, row: Row, ip: Ip) -> Option<Row>
-    ensures { result ≡ keep_fitting (λ row. contains row.prefix ip) is_longer_row best row }
+#[inline(always)]
+fn longest_row(rows: &[Row], number: u128) -> Option<Row>
+    ensures { result ≡ walk_fitting (λ row. agrees 128 number row.prefix.bits row.prefix.len) is_longer_row None rows.now }
 {
-    if !row.prefix.contains(ip) {
-        return best;
+    let mut best = None;
+    for row in rows {
+        best = keep_row(best, row, number);
     }
+    best.copied()
+}
+
+// The length is looked at first: it costs less than the bits.
+#[inline(always)]
+fn keep_row<'a>(best: Option<&'a Row>, row: &'a Row, number: u128) -> Option<&'a Row>
+    ensures { option_map (λ kept. kept.now) result ≡ keep_fitting (λ row. agrees 128 number row.prefix.bits row.prefix.len) is_longer_row (option_map (λ kept. kept.now) best.entry) row.now }
+{
     match best {
-        Some(best) if best.prefix.len() >= row.prefix.len() => Some(best),
-        _ => Some(row),
+        Some(kept) if row.prefix.len() <= kept.prefix.len() => best,
+        _ => if row.prefix.begins(number) {
+            Some(row)
+        } else {
+            best
+        },
     }
 }
 
@@ -47,24 +57,23 @@ pub(crate) fn find_route(routes: &[Route], ip: Ip) -> Option<Route>
 {
     let mut best = None;
     for route in routes {
-        best = keep_route(best, *route, ip);
+        best = keep_route(best, route, ip);
     }
-    best
+    best.copied()
 }
 
-fn keep_route(best: Option<Route>, route: Route, ip: Ip) -> Option<Route>
-    ensures { result ≡ keep_fitting (serves ip) is_longer_route best route }
+#[inline(always)]
+fn keep_route<'a>(best: Option<&'a Route>, route: &'a Route, ip: Ip) -> Option<&'a Route>
+    ensures { option_map (λ kept. kept.now) result ≡ keep_fitting (serves ip) is_longer_route (option_map (λ kept. kept.now) best.entry) route.now }
 {
-    if !serves(&route, ip) {
-        return best;
-    }
     match best {
-        Some(best) if best.prefix.len() >= route.prefix.len() => Some(best),
-        _ => Some(route),
+        Some(kept) if route.prefix.len() <= kept.prefix.len() => best,
+        _ => if serves(route, ip) { Some(route) } else { best },
     }
 }
 
 /// Whether the route contains the address and is of its family.
+#[inline(always)]
 fn serves(route: &Route, ip: Ip) -> bool
     ensures { result ≡ serves ip route.now }
 {

@@ -1,18 +1,20 @@
 // The key of a destination (RFC 6724 section 6).
 
-ghost use Rattle.std.specs.Prelude.{◌≡◌, Option, IsTrue};
+ghost use Rattle.std.specs.Prelude.{◌≡◌, Option, IsTrue, IfSome};
 ghost use Rattle.std.specs.List.{list_all};
+ghost use Rattle.std.specs.Option.{option_map_or};
 ghost use Rattle.he_addr.specs.Ip.{InRange};
-ghost use Rattle.he_select.specs.DestinationKeys.{key_cmp};
-ghost use Rattle.he_select.specs.Ranking.{attributes_of, chosen_by, key_by, ranked_by};
+ghost use Rattle.he_addr.specs.Prefix.{common_of};
+ghost use Rattle.he_select.specs.Ranking.{attributes_of, chosen_by, key_by, ranked_from};
 ghost use Rattle.he_select.specs.HostFaults.{is_sound_source};
 
 use crate::host::Route;
 use crate::lookup::{find_route, find_row};
 use crate::policy::Row;
-use crate::selection::{Candidate, Destination, Labelled};
-use he_addr::Ip;
-use std::cmp::{Ordering, Reverse};
+use crate::selection::{Destination, Labelled};
+use crate::sorting::Sourced;
+use he_addr::{Ip, common_len};
+use std::cmp::Reverse;
 
 /// A number for each rule, in the rules' order; the preferred destination has the least key.
 #[derive(Clone, Copy, PartialEq, Eq, PartialOrd, Ord)]
@@ -28,11 +30,11 @@ pub(crate) struct Key {
     pub(crate) place: usize,
 }
 
-/// A destination with its key.
+/// A destination with its source and its key.
 #[derive(Clone, Copy)]
 pub(crate) struct Ranked {
     pub(crate) key: Key,
-    pub(crate) ip: Ip,
+    pub(crate) sourced: Sourced,
 }
 
 /// What the rules look at of a destination, with no regard to sources.
@@ -45,7 +47,7 @@ struct Attributes {
     route: Option<Route>,
 }
 
-/// The destination that stands at this place of the list, with its key.
+/// The destination that stands at this place of the list, with its source and its key.
 pub(crate) fn rank(
     rows: &[Row],
     routes: &[Route],
@@ -54,12 +56,16 @@ pub(crate) fn rank(
     place: usize,
 ) -> Ranked
     requires { IsTrue (list_all (λ labelled. is_sound_source labelled.source) sources.now) }
-    ensures key { result ≡ ranked_by rows.now routes.now sources.now (record { ip = ip; place = place }) }
+    ensures ranked { result ≡ ranked_from rows.now routes.now sources.now (record { ip = ip; place = place }) }
     ensures range { InRange ip }
 {
     let goal = Attributes::new(rows, routes, ip);
-    let key = goal.key(goal.choose_source(sources), place);
-    Ranked { key, ip }
+    let chosen = goal.choose_source(sources);
+    let source = chosen.map(|labelled| labelled.source.ip);
+    Ranked {
+        key: goal.key(chosen, place),
+        sourced: Sourced { ip, source },
+    }
 }
 
 impl Attributes {
@@ -81,23 +87,25 @@ impl Attributes {
     }
 
     #[tactic(auto, unfolding(crate::specs::Ranking::chosen_by))]
-    fn choose_source(&self, sources: &[Labelled]) -> Option<Candidate>
+    fn choose_source(&self, sources: &[Labelled]) -> Option<Labelled>
         requires { IsTrue (list_all (λ labelled. is_sound_source labelled.source) sources.now) }
-        ensures { result ≡ chosen_by self.now sources.now }
+        ensures chosen { result ≡ chosen_by self.now sources.now }
+        ensures sound { IfSome result (λ labelled. IsTrue (is_sound_source labelled.source)) }
     {
         let route = self.route?;
         Destination::new(self.ip, self.label, &route).best_of(sources)
     }
 
     #[tactic(auto, unfolding(crate::specs::Ranking::key_by))]
-    fn key(&self, source: Option<Candidate>, place: usize) -> Key
+    fn key(&self, source: Option<Labelled>, place: usize) -> Key
+        requires { IfSome source (λ labelled. IsTrue (is_sound_source labelled.source)) }
         ensures { result ≡ key_by self.now source place }
     {
         Key {
             // Rule 1: avoid unusable destinations.
             unreachable: source.is_none(),
             // Rule 2: prefer matching scope.
-            other_scope: source.map_or(false, |chosen| chosen.source.ip.scope() != self.scope),
+            other_scope: source.map_or(false, |chosen| chosen.scope != self.scope),
             // Rule 3: avoid deprecated addresses. Rule 4 is left out: there are no home addresses here.
             deprecated: source.map_or(false, |chosen| chosen.source.deprecated),
             // Rule 5: prefer matching label.
@@ -109,18 +117,20 @@ impl Attributes {
             // Rule 8: prefer smaller scope.
             scope: self.scope,
             // Rule 9: use longest matching prefix. Needs no test of the family: an admitted table's precedences part the families.
-            common: Reverse(source.map_or(0, |chosen| chosen.key.common.0)),
+            common: Reverse(self.common(source)),
             // Rule 10: otherwise, leave the order unchanged.
             place,
         }
     }
-}
 
-impl Key {
-    #[tactic(auto, unfolding(crate::specs::DestinationKeys::key_cmp))]
-    fn compare(&self, other: &Key) -> Ordering
-        ensures { result ≡ key_cmp self.now other.now }
+    /// The common prefix length of the address and its source, 0 without a source.
+    fn common(&self, source: Option<Labelled>) -> u8
+        requires { IfSome source (λ labelled. IsTrue (is_sound_source labelled.source)) }
+        ensures { result ≡ option_map_or (λ chosen. common_of chosen.source.ip chosen.source.plen self.now.ip) source 0 }
     {
-        self.cmp(other)
+        match source {
+            Some(chosen) => common_len(chosen.source.ip, chosen.source.plen, self.ip),
+            None => 0,
+        }
     }
 }

@@ -1,18 +1,20 @@
 // The source that the host uses for a destination (RFC 6724 section 5).
 
-ghost use Rattle.std.specs.Prelude.{◌≡◌, Some, None, map, IsTrue};
+ghost use Rattle.std.specs.Prelude.{◌≡◌, None, map, IsTrue, IfSome};
 ghost use Rattle.std.specs.List.{list_all};
-ghost use Rattle.he_addr.specs.Ip.{family_of};
+ghost use Rattle.std.specs.Ordering.{is_lt};
+ghost use Rattle.he_addr.specs.Prefix.{common_of};
 ghost use Rattle.he_select.specs.HostFaults.{is_sound_source};
-ghost use Rattle.he_select.specs.Keys.{source_key, source_key_cmp, candidate_of, destination_of, labelled_of, admits, is_better_candidate};
-ghost use Rattle.he_select.specs.Walking.{keep_better, keep_fitting, walk_fitting};
+ghost use Rattle.he_select.specs.LabelledRules.{admits, destination_of, is_better_labelled, labelled_of, late_rules};
+ghost use Rattle.he_select.specs.Rules.{first_of};
+ghost use Rattle.he_select.specs.Selection.{by_appropriate_scope};
+ghost use Rattle.he_select.specs.Walking.{keep_fitting, walk_fitting};
 
 use crate::host::{Route, Source};
 use crate::lookup::find_label;
 use crate::policy::Row;
 use he_addr::ip::LINK_LOCAL_SCOPE;
 use he_addr::{Ip, common_len};
-use std::cmp::{Ordering, Reverse};
 
 /// What the source rules look at of a destination.
 #[derive(Clone, Copy)]
@@ -25,41 +27,12 @@ pub(crate) struct Destination {
     pub(crate) interface: u16,
 }
 
-/// A source with its label.
+/// A source with what the rules look at of it for every destination.
 #[derive(Clone, Copy)]
 pub(crate) struct Labelled {
     pub(crate) source: Source,
+    pub(crate) scope: u8,
     pub(crate) label: u16,
-}
-
-/// A source and its key for a destination.
-#[derive(Clone, Copy)]
-pub(crate) struct Candidate {
-    pub(crate) key: SourceKey,
-    pub(crate) source: Source,
-    pub(crate) label: u16,
-}
-
-/// A number for each rule, in the rules' order; the best source has the least key.
-#[derive(Clone, Copy, PartialEq, Eq, PartialOrd, Ord)]
-pub(crate) struct SourceKey {
-    pub(crate) other_address: bool,
-    pub(crate) narrow: bool,
-    pub(crate) scope_distance: u8,
-    pub(crate) deprecated: bool,
-    pub(crate) other_interface: bool,
-    pub(crate) other_label: bool,
-    pub(crate) lasting: bool,
-    pub(crate) common: Reverse<u8>,
-}
-
-impl SourceKey {
-    #[tactic(auto, unfolding(crate::specs::Keys::source_key_cmp))]
-    fn compare(&self, other: &SourceKey) -> Ordering
-        ensures { result ≡ source_key_cmp self.now other.now }
-    {
-        self.cmp(other)
-    }
 }
 
 impl Labelled {
@@ -68,30 +41,9 @@ impl Labelled {
     {
         Labelled {
             source: *source,
+            scope: source.ip.scope(),
             label: find_label(rows, source.ip),
         }
-    }
-}
-
-impl Candidate {
-    /// The candidate, or the best so far if that is as good.
-    fn or_better(self, best: Option<Candidate>) -> Candidate
-        ensures { Some result ≡ keep_better is_better_candidate best self }
-    {
-        match best {
-            None => self,
-            Some(best) => if self.is_better_candidate(&best) {
-                self
-            } else {
-                best
-            },
-        }
-    }
-
-    fn is_better_candidate(&self, other: &Candidate) -> bool
-        ensures { result ≡ is_better_candidate self.now other.now }
-    {
-        self.key.compare(&other.key).is_lt()
     }
 }
 
@@ -108,9 +60,10 @@ impl Destination {
     }
 
     /// The best of the sources that may be used for this destination.
-    pub(crate) fn best_of(&self, sources: &[Labelled]) -> Option<Candidate>
+    pub(crate) fn best_of(&self, sources: &[Labelled]) -> Option<Labelled>
         requires { IsTrue (list_all (λ labelled. is_sound_source labelled.source) sources.now) }
-        ensures { result ≡ walk_fitting (λ candidate. admits self.now candidate.source) is_better_candidate None (map (candidate_of self.now) sources.now) }
+        ensures best { result ≡ walk_fitting (admits self.now) (is_better_labelled self.now) None sources.now }
+        ensures sound { IfSome result (λ labelled. IsTrue (is_sound_source labelled.source)) }
     {
         let mut best = None;
         for labelled in sources {
@@ -120,56 +73,101 @@ impl Destination {
     }
 
     /// The better one of the best so far and a source, if that may be used at all.
-    pub(crate) fn keep(&self, best: Option<Candidate>, labelled: &Labelled) -> Option<Candidate>
-        requires { IsTrue (is_sound_source labelled.now.source) }
-        ensures { result ≡ keep_fitting (λ candidate. admits self.now candidate.source) is_better_candidate best (candidate_of self.now labelled.now) }
+    #[inline(always)]
+    pub(crate) fn keep(&self, best: Option<Labelled>, labelled: &Labelled) -> Option<Labelled>
+        requires sound { IsTrue (is_sound_source labelled.now.source) }
+        requires best { IfSome best (λ kept. IsTrue (is_sound_source kept.source)) }
+        ensures kept { result ≡ keep_fitting (admits self.now) (is_better_labelled self.now) best labelled.now }
+        ensures sound { IfSome result (λ kept. IsTrue (is_sound_source kept.source)) }
     {
-        if !self.admits(&labelled.source) {
+        if !self.admits(labelled) {
             return best;
         }
-        let candidate = Candidate {
-            key: self.source_key(labelled),
-            source: labelled.source,
-            label: labelled.label,
-        };
-        Some(candidate.or_better(best))
+        match best {
+            Some(kept) if !self.is_better(labelled, &kept) => Some(kept),
+            _ => Some(*labelled),
+        }
     }
 
     /// Whether the source may be used: one of the destination's family, for a destination of link scope only one on the
     /// route's interface.
-    fn admits(&self, source: &Source) -> bool
-        ensures { result ≡ admits self.now source.now }
+    #[inline(always)]
+    fn admits(&self, labelled: &Labelled) -> bool
+        ensures { result ≡ admits self.now labelled.now }
     {
-        source.ip.family() == self.ip.family()
-            && (self.scope != LINK_LOCAL_SCOPE || source.interface == self.interface)
+        labelled.source.ip.family() == self.ip.family()
+            && (self.scope != LINK_LOCAL_SCOPE || labelled.source.interface == self.interface)
     }
 
-    #[tactic(auto, unfolding(crate::specs::Keys::source_key))]
-    fn source_key(&self, labelled: &Labelled) -> SourceKey
-        requires sound { IsTrue (is_sound_source labelled.now.source) }
-        requires family { family_of labelled.now.source.ip ≡ family_of self.now.ip }
-        ensures { result ≡ source_key self.now labelled.now }
+    /// Whether the first rule that tells the two sources apart prefers this one to the other. The rules are asked one by one,
+    /// since most pairs are told apart early.
+    #[inline(always)]
+    #[tactic(auto, unfolding(crate::specs::LabelledRules::labelled_rules))]
+    fn is_better(&self, this: &Labelled, other: &Labelled) -> bool
+        requires this { IsTrue (is_sound_source this.now.source) }
+        requires other { IsTrue (is_sound_source other.now.source) }
+        ensures { result ≡ is_better_labelled self.now this.now other.now }
     {
-        let source = &labelled.source;
-        let scope = source.ip.scope();
-        SourceKey {
-            // Rule 1: prefer same address.
-            other_address: source.ip != self.ip,
-            // Rule 2: prefer appropriate scope. A scope smaller than the destination's comes last, else the nearer one first.
-            narrow: scope < self.scope,
-            scope_distance: scope.abs_diff(self.scope),
-            // Rule 3: avoid deprecated addresses.
-            deprecated: source.deprecated,
-            // Rule 4 is left out: there are no home addresses here.
-            // Rule 5: prefer outgoing interface. Rule 5.5 is left out: no host tells the next hop's prefixes.
-            other_interface: source.interface != self.interface,
-            // Rule 6: prefer matching label.
-            other_label: labelled.label != self.label,
-            // Rule 7: prefer temporary addresses.
-            lasting: !source.temporary,
-            // Rule 8: use longest matching prefix.
-            common: Reverse(common_len(source.ip, source.plen, self.ip)),
+        // Rule 1: prefer same address.
+        let is_same = this.source.ip == self.ip;
+        if is_same != (other.source.ip == self.ip) {
+            return is_same;
         }
+        // Rule 2: prefer appropriate scope.
+        if this.scope != other.scope {
+            return self.prefers_scope(this.scope, other.scope);
+        }
+        // Rule 3: avoid deprecated addresses. Rule 4 is left out: there are no home addresses here.
+        if this.source.deprecated != other.source.deprecated {
+            return other.source.deprecated;
+        }
+        self.is_better_late(this, other)
+    }
+
+    /// The same by the rules from 5 on.
+    #[inline(always)]
+    #[tactic(auto, unfolding(crate::specs::LabelledRules::late_rules))]
+    fn is_better_late(&self, this: &Labelled, other: &Labelled) -> bool
+        requires this { IsTrue (is_sound_source this.now.source) }
+        requires other { IsTrue (is_sound_source other.now.source) }
+        ensures { result ≡ is_lt (first_of (late_rules self.now) this.now other.now) }
+    {
+        // Rule 5: prefer outgoing interface. Rule 5.5 is left out: no host tells the next hop's prefixes.
+        let is_outgoing = this.source.interface == self.interface;
+        if is_outgoing != (other.source.interface == self.interface) {
+            return is_outgoing;
+        }
+        // Rule 6: prefer matching label.
+        let is_like = this.label == self.label;
+        if is_like != (other.label == self.label) {
+            return is_like;
+        }
+        // Rule 7: prefer temporary addresses.
+        if this.source.temporary != other.source.temporary {
+            return this.source.temporary;
+        }
+        // Rule 8: use longest matching prefix.
+        self.common(this) > self.common(other)
+    }
+
+    /// Of two scopes the smaller one, unless it is smaller than the destination's; then the larger.
+    #[inline(always)]
+    fn prefers_scope(&self, this: u8, other: u8) -> bool
+        ensures { result ≡ is_lt (by_appropriate_scope self.now.scope this other) }
+    {
+        if this < other {
+            this >= self.scope
+        } else {
+            this > other && other < self.scope
+        }
+    }
+
+    #[inline(always)]
+    fn common(&self, labelled: &Labelled) -> u8
+        requires { IsTrue (is_sound_source labelled.now.source) }
+        ensures { result ≡ common_of labelled.now.source.ip labelled.now.source.plen self.now.ip }
+    {
+        common_len(labelled.source.ip, labelled.source.plen, self.ip)
     }
 }
 
@@ -178,9 +176,9 @@ pub(crate) fn best_source(
     rows: &[Row],
     sources: &[Source],
     destination: &Destination,
-) -> Option<Candidate>
+) -> Option<Labelled>
     requires { IsTrue (list_all is_sound_source sources.now) }
-    ensures { result ≡ walk_fitting (λ candidate. admits destination.now candidate.source) is_better_candidate None (map (λ source. candidate_of destination.now (labelled_of rows.now source)) sources.now) }
+    ensures { result ≡ walk_fitting (admits destination.now) (is_better_labelled destination.now) None (map (labelled_of rows.now) sources.now) }
 {
     let mut best = None;
     for source in sources {

@@ -4,4 +4,4 @@ use Rattle.he_select.proofs.LookUps.{route_walked}
 use Rattle.he_select.proofs.lookup.find_route.Goals as goal
 
 pub returns : goal.returns
-returns c = grind (arith, common_steps, c.loop-route.invariant, route_walked c.args.routes.now c.args.ip)
+returns c = grind (arith, common_steps, c.loop-route.invariant, c.copied.ensures, route_walked c.args.routes.now c.args.ip)

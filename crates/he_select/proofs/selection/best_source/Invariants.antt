@@ -1,10 +1,12 @@
 use Rattle.std.proofs.Common.{◌≡◌, drop, map}
-use Rattle.std.specs.Prelude.{None}
-use Rattle.he_select.specs.Keys.{admits, candidate_of, is_better_candidate, labelled_of}
+use Rattle.std.specs.Prelude.{None, IfSome, IsTrue}
+use Rattle.he_select.specs.HostFaults.{is_sound_source}
+use Rattle.he_select.specs.LabelledRules.{admits, is_better_labelled, labelled_of}
 use Rattle.he_select.specs.Walking.{walk_fitting}
 use Rattle.he_select.proofs.selection.best_source.Given as goal
 
 abbrev pub invariant-loop-source : goal.invariant-loop-source
 invariant-loop-source l =
-    walk_fitting (λ candidate. admits l.destination candidate.source) is_better_candidate l.best (map (λ source. candidate_of l.destination (labelled_of l.rows source)) (drop l.source-index l.sources))
-    ≡ walk_fitting (λ candidate. admits l.destination candidate.source) is_better_candidate None (map (λ source. candidate_of l.destination (labelled_of l.rows source)) l.sources)
+    (walk_fitting (admits l.destination) (is_better_labelled l.destination) l.best (map (labelled_of l.rows) (drop l.source-index l.sources))
+    ≡ walk_fitting (admits l.destination) (is_better_labelled l.destination) None (map (labelled_of l.rows) l.sources))
+    × IfSome l.best (λ kept. IsTrue (is_sound_source kept.source))

@@ -1,11 +1,11 @@
 use Rattle.std.proofs.Common.{◌≡◌, drop, map, ◌++◌}
 use Rattle.std.specs.List.{AllWithin}
 use Rattle.he_addr.specs.Ip.{InRange}
-use Rattle.he_select.specs.Ranking.{ranked_by}
+use Rattle.he_select.specs.Ranking.{key_from}
 use Rattle.he_select.specs.Preference.{members_from}
 use Rattle.he_select.proofs.sorting.rank_all.Given as goal
 
 abbrev pub invariant-loop-place : goal.invariant-loop-place
 invariant-loop-place g l =
-    (l.ranked.items ++ map (ranked_by l.rows l.routes l.sources) (members_from l.place (drop l.place l.addresses)) ≡ map (ranked_by l.rows l.routes l.sources) (members_from 0 l.addresses))
+    (l.keys.items ++ map (key_from l.rows l.routes l.sources) (members_from l.place (drop l.place l.addresses)) ≡ map (key_from l.rows l.routes l.sources) (members_from 0 l.addresses))
     × AllWithin InRange l.addresses 0 l.place

@@ -1,10 +1,12 @@
-use Rattle.std.proofs.Common.{◌≡◌, drop, map}
-use Rattle.std.specs.Prelude.{None}
-use Rattle.he_select.specs.Keys.{admits, candidate_of, is_better_candidate}
+use Rattle.std.proofs.Common.{◌≡◌, drop}
+use Rattle.std.specs.Prelude.{None, IfSome, IsTrue}
+use Rattle.he_select.specs.HostFaults.{is_sound_source}
+use Rattle.he_select.specs.LabelledRules.{admits, is_better_labelled}
 use Rattle.he_select.specs.Walking.{walk_fitting}
 use Rattle.he_select.proofs.selection.Destination.best_of.Given as goal
 
 abbrev pub invariant-loop-labelled : goal.invariant-loop-labelled
 invariant-loop-labelled l =
-    walk_fitting (λ candidate. admits l.self candidate.source) is_better_candidate l.best (map (candidate_of l.self) (drop l.labelled-index l.sources))
-    ≡ walk_fitting (λ candidate. admits l.self candidate.source) is_better_candidate None (map (candidate_of l.self) l.sources)
+    (walk_fitting (admits l.self) (is_better_labelled l.self) l.best (drop l.labelled-index l.sources)
+    ≡ walk_fitting (admits l.self) (is_better_labelled l.self) None l.sources)
+    × IfSome l.best (λ kept. IsTrue (is_sound_source kept.source))
