@@ -1,5 +1,5 @@
 -- Interlacing two lists: a step of it, its end, and what it keeps.
-use Rattle.std.proofs.Common.{◌≡◌, ℕ, ◌≤◌, ◌⊎◌, ◌||◌, ◌++◌, Bool, true, false, not, List, [], ◌∷◌, filter, take, drop, length, refl, sym, ◌∙◌, ap, arith, inl, inr, append_assoc}
+use Rattle.std.proofs.Common.{◌≡◌, ℕ, ◌≤◌, ◌⊎◌, ◌||◌, ◌++◌, Bool, true, false, cond, not, List, [], ◌∷◌, filter, take, drop, length, refl, sym, ◌∙◌, ap, arith, inl, inr, append_assoc}
 use Rattle.std.specs.List.{list_any}
 use Rattle.std.proofs.lemmas.Grind.{common_steps}
 use Rattle.std.proofs.lemmas.List.{drop_all, append-nil, take-append-drop}
@@ -62,3 +62,26 @@ list_any-interlace_by p family ips count =
 pub list_any-interlace : (p : Ip → Bool) (ips : List Ip) (count : ℕ) → list_any p (interlace ips count) ≡ list_any p ips
 list_any-interlace p [] count = refl
 list_any-interlace p (first ∷ ips) count = list_any-interlace_by p (family_of first) (first ∷ ips) count
+
+filter_short : (p : Ip → Bool) (ips : List Ip) → length (filter p ips) ≤ length ips
+filter_short p [] = omega arith
+filter_short p (ip ∷ ips) = by_head (p ip) (filter_short p ips)
+  where
+    by_head : (b : Bool) → length (filter p ips) ≤ length ips → length (cond b (ip ∷ filter p ips) (filter p ips)) ≤ length (ip ∷ ips)
+    by_head true short = omega (arith, short)
+    by_head false short = omega (arith, short)
+
+-- where as many pass as there are, none fails
+none_other : (p : Ip → Bool) (ips : List Ip) → length (filter p ips) ≡ length ips → filter (λ ip. not (p ip)) ips ≡ []
+none_other p [] all = refl
+none_other p (ip ∷ ips) all = by_head (p ip) all (none_other p ips)
+  where
+    by_head : (b : Bool) → length (cond b (ip ∷ filter p ips) (filter p ips)) ≡ length (ip ∷ ips) → (length (filter p ips) ≡ length ips → filter (λ x. not (p x)) ips ≡ []) → cond (not b) (ip ∷ filter (λ x. not (p x)) ips) (filter (λ x. not (p x)) ips) ≡ []
+    by_head true all rest = rest (omega (arith, all))
+    by_head false all rest = absurd (omega (arith, all, filter_short p ips))
+
+-- one family alone stays in its order
+pub alone-interlace_by : (family : Family) (ips : List Ip) (count : ℕ) → length (filter (is_of family) ips) ≡ length ips → filter (is_of family) ips ≡ interlace_by family ips count
+alone-interlace_by family ips count all =
+    let leading : List Ip = filter (is_of family) ips in
+    sym (ap (λ other. take count leading ++ alternate other (drop count leading)) (none_other (is_of family) ips all) ∙ take-append-drop count leading)

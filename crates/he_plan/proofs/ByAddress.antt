@@ -2,7 +2,9 @@
 use Rattle.std.proofs.Common.{◌≡◌, ◌++◌, ◌||◌, Bool, true, false, cond, not, List, [], ◌∷◌, Option, Some, None, is_some, option_map, find, refl, ◌∙◌}
 use Rattle.std.specs.Map.{lookup}
 use Rattle.he_addr.specs.Ip.{same_ip}
+use Rattle.he_addr.specs.contracts.ip.IpPartialEq.TheImpl.{eq-value}
 use Rattle.he_addr.specs.declared.ip.Ip.{Ip}
+use Rattle.he_addr.specs.declared.ip.Ip.TheVariants.{V4, V6}
 use Rattle.he_plan.specs.declared.outcome.Outcome.{Outcome}
 use Rattle.he_plan.specs.Finish.{outcome_in}
 use Rattle.he_plan.specs.Race.{has_outcome}
@@ -13,6 +15,13 @@ use Rattle.he_plan.proofs.Ranges.{same_ip-sym}
 -- an equality of addresses
 abbrev pub IsSame : (Ip → Ip → Bool) → Type 0
 IsSame eq = (x y : Ip) → eq x y ≡ same_ip x y
+
+-- as the code's is
+pub same_as : IsSame eq-value.it
+same_as (V4 m) (V4 n) = refl
+same_as (V6 m) (V6 n) = refl
+same_as (V4 m) (V6 n) = refl
+same_as (V6 m) (V4 n) = refl
 
 pub looked_up : (eq : Ip → Ip → Bool) → IsSame eq → (ip : Ip) (told : List (Ip × Outcome)) → lookup (eq ip) told ≡ outcome_in told ip
 looked_up eq same ip [] = refl

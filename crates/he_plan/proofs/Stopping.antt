@@ -53,7 +53,7 @@ known_success race stop finish (x ∷ xs) later zero h = ap Some (known_is stop 
 known_success race stop finish (x ∷ xs) later (suc i) h = known_success race stop finish xs later i h
 
 -- what starts at the stop or later succeeds after it
-late_success : (race : Race) → IsRace race → (stop finish : ℕ) (later : List Attempt) (i : ℕ) → list_all (λ (x : Attempt). nat_le stop x.tick) later ≡ true → slice_get (map (fate_of race) later) i ≡ Some (Succeeded finish) → stop < finish
+pub late_success : (race : Race) → IsRace race → (stop finish : ℕ) (later : List Attempt) (i : ℕ) → list_all (λ (x : Attempt). nat_le stop x.tick) later ≡ true → slice_get (map (fate_of race) later) i ≡ Some (Succeeded finish) → stop < finish
 late_success race r stop finish [] i late h = cc
 late_success race r stop finish (x ∷ later) zero late h =
     let after : stop ≤ x.tick = le_from _ _ (and_left _ _ late) in
@@ -96,7 +96,7 @@ known_mark stop place winner fate = mark_by (is_place winner place) fate
     mark_by false Running = refl
     mark_by false Skipped = refl
 
-none_before : (stop : ℕ) (later : List Attempt) → list_all (λ (x : Attempt). nat_le stop x.tick) later ≡ true → filter (λ (x : Attempt). nat_lt x.tick stop) later ≡ []
+pub none_before : (stop : ℕ) (later : List Attempt) → list_all (λ (x : Attempt). nat_le stop x.tick) later ≡ true → filter (λ (x : Attempt). nat_lt x.tick stop) later ≡ []
 none_before stop [] late = refl
 none_before stop (x ∷ later) late =
     let out : nat_lt x.tick stop ≡ false = not_lt _ _ (le_from _ _ (and_left _ _ late)) in

@@ -1,5 +1,5 @@
 -- What the calls of the builder answer: the race with what was added, or the first fault.
-use Rattle.std.specs.Prelude.{ℕ, ◌≡◌, ◌-◌, ◌&&◌, ◌++◌, not, if◌then◌else◌, List, [], ◌∷◌, length, Some, None, is_some, slice_get, nat_le, nat_lt, Result, Ok, Err, IsOk}
+use Rattle.std.specs.Prelude.{ℕ, ◌≡◌, ◌-◌, ◌&&◌, ◌++◌, true, false, not, if◌then◌else◌, List, [], ◌∷◌, length, Some, None, is_some, slice_get, nat_le, nat_lt, Result, Ok, Err, IsOk}
 use Rattle.std.specs.Option.{option_map_or}
 use Rattle.he_addr.specs.declared.ip.Family.{Family}
 use Rattle.he_addr.specs.declared.ip.Family.TheVariants as families
@@ -61,3 +61,9 @@ abbrev pub Becomes : Result (Unit {0}) BuildFault → Race → Race → Result R
 Becomes (Ok done) old new made = made ≡ Ok new
 Becomes (Err faults.Memory) old new made = (new ≡ old) × IsOk made
 Becomes (Err fault) old new made = (new ≡ old) × (made ≡ Err fault)
+
+-- why addresses are no answer: one stands twice, or else memory is refused
+abbrev pub IsRefused : List Ip → BuildFault → Type 0
+IsRefused addresses faults.Repeated = are_distinct addresses ≡ false
+IsRefused addresses faults.Memory = are_distinct addresses ≡ true
+IsRefused addresses _ = ⊥

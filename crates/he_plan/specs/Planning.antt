@@ -1,5 +1,6 @@
--- Mirrors the code: what private functions answer: ticks that look at no pause, the winner so far, what is told of an attempt.
-use Rattle.std.specs.Prelude.{ℕ, ◌+◌, ◌≤◌, ◌<◌, ◌&&◌, if◌then◌else◌, ◌++◌, List, [], ◌∷◌, min, max, Option, Some, None, option_map, IfSome, nat_le, nat_lt, ◌≡◌, Bool, true, false, length, drop, filter, find, slice_index_or}
+-- Mirrors the code: what private functions answer: ticks that look at no pause, the winner so far, what is told of an
+-- attempt.
+use Rattle.std.specs.Prelude.{ℕ, ◌+◌, ◌≤◌, ◌<◌, ◌&&◌, if◌then◌else◌, ◌++◌, List, [], ◌∷◌, min, max, Option, Some, None, option_map, IfSome, nat_le, nat_lt, ◌≡◌, Bool, true, false, length, drop, filter, map, find, slice_index_or}
 use Rattle.std.specs.List.{list_any}
 use Rattle.std.specs.List.Sorted.{IsPermutation}
 use Rattle.he_addr.specs.declared.ip.Family.{Family}
@@ -8,15 +9,15 @@ use Rattle.he_addr.specs.declared.ip.Ip.{Ip}
 use Rattle.he_addr.specs.Ip.{is_usable}
 use Rattle.he_plan.specs.declared.attempts.Attempt.{Attempt}
 use Rattle.he_plan.specs.declared.finish.Fate.{Fate}
-use Rattle.he_plan.specs.declared.finish.Fate.TheVariants.{Succeeded, Failed, Skipped}
+use Rattle.he_plan.specs.declared.finish.Fate.TheVariants.{Succeeded, Failed}
 use Rattle.he_plan.specs.declared.limits.TheConstants.{MAX_LIMIT}
 use Rattle.he_plan.specs.Race.{Race, Reply}
 use Rattle.he_plan.specs.declared.transcript.Line.{Line}
 use Rattle.he_plan.specs.Timeline.{is_of, are_pauses}
-use Rattle.he_plan.specs.Transcript.{mark_at}
-use Rattle.he_plan.specs.Attempts.{is_untried, last_of, order, order_at, seen}
+use Rattle.he_plan.specs.Transcript.{mark_at, stop_of}
+use Rattle.he_plan.specs.Attempts.{AreNextInTurn, MayStart, is_untried, last_of, order, order_at, seen}
 use Rattle.he_plan.specs.Alternating.{interlace}
-use Rattle.he_plan.specs.Finish.{fate_of}
+use Rattle.he_plan.specs.Finish.{IsWinner, fate_of}
 
 -- pauses in order, of which the first ends after the tick
 abbrev pub are_ahead : ℕ → List (ℕ × ℕ) → Bool
@@ -136,10 +137,6 @@ abbrev pub is_beaten : Option (ℕ × ℕ) → ℕ → Bool
 is_beaten None tick = false
 is_beaten (Some w) tick = nat_le w.0 tick
 
--- the fate that is told of an attempt after the winner so far
-abbrev pub told_fate : Race → Option (ℕ × ℕ) → Attempt → Fate
-told_fate race winner x = if is_beaten winner x.tick then Skipped else fate_of race x
-
 -- the line of an attempt of which this fate is told
 abbrev pub told_line : ℕ → Option (ℕ × ℕ) → Attempt → Fate → Line
 told_line stop winner x fate = record { place = x.place; tick = x.tick; ip = x.ip; mark = mark_at stop winner x.place fate }
@@ -172,3 +169,10 @@ pub record PlansNext (race : Race) (done all : List Attempt) (tick : ℕ) : Type
   pub place : next.place ≡ length done
   pub at : next.tick ≡ tick
   pub ip : find (is_untried done) (order_at race tick) ≡ Some next.ip
+
+-- the attempts up to the stop, the fate of each, and the winner of these
+pub record IsCourse (race : Race) (attempts : List Attempt) (fates : List Fate) (winner : Option (ℕ × ℕ)) : Type 0 where
+  pub in_turn : AreNextInTurn race attempts
+  pub stops : (t : ℕ) → MayStart race attempts t → stop_of race winner ≤ t
+  pub own : fates ≡ map (fate_of race) attempts
+  pub wins : IsWinner fates winner

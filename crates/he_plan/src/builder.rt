@@ -1,16 +1,17 @@
 // Making a timeline.
 
-ghost use Rattle.std.specs.Prelude.{◌≡◌};
-ghost use Rattle.he_plan.specs.Building.{empty_race, add_answer, add_outcome, add_pause, last_end, Becomes};
+ghost use Rattle.std.specs.Prelude.{◌≡◌, true, false, IfOk, IfErr};
+ghost use Rattle.he_plan.specs.Building.{IsRefused, empty_race, add_answer, add_outcome, add_pause, last_end, Becomes};
 ghost use Rattle.he_plan.specs.Race.{has_ip, is_in_answer};
 ghost use Rattle.he_plan.specs.Timeline.{are_of, are_distinct, IsRace};
 
+use crate::addresses::{Addresses, are_distinct};
 use crate::limits::{
     MAX_ADDRESSES, MAX_DURATION, MAX_PAUSE_END, MAX_PAUSES, MAX_TICK, MIN_DURATION,
 };
 use crate::outcome::Outcome;
 use crate::settings::Settings;
-use crate::timeline::Timeline;
+use crate::timeline::{Answer, Timeline};
 use he_addr::{Family, Ip};
 use he_select::{Host, Policy};
 use std::alloc::{Allocator, Global};
@@ -92,12 +93,9 @@ impl<A: Allocator + Copy> TimelineBuilder<A> {
         if !are_of(family, addresses) {
             return Err(BuildFault::Stranger);
         }
-        if !are_distinct(addresses) {
-            return Err(BuildFault::Repeated);
-        }
-        self.timeline
-            .set_answer(self.alloc, family, tick, addresses)
-            .map_err(|_| BuildFault::Memory)
+        let answer = distinct_answer(self.alloc, tick, addresses)?;
+        self.timeline.set_answer(family, answer);
+        Ok(())
     }
 
     /// What the address does when it is tried.
@@ -110,6 +108,18 @@ impl<A: Allocator + Copy> TimelineBuilder<A> {
         }
         if !self.timeline.stands(ip) {
             return Err(BuildFault::Stranger);
+        }
+        self.outcome_of_known(ip, outcome)
+    }
+
+    /// The same for an address that stands in one of the answers, as [`TimelineBuilder::stands`] tells.
+    pub fn outcome_of_known(&mut self, ip: Ip, outcome: Outcome) -> Result<(), BuildFault>
+        requires { is_in_answer self.old ip ≡ true }
+        ensures { Becomes result self.old self.new (add_outcome ip outcome self.old) }
+    {
+        let duration = outcome.duration();
+        if duration < MIN_DURATION || duration > MAX_DURATION {
+            return Err(BuildFault::Range);
         }
         if self.timeline.has_outcome(ip) {
             return Err(BuildFault::Repeated);
@@ -167,11 +177,20 @@ fn are_of(family: Family, ips: &[Ip]) -> bool
     ips.iter().all(|ip| ip.family() == family)
 }
 
-fn are_distinct(ips: &[Ip]) -> bool
-    ensures { result ≡ are_distinct ips.now }
+// The answer, or why it is none: an address stands twice, or else memory is refused.
+fn distinct_answer<A: Allocator + Copy>(
+    alloc: A,
+    tick: u64,
+    addresses: &[Ip],
+) -> Result<Answer<A>, BuildFault>
+    ensures ok { IfOk result (λ answer. answer ≡ record { tick = tick; addresses = addresses.now }) }
+    ensures distinct { IfOk result (λ _. are_distinct addresses.now ≡ true) }
+    ensures fault { IfErr result (IsRefused addresses.now) }
 {
-    match ips {
-        [] => true,
-        [ip, rest @ ..] => !rest.contains(ip) && are_distinct(rest),
+    match Addresses::new(alloc, addresses) {
+        Ok(Some(addresses)) => Ok(Answer { tick, addresses }),
+        Ok(None) => Err(BuildFault::Repeated),
+        Err(_) if are_distinct(addresses) => Err(BuildFault::Memory),
+        Err(_) => Err(BuildFault::Repeated),
     }
 }

@@ -21,7 +21,7 @@ pub fn interlace<A: Allocator + Copy>(
     let Some(first) = ips.first() else {
         return Ok(Vec::new(alloc));
     };
-    interlace_by(alloc, first.family(), ips, count as usize).map_err(|_| Memory)
+    Ok(interlace_by(alloc, first.family(), ips, count as usize)?)
 }
 
 fn interlace_by<A: Allocator + Copy>(
@@ -33,6 +33,9 @@ fn interlace_by<A: Allocator + Copy>(
     ensures { IfOk result (λ v. v.items ≡ interlace_by family ips.now count) }
 {
     let leading = members(alloc, family, ips)?;
+    if leading.len() == ips.len() {
+        return Ok(leading);
+    }
     let other = others(alloc, family, ips)?;
     let first = leading.len().min(count);
     let mut interlaced = Vec::with_capacity(alloc, ips.len())?;
@@ -44,19 +47,25 @@ fn interlace_by<A: Allocator + Copy>(
 fn members<A: Allocator>(alloc: A, family: Family, ips: &[Ip]) -> Result<Vec<Ip, A>, AllocError>
     ensures { IfOk result (λ v. v.items ≡ filter (is_of family) ips.now) }
 {
-    ips.iter()
-        .copied()
-        .filter(|ip| ip.family() == family)
-        .collect(alloc)
+    let mut members = Vec::with_capacity(alloc, ips.len())?;
+    for ip in ips {
+        if ip.family() == family {
+            members.push(*ip)?;
+        }
+    }
+    Ok(members)
 }
 
 fn others<A: Allocator>(alloc: A, family: Family, ips: &[Ip]) -> Result<Vec<Ip, A>, AllocError>
     ensures { IfOk result (λ v. v.items ≡ filter (λ ip. not (is_of family ip)) ips.now) }
 {
-    ips.iter()
-        .copied()
-        .filter(|ip| ip.family() != family)
-        .collect(alloc)
+    let mut others = Vec::with_capacity(alloc, ips.len())?;
+    for ip in ips {
+        if ip.family() != family {
+            others.push(*ip)?;
+        }
+    }
+    Ok(others)
 }
 
 fn alternate<A: Allocator>(

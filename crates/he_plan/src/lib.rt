@@ -28,11 +28,12 @@
 //! Tested only: that a call succeeds where memory is granted.
 #![tactic(auto)]
 
+mod addresses;
 pub mod agreement;
 pub mod attempts;
 pub mod builder;
+mod course;
 pub mod due;
-mod fates;
 pub mod finish;
 pub mod interlacing;
 pub mod laws;

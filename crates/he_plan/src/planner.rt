@@ -76,7 +76,7 @@ impl<A: Allocator + Copy> Planner<A> {
             tick,
             ip: queue.ips[queue.next],
         };
-        attempts.push(attempt).map_err(|_| Memory)?;
+        attempts.push(attempt)?;
         queue.next += 1;
         Ok(Planner { attempts, queue })
     }

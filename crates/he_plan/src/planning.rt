@@ -32,7 +32,7 @@ pub fn plan<A: Allocator + Copy, B: Allocator>(
             tick,
             ip: queue.ips[queue.next],
         };
-        attempts.push(attempt).map_err(|_| Memory)?;
+        attempts.push(attempt)?;
         queue.next += 1;
     }
     Ok(Plan::new(attempts))
@@ -77,7 +77,7 @@ fn untried<A: Allocator + Copy>(
     if done.is_empty() {
         return Ok(ips);
     }
-    filter_untried(alloc, done, &ips).map_err(|_| Memory)
+    Ok(filter_untried(alloc, done, &ips)?)
 }
 
 fn filter_untried<A: Allocator>(
@@ -87,10 +87,13 @@ fn filter_untried<A: Allocator>(
 ) -> Result<Vec<Ip, A>, AllocError>
     ensures { IfOk result (λ v. v.items ≡ filter (is_untried done.now) ips.now) }
 {
-    ips.iter()
-        .copied()
-        .filter(|ip| !is_tried(done, *ip))
-        .collect(alloc)
+    let mut untried = Vec::with_capacity(alloc, ips.len())?;
+    for ip in ips {
+        if !is_tried(done, *ip) {
+            untried.push(*ip)?;
+        }
+    }
+    Ok(untried)
 }
 
 // Whether the answer is included in the list for the tick, where it was by the last start or not.
@@ -123,11 +126,23 @@ pub(crate) fn interlaced_list<A: Allocator + Copy, B: Allocator>(
     ensures value { IfOk result (λ v. v.items ≡ interlaced_list timeline.now v6 v4) }
     ensures members { IfOk result (λ _. IsPermutation (parts_of timeline.now v6 v4) (order timeline.now (parts_of timeline.now v6 v4))) }
 {
-    let mut ips = Vec::new(alloc);
+    let mut ips = Vec::with_capacity(alloc, address_count(timeline))?;
     push_part(&mut ips, timeline, Family::V6, v6)?;
     push_part(&mut ips, timeline, Family::V4, v4)?;
     let sorted = order(alloc, timeline.policy(), timeline.host(), &ips)?;
     interlace(alloc, &sorted, timeline.settings().count())
+}
+
+// How many addresses both answers have, at least the number of attempts.
+pub(crate) fn address_count<A: Allocator>(timeline: &Timeline<A>) -> usize {
+    answered_count(timeline, Family::V6).saturating_add(answered_count(timeline, Family::V4))
+}
+
+fn answered_count<A: Allocator>(timeline: &Timeline<A>, family: Family) -> usize {
+    match timeline.answer(family) {
+        Some((_, ips)) => ips.len(),
+        None => 0,
+    }
 }
 
 fn push_part<A: Allocator, B: Allocator>(
@@ -139,7 +154,7 @@ fn push_part<A: Allocator, B: Allocator>(
     ensures { OnOk result (ips.new.items ≡ ips.old.items ++ part_of included (reply_of timeline.now family)) }
 {
     match timeline.answer(family) {
-        Some((_, addresses)) if included => push_usable(ips, addresses).map_err(|_| Memory),
+        Some((_, addresses)) if included => Ok(push_usable(ips, addresses)?),
         _ => Ok(()),
     }
 }

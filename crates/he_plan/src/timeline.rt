@@ -12,6 +12,7 @@ ghost use Rattle.he_plan.specs.Finish.{outcome_of, outcome_in};
 ghost use Rattle.he_plan.specs.Planning.{are_ahead};
 ghost use Rattle.he_plan.specs.Building.{empty_race, with_answer, with_outcome, with_pause};
 
+use crate::addresses::Addresses;
 use crate::limits::{MAX_DURATION, MAX_PAUSE_END, MIN_DURATION};
 use crate::outcome::Outcome;
 use crate::outcomes::Outcomes;
@@ -22,11 +23,11 @@ use indexmap::map::Slice;
 use std::alloc::{AllocError, Allocator, Global};
 use std::marker::Model;
 
-/// One family's answer.
+// One family's answer.
 #[derive(Drop)]
 pub(crate) struct Answer<A: Allocator> {
-    tick: u64,
-    addresses: Vec<Ip, A>,
+    pub(crate) tick: u64,
+    pub(crate) addresses: Addresses<A>,
 }
 
 impl<A: Allocator> Model for Answer<A> {
@@ -34,16 +35,7 @@ impl<A: Allocator> Model for Answer<A> {
 
     ghost Value = { Reply };
 
-    ghost view = { λ answer. record { tick = answer.tick; addresses = answer.addresses.items } };
-}
-
-impl<A: Allocator> Answer<A> {
-    pub(crate) fn new(alloc: A, tick: u64, addresses: &[Ip]) -> Result<Answer<A>, AllocError>
-        ensures { IfOk result (λ answer. answer ≡ record { tick = tick; addresses = addresses.now }) }
-    {
-        let addresses = Vec::from_slice(alloc, addresses)?;
-        Ok(Answer { tick, addresses })
-    }
+    ghost view = { λ answer. record { tick = answer.tick; addresses = answer.addresses } };
 }
 
 /// A race's whole input: its settings, the policy table and the host by which addresses are ordered, the answers of both
@@ -90,23 +82,14 @@ impl<A: Allocator + Copy> Timeline<A> {
         }
     }
 
-    pub(crate) fn set_answer(
-        &mut self,
-        alloc: A,
-        family: Family,
-        tick: u64,
-        addresses: &[Ip],
-    ) -> Result<(), AllocError>
-        requires { IsRace (with_answer self.old family (record { tick = tick; addresses = addresses.now })) }
-        ensures ok { OnOk result (self.new ≡ with_answer self.old family (record { tick = tick; addresses = addresses.now })) }
-        ensures err { OnErr result (self.new ≡ self.old) }
+    pub(crate) fn set_answer(&mut self, family: Family, answer: Answer<A>)
+        requires { IsRace (with_answer self.old family answer) }
+        ensures { self.new ≡ with_answer self.old family answer }
     {
-        let answer = Answer::new(alloc, tick, addresses)?;
         match family {
             Family::V6 => self.aaaa = Some(answer),
             Family::V4 => self.a = Some(answer),
         }
-        Ok(())
     }
 
     pub(crate) fn push_outcome(&mut self, ip: Ip, outcome: Outcome) -> Result<(), AllocError>
@@ -133,11 +116,15 @@ impl<A: Allocator> Timeline<A> {
         ensures value { result ≡ is_in_answer self.now ip }
         ensures race { IsRace self.now }
     {
-        stands_in(&self.aaaa, ip) || stands_in(&self.a, ip)
+        match ip.family() {
+            Family::V6 => stands_in(&self.aaaa, ip),
+            Family::V4 => stands_in(&self.a, ip),
+        }
     }
 
     pub(crate) fn has_outcome(&self, ip: Ip) -> bool
-        ensures { result ≡ has_outcome ip self.now.outcomes }
+        ensures value { result ≡ has_outcome ip self.now.outcomes }
+        ensures race { IsRace self.now }
     {
         self.outcomes.has(ip)
     }
@@ -148,7 +135,7 @@ impl<A: Allocator> Timeline<A> {
     {
         let policy = self.policy.copy(alloc)?;
         let host = self.host.copy(alloc)?;
-        self.copy_with(alloc, policy, host).map_err(|_| Memory)
+        Ok(self.copy_with(alloc, policy, host)?)
     }
 
     // The same timeline in another allocator, around these copies of its policy and host.
@@ -266,7 +253,7 @@ fn stands_in<A: Allocator>(answer: &Option<Answer<A>>, ip: Ip) -> bool
     ensures { result ≡ has_ip ip (addresses_of answer.now) }
 {
     match answer {
-        Some(answer) => answer.addresses.contains(&ip),
+        Some(answer) => answer.addresses.has(ip),
         None => false,
     }
 }
@@ -343,7 +330,8 @@ fn same_answer<A: Allocator>(x: &Option<Answer<A>>, y: &Option<Answer<A>>) -> bo
     ensures { result ≡ same_reply x.now y.now }
 {
     match (x, y) {
-        (Some(x), Some(y)) => x.tick == y.tick && same_ips(&x.addresses, &y.addresses),
+        (Some(x), Some(y)) => x.tick == y.tick
+            && same_ips(x.addresses.as_slice(), y.addresses.as_slice()),
         (None, None) => true,
         _ => false,
     }
@@ -361,14 +349,18 @@ fn same_pauses(x: &[(u64, u64)], y: &[(u64, u64)]) -> bool
     x == y
 }
 
-fn copy_answer<A: Allocator, B: Allocator>(
+fn copy_answer<A: Allocator, B: Allocator + Copy>(
     alloc: B,
     answer: &Option<Answer<A>>,
 ) -> Result<Option<Answer<B>>, AllocError>
     ensures { IfOk result (λ copy. copy ≡ answer.now) }
 {
     match answer {
-        Some(answer) => Ok(Some(Answer::new(alloc, answer.tick, &answer.addresses)?)),
+        Some(answer) => {
+            let addresses = Addresses::listed(alloc, answer.addresses.as_slice())?;
+            let tick = answer.tick;
+            Ok(Some(Answer { tick, addresses }))
+        }
         None => Ok(None),
     }
 }
@@ -386,7 +378,7 @@ fn see_range<A: Allocator>(answer: &Option<Answer<A>>)
     ensures { All InRange (addresses_of answer.now) }
 {
     if let Some(answer) = answer {
-        see_ranges(&answer.addresses);
+        see_ranges(answer.addresses.as_slice());
     }
 }
 

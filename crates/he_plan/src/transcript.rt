@@ -9,9 +9,8 @@ ghost use Rattle.he_plan.specs.Timeline.{IsRace};
 ghost use Rattle.he_plan.specs.Transcript.{IsTranscript, AreKnown, AreTold, stop_of, is_place, failed_mark, mark_at, result_of, without_winner, is_failed, is_tried_out, failures, greatest};
 
 use crate::attempts::{Attempt, Plan};
-use crate::fates::fates_of;
+use crate::course::course_of;
 use crate::finish::Fate;
-use crate::planning::plan;
 use crate::starts::is_tried;
 use crate::timeline::{Timeline, are_addresses_in_range};
 use he_addr::{Family, Ip, Memory};
@@ -133,9 +132,12 @@ pub fn transcript_of<A: Allocator + Copy, B: Allocator>(
 ) -> Result<Transcript<A>, Memory>
     ensures { IfOk result (IsTranscript timeline.now) }
 {
-    let plan = plan(alloc, timeline)?;
-    let told = fates_of(alloc, timeline, plan.attempts())?;
-    transcript_of_fates(alloc, timeline, &plan, &told.fates, told.winner)
+    are_addresses_in_range(timeline);
+    let course = course_of(alloc, timeline)?;
+    let stop = stop(timeline, course.winner);
+    let ending = ending(timeline, &course.attempts, &course.fates, course.winner);
+    let lines = told_lines(alloc, stop, course.winner, &course.attempts, &course.fates)?;
+    Ok(Transcript::new(lines, ending))
 }
 
 fn stop<A: Allocator>(timeline: &Timeline<A>, winner: Option<(u64, usize)>) -> u64
@@ -159,7 +161,7 @@ fn told_lines<A: Allocator>(
     requires { length attempts.now ≡ length fates.now }
     ensures { IfOk result (λ v. v.items ≡ told_lines stop winner attempts.now fates.now) }
 {
-    let mut lines = Vec::new(alloc);
+    let mut lines = Vec::with_capacity(alloc, attempts.len())?;
     for (i, attempt) in attempts.iter().enumerate() {
         push_line(&mut lines, stop, winner, attempt, fates[i])?;
     }
@@ -182,7 +184,7 @@ fn push_line<A: Allocator>(
             ip: attempt.ip,
             mark: told_mark(stop, winner, attempt.place, fate),
         };
-        lines.push(line).map_err(|_| Memory)?;
+        lines.push(line)?;
     }
     Ok(())
 }

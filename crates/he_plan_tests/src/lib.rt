@@ -1,13 +1,9 @@
-//! Tests of `he_plan` that no file of races can hold: what each call of a builder answers, copies, want of memory, and a
-//! second, plain computation of plans.
+//! Tests of `he_plan` that no file of races can hold: want of memory, and a second, plain computation of plans. What each
+//! call of a builder answers is in its clause, and the cases that are files have each of its faults.
 #![tactic(auto)]
 
 #[cfg(test)]
-mod calls;
-#[cfg(test)]
-mod copies;
-#[cfg(test)]
-mod homes;
+mod hosts;
 #[cfg(test)]
 mod memory;
 #[cfg(test)]

@@ -5,12 +5,11 @@ ghost use Rattle.std.specs.Prelude.{◌≡◌, ◌<◌, max};
 ghost use Rattle.std.specs.List.{list_all};
 ghost use Rattle.he_addr.specs.Ip.{is_usable};
 
-use crate::homes::{HostKind, builder};
+use crate::hosts::{HostKind, builder};
 use he_addr::{Family, Ip, Memory};
 use he_plan::{Attempt, Settings, Timeline, TimelineBuilder, interlace, plan};
 use he_select::order;
-use std::alloc::{Allocator, Global};
-use std::test::Fail;
+use refusing::Refusing;
 
 // 2001:db8:1::, ff02::, 198.51.100.0 and 224.0.0.0
 const V6_A: u128 = 0x2001_0db8_0001_0000_0000_0000_0000_0000;
@@ -21,21 +20,21 @@ const V4_A: u32 = 0xc633_6400;
 
 const MULTICAST_V4: u32 = 0xe000_0000;
 
-fn plain_plan<A: Allocator + Copy>(
-    alloc: A,
-    timeline: &Timeline<A>,
-) -> Result<Vec<Attempt, A>, Memory> {
-    let mut done = Vec::new(alloc);
+fn plain_plan<'h>(
+    heap: &'h Refusing,
+    timeline: &Timeline<&'h Refusing>,
+) -> Result<Vec<Attempt, &'h Refusing>, Memory> {
+    let mut done = Vec::new(heap);
     for tick in 0..timeline.settings().limit() {
         if may_start(timeline, &done, tick) {
-            push_next(alloc, timeline, &mut done, tick)?;
+            push_next(heap, timeline, &mut done, tick)?;
         }
     }
     Ok(done)
 }
 
 // Whether the client may act at the tick and is to start the first attempt or, if it has an address to try, another one.
-fn may_start<A: Allocator>(timeline: &Timeline<A>, done: &[Attempt], tick: u64) -> bool {
+fn may_start(timeline: &Timeline<&Refusing>, done: &[Attempt], tick: u64) -> bool {
     if seen(timeline.pauses(), tick) != tick {
         return false;
     }
@@ -45,7 +44,7 @@ fn may_start<A: Allocator>(timeline: &Timeline<A>, done: &[Attempt], tick: u64) 
     }
 }
 
-fn may_begin<A: Allocator>(timeline: &Timeline<A>, tick: u64) -> bool {
+fn may_begin(timeline: &Timeline<&Refusing>, tick: u64) -> bool {
     if is_positive(timeline, Family::V6, tick) {
         return true;
     }
@@ -53,7 +52,7 @@ fn may_begin<A: Allocator>(timeline: &Timeline<A>, tick: u64) -> bool {
         && (is_answered(timeline, Family::V6, tick) || is_delay_over(timeline, tick))
 }
 
-fn is_delay_over<A: Allocator>(timeline: &Timeline<A>, tick: u64) -> bool {
+fn is_delay_over(timeline: &Timeline<&Refusing>, tick: u64) -> bool {
     let resolution = timeline.settings().resolution();
     match timeline.answer(Family::V4) {
         Some((a, _)) => seen(timeline.pauses(), a.saturating_add(resolution)) <= tick,
@@ -61,14 +60,14 @@ fn is_delay_over<A: Allocator>(timeline: &Timeline<A>, tick: u64) -> bool {
     }
 }
 
-fn is_answered<A: Allocator>(timeline: &Timeline<A>, family: Family, tick: u64) -> bool {
+fn is_answered(timeline: &Timeline<&Refusing>, family: Family, tick: u64) -> bool {
     match timeline.answer(family) {
         Some((answered, _)) => seen(timeline.pauses(), answered) <= tick,
         None => false,
     }
 }
 
-fn is_positive<A: Allocator>(timeline: &Timeline<A>, family: Family, tick: u64) -> bool {
+fn is_positive(timeline: &Timeline<&Refusing>, family: Family, tick: u64) -> bool {
     is_answered(timeline, family, tick)
         && match timeline.answer(family) {
             Some((_, ips)) => ips.iter().any(|ip| ip.is_usable()),
@@ -76,15 +75,15 @@ fn is_positive<A: Allocator>(timeline: &Timeline<A>, family: Family, tick: u64) 
         }
 }
 
-fn push_next<A: Allocator + Copy>(
-    alloc: A,
-    timeline: &Timeline<A>,
-    done: &mut Vec<Attempt, A>,
+fn push_next<'h>(
+    heap: &'h Refusing,
+    timeline: &Timeline<&'h Refusing>,
+    done: &mut Vec<Attempt, &'h Refusing>,
     tick: u64,
 ) -> Result<(), Memory> {
     let v6 = is_answered(timeline, Family::V6, tick);
     let v4 = is_answered(timeline, Family::V4, tick);
-    for ip in &order_of(alloc, timeline, v6, v4)? {
+    for ip in &order_of(heap, timeline, v6, v4)? {
         if !done.iter().any(|attempt| attempt.ip == *ip) {
             let place = done.len();
             let ip = *ip;
@@ -95,20 +94,20 @@ fn push_next<A: Allocator + Copy>(
 }
 
 // The usable addresses of the answers that count, in order and interlaced.
-fn order_of<A: Allocator + Copy>(
-    alloc: A,
-    timeline: &Timeline<A>,
+fn order_of<'h>(
+    heap: &'h Refusing,
+    timeline: &Timeline<&'h Refusing>,
     v6: bool,
     v4: bool,
-) -> Result<Vec<Ip, A>, Memory> {
-    let mut ips = Vec::new(alloc);
+) -> Result<Vec<Ip, &'h Refusing>, Memory> {
+    let mut ips = Vec::new(heap);
     push_usable(&mut ips, timeline, Family::V6, v6)?;
     push_usable(&mut ips, timeline, Family::V4, v4)?;
     if !are_usable(&ips) {
         return Err(Memory);
     }
-    let sorted = order(alloc, timeline.policy(), timeline.host(), &ips)?;
-    interlace(alloc, &sorted, timeline.settings().count())
+    let sorted = order(heap, timeline.policy(), timeline.host(), &ips)?;
+    interlace(heap, &sorted, timeline.settings().count())
 }
 
 fn are_usable(ips: &[Ip]) -> bool
@@ -117,9 +116,9 @@ fn are_usable(ips: &[Ip]) -> bool
     ips.iter().all(|ip| ip.is_usable())
 }
 
-fn push_usable<A: Allocator>(
-    ips: &mut Vec<Ip, A>,
-    timeline: &Timeline<A>,
+fn push_usable<'h>(
+    ips: &mut Vec<Ip, &'h Refusing>,
+    timeline: &Timeline<&'h Refusing>,
     family: Family,
     counts: bool,
 ) -> Result<(), Memory> {
@@ -170,32 +169,35 @@ fn address(family: Family, number: u32, is_usable: bool) -> Ip {
 }
 
 // Up to eleven addresses, of which about one in four is unusable.
-fn draw_addresses(alloc: Global, family: Family, drawn: &mut Drawn) -> Result<Vec<Ip>, Fail> {
-    let mut ips = Vec::new(alloc);
+fn draw_addresses<'h>(
+    heap: &'h Refusing,
+    family: Family,
+    drawn: &mut Drawn,
+) -> Option<Vec<Ip, &'h Refusing>> {
+    let mut ips = Vec::new(heap);
     for number in 0..drawn.below(12) as u32 {
         let is_usable = drawn.below(4) > 0;
-        ips.push(address(family, number, is_usable))?;
+        ips.push(address(family, number, is_usable)).ok()?;
     }
-    Ok(ips)
+    Some(ips)
 }
 
 // An answer; one in eight never comes.
-fn draw_answer(
-    alloc: Global,
-    builder: &mut TimelineBuilder,
+fn draw_answer<'h>(
+    heap: &'h Refusing,
+    builder: &mut TimelineBuilder<&'h Refusing>,
     family: Family,
     drawn: &mut Drawn,
-) -> Result<(), Fail> {
+) -> Option<()> {
     if drawn.below(8) == 0 {
-        return Ok(());
+        return Some(());
     }
-    let ips = draw_addresses(alloc, family, drawn)?;
-    builder.answer(family, drawn.below(300), &ips)?;
-    Ok(())
+    let ips = draw_addresses(heap, family, drawn)?;
+    builder.answer(family, drawn.below(300), &ips).ok()
 }
 
 // Up to seven pauses, some of which adjoin.
-fn draw_pauses(builder: &mut TimelineBuilder, drawn: &mut Drawn) -> Result<(), Fail> {
+fn draw_pauses(builder: &mut TimelineBuilder<&Refusing>, drawn: &mut Drawn) -> Option<()> {
     let mut end: u64 = 0;
     for _ in 0..drawn.below(8) {
         let gap = if drawn.below(3) == 0 {
@@ -205,41 +207,41 @@ fn draw_pauses(builder: &mut TimelineBuilder, drawn: &mut Drawn) -> Result<(), F
         };
         let from = end.saturating_add(gap);
         end = from.saturating_add(1 + drawn.below(120));
-        builder.pause(from, end)?;
+        builder.pause(from, end).ok()?;
     }
-    Ok(())
+    Some(())
 }
 
-fn draw(alloc: Global, drawn: &mut Drawn) -> Result<Timeline, Fail> {
+fn draw<'h>(heap: &'h Refusing, drawn: &mut Drawn) -> Option<Timeline<&'h Refusing>> {
     let resolution = drawn.below(100);
     let attempt = 10 + drawn.below(60);
     let count = 1 + drawn.below(4);
     let limit = 1 + drawn.below(1_500);
-    let settings = Settings::new(resolution, attempt, count, limit)?;
-    let home = match drawn.below(3) {
+    let settings = Settings::new(resolution, attempt, count, limit).ok()?;
+    let kind = match drawn.below(3) {
         0 => HostKind::Usual,
         1 => HostKind::LinkLocal,
         _ => HostKind::WithoutV6,
     };
-    let mut builder = builder(alloc, settings, home)?;
-    draw_answer(alloc, &mut builder, Family::V6, drawn)?;
-    draw_answer(alloc, &mut builder, Family::V4, drawn)?;
+    let mut builder = builder(heap, settings, kind)?;
+    draw_answer(heap, &mut builder, Family::V6, drawn)?;
+    draw_answer(heap, &mut builder, Family::V4, drawn)?;
     draw_pauses(&mut builder, drawn)?;
-    Ok(builder.finish())
+    Some(builder.finish())
 }
 
-// Whether the plan is the plain one, and how many attempts it has.
-fn same_plan(alloc: Global, timeline: &Timeline) -> Result<Option<usize>, Memory> {
-    let plan = plan(alloc, timeline)?;
-    let plain = plain_plan(alloc, timeline)?;
+// How many attempts the plan has, if it is the plain one.
+fn same_plan<'h>(heap: &'h Refusing, timeline: &Timeline<&'h Refusing>) -> Option<usize> {
+    let plan = plan(heap, timeline).ok()?;
+    let plain = plain_plan(heap, timeline).ok()?;
     if plan.attempts() == plain.as_slice() {
-        Ok(Some(plain.len()))
+        Some(plain.len())
     } else {
-        Ok(None)
+        None
     }
 }
 
-fn same_seen(timeline: &Timeline) -> bool {
+fn same_seen(timeline: &Timeline<&Refusing>) -> bool {
     for tick in 0..1_000 {
         if timeline.seen(tick) != seen(timeline.pauses(), tick) {
             return false;
@@ -249,22 +251,23 @@ fn same_seen(timeline: &Timeline) -> bool {
 }
 
 // How many attempts the drawn timelines have, if `plan` and `seen` answer as the plain ones.
-fn same_attempts(alloc: Global) -> Result<Option<usize>, Fail> {
+fn same_attempts(heap: &Refusing) -> Option<usize> {
     let mut drawn = Drawn(8_305);
     let mut attempts: usize = 0;
     for _ in 0..400 {
-        let timeline = draw(alloc, &mut drawn)?;
-        match same_plan(alloc, &timeline)? {
-            Some(more) if same_seen(&timeline) => attempts = attempts.saturating_add(more),
-            _ => return Ok(None),
+        let timeline = draw(heap, &mut drawn)?;
+        let more = same_plan(heap, &timeline)?;
+        if !same_seen(&timeline) {
+            return None;
         }
+        attempts = attempts.saturating_add(more);
     }
-    Ok(Some(attempts))
+    Some(attempts)
 }
 
 #[test]
-fn drawn_timelines(rt: HostRuntime) -> Result<(), Fail> {
-    let attempts = same_attempts(rt.alloc())?.ok_or("another plan")?;
-    assert!(rt; attempts > 2_000, "{attempts} attempts");
-    Ok(())
+fn drawn_timelines(rt: HostRuntime) {
+    let heap = Refusing::new(rt.alloc());
+    let attempts = same_attempts(&heap).unwrap_or(0);
+    assert!(rt; attempts > 2_000);
 }

@@ -1,6 +1,5 @@
-use Rattle.std.proofs.Common.{◌≡◌, ◌++◌, [], ◌∷◌, List, Some, length, sym, ◌∙◌, ap, subst, arith}
+use Rattle.std.proofs.Common.{◌≡◌, ◌++◌, [], ◌∷◌, List, Some, length, sym, ◌∙◌, ap, subst}
 use Rattle.std.proofs.lemmas.List.{append-nil}
-use Rattle.std.proofs.lemmas.Grind.{common_steps}
 use Rattle.he_plan.specs.declared.attempts.Attempt.{Attempt}
 use Rattle.he_plan.specs.Attempts.{IsLeast, IsNext, MayStart}
 use Rattle.he_plan.specs.Continuing.{Continues}
@@ -21,14 +20,14 @@ loop-tick-init g c =
 pub loop-tick-smaller : goal.loop-tick-smaller
 loop-tick-smaller g c =
     let x : Attempt = record { place = c.len.result; tick = c.in-Some.tick; ip = c.index.result.now } in
-    let items : c.push.new.self.items ≡ c.loop-tick.attempts.items ++ x ∷ [] = grind (arith, common_steps, c.push.ensures.items, c.map_err.ensures.variant) in
+    let items : c.push.new.self.items ≡ c.loop-tick.attempts.items ++ x ∷ [] = c.in_ok-push.ensures.items in
     let later : IsLater c.loop-tick.attempts.items c.in-Some.tick = subst (λ (done : List Attempt). IsLater done c.in-Some.tick) c.deref.ensures.value c.in-Some.ensures.later in
     rw items (ticks_left-more c.loop-tick.attempts.items x later)
 
 pub loop-tick-preserved : goal.loop-tick-preserved
 loop-tick-preserved g c =
     let x : Attempt = record { place = c.len.result; tick = c.in-Some.tick; ip = c.index.result.now } in
-    let items : c.push.new.self.items ≡ c.loop-tick.attempts.items ++ x ∷ [] = grind (arith, common_steps, c.push.ensures.items, c.map_err.ensures.variant) in
+    let items : c.push.new.self.items ≡ c.loop-tick.attempts.items ++ x ∷ [] = c.in_ok-push.ensures.items in
     let at : IsAtNext c.args.timeline.now c.loop-tick.attempts.items c.in-Some.tick c.in_ok-queue.queue.v6 c.in_ok-queue.queue.v4 c.in_ok-queue.queue.ips.items c.in_ok-queue.queue.next = subst (λ (done : List Attempt). IsAtNext c.args.timeline.now done c.in-Some.tick c.in_ok-queue.queue.v6 c.in_ok-queue.queue.v4 c.in_ok-queue.queue.ips.items c.in_ok-queue.queue.next) c.deref-in-Some.ensures.value c.in_ok-queue.ensures in
     let least : IsLeast (MayStart c.args.timeline.now c.loop-tick.attempts.items) c.in-Some.tick = subst (λ (done : List Attempt). IsLeast (MayStart c.args.timeline.now done) c.in-Some.tick) c.deref.ensures.value c.in-Some.ensures.some in
     let later : IsLater c.loop-tick.attempts.items c.in-Some.tick = subst (λ (done : List Attempt). IsLater done c.in-Some.tick) c.deref.ensures.value c.in-Some.ensures.later in

@@ -1,20 +1,12 @@
-use Rattle.std.proofs.Common.{◌≡◌, ◌++◌, List, [], ◌∷◌, false, refl, ◌∙◌, ap}
-use Rattle.he_addr.specs.Ip.{same_ip}
+use Rattle.std.proofs.Common.{◌≡◌, ◌++◌, List, [], ◌∷◌, false, ◌∙◌, ap}
 use Rattle.he_addr.specs.contracts.ip.IpPartialEq.TheImpl.{eq-value}
 use Rattle.he_addr.specs.declared.ip.Ip.{Ip}
-use Rattle.he_addr.specs.declared.ip.Ip.TheVariants.{V4, V6}
 use Rattle.he_plan.specs.declared.outcome.Outcome.{Outcome}
 use Rattle.he_plan.specs.Race.{has_outcome}
-use Rattle.he_plan.proofs.ByAddress.{none_there}
+use Rattle.he_plan.proofs.ByAddress.{none_there, same_as}
 use Rattle.he_plan.proofs.outcomes.Outcomes.push.Goals as goal
 use Rattle.indexmap.specs.IndexMap.{IndexMap, insert_entry}
 use Rattle.indexmap.proofs.CallerLemmas.{insert_entry-new}
-
-same_as : (x y : Ip) → eq-value.it x y ≡ same_ip x y
-same_as (V4 m) (V4 n) = refl
-same_as (V6 m) (V6 n) = refl
-same_as (V4 m) (V6 n) = refl
-same_as (V6 m) (V4 n) = refl
 
 -- a new address goes last
 added : {S : Type 0} (map : IndexMap Ip Outcome S) (self now : List (Ip × Outcome)) (ip : Ip) (outcome : Outcome) → now ≡ insert_entry eq-value.it map.entries ip outcome → map.entries ≡ self → has_outcome ip self ≡ false → now ≡ self ++ (ip, outcome) ∷ []
