@@ -171,7 +171,7 @@ pub(crate) fn take<A: Allocator + Copy>(
         Word::A => take_answer(Family::V4, tokens, race),
         Word::Connect => {
             let (ip, outcome) = forms::connect(tokens, race)?;
-            race.outcome(ip, outcome)?;
+            race.outcome_of_known(ip, outcome)?;
             Ok(())
         }
         Word::Pause => {
