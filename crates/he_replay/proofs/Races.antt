@@ -28,9 +28,9 @@ take_to input from end le =
     let sum : end ≡ from + (end - from) = omega arith in
     ap (λ (n : ℕ). take n input) sum ∙ take-add from (end - from) input
 
-pub one_more : (IsText : List ℕ → Race → Type 0) (input text new : List ℕ) (from lines count end : ℕ) → IsUnderWay IsText input text from lines count → TakesRace IsText input from text new end
-    → IsUnderWay IsText input new end (lines + line_count (slice_range input from end)) (count + 1)
-one_more IsText input text new from lines count end way takes =
+pub one_more : (IsText : List ℕ → Race → Type 0) (input text new : List ℕ) (from count end : ℕ) → IsUnderWay IsText input text from count → TakesRace IsText input from text new end
+    → IsUnderWay IsText input new end (count + 1)
+one_more IsText input text new from count end way takes =
     let le : from ≤ end = omega (arith, takes.past) in
     let split : take end input ≡ take from input ++ slice_range input from end = take_to input from end le in
     record {
@@ -39,15 +39,14 @@ one_more IsText input text new from lines count end way takes =
       whole = let P : List ℕ → Type 0 = AreTexts IsRaceText (way.races ++ takes.race ∷ []) in
           subst P (sym split) (AreTexts-snoc IsRaceText way.races (take from input) way.whole takes.race _ takes.read);
       counted = length-append way.races (takes.race ∷ []) ∙ ap (λ (n : ℕ). n + 1) way.counted;
-      lines_are = ap (λ (n : ℕ). n + line_count (slice_range input from end)) way.lines_are ∙ sym (line_count-append (take from input) (slice_range input from end)) ∙ ap line_count (sym split);
       told = let P : List ℕ → Type 0 = AreTexts IsText (way.races ++ takes.race ∷ []) in
           subst P (sym takes.written.appended) (AreTexts-snoc IsText way.races text way.told takes.race takes.written.told takes.written.is_told);
     }
 
--- what is read ends here, with this fault of the rest
-pub ended : (IsText : List ℕ → Race → Type 0) (input text : List ℕ) (is_broken : Bool) (from lines count : ℕ) (fault : Option InputFault) → IsUnderWay IsText input text from lines count
-    → count ≤ most_races → IsFault is_broken count lines (drop from input) fault → IsOutput IsText input is_broken text fault
-ended IsText input text is_broken from lines count fault way few is = record {
+-- what is read ends here, with this fault of the rest behind so many lines
+pub ended : (IsText : List ℕ → Race → Type 0) (input text : List ℕ) (is_broken : Bool) (from lines count : ℕ) (fault : Option InputFault) → IsUnderWay IsText input text from count
+    → lines ≡ line_count (take from input) → count ≤ most_races → IsFault is_broken count lines (drop from input) fault → IsOutput IsText input is_broken text fault
+ended IsText input text is_broken from lines count fault way lines_are few is = record {
   races = way.races;
   before = take from input;
   rest = drop from input;
@@ -58,7 +57,7 @@ ended IsText input text is_broken from lines count fault way few is = record {
   fault_is =
       let P : ℕ → Type 0 = λ n. IsFault is_broken n (line_count (take from input)) (drop from input) fault in
       let Q : ℕ → Type 0 = λ n. IsFault is_broken count n (drop from input) fault in
-      subst P (sym way.counted) (subst Q way.lines_are is);
+      subst P (sym way.counted) (subst Q lines_are is);
 }
 
 -- a fault that was found in what follows

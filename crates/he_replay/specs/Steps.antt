@@ -5,7 +5,7 @@ use Rattle.he_text.specs.FaultSearch.{fault_of}
 use Rattle.he_text.specs.Text.{IsRaceText}
 use Rattle.he_replay.specs.declared.output.Step.{Step}
 use Rattle.he_replay.specs.declared.output.Step.TheVariants as steps
-use Rattle.he_replay.specs.Output.{AreTexts, line_count}
+use Rattle.he_replay.specs.Output.{AreTexts}
 
 -- a text of the race was appended
 pub record WritesRace (IsText : List ℕ → Race → Type 0) (race : Race) (old new : List ℕ) : Type 0 where
@@ -26,11 +26,10 @@ IsStep IsText input from old new steps.End = (from ≡ length input) × (new ≡
 IsStep IsText input from old new (steps.Fault found) =
     (from < length input) × (fault_of (drop from input) ≡ Some (found.line, found.kind)) × (found.line ≤ length (drop from input) + 2) × (new ≡ old)
 
--- the input is read up to a place: so many races and lines, and their texts
-pub record IsUnderWay (IsText : List ℕ → Race → Type 0) (input text : List ℕ) (from lines count : ℕ) : Type 0 where
+-- the input is read up to a place: so many races, and their texts
+pub record IsUnderWay (IsText : List ℕ → Race → Type 0) (input text : List ℕ) (from count : ℕ) : Type 0 where
   pub races : List Race
   pub within : from ≤ length input
   pub whole : AreTexts IsRaceText races (take from input)
   pub counted : length races ≡ count
-  pub lines_are : lines ≡ line_count (take from input)
   pub told : AreTexts IsText races text

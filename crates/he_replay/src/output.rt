@@ -40,23 +40,21 @@ pub fn output_of<A: Allocator + Copy>(
 {
     let mut text = Vec::new(alloc);
     let mut from = 0;
-    let mut lines = 0;
     for _ in 0..MOST_RACES {
         match take_race(alloc, input, from, content, &mut text)? {
-            Step::Race(end) => {
-                lines += line_count(&input[from..end]);
-                from = end;
-            }
+            Step::Race(end) => from = end,
             Step::End => {
                 let fault = fault_at_end(is_broken);
                 return Ok(Output { text, fault });
             }
             Step::Fault(found) => {
+                let lines = line_count(&input[..from]);
                 let fault = Some(fault_behind(is_broken, lines, found));
                 return Ok(Output { text, fault });
             }
         }
     }
+    let lines = line_count(&input[..from]);
     let fault = fault_past_races(is_broken, lines, &input[from..]);
     Ok(Output { text, fault })
 }

@@ -4,12 +4,19 @@ use Rattle.std.proofs.lemmas.List.{append-nil, length-append}
 use Rattle.he_addr.specs.declared.ip.Family.{Family}
 use Rattle.he_addr.specs.declared.ip.Ip.{Ip}
 use Rattle.he_text.specs.declared.fault.TextKind.{TextKind}
-use Rattle.he_text.specs.Forms.{address_in, addresses_in, ◌>>=◌}
-use Rattle.he_text.specs.Reading.{prepend}
+use Rattle.he_plan.specs.Building.{add_answer}
+use Rattle.he_plan.specs.Race.{Race}
+use Rattle.he_text.specs.Forms.{address_in, addresses_in, listed_in, answer_in, ◌>>=◌}
+use Rattle.he_text.specs.Reading.{prepend, built, with_tick, take_listed, take_answer}
 
 prepend_more : (ips : List Ip) (ip : Ip) (read : Result (List Ip) TextKind) → prepend ips (read >>= λ more. Ok (ip ∷ more)) ≡ prepend (ips ++ ip ∷ []) read
 prepend_more ips ip (Ok more) = ap Ok (sym (append_assoc ips (ip ∷ []) more))
 prepend_more ips ip (Err kind) = refl
+
+-- nothing is read yet
+pub addresses_begin : (ips : List Ip) (read : Result (List Ip) TextKind) → ips ≡ [] → prepend ips read ≡ read
+addresses_begin ips (Ok more) none = ap (λ front. Ok (front ++ more)) none
+addresses_begin ips (Err kind) none = refl
 
 pub addresses_more : (ips : List Ip) (family : Family) (tokens more : List (List ℕ)) (token : List ℕ) (ip : Ip)
     → tokens ≡ token ∷ more → address_in family token ≡ Ok ip
@@ -41,3 +48,19 @@ one_fewer ips pushed ip tokens more token most one is within =
 
 pub has_room : (ips : List Ip) (tokens more : List (List ℕ)) (token : List ℕ) (most : ℕ) → tokens ≡ token ∷ more → length ips + length tokens ≤ most → length ips < most
 has_room ips tokens more token most is within = let fewer : length tokens ≡ length (token ∷ more) = ap length is in omega arith
+
+list_taken : (family : Family) (tick : ℕ) (race : Race) (read : Result (List Ip) TextKind)
+    → (with_tick tick read >>= λ reply. built (add_answer family reply.tick reply.addresses race)) ≡ (read >>= λ ips. built (add_answer family tick ips race))
+list_taken family tick race (Ok ips) = refl
+list_taken family tick race (Err kind) = refl
+
+-- an answer is taken as its list is
+pub answer_taken : (family : Family) (tokens listed : List (List ℕ)) (tick : ℕ) (race : Race) → answer_in family tokens ≡ with_tick tick (listed_in family listed)
+    → take_answer family tokens race ≡ take_listed family tick listed race
+unfolding take_answer take_listed
+answer_taken family tokens listed tick race is =
+    ap (λ r. r >>= λ reply. built (add_answer family reply.tick reply.addresses race)) is ∙ list_taken family tick race (listed_in family listed)
+
+pub answer_wrong : (family : Family) (tokens : List (List ℕ)) (kind : TextKind) (race : Race) → answer_in family tokens ≡ Err kind → take_answer family tokens race ≡ Err kind
+unfolding take_answer
+answer_wrong family tokens kind race is = ap (λ r. r >>= λ reply. built (add_answer family reply.tick reply.addresses race)) is

@@ -1,5 +1,5 @@
 -- What an order is of, and how it is written, place by place.
-use Rattle.std.proofs.Common.{◌≡◌, ℕ, ◌+◌, ◌<◌, Bool, true, false, IsTrue, cond, filter, refl, ◌&&◌, List, [], ◌∷◌, ◌++◌, length, take, get_or, sym, ◌∙◌, ap, arith, append_assoc}
+use Rattle.std.proofs.Common.{◌≡◌, ℕ, ◌+◌, ◌<◌, Bool, true, false, IsTrue, cond, filter, map, decimal, codes, refl, ◌&&◌, List, [], ◌∷◌, ◌++◌, Option, Some, None, option_map, length, take, get_or, sym, ◌∙◌, ap, arith, append_assoc}
 use Rattle.std.specs.List.{list_all}
 use Rattle.std.proofs.lemmas.List.Folds.{list_all-append}
 use Rattle.std.proofs.lemmas.List.{append-nil, take_more, length-take-le}
@@ -9,9 +9,14 @@ use Rattle.he_plan.specs.Attempts.{order}
 use Rattle.he_plan.specs.Race.{Race, addresses_of}
 use Rattle.he_select.specs.declared.policy.Row.{Row}
 use Rattle.he_select.specs.Hosts.{HostLists}
-use Rattle.he_select.specs.Preference.{order_of}
-use Rattle.he_select.specs.Selection.{SelectionInput, selection_input}
-use Rattle.he_text.specs.Orders.{order_line, order_lines, usable_addresses}
+use Rattle.he_select.specs.declared.host.Source.{Source}
+use Rattle.he_select.specs.declared.sorting.Sourced.{Sourced}
+use Rattle.he_select.specs.Preference.{order_of, sourced_by}
+use Rattle.he_select.specs.Selection.{SelectionInput, selection_input, source_of}
+use Rattle.he_addr.specs.Printing.{printed}
+use Rattle.he_text.specs.Orders.{from_text, order_line, order_lines, usable_addresses}
+use Rattle.he_text.specs.Writing.{source_ip_text, sourced_line, sourced_lines}
+use Rattle.he_text.specs.Written.{written_line}
 
 both : (a b : Bool) → a ≡ true → b ≡ true → (a && b) ≡ true
 both true b ha hb = hb
@@ -36,40 +41,53 @@ plus_zero : (n : ℕ) → n + 0 ≡ n
 plus_zero n = omega arith
 
 -- one place more
-places_more : (input : SelectionInput) (place : ℕ) (ips : List Ip) (ip : Ip)
-    → order_lines input place (ips ++ ip ∷ []) ≡ order_lines input place ips ++ order_line input (place + length ips) ip
-places_more input place [] ip = append-nil (order_line input place ip) ∙ ap (λ (n : ℕ). order_line input n ip) (sym (plus_zero place))
-places_more input place (first ∷ ips) ip =
-    let next : (place + 1) + length ips ≡ place + length (first ∷ ips) = omega arith in
-    ap (λ text. order_line input place first ++ text) (places_more input (place + 1) ips ip)
-    ∙ sym (append_assoc (order_line input place first) (order_lines input (place + 1) ips) (order_line input ((place + 1) + length ips) ip))
-    ∙ ap (λ (n : ℕ). (order_line input place first ++ order_lines input (place + 1) ips) ++ order_line input n ip) next
+places_more : (place : ℕ) (sorted : List Sourced) (last : Sourced)
+    → sourced_lines place (sorted ++ last ∷ []) ≡ sourced_lines place sorted ++ sourced_line (place + length sorted) last
+places_more place [] last = append-nil (sourced_line place last) ∙ ap (λ (n : ℕ). sourced_line n last) (sym (plus_zero place))
+places_more place (first ∷ sorted) last =
+    let next : (place + 1) + length sorted ≡ place + length (first ∷ sorted) = omega arith in
+    ap (λ text. sourced_line place first ++ text) (places_more (place + 1) sorted last)
+    ∙ sym (append_assoc (sourced_line place first) (sourced_lines (place + 1) sorted) (sourced_line ((place + 1) + length sorted) last))
+    ∙ ap (λ (n : ℕ). (sourced_line place first ++ sourced_lines (place + 1) sorted) ++ sourced_line n last) next
 
-length_up_to : (n : ℕ) (ips : List Ip) → n < length ips → 0 + length (take n ips) ≡ n
+length_up_to : (n : ℕ) (ips : List Sourced) → n < length ips → 0 + length (take n ips) ≡ n
 length_up_to n ips below = let all : length (take n ips) ≡ n = length-take-le n ips (omega (arith, below)) in omega (arith, all)
 
 -- the line of the next place is written behind those of the places before it
-pub place_written : (input : SelectionInput) (ips : List Ip) (place : ℕ) (default : Ip) (old out new : List ℕ) → place < length ips
-    → out ≡ old ++ order_lines input 0 (take place ips) → new ≡ out ++ order_line input place (get_or ips place default)
-    → new ≡ old ++ order_lines input 0 (take (place + 1) ips)
-place_written input ips place default old out new below before after =
-    let ip = get_or ips place default in
-    let lines : order_lines input 0 (take (place + 1) ips) ≡ order_lines input 0 (take place ips) ++ order_line input place ip =
-    ap (order_lines input 0) (take_more ips place default below)
-    ∙ places_more input 0 (take place ips) ip
-    ∙ ap (λ (n : ℕ). order_lines input 0 (take place ips) ++ order_line input n ip) (length_up_to place ips below) in
+pub place_written : (sorted : List Sourced) (place : ℕ) (default : Sourced) (old out new : List ℕ) → place < length sorted
+    → out ≡ old ++ sourced_lines 0 (take place sorted) → new ≡ out ++ sourced_line place (get_or sorted place default)
+    → new ≡ old ++ sourced_lines 0 (take (place + 1) sorted)
+place_written sorted place default old out new below before after =
+    let last = get_or sorted place default in
+    let lines : sourced_lines 0 (take (place + 1) sorted) ≡ sourced_lines 0 (take place sorted) ++ sourced_line place last =
+    ap (sourced_lines 0) (take_more sorted place default below)
+    ∙ places_more 0 (take place sorted) last
+    ∙ ap (λ (n : ℕ). sourced_lines 0 (take place sorted) ++ sourced_line n last) (length_up_to place sorted below) in
     after
-    ∙ ap (λ text. text ++ order_line input place ip) before
-    ∙ append_assoc old (order_lines input 0 (take place ips)) (order_line input place ip)
+    ∙ ap (λ text. text ++ sourced_line place last) before
+    ∙ append_assoc old (sourced_lines 0 (take place sorted)) (sourced_line place last)
     ∙ ap (λ text. old ++ text) (sym lines)
 
+source_text_is : (source : Option Source) → source_ip_text (option_map (λ s. s.ip) source) ≡ from_text source
+source_text_is None = refl
+source_text_is (Some source) = refl
+
+-- the lines of addresses with the sources that the host uses are those of the order
+ordered_lines : (input : SelectionInput) (place : ℕ) (ips : List Ip) → sourced_lines place (map (sourced_by input) ips) ≡ order_lines input place ips
+ordered_lines input place [] = refl
+ordered_lines input place (ip ∷ ips) =
+    ap (λ source. written_line (decimal place ∷ printed ip ∷ codes "from" ∷ source ∷ []) ++ sourced_lines (place + 1) (map (sourced_by input) ips)) (source_text_is (source_of input ip))
+    ∙ ap (λ text. order_line input place ip ++ text) (ordered_lines input (place + 1) ips)
+
 -- the lines of the race's own order, where they were written with its table and its host
-pub order_written : (race : Race) (rows : List Row) (host : HostLists) (given sorted : List Ip) (old new : List ℕ)
-    → rows ≡ race.policy → host ≡ race.host → given ≡ usable_addresses race → sorted ≡ order_of (selection_input rows host) given
-    → new ≡ old ++ order_lines (selection_input rows host) 0 sorted
+pub order_written : (race : Race) (rows : List Row) (host : HostLists) (given : List Ip) (sorted : List Sourced) (old new : List ℕ)
+    → rows ≡ race.policy → host ≡ race.host → given ≡ usable_addresses race → sorted ≡ map (sourced_by (selection_input rows host)) (order_of (selection_input rows host) given)
+    → new ≡ old ++ sourced_lines 0 sorted
     → new ≡ old ++ order_lines (selection_input race.policy race.host) 0 (order race (usable_addresses race))
 order_written race rows host given sorted old new of_rows of_host of_given of_sorted written =
     written
-    ∙ ap (λ ips. old ++ order_lines (selection_input rows host) 0 ips) (of_sorted ∙ ap (order_of (selection_input rows host)) of_given)
+    ∙ ap (λ lines. old ++ sourced_lines 0 lines) of_sorted
+    ∙ ap (λ text. old ++ text) (ordered_lines (selection_input rows host) 0 (order_of (selection_input rows host) given))
+    ∙ ap (λ ips. old ++ order_lines (selection_input rows host) 0 (order_of (selection_input rows host) ips)) of_given
     ∙ ap (λ table. old ++ order_lines (selection_input table host) 0 (order_of (selection_input table host) (usable_addresses race))) of_rows
     ∙ ap (λ lists. old ++ order_lines (selection_input race.policy lists) 0 (order_of (selection_input race.policy lists) (usable_addresses race))) of_host

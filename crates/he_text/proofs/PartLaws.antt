@@ -1,10 +1,13 @@
 -- A text cut at a mark, and at every one.
-use Rattle.std.proofs.Common.{◌≡◌, ℕ, ◌+◌, Bool, true, false, cond, ltb, eqb, List, [], ◌∷◌, ◌++◌, Some, None, length, take, drop, refl, sym, ◌∙◌, ap, subst, arith, append_assoc}
-use Rattle.std.specs.List.{AllByRecursion, position, position_or_len, count_by, onto_first, join_with_byte}
+use Rattle.std.proofs.Common.{◌≡◌, ℕ, ◌+◌, ◌<◌, ◌≤◌, Bool, true, false, not, cond, ltb, eqb, List, [], ◌∷◌, ◌++◌, Option, Some, None, length, take, drop, refl, sym, ◌∙◌, ap, subst, arith, append_assoc, le_refl}
+use Rattle.std.specs.List.{AllByRecursion, prefix_len, position, position_or_len, count_by, onto_first, join_with_byte}
 use Rattle.std.proofs.lemmas.List.Elements.{All-from_recursion}
 use Rattle.std.proofs.lemmas.Bool.{eq-eqb, ltb-true, ltb-false}
-use Rattle.std.proofs.lemmas.List.Sums.{fails_before_first}
+use Rattle.std.proofs.lemmas.List.{length-take, take-append-drop}
+use Rattle.std.proofs.lemmas.List.Folds.{prefix_len-append}
+use Rattle.std.proofs.lemmas.List.Sums.{fails_before_first, position_or_len_is, prefix_len-le-length}
 use Rattle.std.proofs.lemmas.List.Splits.{slice_split_at, slice_split_none, slice_split_first, length-slice_split}
+use Rattle.memchr.specs.Find.{IsFirstByte, is_byte}
 use Rattle.he_text.specs.Parts.{pieces_of}
 
 found : (b : Bool) (m n : ℕ) → cond b (Some m) None ≡ Some n → (b ≡ true) × (m ≡ n)
@@ -14,6 +17,46 @@ found false m n h = cc
 missed : (b : Bool) (m : ℕ) → cond b (Some m) None ≡ None → b ≡ false
 missed true m h = cc
 missed false m h = refl
+
+is_false : (b : Bool) → (b ≡ true → ⊥) → b ≡ false
+is_false true never = absurd (never refl)
+is_false false never = refl
+
+below : (m n : ℕ) → m < n → ltb m n ≡ true
+below m n lt = grind arith
+
+not_below : (m n : ℕ) → n ≤ m → ltb m n ≡ false
+not_below m n le = grind arith
+
+-- the first place is the same in both words
+pub first_byte : (mark : ℕ) (text : List ℕ) (r : Option ℕ) → IsFirstByte (is_byte mark) text r → r ≡ position (λ b. eqb b mark) text
+first_byte mark text None none =
+    let at : position_or_len (λ b. eqb b mark) text ≡ length text =
+    position_or_len_is (λ b. eqb b mark) text (length text) 0 (le_refl (length text)) (λ k lt. is_false _ (none k (omega arith) lt)) (λ lt. absurd (omega arith)) in
+    sym (ap (λ (n : ℕ). cond (ltb n (length text)) (Some n) None) at ∙ ap (λ (b : Bool). cond b (Some (length text)) None) (not_below (length text) (length text) (le_refl (length text))))
+first_byte mark text (Some k) is =
+    let at : position_or_len (λ b. eqb b mark) text ≡ k =
+    position_or_len_is (λ b. eqb b mark) text k 0 (omega (arith, is.0.high)) (λ j lt. is_false _ (is.0.before j (omega arith) lt)) (λ lt. is.1) in
+    sym (ap (λ (n : ℕ). cond (ltb n (length text)) (Some n) None) at ∙ ap (λ (b : Bool). cond b (Some k) None) (below k (length text) is.0.high))
+
+-- the first mark of a front is that of the text
+pub near_found : (mark near : ℕ) (text : List ℕ) (at : ℕ) → position (λ b. eqb b mark) (take near text) ≡ Some at → (position (λ b. eqb b mark) text ≡ Some at) × (at < near)
+near_found mark near text at h =
+    let front : List ℕ = take near text in
+    let first : ℕ = position_or_len (λ b. eqb b mark) front in
+    let is = found (ltb first (length front)) first at h in
+    let inside : first < length front = ltb-true first (length front) is.0 in
+    let short : length front ≤ near = omega (arith, length-take near text) in
+    let within : length front ≤ length text = omega (arith, length-take near text) in
+    let other : eqb first (length front) ≡ false = grind arith in
+    let same : position_or_len (λ b. eqb b mark) text ≡ at =
+    ap (λ t. position_or_len (λ b. eqb b mark) t) (sym (take-append-drop near text))
+    ∙ prefix_len-append (λ b. not (eqb b mark)) front (drop near text)
+    ∙ ap (λ b. cond b (length front + prefix_len (λ b. not (eqb b mark)) (drop near text)) first) other
+    ∙ is.1 in (
+      ap (λ (n : ℕ). cond (ltb n (length text)) (Some n) None) same ∙ ap (λ b. cond b (Some at) None) (below at (length text) (omega (arith, is.1))),
+      omega (arith, is.1),
+    )
 
 pub parts_found : (mark : ℕ) (text : List ℕ) (at : ℕ) → position (λ b. eqb b mark) text ≡ Some at → pieces_of mark text ≡ take at text ∷ pieces_of mark (drop (at + 1) text)
 parts_found mark text at h =
@@ -28,6 +71,37 @@ parts_whole mark text h =
     let first : ℕ = position_or_len (λ b. eqb b mark) text in
     let past = ltb-false first (length text) (missed (ltb first (length text)) first h) in
     slice_split_none (λ b. eqb b mark) text (λ k d below. fails_before_first (λ b. eqb b mark) text k d (omega arith))
+
+-- where a front has no mark, the first part is at least so long
+pub near_missed : (mark near : ℕ) (text : List ℕ) → near ≤ length text → position (λ b. eqb b mark) (take near text) ≡ None
+    → (line : List ℕ) × (after : List (List ℕ)) × (pieces_of mark text ≡ line ∷ after) × (near ≤ length line)
+near_missed mark near text within h = by_first (position (λ b. eqb b mark) text) refl
+  where
+    front : List ℕ
+    front = take near text
+
+    full : length front ≡ near
+    full = omega (arith, length-take near text)
+
+    later : near ≤ position_or_len (λ b. eqb b mark) text
+    later =
+        let first : ℕ = position_or_len (λ b. eqb b mark) front in
+        let past : length front ≤ first = ltb-false first (length front) (missed (ltb first (length front)) first h) in
+        let most : first ≤ length front = prefix_len-le-length (λ b. not (eqb b mark)) front in
+        let all : eqb first (length front) ≡ true = grind arith in
+        let is : position_or_len (λ b. eqb b mark) text ≡ length front + prefix_len (λ b. not (eqb b mark)) (drop near text) =
+        ap (λ t. position_or_len (λ b. eqb b mark) t) (sym (take-append-drop near text))
+        ∙ prefix_len-append (λ b. not (eqb b mark)) front (drop near text)
+        ∙ ap (λ b. cond b (length front + prefix_len (λ b. not (eqb b mark)) (drop near text)) first) all in
+        omega (arith, is, full)
+
+    by_first : (r : Option ℕ) → position (λ b. eqb b mark) text ≡ r → (line : List ℕ) × (after : List (List ℕ)) × (pieces_of mark text ≡ line ∷ after) × (near ≤ length line)
+    by_first None e = (text, [], parts_whole mark text e, within)
+    by_first (Some at) e =
+        let first : ℕ = position_or_len (λ b. eqb b mark) text in
+        let is = found (ltb first (length text)) first at e in
+        let inside : first < length text = ltb-true first (length text) is.0 in
+        (take at text, pieces_of mark (drop (at + 1) text), parts_found mark text at e, omega (arith, length-take at text, later, is.1))
 
 -- there is one part more than there are marks
 pub parts_counted : (mark : ℕ) (text : List ℕ) → count_by (λ b. eqb b mark) text + 1 ≡ length (pieces_of mark text)

@@ -2,7 +2,7 @@
 use Rattle.std.proofs.Common.{◌≡◌, ◌==◌, ℕ, ◌+◌, ◌<◌, ◌≤◌, Bool, true, false, not, cond, List, [], ◌∷◌, length, Option, Some, None, Result, Ok, Err, Bor, refl, sym, ◌∙◌, ap, subst, inl, inr, arith}
 use Rattle.std.specs.Prelude.{IsOk, IfErr, codes}
 use Rattle.std.specs.Str.{bytes_eq}
-use Rattle.std.proofs.lemmas.Bool.{le-ltb}
+use Rattle.std.proofs.lemmas.Bool.{le-ltb, lt-ltb}
 use Rattle.std.proofs.lemmas.List.Splits.{length-slice_split}
 use Rattle.he_plan.specs.Race.{Race}
 use Rattle.he_text.specs.declared.draft.Order.{Order}
@@ -30,6 +30,16 @@ wholeness_of lines line rest mark is short =
     ap wholeness is
     ∙ ap (λ b. cond b (Err kinds.TooMany) (ended_by (pieces_of mark rest))) (le-ltb MAX_LINE (length line) short)
     ∙ ended_by_some (pieces_of mark rest) some
+
+-- a line that is too long
+pub too_long : (lines after : List (List ℕ)) (line : List ℕ) → lines ≡ line ∷ after → MAX_LINE < length line → wholeness lines ≡ Err kinds.TooMany
+unfolding wholeness
+too_long lines after line is long = ap wholeness is ∙ ap (λ b. cond b (Err kinds.TooMany) (ended_by after)) (lt-ltb MAX_LINE (length line) long)
+
+-- a short part with no line end
+pub unended : (lines : List (List ℕ)) (line : List ℕ) → lines ≡ line ∷ [] → length line ≤ MAX_LINE → wholeness lines ≡ Err kinds.Unfinished
+unfolding wholeness
+unended lines line is short = ap wholeness is ∙ ap (λ b. cond b (Err kinds.TooMany) (Err kinds.Unfinished)) (le-ltb MAX_LINE (length line) short)
 
 -- the other groups: what follows a line
 abbrev body_after : ℕ → List (List ℕ) → Result (Word × Order × Race) TextKind → Result (Race × List (List ℕ)) (ℕ × TextKind)

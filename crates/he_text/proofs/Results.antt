@@ -1,7 +1,13 @@
 -- Steps that may fail.
-use Rattle.std.proofs.Common.{◌≡◌, Bool, true, false, cond, Option, Some, None, Result, Ok, Err, refl}
+use Rattle.std.proofs.Common.{◌≡◌, Bool, true, false, cond, Option, Some, None, Result, Ok, Err, refl, sym, subst}
+use Rattle.std.specs.Prelude.{IsErr, IsErrAnd, MatchResult}
 use Rattle.std.specs.Option.{ok_or}
 use Rattle.he_text.specs.Forms.{◌>>=◌}
+
+-- an error that is handed on
+pub handed_on : {A E : Type 0} (r : Result A E) (e : E) (Right : A → Type 0) (Wrong : E → Type 0) → IsErr r × IsErrAnd r (λ k. k ≡ e) → Wrong e → MatchResult r Right Wrong
+handed_on (Ok x) e Right Wrong told wrong = absurd told.1
+handed_on (Err k) e Right Wrong told wrong = subst Wrong (sym told.1) wrong
 
 -- a step and what follows it
 pub bind_ok : {A B E : Type 0} (r : Result A E) (f : A → Result B E) (y : B) → (r >>= f) ≡ Ok y → (x : A) × (r ≡ Ok x) × (f x ≡ Ok y)

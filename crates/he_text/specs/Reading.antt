@@ -11,7 +11,7 @@ use Rattle.he_plan.specs.declared.builder.BuildFault.{BuildFault}
 use Rattle.he_plan.specs.declared.builder.BuildFault.TheVariants as faults
 use Rattle.he_plan.specs.declared.limits.TheConstants.{DEFAULT_RESOLUTION, DEFAULT_ATTEMPT, DEFAULT_COUNT, DEFAULT_LIMIT}
 use Rattle.he_plan.specs.Building.{add_answer, add_outcome, add_pause, empty_race}
-use Rattle.he_plan.specs.Race.{Race, is_in_answer}
+use Rattle.he_plan.specs.Race.{Race, Reply, is_in_answer}
 use Rattle.he_plan.specs.Settings.{SettingValues, settings_of}
 use Rattle.he_select.specs.declared.policy.Row.{Row}
 use Rattle.he_select.specs.declared.policy.PolicyFault.{PolicyFault}
@@ -35,7 +35,7 @@ use Rattle.he_text.specs.declared.words.Name.TheVariants.{Resolution, Attempt, C
 use Rattle.he_text.specs.declared.words.Word.{Word}
 use Rattle.he_text.specs.declared.words.Word.TheVariants as words
 use Rattle.he_text.specs.Faults.{is_policy_next}
-use Rattle.he_text.specs.Forms.{◌>>=◌, word_of, setting_in, row_in, host_source_in, host_route_in, answer_in, connect_in, pause_in, end_in}
+use Rattle.he_text.specs.Forms.{◌>>=◌, word_of, setting_in, row_in, host_source_in, host_route_in, listed_in, answer_in, connect_in, pause_in, end_in}
 use Rattle.he_text.specs.Parts.{tokens_of}
 use Rattle.he_text.specs.Words.{group_of, most_lines, is_policy, is_end}
 
@@ -173,6 +173,14 @@ race_begun head = do
   policy ← policy_from head.rows
   host ← host_from head.sources head.routes
   Ok (empty_race settings policy host)
+
+-- addresses, and the tick of their answer
+abbrev pub with_tick : ℕ → Result (List Ip) TextKind → Result Reply TextKind
+with_tick tick read = read >>= λ ips. Ok (record { tick = tick; addresses = ips })
+
+-- the addresses of an answer at the tick
+unfoldable pub take_listed : Family → ℕ → List (List ℕ) → Race → Result Race TextKind
+take_listed family tick tokens race = listed_in family tokens >>= λ ips. built (add_answer family tick ips race)
 
 unfoldable pub take_answer : Family → List (List ℕ) → Race → Result Race TextKind
 take_answer family tokens race = answer_in family tokens >>= λ reply. built (add_answer family reply.tick reply.addresses race)

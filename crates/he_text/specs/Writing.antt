@@ -1,7 +1,10 @@
 -- Mirrors the code: what its parts append to a text.
-use Rattle.std.specs.Prelude.{ℕ, ◌≡◌, true, false, List, ◌∷◌, ◌++◌, take, length, decimal, Result, MatchResult}
+use Rattle.std.specs.Prelude.{ℕ, ◌≡◌, ◌+◌, true, false, List, [], ◌∷◌, ◌++◌, take, length, decimal, Option, Some, None, Result, MatchResult, codes}
 use Rattle.std.specs.List.{flat_map}
 use Rattle.he_addr.specs.Printing.{printed, source_text, prefix_text}
+use Rattle.he_addr.specs.declared.ip.Ip.{Ip}
+use Rattle.he_select.specs.declared.sorting.Sourced.{Sourced}
+use Rattle.he_text.specs.Written.{written_line}
 use Rattle.he_text.specs.declared.writing.Token.{Token}
 use Rattle.he_text.specs.declared.writing.Token.TheVariants as tokens
 
@@ -13,6 +16,20 @@ token_text (tokens.Address ip) = printed ip
 token_text (tokens.Source ip len) = source_text ip len
 token_text (tokens.Prefix prefix) = prefix_text false prefix.now
 token_text (tokens.Dotted prefix) = prefix_text true prefix.now
+
+-- the address of a source, or `none`
+abbrev pub source_ip_text : Option Ip → List ℕ
+source_ip_text None = codes "none"
+source_ip_text (Some ip) = printed ip
+
+-- the line of a place of an order
+abbrev pub sourced_line : ℕ → Sourced → List ℕ
+sourced_line place sourced = written_line (decimal place ∷ printed sourced.ip ∷ codes "from" ∷ source_ip_text sourced.source ∷ [])
+
+-- the lines of the places, counted from `place`
+abbrev pub sourced_lines : ℕ → List Sourced → List ℕ
+sourced_lines place [] = []
+sourced_lines place (first ∷ more) = sourced_line place first ++ sourced_lines (place + 1) more
 
 -- what was there is kept in front
 abbrev pub Grows : List ℕ → List ℕ → Type 0

@@ -1,15 +1,19 @@
 // What is known of a race while its lines are read.
 
-ghost use Rattle.std.specs.Prelude.{◌≡◌, ◌⊎◌, IsOk, Ok, Err, MatchResult};
+ghost use Rattle.std.specs.Prelude.{◌≡◌, ◌⊎◌, ◌≤◌, IsOk, Ok, Err, length, MatchResult};
+ghost use Rattle.he_plan.specs.declared.limits.TheConstants.{MAX_ADDRESSES};
 ghost use Rattle.he_text.specs.Left.{tokens_left};
-ghost use Rattle.he_text.specs.Reading.{Fails, admit, once, put, settings_from, take_answer, take_told, order_at_start, none_given};
+ghost use Rattle.he_text.specs.Reading.{Fails, admit, once, put, settings_from, take_answer, take_listed, take_told, order_at_start, none_given};
 
 use crate::fault::TextKind;
 use crate::forms;
+use crate::forms::{AnswerLine, FEW_ADDRESSES, IpList};
 use crate::parts::Tokens;
 use crate::words::{Name, Word};
 use he_addr::Family;
-use he_plan::limits::{DEFAULT_ATTEMPT, DEFAULT_COUNT, DEFAULT_LIMIT, DEFAULT_RESOLUTION};
+use he_plan::limits::{
+    DEFAULT_ATTEMPT, DEFAULT_COUNT, DEFAULT_LIMIT, DEFAULT_RESOLUTION, MAX_ADDRESSES,
+};
 use he_plan::{Settings, TimelineBuilder};
 use std::alloc::Allocator;
 
@@ -120,7 +124,24 @@ fn once(given: Option<u64>, value: u64) -> Result<Option<u64>, TextKind>
     }
 }
 
-#[tactic(auto, unfolding(crate::specs::Reading::take_answer))]
+// Adds an answer with at most so many addresses to the race.
+#[tactic(auto, unfolding(crate::specs::Reading::take_listed))]
+fn take_listed<const ROOM: usize, A: Allocator + Copy>(
+    family: Family,
+    given: AnswerLine,
+    race: &mut TimelineBuilder<A>,
+) -> Result<(), TextKind>
+    requires room { length (tokens_left given.tokens) ≤ ROOM }
+    requires small { ROOM ≤ MAX_ADDRESSES }
+    ensures { MatchResult result (λ _. take_listed family given.entry.tick (tokens_left given.entry.tokens) race.old ≡ Ok race.new) (λ kind. Fails kind (take_listed family given.entry.tick (tokens_left given.entry.tokens) race.old)) }
+{
+    let mut ips = IpList::<ROOM>::none();
+    forms::listed(family, given.tokens, &mut ips)?;
+    race.answer(family, given.tick, ips.as_slice())?;
+    Ok(())
+}
+
+#[tactic(auto, using(crate::proofs::FormLaws::answer_taken))]
 fn take_answer<A: Allocator + Copy>(
     family: Family,
     tokens: Tokens,
@@ -128,9 +149,12 @@ fn take_answer<A: Allocator + Copy>(
 ) -> Result<(), TextKind>
     ensures { MatchResult result (λ _. take_answer family (tokens_left tokens.entry) race.old ≡ Ok race.new) (λ kind. Fails kind (take_answer family (tokens_left tokens.entry) race.old)) }
 {
-    let (tick, ips) = forms::answer(family, tokens)?;
-    race.answer(family, tick, ips.as_slice())?;
-    Ok(())
+    let given = forms::answer(tokens)?;
+    if given.count <= FEW_ADDRESSES {
+        take_listed::<FEW_ADDRESSES, A>(family, given, race)
+    } else {
+        take_listed::<MAX_ADDRESSES, A>(family, given, race)
+    }
 }
 
 // Adds what a line of the other groups tells, behind its word, to the race.
@@ -147,7 +171,7 @@ pub(crate) fn take<A: Allocator + Copy>(
         Word::A => take_answer(Family::V4, tokens, race),
         Word::Connect => {
             let (ip, outcome) = forms::connect(tokens, race)?;
-            race.outcome(ip, outcome)?;
+            race.outcome_of_known(ip, outcome)?;
             Ok(())
         }
         Word::Pause => {

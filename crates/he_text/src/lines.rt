@@ -7,7 +7,7 @@ ghost use Rattle.he_text.specs.Reading.{ended_by, wholeness};
 
 use crate::fault::TextKind;
 use crate::limits::MAX_LINE;
-use crate::parts::{LINE_END, cut};
+use crate::parts::{LINE_END, find};
 
 // What is left of a text from the beginning of a line, and the number of that line.
 #[derive(Clone, Copy)]
@@ -43,18 +43,16 @@ impl<'t> Lines<'t> {
     }
 
     // The line that comes next, and what stands behind it; or why it is no line.
-    #[tactic(auto, unfolding(crate::specs::Reading::wholeness))]
     pub(crate) fn next_line(&self) -> Result<(&'t [u8], &'t [u8]), TextKind>
         ensures parts { MatchResult result (λ x. lines_left self.now ≡ x.0.now ∷ lines_of x.1.now) (λ _. Unit {0}) }
         ensures shorter { MatchResult result (λ x. length x.1.now < length self.now.rest.now) (λ _. Unit {0}) }
         ensures whole { MatchResult result (λ _. wholeness (lines_left self.now) ≡ Ok tt) (λ kind. wholeness (lines_left self.now) ≡ Err kind) }
     {
-        let (line, rest) = cut(self.rest, LINE_END);
-        if line.len() > MAX_LINE {
-            return Err(TextKind::TooMany);
-        }
-        match rest {
-            Some(rest) => Ok((line, rest)),
+        // No line end is looked for behind the longest line.
+        let near = self.rest.len().min(MAX_LINE + 1);
+        match find(&self.rest[..near], LINE_END) {
+            Some(at) => Ok((&self.rest[..at], &self.rest[at + 1..])),
+            None if self.rest.len() > MAX_LINE => Err(TextKind::TooMany),
             None => Err(TextKind::Unfinished),
         }
     }

@@ -4,14 +4,13 @@ ghost use Rattle.std.specs.Prelude.{◌≡◌, ◌++◌, filter, IsTrue, IfOk, O
 ghost use Rattle.std.specs.List.{list_all};
 ghost use Rattle.he_addr.specs.Ip.{is_usable};
 ghost use Rattle.he_plan.specs.Race.{reply_of, addresses_of};
-ghost use Rattle.he_select.specs.Selection.{selection_input};
-ghost use Rattle.he_text.specs.Orders.{order_line, order_lines, order_text, usable_addresses};
-ghost use Rattle.he_text.specs.Writing.{AppendsText};
+ghost use Rattle.he_text.specs.Orders.{order_text, usable_addresses};
+ghost use Rattle.he_text.specs.Writing.{AppendsText, sourced_line, sourced_lines};
 
 use crate::writing::{Token, write_line, write_numbered};
 use he_addr::{Family, Ip, Memory};
 use he_plan::Timeline;
-use he_select::{Host, Policy, order};
+use he_select::{Sourced, order_with_sources};
 use std::alloc::{AllocError, Allocator};
 
 fn push_usable<A: Allocator>(ips: &mut Vec<Ip, A>, addresses: &[Ip]) -> Result<(), AllocError>
@@ -53,33 +52,26 @@ fn usable_addresses<A: Allocator + Copy, B: Allocator>(
 }
 
 // N ADDRESS from SOURCE, or N ADDRESS from none
-fn write_place<A: Allocator + Copy, B: Allocator>(
-    policy: &Policy<B>,
-    host: &Host<B>,
+fn write_place<A: Allocator + Copy>(
     place: usize,
-    ip: Ip,
+    sourced: Sourced,
     out: &mut Vec<u8, A>,
 ) -> Result<(), Memory>
-    ensures { AppendsText result out.old.items out.new.items (order_line (selection_input policy.now host.now) place ip) }
+    ensures { AppendsText result out.old.items out.new.items (sourced_line place sourced) }
 {
-    let source = match host.source(policy, ip) {
+    let source = match sourced.source {
         Some(source) => Token::Address(source),
         None => Token::Word(b"none"),
     };
-    let tokens = [Token::Address(ip), Token::Word(b"from"), source];
+    let tokens = [Token::Address(sourced.ip), Token::Word(b"from"), source];
     write_numbered(place as u64, &tokens, out)
 }
 
-fn write_places<A: Allocator + Copy, B: Allocator>(
-    policy: &Policy<B>,
-    host: &Host<B>,
-    ips: &[Ip],
-    out: &mut Vec<u8, A>,
-) -> Result<(), Memory>
-    ensures { AppendsText result out.old.items out.new.items (order_lines (selection_input policy.now host.now) 0 ips.now) }
+fn write_places<A: Allocator + Copy>(sorted: &[Sourced], out: &mut Vec<u8, A>) -> Result<(), Memory>
+    ensures { AppendsText result out.old.items out.new.items (sourced_lines 0 sorted.now) }
 {
-    for (place, ip) in ips.iter().enumerate() {
-        write_place(policy, host, place, *ip, out)?;
+    for (place, sourced) in sorted.iter().enumerate() {
+        write_place(place, *sourced, out)?;
     }
     Ok(())
 }
@@ -94,8 +86,8 @@ fn write_whole<A: Allocator + Copy, B: Allocator>(
     let policy = timeline.policy();
     let host = timeline.host();
     let usable = usable_addresses(alloc, timeline)?;
-    let sorted = order(alloc, policy, host, &usable)?;
-    write_places(policy, host, &sorted, out)?;
+    let sorted = order_with_sources(alloc, policy, host, &usable)?;
+    write_places(&sorted, out)?;
     write_line(b"end", &[], out)
 }
 

@@ -4,19 +4,30 @@ ghost use Rattle.std.specs.Prelude.{◌≡◌, ◌<◌, ◌+◌, ◌^◌, ◌==�
 ghost use Rattle.he_text.specs.Left.{parts_behind, tokens_left};
 ghost use Rattle.he_text.specs.Parts.{pieces_of};
 
+use memchr::{memchr, memchr_iter};
+
 /// The byte after each line.
 pub(crate) const LINE_END: u8 = b'\n';
 
 /// The byte between two tokens of a line.
 pub(crate) const TOKEN_END: u8 = b' ';
 
-fn find(text: &[u8], mark: u8) -> Option<usize>
+// A shorter text is looked through here, since `memchr` looks at its bytes one by one too, and a call costs more.
+const SHORT: usize = 32;
+
+// The place of the first mark.
+#[inline(always)]
+pub(crate) fn find(text: &[u8], mark: u8) -> Option<usize>
     ensures { result ≡ position (λ b. b == mark) text.now }
 {
-    text.iter().position(|byte| *byte == mark)
+    if text.len() < SHORT {
+        return text.iter().position(|byte| *byte == mark);
+    }
+    memchr(mark, text)
 }
 
 // What stands before the first mark, and what stands behind it, if there is one.
+#[inline(always)]
 #[tactic(auto, using(crate::proofs::PartLaws::parts_whole))]
 pub(crate) fn cut(text: &[u8], mark: u8) -> (&[u8], Option<&[u8]>)
     ensures parts { pieces_of mark text.now ≡ result.0.now ∷ parts_behind mark result.1 }
@@ -62,10 +73,9 @@ impl<'a> Tokens<'a> {
     }
 }
 
-#[tactic(auto, using(crate::proofs::PartLaws::parts_counted))]
 fn count(text: &[u8], mark: u8) -> usize
     ensures marks { result + 1 ≡ length (pieces_of mark text.now) }
     ensures few { result < 2 ^ 63 }
 {
-    text.iter().filter(|byte| **byte == mark).count()
+    memchr_iter(mark, text).count()
 }

@@ -23,6 +23,7 @@ pub(crate) enum Token<'t> {
     Dotted(&'t Prefix),
 }
 
+#[inline(always)]
 fn write_bytes<A: Allocator + Copy>(bytes: &[u8], out: &mut Vec<u8, A>) -> Result<(), Memory>
     ensures ok { OnOk result (out.new.items ≡ out.old.items ++ bytes.now) }
     ensures err { OnErr result (out.new.items ≡ out.old.items) }
@@ -30,6 +31,15 @@ fn write_bytes<A: Allocator + Copy>(bytes: &[u8], out: &mut Vec<u8, A>) -> Resul
     out.extend_from_slice(bytes).map_err(|_| Memory)
 }
 
+#[inline(always)]
+fn write_byte<A: Allocator + Copy>(byte: u8, out: &mut Vec<u8, A>) -> Result<(), Memory>
+    ensures ok { OnOk result (out.new.items ≡ out.old.items ++ byte ∷ []) }
+    ensures err { OnErr result (out.new.items ≡ out.old.items) }
+{
+    out.push(byte).map_err(|_| Memory)
+}
+
+#[inline(always)]
 fn write_token<A: Allocator + Copy>(token: Token, out: &mut Vec<u8, A>) -> Result<(), Memory>
     ensures ok { OnOk result (out.new.items ≡ out.old.items ++ token_text token.entry) }
     ensures err { OnErr result (out.new.items ≡ out.old.items) }
@@ -45,14 +55,16 @@ fn write_token<A: Allocator + Copy>(token: Token, out: &mut Vec<u8, A>) -> Resul
 }
 
 // A space, and the token.
+#[inline(always)]
 fn write_spaced<A: Allocator + Copy>(token: Token, out: &mut Vec<u8, A>) -> Result<(), Memory>
     ensures { AppendsText result out.old.items out.new.items (32 ∷ token_text token.entry) }
 {
-    write_bytes(&[TOKEN_END], out)?;
+    write_byte(TOKEN_END, out)?;
     write_token(token, out)
 }
 
 // The tokens, each behind a space.
+#[inline(always)]
 fn write_tokens<A: Allocator + Copy>(tokens: &[Token], out: &mut Vec<u8, A>) -> Result<(), Memory>
     ensures { AppendsText result out.old.items out.new.items (spaced (map token_text tokens.now)) }
 {
@@ -73,6 +85,7 @@ fn write_addresses<A: Allocator + Copy>(ips: &[Ip], out: &mut Vec<u8, A>) -> Res
 }
 
 // A line: its first token and the others.
+#[inline(always)]
 fn write_joined<A: Allocator + Copy>(
     first: Token,
     others: &[Token],
@@ -82,7 +95,7 @@ fn write_joined<A: Allocator + Copy>(
 {
     write_token(first, out)?;
     write_tokens(others, out)?;
-    write_bytes(&[LINE_END], out)
+    write_byte(LINE_END, out)
 }
 
 // A line that begins with a word.
@@ -118,7 +131,7 @@ pub(crate) fn write_listed<A: Allocator + Copy>(
 {
     write_word(word, number, out)?;
     write_addresses(ips, out)?;
-    write_bytes(&[LINE_END], out)
+    write_byte(LINE_END, out)
 }
 
 fn write_word<A: Allocator + Copy>(

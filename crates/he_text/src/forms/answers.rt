@@ -1,9 +1,11 @@
 // What happens in a race: the answers that come, and what becomes of a connect to an address.
 
-ghost use Rattle.std.specs.Prelude.{◌≡◌, ◌<◌, ◌≤◌, ◌++◌, [], ◌∷◌, Ok, Err, length, MatchResult};
+ghost use Rattle.std.specs.Prelude.{◌≡◌, ◌<◌, ◌≤◌, ◌++◌, [], ◌∷◌, Ok, Err, true, length, IfOk, MatchResult};
+ghost use Rattle.he_addr.specs.declared.ip.Family.{Family};
 ghost use Rattle.he_plan.specs.declared.limits.TheConstants.{MAX_ADDRESSES};
 ghost use Rattle.he_plan.specs.Race.{is_in_answer};
 ghost use Rattle.he_text.specs.Forms.{address_in, addresses_in, listed_in, answer_in, known_in, mark_in, connect_in};
+ghost use Rattle.he_text.specs.Reading.{with_tick};
 ghost use Rattle.he_text.specs.Left.{tokens_left};
 
 use super::number;
@@ -15,37 +17,39 @@ use he_plan::{Outcome, TimelineBuilder};
 use std::alloc::Allocator;
 use std::marker::Model;
 
+// How many addresses an answer mostly has at most. Their list is cleared in little time.
+pub(crate) const FEW_ADDRESSES: usize = 4;
+
 // The addresses of an answer. There are so few that they need no memory.
 #[derive(Drop)]
-pub(crate) struct IpList {
-    ips: [Ip; MAX_ADDRESSES],
+pub(crate) struct IpList<const ROOM: usize> {
+    ips: [Ip; ROOM],
     count: usize,
 }
 
-impl Model for IpList {
+impl<const ROOM: usize> Model for IpList<ROOM> {
     ghost use Rattle.std.specs.Prelude.{◌≡◌, ◌≤◌, List, length, take};
     ghost use Rattle.he_addr.specs.declared.ip.Ip.{Ip};
-    ghost use Rattle.he_plan.specs.declared.limits.TheConstants.{MAX_ADDRESSES};
 
     ghost Value = { List Ip };
 
     ghost view = { λ a. take a.count a.ips };
 
-    ghost invariant = { λ a. (a.count ≤ MAX_ADDRESSES) × (length a.ips ≡ MAX_ADDRESSES) };
+    ghost invariant = { λ a. (a.count ≤ ROOM) × (length a.ips ≡ ROOM) };
 }
 
-impl IpList {
-    fn none() -> IpList
+impl<const ROOM: usize> IpList<ROOM> {
+    pub(crate) fn none() -> IpList<ROOM>
         ensures { result ≡ [] }
     {
         IpList {
-            ips: [Ip::V4(0); MAX_ADDRESSES],
+            ips: [Ip::V4(0); ROOM],
             count: 0,
         }
     }
 
     fn push(&mut self, ip: Ip)
-        requires { length self.old < MAX_ADDRESSES }
+        requires { length self.old < ROOM }
         ensures { self.new ≡ self.old ++ ip ∷ [] }
     {
         self.ips[self.count] = ip;
@@ -72,35 +76,54 @@ fn address(family: Family, token: &[u8]) -> Result<Ip, TextKind>
     }
 }
 
-fn addresses(family: Family, tokens: Tokens) -> Result<IpList, TextKind>
-    requires { length (tokens_left tokens) ≤ MAX_ADDRESSES }
-    ensures { result ≡ addresses_in family (tokens_left tokens.entry) }
+// Reads addresses into an empty list.
+fn addresses<const ROOM: usize>(
+    family: Family,
+    tokens: Tokens,
+    ips: &mut IpList<ROOM>,
+) -> Result<(), TextKind>
+    requires empty { ips.old ≡ [] }
+    requires room { length (tokens_left tokens) ≤ ROOM }
+    ensures { MatchResult result (λ _. addresses_in family (tokens_left tokens.entry) ≡ Ok ips.new) (λ kind. addresses_in family (tokens_left tokens.entry) ≡ Err kind) }
 {
     let mut left = tokens;
-    let mut ips = IpList::none();
     while let Some(token) = left.next() {
         ips.push(address(family, token)?);
     }
-    Ok(ips)
+    Ok(())
 }
 
-// `none` alone, or addresses.
+// Reads `none` alone, or addresses, into an empty list.
 #[tactic(auto, unfolding(crate::specs::Forms::listed_in))]
-fn listed(family: Family, tokens: Tokens) -> Result<IpList, TextKind>
-    requires { length (tokens_left tokens) ≤ MAX_ADDRESSES }
-    ensures { result ≡ listed_in family (tokens_left tokens.entry) }
+pub(crate) fn listed<const ROOM: usize>(
+    family: Family,
+    tokens: Tokens,
+    ips: &mut IpList<ROOM>,
+) -> Result<(), TextKind>
+    requires empty { ips.old ≡ [] }
+    requires room { length (tokens_left tokens) ≤ ROOM }
+    ensures { MatchResult result (λ _. listed_in family (tokens_left tokens.entry) ≡ Ok ips.new) (λ kind. listed_in family (tokens_left tokens.entry) ≡ Err kind) }
 {
     let mut left = tokens;
     match (left.next(), left.next()) {
-        (Some(only), None) if only == b"none".as_slice() => Ok(IpList::none()),
-        _ => addresses(family, tokens),
+        (Some(only), None) if only == b"none".as_slice() => Ok(()),
+        _ => addresses(family, tokens, ips),
     }
 }
 
-// aaaa TICK none, aaaa TICK ADDRESS .. and the same of a
+// What an answer's line gives: the tick, and the tokens that list the addresses, `count` of them.
+#[derive(Clone, Copy)]
+pub(crate) struct AnswerLine<'a> {
+    pub(crate) tick: u64,
+    pub(crate) tokens: Tokens<'a>,
+    pub(crate) count: usize,
+}
+
+// aaaa TICK none, aaaa TICK ADDRESS .. and the same of a, but for the addresses themselves
 #[tactic(auto, unfolding(crate::specs::Forms::answer_in))]
-pub(crate) fn answer(family: Family, tokens: Tokens) -> Result<(u64, IpList), TextKind>
-    ensures { MatchResult result (λ reply. answer_in family (tokens_left tokens.entry) ≡ Ok (record { tick = reply.0; addresses = reply.1 })) (λ kind. answer_in family (tokens_left tokens.entry) ≡ Err kind) }
+pub(crate) fn answer(tokens: Tokens<'_>) -> Result<AnswerLine<'_>, TextKind>
+    ensures read { (family : Family) → MatchResult result (λ x. answer_in family (tokens_left tokens.entry) ≡ with_tick x.tick (listed_in family (tokens_left x.tokens))) (λ kind. answer_in family (tokens_left tokens.entry) ≡ Err kind) }
+    ensures count { IfOk result (λ x. (x.count ≡ length (tokens_left x.tokens)) × (x.count ≤ MAX_ADDRESSES)) }
 {
     let mut left = tokens;
     let Some(tick) = left.next() else {
@@ -114,13 +137,17 @@ pub(crate) fn answer(family: Family, tokens: Tokens) -> Result<(u64, IpList), Te
         return Err(TextKind::TooMany);
     }
     let tick = number(0, MAX_TICK, tick)?;
-    let ips = listed(family, left)?;
-    Ok((tick, ips))
+    Ok(AnswerLine {
+        tick,
+        tokens: left,
+        count,
+    })
 }
 
 #[tactic(auto, unfolding(crate::specs::Forms::known_in))]
 fn known<A: Allocator + Copy>(token: &[u8], race: &TimelineBuilder<A>) -> Result<Ip, TextKind>
-    ensures { result ≡ known_in (is_in_answer race.now) token.now }
+    ensures value { result ≡ known_in (is_in_answer race.now) token.now }
+    ensures known { IfOk result (λ ip. is_in_answer race.now ip ≡ true) }
 {
     let ip = read_ip(token).ok_or(TextKind::Address)?;
     if race.stands(ip) {
@@ -149,7 +176,8 @@ pub(crate) fn connect<A: Allocator + Copy>(
     tokens: Tokens,
     race: &TimelineBuilder<A>,
 ) -> Result<(Ip, Outcome), TextKind>
-    ensures { result ≡ connect_in (is_in_answer race.now) (tokens_left tokens.entry) }
+    ensures value { result ≡ connect_in (is_in_answer race.now) (tokens_left tokens.entry) }
+    ensures known { IfOk result (λ told. is_in_answer race.now told.0 ≡ true) }
 {
     let mut left = tokens;
     let (Some(address), Some(mark), Some(ticks), None) = (

@@ -1,10 +1,10 @@
-use Rattle.std.proofs.Common.{ℕ, ◌≡◌, ◌+◌, ◌-◌, ◌<◌, List, Some, arith, sym, subst, length, take, drop, length-drop}
+use Rattle.std.proofs.Common.{ℕ, ◌≡◌, ◌-◌, ◌<◌, List, Some, arith, sym, subst, length, take, drop, length-drop}
 use Rattle.std.proofs.lemmas.List.{take_all}
 use Rattle.he_replay.specs.Limits.{most_races}
 use Rattle.he_replay.specs.declared.output.InputFault.{InputFault}
 use Rattle.he_replay.specs.declared.output.Step.TheVariants as steps
 use Rattle.he_replay.specs.Output.{IsFault, IsOutput, IsTextOf}
-use Rattle.he_replay.specs.Steps.{IsStep, TakesRace, IsUnderWay}
+use Rattle.he_replay.specs.Steps.{IsStep, TakesRace}
 use Rattle.he_replay.proofs.Races.{one_more, ended, found_fault}
 use Rattle.he_replay.proofs.output.output_of.Goals as goal
 
@@ -14,8 +14,8 @@ returns-in-Fault g c =
     let inside : c.loop.from < length c.args.input.now = step.0 in
     let some : 0 < length (drop c.loop.from c.args.input.now) = omega (arith, length-drop {A = ℕ}) in
     let few : c.loop.counter < most_races = c.loop-test.true in
-    let fault = found_fault c.args.is_broken c.loop.counter c.loop.lines (drop c.loop.from c.args.input.now) c.in-Fault.found some few step.1 in
-    let output = ended (IsTextOf c.args.content) c.args.input.now c.loop.text.items c.args.is_broken c.loop.from c.loop.lines c.loop.counter _ c.loop.invariant (omega arith) fault in
+    let fault = found_fault c.args.is_broken c.loop.counter c.line_count-lines.result (drop c.loop.from c.args.input.now) c.in-Fault.found some few step.1 in
+    let output = ended (IsTextOf c.args.content) c.args.input.now c.loop.text.items c.args.is_broken c.loop.from c.line_count-lines.result c.loop.counter _ c.loop.invariant c.line_count-lines.ensures (omega arith) fault in
     let Fault : InputFault → Type 0 = λ f. IsOutput (IsTextOf c.args.content) c.args.input.now c.args.is_broken c.loop.text.items (Some f) in
     let Written : List ℕ → Type 0 = λ t. IsOutput (IsTextOf c.args.content) c.args.input.now c.args.is_broken t (Some c.fault_behind.result) in
     subst Written (sym step.3) (subst Fault (sym c.fault_behind.ensures) output)
@@ -23,15 +23,14 @@ returns-in-Fault g c =
 pub loop-preserved : goal.loop-preserved
 loop-preserved g c =
     let takes : TakesRace (IsTextOf c.args.content) c.args.input.now c.loop.from c.loop.text.items c.take_race.new.text.items c.in-Race.end = rw c.in-Race.is at c.in_ok-end.ensures in
-    let Counted : ℕ → Type 0 = λ n. IsUnderWay (IsTextOf c.args.content) c.args.input.now c.take_race.new.text.items c.in-Race.end (c.loop.lines + n) (c.loop.counter + 1) in
-    subst Counted (sym c.line_count-lines.ensures) (one_more _ _ _ _ _ _ _ _ c.loop.invariant takes)
+    one_more _ _ _ _ _ _ _ c.loop.invariant takes
 
 pub returns : goal.returns
 returns g c =
     let whole : take (length c.args.input.now - c.loop.from) (drop c.loop.from c.args.input.now) ≡ drop c.loop.from c.args.input.now =
     take_all _ _ (omega (arith, length-drop {A = ℕ})) in
     let count : most_races ≡ c.loop.counter = let h = c.loop-test.false in let k = c.loop.auto.counter-end in omega arith in
-    let Rest : List ℕ → Type 0 = λ rest. IsFault c.args.is_broken most_races c.loop.lines rest c.fault_past_races-fault.result in
-    let Count : ℕ → Type 0 = λ n. IsFault c.args.is_broken n c.loop.lines (drop c.loop.from c.args.input.now) c.fault_past_races-fault.result in
-    ended (IsTextOf c.args.content) c.args.input.now c.loop.text.items c.args.is_broken c.loop.from c.loop.lines c.loop.counter _ c.loop.invariant (omega arith)
+    let Rest : List ℕ → Type 0 = λ rest. IsFault c.args.is_broken most_races c.line_count-lines-2.result rest c.fault_past_races-fault.result in
+    let Count : ℕ → Type 0 = λ n. IsFault c.args.is_broken n c.line_count-lines-2.result (drop c.loop.from c.args.input.now) c.fault_past_races-fault.result in
+    ended (IsTextOf c.args.content) c.args.input.now c.loop.text.items c.args.is_broken c.loop.from c.line_count-lines-2.result c.loop.counter _ c.loop.invariant c.line_count-lines-2.ensures (omega arith)
     (subst Count count (subst Rest whole c.fault_past_races-fault.ensures))

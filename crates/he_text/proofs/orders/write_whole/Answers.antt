@@ -19,6 +19,6 @@ returns g c =
     c.args.out.now.items c.write_places.new.out.items
     c.policy-policy.ensures.value c.host-host.ensures.value
     (c.deref.ensures.value ∙ c.in_ok-usable.ensures.addresses)
-    (c.deref-2.ensures.value ∙ c.in_ok-sorted.ensures.value)
+    (c.deref-2.ensures.value ∙ c.in_ok-sorted.ensures)
     c.in_ok-write_places.ensures)
     c.write_line.ensures

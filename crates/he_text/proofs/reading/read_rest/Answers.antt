@@ -1,8 +1,10 @@
 use Rattle.std.proofs.Common.{rules, ◌≡◌, ℕ, List, Ok, Err, Bor, sym, ◌∙◌, ap}
 use Rattle.he_plan.specs.Race.{Race}
+use Rattle.he_text.specs.declared.fault.TextKind.{TextKind}
 use Rattle.he_text.specs.Left.{lines_left}
 use Rattle.he_text.specs.Parts.{lines_of}
 use Rattle.he_text.specs.Reading.{FailsAt, read_body}
+use Rattle.he_text.proofs.Results.{handed_on}
 use Rattle.he_text.proofs.ReadingLaws.{shrinks, among_more, body_unwhole, body_ends, body_more, fails_body}
 use Rattle.he_text.proofs.reading.read_rest.Goals as goal
 
@@ -19,7 +21,10 @@ returns-in_err-word-clause-read g c =
     fails_body c.loop-race.lines.number c.loop-race.order c.loop-race.race (lines_left c.loop-race.lines) (lines_of c.in_ok-line.rest.now) c.in_ok-line.line.now c.in_err-word.field-0.0
     (read_body c.args.lines.now.number c.args.first c.args.start (lines_left c.args.lines.now))
     c.loop-race.invariant.0 c.in_ok-line.ensures.parts c.in_ok-line.ensures.whole c.in_err-word.ensures in
-    search rules
+    handed_on c.from_residual-in_err-word.result c.in_err-word.field-0.0
+    (λ (told : Race). read_body c.args.lines.now.number c.args.first c.args.start (lines_left c.args.lines.now) ≡ Ok (told, lines_left c.loop-race.lines))
+    (λ (kind : TextKind). FailsAt c.loop-race.lines.number kind (read_body c.args.lines.now.number c.args.first c.args.start (lines_left c.args.lines.now)))
+    c.from_residual-in_err-word.ensures wrong
 
 pub returns-then-is_end-clause-read : goal.returns-then-is_end-clause-read
 returns-then-is_end-clause-read g c =

@@ -1,5 +1,4 @@
 use Rattle.std.proofs.Common.{◌≡◌, ◌+◌, ◌≤◌, length}
-use Rattle.he_plan.specs.declared.limits.TheConstants.{MAX_ADDRESSES}
 use Rattle.he_text.specs.Forms.{addresses_in}
 use Rattle.he_text.specs.Left.{tokens_left}
 use Rattle.he_text.specs.Reading.{prepend}
@@ -7,9 +6,9 @@ use Rattle.he_text.proofs.forms.answers.addresses.Given as goal
 
 -- the addresses so far, and what is read of the tokens that are left
 abbrev pub invariant-loop-token : goal.invariant-loop-token
-invariant-loop-token l =
+invariant-loop-token g l =
     (prepend l.ips (addresses_in l.family (tokens_left l.left)) ≡ addresses_in l.family (tokens_left l.tokens))
-    × (length l.ips + length (tokens_left l.left) ≤ MAX_ADDRESSES)
+    × (length l.ips + length (tokens_left l.left) ≤ g.row.ROOM)
 
 abbrev pub decreases-loop-token : goal.decreases-loop-token
-decreases-loop-token l = length (tokens_left l.left)
+decreases-loop-token g l = length (tokens_left l.left)
