@@ -1,11 +1,11 @@
 // Making a timeline.
 
-ghost use Rattle.std.specs.Prelude.{◌≡◌, true, false, IfOk, IfErr};
+ghost use Rattle.std.specs.Prelude.{◌≡◌, ◌⊎◌, true, [], IfOk, IfErr};
 ghost use Rattle.he_plan.specs.Building.{IsRefused, empty_race, add_answer, add_outcome, add_pause, last_end, Becomes};
 ghost use Rattle.he_plan.specs.Race.{has_ip, is_in_answer};
 ghost use Rattle.he_plan.specs.Timeline.{are_of, are_distinct, is_duration, IsRace};
 
-use crate::addresses::{Addresses, are_distinct};
+use crate::addresses::{AddressSet, are_distinct};
 use crate::limits::{
     MAX_ADDRESSES, MAX_DURATION, MAX_PAUSE_END, MAX_PAUSES, MAX_TICK, MIN_DURATION,
 };
@@ -47,14 +47,20 @@ pub enum BuildFault {
 pub struct TimelineBuilder<A: Allocator = Global> {
     alloc: A,
     timeline: Timeline<A>,
+    // of the answers' addresses, by family
+    six: AddressSet<A>,
+    four: AddressSet<A>,
 }
 
 impl<A: Allocator> Model for TimelineBuilder<A> {
-    ghost use Rattle.he_plan.specs.Race.{Race};
+    ghost use Rattle.std.specs.Prelude.{◌≡◌, ◌⊎◌, []};
+    ghost use Rattle.he_plan.specs.Race.{Race, addresses_of};
 
     ghost Value = { Race };
 
     ghost view = { λ b. b.timeline };
+
+    ghost invariant = { λ b. ((b.six ≡ []) ⊎ (b.six ≡ addresses_of b.timeline.aaaa)) × ((b.four ≡ []) ⊎ (b.four ≡ addresses_of b.timeline.a)) };
 }
 
 impl<A: Allocator + Copy> TimelineBuilder<A> {
@@ -66,6 +72,8 @@ impl<A: Allocator + Copy> TimelineBuilder<A> {
         TimelineBuilder {
             alloc,
             timeline: Timeline::empty(alloc, settings, policy, host),
+            six: AddressSet::none(alloc),
+            four: AddressSet::none(alloc),
         }
     }
 
@@ -74,7 +82,12 @@ impl<A: Allocator + Copy> TimelineBuilder<A> {
         ensures value { result ≡ is_in_answer self.now ip }
         ensures race { IsRace self.now }
     {
-        self.timeline.stands(ip)
+        let family = ip.family();
+        let listed = self.timeline.answered(family);
+        match family {
+            Family::V6 => self.six.has(listed, ip),
+            Family::V4 => self.four.has(listed, ip),
+        }
     }
 
     /// The family's answer: its tick and its addresses, of which there may be none.
@@ -93,8 +106,21 @@ impl<A: Allocator + Copy> TimelineBuilder<A> {
         if !are_of(family, addresses) {
             return Err(BuildFault::Stranger);
         }
-        let answer = distinct_answer(self.alloc, tick, addresses)?;
-        self.timeline.set_answer(family, answer);
+        let set = distinct_set(self.alloc, addresses)?;
+        let Ok(listed) = Vec::from_slice(self.alloc, addresses) else {
+            return Err(BuildFault::Memory);
+        };
+        self.timeline.set_answer(
+            family,
+            Answer {
+                tick,
+                addresses: listed,
+            },
+        );
+        match family {
+            Family::V6 => self.six = set,
+            Family::V4 => self.four = set,
+        }
         Ok(())
     }
 
@@ -105,7 +131,7 @@ impl<A: Allocator + Copy> TimelineBuilder<A> {
         if !is_duration(outcome.duration()) {
             return Err(BuildFault::Range);
         }
-        if !self.timeline.stands(ip) {
+        if !self.stands(ip) {
             return Err(BuildFault::Stranger);
         }
         self.outcome_of_known(ip, outcome)
@@ -155,7 +181,7 @@ impl<A: Allocator + Copy> TimelineBuilder<A> {
         ensures value { result ≡ self }
         ensures race { IsRace result }
     {
-        let TimelineBuilder { alloc: _, timeline } = self;
+        let TimelineBuilder { timeline, .. } = self;
         timeline
     }
 }
@@ -181,18 +207,17 @@ fn are_of(family: Family, ips: &[Ip]) -> bool
     ips.iter().all(|ip| ip.family() == family)
 }
 
-// The answer, or why it is none: an address stands twice, or else memory is refused.
-fn distinct_answer<A: Allocator + Copy>(
+// The set of the addresses, or why there is none: one stands twice, or else memory is refused.
+fn distinct_set<A: Allocator + Copy>(
     alloc: A,
-    tick: u64,
     addresses: &[Ip],
-) -> Result<Answer<A>, BuildFault>
-    ensures ok { IfOk result (λ answer. answer ≡ record { tick = tick; addresses = addresses.now }) }
+) -> Result<AddressSet<A>, BuildFault>
+    ensures ok { IfOk result (λ set. (set ≡ []) ⊎ (set ≡ addresses.now)) }
     ensures distinct { IfOk result (λ _. are_distinct addresses.now ≡ true) }
     ensures fault { IfErr result (IsRefused addresses.now) }
 {
-    match Addresses::new(alloc, addresses) {
-        Ok(Some(addresses)) => Ok(Answer { tick, addresses }),
+    match AddressSet::new(alloc, addresses) {
+        Ok(Some(set)) => Ok(set),
         Ok(None) => Err(BuildFault::Repeated),
         Err(_) if are_distinct(addresses) => Err(BuildFault::Memory),
         Err(_) => Err(BuildFault::Repeated),

@@ -3,7 +3,7 @@
 ghost use Rattle.std.specs.Prelude.{All, ◌≡◌, ◌≤◌, drop, length, option_map, max, IfOk, IfSome, IsTrue, OnOk, OnErr};
 ghost use Rattle.std.specs.Cmp.Lexicographic.{pointwise};
 ghost use Rattle.he_addr.specs.Ip.{same_ip, InRange};
-ghost use Rattle.he_plan.specs.Race.{Race, Reply, reply_of, addresses_of, has_ip, has_outcome, is_in_answer};
+ghost use Rattle.he_plan.specs.Race.{Race, Reply, reply_of, addresses_of, has_outcome};
 ghost use Rattle.he_plan.specs.Equality.{same_pause, same_reply, same_race};
 ghost use Rattle.he_select.specs.Equality.{equal_hosts, equal_tables};
 ghost use Rattle.he_plan.specs.Timeline.{IsRace, are_pauses, duration_of};
@@ -12,7 +12,6 @@ ghost use Rattle.he_plan.specs.Finish.{outcome_of, outcome_in};
 ghost use Rattle.he_plan.specs.Planning.{are_ahead};
 ghost use Rattle.he_plan.specs.Building.{empty_race, with_answer, with_outcome, with_pause};
 
-use crate::addresses::Addresses;
 use crate::limits::{MAX_DURATION, MAX_PAUSE_END, MIN_DURATION};
 use crate::outcome::Outcome;
 use crate::outcomes::Outcomes;
@@ -27,7 +26,7 @@ use std::marker::Model;
 #[derive(Drop)]
 pub(crate) struct Answer<A: Allocator> {
     pub(crate) tick: u64,
-    pub(crate) addresses: Addresses<A>,
+    pub(crate) addresses: Vec<Ip, A>,
 }
 
 impl<A: Allocator> Model for Answer<A> {
@@ -35,7 +34,7 @@ impl<A: Allocator> Model for Answer<A> {
 
     ghost Value = { Reply };
 
-    ghost view = { λ answer. record { tick = answer.tick; addresses = answer.addresses } };
+    ghost view = { λ answer. record { tick = answer.tick; addresses = answer.addresses.items } };
 }
 
 /// A race's whole input: its settings, the policy table and the host by which addresses are ordered, the answers of both
@@ -118,14 +117,14 @@ impl<A: Allocator> Timeline<A> {
         answered_count(&self.aaaa).saturating_add(answered_count(&self.a))
     }
 
-    /// Whether the address stands in one of the answers, usable or not.
-    pub fn stands(&self, ip: Ip) -> bool
-        ensures value { result ≡ is_in_answer self.now ip }
+    // The addresses of the family's answer, none where it has none.
+    pub(crate) fn answered(&self, family: Family) -> &[Ip]
+        ensures value { result.now ≡ addresses_of (reply_of self.now family) }
         ensures race { IsRace self.now }
     {
-        match ip.family() {
-            Family::V6 => stands_in(&self.aaaa, ip),
-            Family::V4 => stands_in(&self.a, ip),
+        match self.answer(family) {
+            Some(answer) => answer.1,
+            None => &[],
         }
     }
 
@@ -263,15 +262,6 @@ fn answered_count<A: Allocator>(answer: &Option<Answer<A>>) -> usize {
     }
 }
 
-fn stands_in<A: Allocator>(answer: &Option<Answer<A>>, ip: Ip) -> bool
-    ensures { result ≡ has_ip ip (addresses_of answer.now) }
-{
-    match answer {
-        Some(answer) => answer.addresses.has(ip),
-        None => false,
-    }
-}
-
 fn seen_past(pauses: &[(u64, u64)], tick: u64) -> u64
     requires { IsTrue (are_pauses 0 pauses.now) }
     ensures { result ≡ seen_past pauses.now tick }
@@ -371,7 +361,7 @@ fn copy_answer<A: Allocator, B: Allocator + Copy>(
 {
     match answer {
         Some(answer) => {
-            let addresses = Addresses::listed(alloc, answer.addresses.as_slice())?;
+            let addresses = Vec::from_slice(alloc, &answer.addresses)?;
             let tick = answer.tick;
             Ok(Some(Answer { tick, addresses }))
         }

@@ -8,12 +8,12 @@ use Rattle.he_plan.proofs.addresses.set_of.Goals as goal
 pub returns-then-not-branch-clause-none : goal.returns-then-not-branch-clause-none
 returns-then-not-branch-clause-none g c =
     distinct_never c.args.ips.now c.loop-ip.ip-index _ c.loop-ip-test.true
-    (ap (has_ip _) (sym c.loop-ip.invariant.keys) ∙ sym (found_is eq-value.it same_as _ c.loop-ip.set.keys) ∙ there_by _ _ c.in_ok-insert.ensures.added c.if-not-branch.true)
+    (ap (has_ip _) (sym c.loop-ip.invariant.keys) ∙ sym (found_is eq-value.it same_as _ c.loop-ip.found.keys) ∙ there_by _ _ c.in_ok-insert.ensures.added c.if-not-branch.true)
 
 pub loop-ip-preserved : goal.loop-ip-preserved
 loop-ip-preserved g c =
     let absent = no_by _ (sym c.in_ok-insert.ensures.added ∙ c.if-not-branch.false) in
     record {
-      keys = set_next eq-value.it same_as c.loop-ip.set.keys _ c.args.ips.now c.loop-ip.ip-index _ c.loop-ip-test.true c.loop-ip.invariant.keys absent c.in_ok-insert.ensures.keys;
-      distinct = distinct_next c.args.ips.now c.loop-ip.ip-index _ c.loop-ip-test.true c.loop-ip.invariant.distinct (ap (has_ip _) (sym c.loop-ip.invariant.keys) ∙ sym (found_is eq-value.it same_as _ c.loop-ip.set.keys) ∙ absent);
+      keys = set_next eq-value.it same_as c.loop-ip.found.keys _ c.args.ips.now c.loop-ip.ip-index _ c.loop-ip-test.true c.loop-ip.invariant.keys absent c.in_ok-insert.ensures.keys;
+      distinct = distinct_next c.args.ips.now c.loop-ip.ip-index _ c.loop-ip-test.true c.loop-ip.invariant.distinct (ap (has_ip _) (sym c.loop-ip.invariant.keys) ∙ sym (found_is eq-value.it same_as _ c.loop-ip.found.keys) ∙ absent);
     }

@@ -4,6 +4,6 @@ use Rattle.he_plan.proofs.addresses.set_of.Given as goal
 
 abbrev pub invariant-loop-ip : goal.invariant-loop-ip
 invariant-loop-ip g l = record {
-  keys : l.set.keys ≡ take l.ip-index l.ips;
+  keys : l.found.keys ≡ take l.ip-index l.ips;
   distinct : are_distinct (take l.ip-index l.ips) ≡ true;
 }
