@@ -3,8 +3,8 @@
 use crate::hosts::{HostKind, builder};
 use he_addr::{Family, Ip, Memory};
 use he_plan::{
-    BuildFault, Outcome, Settings, Timeline, TimelineBuilder, Transcript, interlace, plan,
-    transcript_of,
+    Attempt, BuildFault, Line, Outcome, Settings, Timeline, TimelineBuilder, Transcript, interlace,
+    plan, transcript_of,
 };
 use refusing::{MOST_RUNS, Refusing};
 
@@ -28,94 +28,123 @@ fn make(builder: &mut TimelineBuilder<&Refusing>, number: usize) -> Result<(), B
     }
 }
 
+// The calls in turn, each made again where memory was refused; whether each was taken.
+fn make_all(builder: &mut TimelineBuilder<&Refusing>) -> bool {
+    for number in 0..CALLS {
+        if make(builder, number) == Err(BuildFault::Memory) && make(builder, number).is_err() {
+            return false;
+        }
+    }
+    true
+}
+
 fn begun(heap: &Refusing) -> Option<TimelineBuilder<&Refusing>> {
     let settings = Settings::new(50, 250, 1, 30_000).ok()?;
     builder(heap, settings, HostKind::Usual)
 }
 
-// The timeline of the calls, each made again where memory was refused.
-fn built<'h>(mut builder: TimelineBuilder<&'h Refusing>) -> Option<Timeline<&'h Refusing>> {
-    for number in 0..CALLS {
-        if make(&mut builder, number) == Err(BuildFault::Memory) {
-            make(&mut builder, number).ok()?;
-        }
+// The timeline of the calls; the growth of this number is refused once its builder has begun.
+fn built(heap: &Refusing, nth: u64) -> Option<Timeline<&Refusing>> {
+    heap.refuse(0);
+    let mut builder = begun(heap)?;
+    heap.refuse(nth);
+    if make_all(&mut builder) {
+        Some(builder.finish())
+    } else {
+        None
     }
-    Some(builder.finish())
 }
 
-fn is_copied<'h>(heap: &'h Refusing, timeline: &Timeline<&'h Refusing>) -> Result<bool, Memory> {
-    let copy = match timeline.copy(heap) {
-        Ok(copy) => copy,
-        Err(Memory) => timeline.copy(heap)?,
-    };
-    Ok(copy == *timeline)
+fn is_built<'h>(heap: &'h Refusing, nth: u64, wanted: &Timeline<&'h Refusing>) -> bool {
+    match built(heap, nth) {
+        Some(timeline) => timeline == *wanted,
+        None => false,
+    }
+}
+
+fn is_copied<'h>(heap: &'h Refusing, wanted: &Timeline<&'h Refusing>) -> Result<bool, Memory> {
+    let copy = wanted.copy(heap)?;
+    Ok(copy == *wanted)
 }
 
 fn is_interlaced(heap: &Refusing) -> Result<bool, Memory> {
-    let given = [V6_A, V6_B, V4_A];
-    let interlaced = match interlace(heap, &given, 1) {
-        Ok(interlaced) => interlaced,
-        Err(Memory) => interlace(heap, &given, 1)?,
-    };
+    let interlaced = interlace(heap, &[V6_A, V6_B, V4_A], 1)?;
     Ok(interlaced.as_slice() == [V6_A, V4_A, V6_B].as_slice())
 }
 
-// Whether there are as many attempts as the transcript has lines, each at its tick.
 fn is_planned<'h>(
     heap: &'h Refusing,
-    timeline: &Timeline<&'h Refusing>,
-    wanted: &Transcript<&'h Refusing>,
+    wanted: &Timeline<&'h Refusing>,
+    transcript: &Transcript<&'h Refusing>,
 ) -> Result<bool, Memory> {
-    let plan = match plan(heap, timeline) {
-        Ok(plan) => plan,
-        Err(Memory) => plan(heap, timeline)?,
-    };
-    let attempts = plan.attempts();
-    for line in wanted.attempts() {
+    let plan = plan(heap, wanted)?;
+    Ok(are_attempts_of(plan.attempts(), transcript.attempts()))
+}
+
+// Whether each line has its attempt, at its tick.
+fn are_attempts_of(attempts: &[Attempt], lines: &[Line]) -> bool {
+    for line in lines {
         match attempts.get(line.place) {
             Some(attempt) if attempt.tick == line.tick && attempt.ip == line.ip => {}
-            _ => return Ok(false),
+            _ => return false,
         }
     }
-    Ok(!attempts.is_empty())
+    !attempts.is_empty()
 }
 
 fn is_told<'h>(
     heap: &'h Refusing,
-    timeline: &Timeline<&'h Refusing>,
-    wanted: &Transcript<&'h Refusing>,
-) -> Result<bool, Memory> {
-    let transcript = match transcript_of(heap, timeline) {
-        Ok(transcript) => transcript,
-        Err(Memory) => transcript_of(heap, timeline)?,
-    };
-    Ok(transcript.attempts() == wanted.attempts() && transcript.result() == wanted.result())
-}
-
-// Whether all is as with ample memory; `None` where a call was refused twice.
-fn is_well<'h>(
-    heap: &'h Refusing,
-    builder: TimelineBuilder<&'h Refusing>,
     wanted: &Timeline<&'h Refusing>,
     transcript: &Transcript<&'h Refusing>,
-) -> Option<bool> {
-    let timeline = built(builder)?;
-    let is_copied = is_copied(heap, wanted).ok()?;
-    let is_interlaced = is_interlaced(heap).ok()?;
-    let is_planned = is_planned(heap, wanted, transcript).ok()?;
-    let is_told = is_told(heap, wanted, transcript).ok()?;
-    Some(timeline == *wanted && is_copied && is_interlaced && is_planned && is_told)
+) -> Result<bool, Memory> {
+    let told = transcript_of(heap, wanted)?;
+    Ok(told.attempts() == transcript.attempts() && told.result() == transcript.result())
+}
+
+const QUESTIONS: usize = 4;
+
+// Whether the answer to the question of this number is as with ample memory.
+fn ask<'h>(
+    heap: &'h Refusing,
+    wanted: &Timeline<&'h Refusing>,
+    transcript: &Transcript<&'h Refusing>,
+    number: usize,
+) -> Result<bool, Memory> {
+    match number {
+        0 => is_copied(heap, wanted),
+        1 => is_interlaced(heap),
+        2 => is_planned(heap, wanted, transcript),
+        _ => is_told(heap, wanted, transcript),
+    }
+}
+
+// Each question in turn, asked again where memory was refused.
+fn are_answered<'h>(
+    heap: &'h Refusing,
+    wanted: &Timeline<&'h Refusing>,
+    transcript: &Transcript<&'h Refusing>,
+) -> bool {
+    for number in 0..QUESTIONS {
+        let first = ask(heap, wanted, transcript, number);
+        let answer = match first {
+            Ok(answer) => Ok(answer),
+            Err(Memory) => ask(heap, wanted, transcript, number),
+        };
+        if answer != Ok(true) {
+            return false;
+        }
+    }
+    true
 }
 
 // How many growths were refused one after the other, with all well each time.
-fn refused_in_turn(heap: &Refusing) -> Option<u64> {
-    let wanted = built(begun(heap)?)?;
-    let transcript = transcript_of(heap, &wanted).ok()?;
+fn refused_in_turn<'h>(
+    heap: &'h Refusing,
+    wanted: &Timeline<&'h Refusing>,
+    transcript: &Transcript<&'h Refusing>,
+) -> Option<u64> {
     for nth in 1..=MOST_RUNS {
-        heap.refuse(0);
-        let builder = begun(heap)?;
-        heap.refuse(nth);
-        if !is_well(heap, builder, &wanted, &transcript)? {
+        if !is_built(heap, nth, wanted) || !are_answered(heap, wanted, transcript) {
             return None;
         }
         if !heap.has_refused() {
@@ -125,9 +154,19 @@ fn refused_in_turn(heap: &Refusing) -> Option<u64> {
     None
 }
 
+fn refused_over<'h>(heap: &'h Refusing, wanted: &Timeline<&'h Refusing>) -> Option<u64> {
+    let transcript = transcript_of(heap, wanted).ok()?;
+    refused_in_turn(heap, wanted, &transcript)
+}
+
+fn refused(heap: &Refusing) -> Option<u64> {
+    let wanted = built(heap, 0)?;
+    refused_over(heap, &wanted)
+}
+
 #[test]
 fn refused_growths(rt: HostRuntime) {
     let heap = Refusing::new(rt.alloc());
-    let refused = refused_in_turn(&heap).unwrap_or(0);
+    let refused = refused(&heap).unwrap_or(0);
     assert!(rt; refused > 0);
 }

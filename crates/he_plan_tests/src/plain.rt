@@ -69,10 +69,7 @@ fn is_answered(timeline: &Timeline<&Refusing>, family: Family, tick: u64) -> boo
 
 fn is_positive(timeline: &Timeline<&Refusing>, family: Family, tick: u64) -> bool {
     is_answered(timeline, family, tick)
-        && match timeline.answer(family) {
-            Some((_, ips)) => ips.iter().any(|ip| ip.is_usable()),
-            None => false,
-        }
+        && answered(timeline, family).iter().any(|ip| ip.is_usable())
 }
 
 fn push_next<'h>(
@@ -81,32 +78,46 @@ fn push_next<'h>(
     done: &mut Vec<Attempt, &'h Refusing>,
     tick: u64,
 ) -> Result<(), Memory> {
-    let v6 = is_answered(timeline, Family::V6, tick);
-    let v4 = is_answered(timeline, Family::V4, tick);
-    for ip in &order_of(heap, timeline, v6, v4)? {
-        if !done.iter().any(|attempt| attempt.ip == *ip) {
-            let place = done.len();
-            let ip = *ip;
-            return done.push(Attempt { place, tick, ip }).map_err(|_| Memory);
-        }
+    let ips = received(heap, timeline, tick)?;
+    let order = order_of(heap, timeline, &ips)?;
+    if let Some(ip) = first_untried(&order, done) {
+        let place = done.len();
+        done.push(Attempt { place, tick, ip })?;
     }
     Ok(())
 }
 
-// The usable addresses of the answers that count, in order and interlaced.
+fn first_untried(order: &[Ip], done: &[Attempt]) -> Option<Ip> {
+    for ip in order {
+        if !done.iter().any(|attempt| attempt.ip == *ip) {
+            return Some(*ip);
+        }
+    }
+    None
+}
+
+// The usable addresses of the answers that have come by the tick.
+fn received<'h>(
+    heap: &'h Refusing,
+    timeline: &Timeline<&'h Refusing>,
+    tick: u64,
+) -> Result<Vec<Ip, &'h Refusing>, Memory> {
+    let mut ips = Vec::new(heap);
+    push_usable(&mut ips, timeline, Family::V6, tick)?;
+    push_usable(&mut ips, timeline, Family::V4, tick)?;
+    Ok(ips)
+}
+
+// The usable addresses in order and interlaced.
 fn order_of<'h>(
     heap: &'h Refusing,
     timeline: &Timeline<&'h Refusing>,
-    v6: bool,
-    v4: bool,
+    ips: &[Ip],
 ) -> Result<Vec<Ip, &'h Refusing>, Memory> {
-    let mut ips = Vec::new(heap);
-    push_usable(&mut ips, timeline, Family::V6, v6)?;
-    push_usable(&mut ips, timeline, Family::V4, v4)?;
-    if !are_usable(&ips) {
+    if !are_usable(ips) {
         return Err(Memory);
     }
-    let sorted = order(heap, timeline.policy(), timeline.host(), &ips)?;
+    let sorted = order(heap, timeline.policy(), timeline.host(), ips)?;
     interlace(heap, &sorted, timeline.settings().count())
 }
 
@@ -120,16 +131,23 @@ fn push_usable<'h>(
     ips: &mut Vec<Ip, &'h Refusing>,
     timeline: &Timeline<&'h Refusing>,
     family: Family,
-    counts: bool,
+    tick: u64,
 ) -> Result<(), Memory> {
-    if let Some((_, given)) = timeline.answer(family) {
-        for ip in given {
-            if counts && ip.is_usable() {
-                ips.push(*ip).map_err(|_| Memory)?;
+    if is_answered(timeline, family, tick) {
+        for ip in answered(timeline, family) {
+            if ip.is_usable() {
+                ips.push(*ip)?;
             }
         }
     }
     Ok(())
+}
+
+fn answered<'t>(timeline: &'t Timeline<&Refusing>, family: Family) -> &'t [Ip] {
+    match timeline.answer(family) {
+        Some((_, ips)) => ips,
+        None => &[],
+    }
 }
 
 fn seen(pauses: &[(u64, u64)], tick: u64) -> u64 {
@@ -224,21 +242,37 @@ fn draw<'h>(heap: &'h Refusing, drawn: &mut Drawn) -> Option<Timeline<&'h Refusi
         _ => HostKind::WithoutV6,
     };
     let mut builder = builder(heap, settings, kind)?;
-    draw_answer(heap, &mut builder, Family::V6, drawn)?;
-    draw_answer(heap, &mut builder, Family::V4, drawn)?;
-    draw_pauses(&mut builder, drawn)?;
+    draw_answers(heap, &mut builder, drawn)?;
     Some(builder.finish())
+}
+
+fn draw_answers<'h>(
+    heap: &'h Refusing,
+    builder: &mut TimelineBuilder<&'h Refusing>,
+    drawn: &mut Drawn,
+) -> Option<()> {
+    draw_answer(heap, builder, Family::V6, drawn)?;
+    draw_answer(heap, builder, Family::V4, drawn)?;
+    draw_pauses(builder, drawn)
 }
 
 // How many attempts the plan has, if it is the plain one.
 fn same_plan<'h>(heap: &'h Refusing, timeline: &Timeline<&'h Refusing>) -> Option<usize> {
     let plan = plan(heap, timeline).ok()?;
-    let plain = plain_plan(heap, timeline).ok()?;
-    if plan.attempts() == plain.as_slice() {
-        Some(plain.len())
+    if is_plain_plan(heap, timeline, plan.attempts()).ok()? {
+        Some(plan.attempts().len())
     } else {
         None
     }
+}
+
+fn is_plain_plan<'h>(
+    heap: &'h Refusing,
+    timeline: &Timeline<&'h Refusing>,
+    attempts: &[Attempt],
+) -> Result<bool, Memory> {
+    let plain = plain_plan(heap, timeline)?;
+    Ok(plain.as_slice() == attempts)
 }
 
 fn same_seen(timeline: &Timeline<&Refusing>) -> bool {
@@ -250,16 +284,26 @@ fn same_seen(timeline: &Timeline<&Refusing>) -> bool {
     true
 }
 
-// How many attempts the drawn timelines have, if `plan` and `seen` answer as the plain ones.
-fn same_attempts(heap: &Refusing) -> Option<usize> {
+// How many attempts the timeline has, if `plan` and `seen` answer as the plain ones.
+fn same_attempts<'h>(heap: &'h Refusing, timeline: &Timeline<&'h Refusing>) -> Option<usize> {
+    if same_seen(timeline) {
+        same_plan(heap, timeline)
+    } else {
+        None
+    }
+}
+
+fn same_attempts_of_next(heap: &Refusing, drawn: &mut Drawn) -> Option<usize> {
+    let timeline = draw(heap, drawn)?;
+    same_attempts(heap, &timeline)
+}
+
+// How many attempts the drawn timelines have, if all of them are the plain ones.
+fn same_attempts_of_all(heap: &Refusing) -> Option<usize> {
     let mut drawn = Drawn(8_305);
     let mut attempts: usize = 0;
     for _ in 0..400 {
-        let timeline = draw(heap, &mut drawn)?;
-        let more = same_plan(heap, &timeline)?;
-        if !same_seen(&timeline) {
-            return None;
-        }
+        let more = same_attempts_of_next(heap, &mut drawn)?;
         attempts = attempts.saturating_add(more);
     }
     Some(attempts)
@@ -268,6 +312,6 @@ fn same_attempts(heap: &Refusing) -> Option<usize> {
 #[test]
 fn drawn_timelines(rt: HostRuntime) {
     let heap = Refusing::new(rt.alloc());
-    let attempts = same_attempts(&heap).unwrap_or(0);
+    let attempts = same_attempts_of_all(&heap).unwrap_or(0);
     assert!(rt; attempts > 2_000);
 }
