@@ -49,6 +49,10 @@ pub cond-parts : (b : Bool) (job : ℕ) (v : View) → (cond b (taking job v) (k
 cond-parts true job v = refl
 cond-parts false job v = refl
 
+pub cond-taken : (b : Bool) (job : ℕ) (v : View) → (cond b (taking job v) (knowing job v)).taken ≡ cond b (v.taken ++ job ∷ []) v.taken
+cond-taken true job v = refl
+cond-taken false job v = refl
+
 pub cond-offers : (b : Bool) (job : ℕ) (v : View) → (cond b (taking job v) (knowing job v)).offers ≡ v.offers
 cond-offers true job v = refl
 cond-offers false job v = refl

@@ -1,5 +1,5 @@
 -- Lists are a host's exactly where the search finds no fault, and the fault that it finds is the first one.
-use Rattle.std.proofs.Common.{◌≡◌, ℕ, ◌≤◌, ◌==◌, ◌||◌, ◌&&◌, Bool, true, false, not, nat_lt, nat_le, length, sym, ◌∙◌, ap, subst, arith, IsTrue}
+use Rattle.std.proofs.Common.{◌≡◌, ℕ, ◌≤◌, ◌==◌, ◌||◌, ◌&&◌, Bool, true, false, not, nat_lt, nat_le, length, sym, ◌∙◌, ap, subst, arith, IsTrue, List}
 use Rattle.std.specs.Prelude.{Option, None, Some, option_map, is_none, All}
 use Rattle.std.specs.List.{list_all, position_from}
 use Rattle.std.proofs.lemmas.Bool.{both_ways}
@@ -16,7 +16,9 @@ use Rattle.he_select.specs.Faults.{IsHostFault}
 use Rattle.he_select.specs.HostFaults.{host_causes, host_fault, is_sound_route, is_sound_source}
 use Rattle.he_select.specs.Hosts.{AddressesDiffer, HasHostSize, HostLists, IsHost, IsSoundRoute, IsSoundSource, RoutesDiffer, same_route, same_source}
 use Rattle.he_select.specs.Ranges.{least_interface, most_routes, most_sources}
+use Rattle.he_select.specs.declared.policy.Row.{Row}
 use Rattle.he_select.specs.Refusals.{cause_if, first_repeat}
+use Rattle.he_select.specs.Selection.{SelectionInput, selection_input}
 use Rattle.he_select.specs.Tables.{same_prefix}
 use Rattle.he_select.proofs.Apart.{all_pass, apart, first_failing, never_repeats, none_failing}
 use Rattle.he_select.proofs.Causes.{all_from_none, cause_none, cause_some, first_of_five, map_none, map_some, none_is, none_of_five, none_stands}
@@ -156,3 +158,11 @@ no_fault host h = ap is_none (no_fault_from host h)
 -- what the search answers, as a host is made of it
 pub host_by : (host : HostLists) (answer : Option HostFault) → answer ≡ host_fault host.sources host.routes → answer ≡ None → IsHost host
 host_by host answer is none = host_from host (ap is_none (sym is ∙ none))
+
+-- what the loops are given of a table and a host
+pub given_is : (policy rows : List Row) (host : HostLists) (sources : List Source) (routes : List Route) → rows ≡ policy → sources ≡ host.sources → routes ≡ host.routes
+    → ◌≡◌ {A = SelectionInput} (record { rows = rows; sources = sources; routes = routes }) (selection_input policy host)
+given_is policy rows host sources routes by_rows by_sources by_routes =
+    ap (λ (r : List Row). record { rows = r; sources = sources; routes = routes }) by_rows
+    ∙ ap (λ (s : List Source). record { rows = policy; sources = s; routes = routes }) by_sources
+    ∙ ap (λ (t : List Route). record { rows = policy; sources = host.sources; routes = t }) by_routes

@@ -20,4 +20,5 @@ pub mod Picked
 pub mod Repeats
 pub mod Sources
 pub mod Standards
+pub mod Stepping
 pub mod Walks

@@ -2,6 +2,7 @@
 use Rattle.std.proofs.Common.{◌≡◌, ℕ, zero, suc, ◌+◌, ◌<◌, List, [], ◌∷◌, ◌++◌, length, take, map, refl, sym, ◌∙◌, ap, subst, arith, slice_get}
 use Rattle.std.specs.Prelude.{Option, None, Some, option_map, filter_map, IsPermutation, IsSorted}
 use Rattle.std.specs.List.{cons_option, slice_index_or}
+use Rattle.std.proofs.Math.Numerals.{add-one}
 use Rattle.std.proofs.lemmas.List.Sorted.{IsPermutation-map}
 use Rattle.std.proofs.lemmas.Option.{slice_get-map}
 use Rattle.he_addr.specs.declared.ip.Ip.{Ip}
@@ -107,3 +108,13 @@ module _ (input : SelectionInput) where
 
     pub picked_sourced : (sourced : List Sourced) → sourced ≡ map (sourced_by input) ips → picked sourced keys ≡ map (sourced_by input) (order_of input ips)
     picked_sourced sourced is = ap (λ l. picked l keys) is ∙ picked-map (sourced_by input) ips keys ∙ ap (map (sourced_by input)) picked_is
+
+-- the same of a list that is being made
+pub picked_one_more : {X : Type 0} (list : List X) (keys : List Key) (n : ℕ) (d : Key) (made more : List X) (found : Option X) → n < length keys
+    → more ≡ made ++ cons_option found [] → made ≡ picked list (take n keys) → found ≡ slice_get list (slice_index_or keys n d).place
+    → more ≡ picked list (take (n + 1) keys)
+picked_one_more list keys n d made more found inside is kept found_at =
+    is
+    ∙ ap (λ l. l ++ cons_option found []) kept
+    ∙ ap (λ o. picked list (take n keys) ++ cons_option o []) found_at
+    ∙ sym (ap (λ (k : ℕ). picked list (take k keys)) (add-one n) ∙ picked_next list keys n d inside)

@@ -1,11 +1,12 @@
 -- A loop that keeps the best of the members that fit finds the first of them than which none is better.
-use Rattle.std.proofs.Common.{◌≡◌, Bool, true, false, not, ◌||◌, cond, List, [], ◌∷◌, refl, sym, ◌∙◌, ap, inl, inr}
+use Rattle.std.proofs.Common.{◌≡◌, ℕ, ◌+◌, ◌<◌, ◌≤◌, Bool, true, false, not, ◌||◌, cond, List, [], ◌∷◌, drop, length, map, get_or, refl, sym, ◌∙◌, ap, inl, inr}
 use Rattle.std.specs.Prelude.{Option, None, Some, find, filter}
 use Rattle.std.specs.List.{list_any}
 use Rattle.std.specs.Cmp.{IsStrictWeakOrder}
 use Rattle.std.proofs.lemmas.Bool.{cases_Bool, both_ways}
+use Rattle.std.proofs.lemmas.List.{at_drop_all, at_drop_more}
 use Rattle.he_select.specs.Rules.{best_by}
-use Rattle.he_select.specs.Walking.{keep_better, walk_fitting}
+use Rattle.he_select.specs.Walking.{keep_better, keep_fitting, walk_fitting}
 
 abbrev pub walk : {X : Type 0} → (X → X → Bool) → Option X → List X → Option X
 walk better best [] = best
@@ -111,3 +112,16 @@ module _ {X : Type 0} (better : X → X → Bool) (o : IsStrictWeakOrder better)
 
   pub best_fitting : (fits : X → Bool) (xs : List X) → walk_fitting fits better None xs ≡ best_by better (filter fits xs)
   best_fitting fits xs = walk_filtered fits better None xs ∙ walked_all (filter fits xs)
+
+-- one more member of a list that is walked
+pub walk_on : {X Y : Type 0} (fits : Y → Bool) (better : Y → Y → Bool) (f : X → Y) (xs : List X) (n : ℕ) (d : X) (best next all : Option Y) (made : Y)
+    → n < length xs → walk_fitting fits better best (map f (drop n xs)) ≡ all → made ≡ f (get_or xs n d) → next ≡ keep_fitting fits better best made
+    → walk_fitting fits better next (map f (drop (n + 1) xs)) ≡ all
+walk_on fits better f xs n d best next all made inside kept made_of is =
+    ap (λ b. walk_fitting fits better b (map f (drop (n + 1) xs))) (is ∙ ap (λ y. keep_fitting fits better best y) made_of)
+    ∙ sym (at_drop_more (λ l. walk_fitting fits better best (map f l)) xs n d inside)
+    ∙ kept
+
+pub walk_over : {X Y : Type 0} (fits : Y → Bool) (better : Y → Y → Bool) (f : X → Y) (xs : List X) (n : ℕ) (best all : Option Y)
+    → length xs ≤ n → walk_fitting fits better best (map f (drop n xs)) ≡ all → best ≡ all
+walk_over fits better f xs n best all over kept = sym (at_drop_all (λ l. walk_fitting fits better best (map f l)) xs n over) ∙ kept

@@ -285,8 +285,8 @@ impl<A: Allocator> Host<A> {
     pub fn copy<B: Allocator + Copy>(&self, alloc: B) -> Result<Host<B>, Memory>
         ensures { IfOk result (λ host. host ≡ self.now) }
     {
-        let sources = Vec::from_slice(alloc, &self.sources).map_err(|_| Memory)?;
-        let routes = Vec::from_slice(alloc, &self.routes).map_err(|_| Memory)?;
+        let sources = Vec::from_slice(alloc, &self.sources)?;
+        let routes = Vec::from_slice(alloc, &self.routes)?;
         Ok(Host { sources, routes })
     }
 }

@@ -229,7 +229,7 @@ impl<A: Allocator + Copy> Policy<A> {
     pub fn standard(alloc: A) -> Result<Policy<A>, Memory>
         ensures { IfOk result (λ policy. policy ≡ standard_rows) }
     {
-        let rows = Vec::from_slice(alloc, &standard_table()).map_err(|_| Memory)?;
+        let rows = Vec::from_slice(alloc, &standard_table())?;
         Ok(Policy { rows })
     }
 
@@ -285,7 +285,7 @@ impl<A: Allocator> Policy<A> {
     pub fn copy<B: Allocator + Copy>(&self, alloc: B) -> Result<Policy<B>, Memory>
         ensures { IfOk result (λ policy. policy ≡ self.now) }
     {
-        let rows = Vec::from_slice(alloc, &self.rows).map_err(|_| Memory)?;
+        let rows = Vec::from_slice(alloc, &self.rows)?;
         Ok(Policy { rows })
     }
 }

@@ -30,7 +30,6 @@ pub struct Sourced {
 
 /// The addresses in the order in which they are to be tried (RFC 6724 section 6): each stands at the place that equals the
 /// number of addresses preferred to it. Each address is usable.
-#[tactic(auto, using(crate::proofs::Hosted::all_sound))]
 pub fn order<A: Allocator + Copy, P: Allocator, H: Allocator>(
     alloc: A,
     policy: &Policy<P>,
@@ -41,19 +40,18 @@ pub fn order<A: Allocator + Copy, P: Allocator, H: Allocator>(
     ensures order { IfOk result (λ sorted. IsOrder (selection_input policy.now host.now) addresses.now sorted.items) }
     ensures value { IfOk result (λ sorted. sorted.items ≡ order_of (selection_input policy.now host.now) addresses.now) }
 {
-    sort_addresses(
+    let sorted = sort_addresses(
         alloc,
         policy.rows(),
         host.sources(),
         host.routes(),
         addresses,
-    )
-    .map_err(|_| Memory)
+    )?;
+    Ok(sorted)
 }
 
 /// The addresses in the order of [`order`], each with the source that it has from [`Host::source`]: the order rests on the
 /// sources, so that they are known when it is. Each address is usable.
-#[tactic(auto, using(crate::proofs::Hosted::all_sound))]
 pub fn order_with_sources<A: Allocator + Copy, P: Allocator, H: Allocator>(
     alloc: A,
     policy: &Policy<P>,
@@ -63,14 +61,14 @@ pub fn order_with_sources<A: Allocator + Copy, P: Allocator, H: Allocator>(
     requires { IsTrue (list_all is_usable addresses.now) }
     ensures { IfOk result (λ sorted. sorted.items ≡ map (sourced_by (selection_input policy.now host.now)) (order_of (selection_input policy.now host.now) addresses.now)) }
 {
-    sort_sourced(
+    let sorted = sort_sourced(
         alloc,
         policy.rows(),
         host.sources(),
         host.routes(),
         addresses,
-    )
-    .map_err(|_| Memory)
+    )?;
+    Ok(sorted)
 }
 
 /// What the rules look at is computed once for each source and for each address. What is sorted is keys alone, small as they

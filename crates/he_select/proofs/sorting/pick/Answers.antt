@@ -1,14 +1,14 @@
-use Rattle.std.proofs.Common.{◌≡◌, ℕ, suc, ◌+◌, ◌<◌, ◌∙◌, ◌++◌, [], ap, sym, length, take, arith}
-use Rattle.std.specs.List.{cons_option}
-use Rattle.std.proofs.lemmas.Bool.Decides.{nat_tests}
-use Rattle.he_select.proofs.Picked.{picked, picked_next}
+use Rattle.std.proofs.Common.{ap, ◌∙◌}
+use Rattle.std.proofs.lemmas.List.{take_all}
+use Rattle.he_select.proofs.Picked.{picked, picked_one_more}
 use Rattle.he_select.proofs.sorting.pick.Goals as goal
+
+pub loop-key-init : goal.loop-key-init
+loop-key-init g c = c.in_ok-picked.ensures.items
 
 pub loop-key-preserved : goal.loop-key-preserved
 loop-key-preserved g c =
-    let more : c.loop-key.key-index + 1 ≡ suc c.loop-key.key-index = omega arith in
-    let inside : c.loop-key.key-index < length c.args.keys.now = grind (arith, nat_tests, c.loop-key-test.true, c.loop-key.auto.key-index-end) in
-    c.in_ok-push_some.ensures
-    ∙ ap (λ l. l ++ cons_option c.member_at.result []) c.loop-key.invariant
-    ∙ ap (λ o. picked c.args.list.now (take c.loop-key.key-index c.args.keys.now) ++ cons_option o []) c.member_at.ensures
-    ∙ sym (ap (λ (n : ℕ). picked c.args.list.now (take n c.args.keys.now)) more ∙ picked_next c.args.list.now c.args.keys.now c.loop-key.key-index _ inside)
+    picked_one_more c.args.list.now c.args.keys.now c.loop-key.key-index _ c.loop-key.picked.items _ c.member_at.result c.loop-key-test.true c.in_ok-push_some.ensures c.loop-key.invariant c.member_at.ensures
+
+pub returns : goal.returns
+returns g c = c.loop-key.invariant ∙ ap (picked c.args.list.now) (take_all c.loop-key.key-index c.args.keys.now c.loop-key-test.false)
