@@ -49,7 +49,7 @@ fn members<A: Allocator>(alloc: A, family: Family, ips: &[Ip]) -> Result<Vec<Ip,
 {
     let mut members = Vec::with_capacity(alloc, ips.len())?;
     for ip in ips {
-        if ip.family() == family {
+        if is_of(family, *ip) {
             members.push(*ip)?;
         }
     }
@@ -61,11 +61,17 @@ fn others<A: Allocator>(alloc: A, family: Family, ips: &[Ip]) -> Result<Vec<Ip, 
 {
     let mut others = Vec::with_capacity(alloc, ips.len())?;
     for ip in ips {
-        if ip.family() != family {
+        if !is_of(family, *ip) {
             others.push(*ip)?;
         }
     }
     Ok(others)
+}
+
+fn is_of(family: Family, ip: Ip) -> bool
+    ensures { result ≡ is_of family ip }
+{
+    ip.family() == family
 }
 
 fn alternate<A: Allocator>(
