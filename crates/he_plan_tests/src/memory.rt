@@ -7,6 +7,7 @@ use he_plan::{
     plan, transcript_of,
 };
 use refusing::{MOST_RUNS, Refusing};
+use std::mem::drop;
 
 // 2001:db8:1::1 and 2001:db8:1::2
 const V6_A: Ip = Ip::V6(0x2001_0db8_0001_0000_0000_0000_0000_0001);
@@ -51,20 +52,27 @@ fn built(heap: &Refusing, nth: u64) -> Option<Timeline<&Refusing>> {
     if make_all(&mut builder) {
         Some(builder.finish())
     } else {
+        drop(builder);
         None
     }
 }
 
 fn is_built<'h>(heap: &'h Refusing, nth: u64, wanted: &Timeline<&'h Refusing>) -> bool {
     match built(heap, nth) {
-        Some(timeline) => timeline == *wanted,
+        Some(timeline) => {
+            let is_wanted = timeline == *wanted;
+            drop(timeline);
+            is_wanted
+        }
         None => false,
     }
 }
 
 fn is_copied<'h>(heap: &'h Refusing, wanted: &Timeline<&'h Refusing>) -> Result<bool, Memory> {
     let copy = wanted.copy(heap)?;
-    Ok(copy == *wanted)
+    let is_same = copy == *wanted;
+    drop(copy);
+    Ok(is_same)
 }
 
 fn is_interlaced(heap: &Refusing) -> Result<bool, Memory> {
@@ -161,7 +169,9 @@ fn refused_over<'h>(heap: &'h Refusing, wanted: &Timeline<&'h Refusing>) -> Opti
 
 fn refused(heap: &Refusing) -> Option<u64> {
     let wanted = built(heap, 0)?;
-    refused_over(heap, &wanted)
+    let refused = refused_over(heap, &wanted);
+    drop(wanted);
+    refused
 }
 
 #[test]

@@ -10,6 +10,7 @@ use he_addr::{Family, Ip, Memory};
 use he_plan::{Attempt, Settings, Timeline, TimelineBuilder, interlace, plan};
 use he_select::order;
 use refusing::Refusing;
+use std::mem::drop;
 
 // 2001:db8:1::, ff02::, 198.51.100.0 and 224.0.0.0
 const V6_A: u128 = 0x2001_0db8_0001_0000_0000_0000_0000_0000;
@@ -231,19 +232,31 @@ fn draw_pauses(builder: &mut TimelineBuilder<&Refusing>, drawn: &mut Drawn) -> O
 }
 
 fn draw<'h>(heap: &'h Refusing, drawn: &mut Drawn) -> Option<Timeline<&'h Refusing>> {
+    let settings = draw_settings(drawn)?;
+    let mut builder = builder(heap, settings, draw_kind(drawn))?;
+    match draw_answers(heap, &mut builder, drawn) {
+        Some(()) => Some(builder.finish()),
+        None => {
+            drop(builder);
+            None
+        }
+    }
+}
+
+fn draw_settings(drawn: &mut Drawn) -> Option<Settings> {
     let resolution = drawn.below(100);
     let attempt = 10 + drawn.below(60);
     let count = 1 + drawn.below(4);
     let limit = 1 + drawn.below(1_500);
-    let settings = Settings::new(resolution, attempt, count, limit).ok()?;
-    let kind = match drawn.below(3) {
+    Settings::new(resolution, attempt, count, limit).ok()
+}
+
+fn draw_kind(drawn: &mut Drawn) -> HostKind {
+    match drawn.below(3) {
         0 => HostKind::Usual,
         1 => HostKind::LinkLocal,
         _ => HostKind::WithoutV6,
-    };
-    let mut builder = builder(heap, settings, kind)?;
-    draw_answers(heap, &mut builder, drawn)?;
-    Some(builder.finish())
+    }
 }
 
 fn draw_answers<'h>(
@@ -295,7 +308,9 @@ fn same_attempts<'h>(heap: &'h Refusing, timeline: &Timeline<&'h Refusing>) -> O
 
 fn same_attempts_of_next(heap: &Refusing, drawn: &mut Drawn) -> Option<usize> {
     let timeline = draw(heap, drawn)?;
-    same_attempts(heap, &timeline)
+    let attempts = same_attempts(heap, &timeline);
+    drop(timeline);
+    attempts
 }
 
 // How many attempts the drawn timelines have, if all of them are the plain ones.
