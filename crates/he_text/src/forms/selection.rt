@@ -1,6 +1,6 @@
 // What address selection looks at: the rows of the policy table, and the sources and routes of the host.
 
-ghost use Rattle.std.specs.Prelude.{◌≡◌, ◌≤◌};
+ghost use Rattle.std.specs.Prelude.{◌≡◌, ◌≤◌, ℕ, List, [], ◌∷◌};
 ghost use Rattle.he_text.specs.Forms.{number_from, row_in, source_address_in, interface_in, source_marks_in, host_source_in, route_marks_in, host_route_in};
 ghost use Rattle.he_text.specs.Left.{tokens_left};
 
@@ -22,20 +22,16 @@ fn short(low: u64, high: u64, token: &[u8]) -> Result<u16, TextKind>
 }
 
 // policy PREFIX PRECEDENCE LABEL
-#[tactic(auto, unfolding(crate::specs::Forms::row_in))]
+#[tactic(auto, unfolding(crate::specs::Forms::row_in), using(crate::proofs::FormLaws::row_of_three))]
 pub(crate) fn row(tokens: Tokens) -> Result<Row, TextKind>
     ensures { result ≡ row_in (tokens_left tokens.entry) }
 {
-    let mut left = tokens;
-    let (Some(prefix), Some(precedence), Some(label), None) = (
-        left.next(),
-        left.next(),
-        left.next(),
-        left.next(),
-    ) else {
+    let Some((prefix, precedence, label)) = tokens.three() else {
         return Err(TextKind::Word);
     };
-    let prefix = read_prefix(prefix).ok_or(TextKind::Prefix)?;
+    let Some(prefix) = read_prefix(prefix) else {
+        return Err(TextKind::Prefix);
+    };
     let precedence = short(0, MAX_PRECEDENCE, precedence)?;
     let label = short(0, MAX_LABEL, label)?;
     Ok(Row {
@@ -50,7 +46,9 @@ pub(crate) fn row(tokens: Tokens) -> Result<Row, TextKind>
 fn source_address(token: &[u8]) -> Result<(Ip, u8), TextKind>
     ensures { result ≡ source_address_in token.now }
 {
-    let (ip, plen) = read_source(token).ok_or(TextKind::Prefix)?;
+    let Some((ip, plen)) = read_source(token) else {
+        return Err(TextKind::Prefix);
+    };
     if ip.is_usable() {
         Ok((ip, plen))
     } else {
@@ -64,39 +62,61 @@ fn interface(token: &[u8]) -> Result<u16, TextKind>
     short(MIN_INTERFACE, MAX_INTERFACE, token)
 }
 
+// What the one mark of a source says.
+#[tactic(auto, unfolding(crate::specs::Forms::source_marks_in))]
+fn one_mark(only: &[u8]) -> Result<(bool, bool), TextKind>
+    ensures { result ≡ source_marks_in (only.now ∷ []) }
+{
+    if only == b"deprecated".as_slice() {
+        Ok((true, false))
+    } else if only == b"temporary".as_slice() {
+        Ok((false, true))
+    } else {
+        Err(TextKind::Word)
+    }
+}
+
+// What two marks say, whatever stands behind them.
+#[tactic(auto, unfolding(crate::specs::Forms::source_marks_in))]
+fn two_marks(first: &[u8], second: &[u8]) -> Result<(bool, bool), TextKind>
+    ensures { (more : List (List ℕ)) → result ≡ source_marks_in (first.now ∷ second.now ∷ more) }
+{
+    if first == b"deprecated".as_slice() && second == b"temporary".as_slice() {
+        Ok((true, true))
+    } else {
+        Err(TextKind::Word)
+    }
+}
+
 // Whether a source is deprecated, and whether it is temporary.
 #[tactic(auto, unfolding(crate::specs::Forms::source_marks_in))]
 fn source_marks(tokens: Tokens) -> Result<(bool, bool), TextKind>
     ensures { result ≡ source_marks_in (tokens_left tokens.entry) }
 {
     let mut left = tokens;
-    match (left.next(), left.next()) {
-        (None, _) => Ok((false, false)),
-        (Some(only), None) if only == b"deprecated".as_slice() => Ok((true, false)),
-        (Some(only), None) if only == b"temporary".as_slice() => Ok((false, true)),
-        (Some(first), Some(second))
-            if first == b"deprecated".as_slice() && second == b"temporary".as_slice() => {
-            Ok((true, true))
-        }
-        _ => Err(TextKind::Word),
+    let Some(first) = left.next() else {
+        return Ok((false, false));
+    };
+    match left.next() {
+        Some(second) => two_marks(first, second),
+        None => one_mark(first),
     }
 }
 
 // source SOURCE INTERFACE [deprecated] [temporary]
-#[tactic(auto, unfolding(crate::specs::Forms::host_source_in))]
+#[tactic(auto, unfolding(crate::specs::Forms::host_source_in), using(crate::proofs::FormLaws::source_of_two))]
 pub(crate) fn source(tokens: Tokens) -> Result<Source, TextKind>
     ensures { result ≡ host_source_in (tokens_left tokens.entry) }
 {
-    let mut left = tokens;
-    let (Some(address), Some(number)) = (left.next(), left.next()) else {
+    let Some((address, number, marks)) = tokens.first_two() else {
         return Err(TextKind::Word);
     };
-    if left.len() > SOURCE_MARKS {
+    if marks.len() > SOURCE_MARKS {
         return Err(TextKind::Word);
     }
     let (ip, plen) = source_address(address)?;
     let interface = interface(number)?;
-    let (deprecated, temporary) = source_marks(left)?;
+    let (deprecated, temporary) = source_marks(marks)?;
     Ok(Source {
         ip,
         plen,
@@ -120,20 +140,21 @@ fn route_marks(tokens: Tokens) -> Result<bool, TextKind>
 }
 
 // route PREFIX INTERFACE [tunnel]
-#[tactic(auto, unfolding(crate::specs::Forms::host_route_in))]
+#[tactic(auto, unfolding(crate::specs::Forms::host_route_in), using(crate::proofs::FormLaws::route_of_two))]
 pub(crate) fn route(tokens: Tokens) -> Result<Route, TextKind>
     ensures { result ≡ host_route_in (tokens_left tokens.entry) }
 {
-    let mut left = tokens;
-    let (Some(prefix), Some(number)) = (left.next(), left.next()) else {
+    let Some((prefix, number, marks)) = tokens.first_two() else {
         return Err(TextKind::Word);
     };
-    if left.len() > ROUTE_MARKS {
+    if marks.len() > ROUTE_MARKS {
         return Err(TextKind::Word);
     }
-    let prefix = read_prefix(prefix).ok_or(TextKind::Prefix)?;
+    let Some(prefix) = read_prefix(prefix) else {
+        return Err(TextKind::Prefix);
+    };
     let interface = interface(number)?;
-    let tunnel = route_marks(left)?;
+    let tunnel = route_marks(marks)?;
     Ok(Route {
         prefix,
         interface,
