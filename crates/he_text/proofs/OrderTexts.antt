@@ -11,7 +11,7 @@ use Rattle.he_select.specs.declared.policy.Row.{Row}
 use Rattle.he_select.specs.Hosts.{HostLists}
 use Rattle.he_select.specs.declared.host.Source.{Source}
 use Rattle.he_select.specs.declared.sorting.Sourced.{Sourced}
-use Rattle.he_select.specs.Preference.{order_of, sourced_by}
+use Rattle.he_select.specs.Preference.{sourced_by}
 use Rattle.he_select.specs.Selection.{SelectionInput, selection_input, source_of}
 use Rattle.he_addr.specs.Printing.{printed}
 use Rattle.he_text.specs.Orders.{from_text, order_line, order_lines, usable_addresses}

@@ -1,6 +1,6 @@
 // What address selection looks at: the rows of the policy table, and the sources and routes of the host.
 
-ghost use Rattle.std.specs.Prelude.{◌≡◌, ◌≤◌, ℕ, List, [], ◌∷◌};
+ghost use Rattle.std.specs.Prelude.{◌≡◌, ◌≤◌, [], ◌∷◌};
 ghost use Rattle.he_text.specs.Forms.{number_from, row_in, source_address_in, interface_in, source_marks_in, host_source_in, route_marks_in, host_route_in};
 ghost use Rattle.he_text.specs.Left.{tokens_left};
 
@@ -76,18 +76,6 @@ fn one_mark(only: &[u8]) -> Result<(bool, bool), TextKind>
     }
 }
 
-// What two marks say, whatever stands behind them.
-#[tactic(auto, unfolding(crate::specs::Forms::source_marks_in))]
-fn two_marks(first: &[u8], second: &[u8]) -> Result<(bool, bool), TextKind>
-    ensures { (more : List (List ℕ)) → result ≡ source_marks_in (first.now ∷ second.now ∷ more) }
-{
-    if first == b"deprecated".as_slice() && second == b"temporary".as_slice() {
-        Ok((true, true))
-    } else {
-        Err(TextKind::Word)
-    }
-}
-
 // Whether a source is deprecated, and whether it is temporary.
 #[tactic(auto, unfolding(crate::specs::Forms::source_marks_in))]
 fn source_marks(tokens: Tokens) -> Result<(bool, bool), TextKind>
@@ -97,9 +85,13 @@ fn source_marks(tokens: Tokens) -> Result<(bool, bool), TextKind>
     let Some(first) = left.next() else {
         return Ok((false, false));
     };
-    match left.next() {
-        Some(second) => two_marks(first, second),
-        None => one_mark(first),
+    let Some(second) = left.next() else {
+        return one_mark(first);
+    };
+    if first == b"deprecated".as_slice() && second == b"temporary".as_slice() {
+        Ok((true, true))
+    } else {
+        Err(TextKind::Word)
     }
 }
 
