@@ -7,7 +7,7 @@ use Rattle.he_text.specs.declared.fault.TextKind.{TextKind}
 use Rattle.he_plan.specs.Building.{add_answer}
 use Rattle.he_plan.specs.Race.{Race}
 use Rattle.he_text.specs.declared.fault.TextKind.TheVariants as kinds
-use Rattle.he_text.specs.Forms.{address_in, addresses_in, listed_in, answer_in, setting_in, pause_in, row_in, host_source_in, host_route_in, connect_in, ◌>>=◌}
+use Rattle.he_text.specs.Forms.{address_in, addresses_in, listed_in, answer_in, setting_in, pause_in, row_in, connect_in, ◌>>=◌}
 use Rattle.he_text.specs.Reading.{prepend, built, with_tick, take_listed, take_answer}
 
 prepend_more : (ips : List Ip) (ip : Ip) (read : Result (List Ip) TextKind) → prepend ips (read >>= λ more. Ok (ip ∷ more)) ≡ prepend (ips ++ ip ∷ []) read
@@ -96,15 +96,3 @@ connect_of_three known (a ∷ []) other = refl
 connect_of_three known (a ∷ b ∷ []) other = refl
 connect_of_three known (a ∷ b ∷ c ∷ []) other = absurd (other refl)
 connect_of_three known (a ∷ b ∷ c ∷ d ∷ more) other = refl
-
-pub source_of_two : (tokens : List (List ℕ)) → length tokens < 2 → host_source_in tokens ≡ Err kinds.Word
-unfolding host_source_in
-source_of_two [] few = refl
-source_of_two (a ∷ []) few = refl
-source_of_two (a ∷ b ∷ more) few = absurd (omega (arith, few))
-
-pub route_of_two : (tokens : List (List ℕ)) → length tokens < 2 → host_route_in tokens ≡ Err kinds.Word
-unfolding host_route_in
-route_of_two [] few = refl
-route_of_two (a ∷ []) few = refl
-route_of_two (a ∷ b ∷ more) few = absurd (omega (arith, few))

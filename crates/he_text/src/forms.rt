@@ -57,7 +57,7 @@ fn most(name: Name) -> u64
 }
 
 // set NAME N
-#[tactic(auto, unfolding(crate::specs::Forms::setting_in), using(crate::proofs::FormLaws::setting_of_two))]
+#[tactic(auto, unfolding(crate::specs::Forms::setting_in))]
 pub(crate) fn setting(tokens: Tokens) -> Result<(Name, u64), TextKind>
     ensures { result ≡ setting_in (tokens_left tokens.entry) }
 {
@@ -72,7 +72,7 @@ pub(crate) fn setting(tokens: Tokens) -> Result<(Name, u64), TextKind>
 }
 
 // pause FROM TO
-#[tactic(auto, unfolding(crate::specs::Forms::pause_in), using(crate::proofs::FormLaws::pause_of_two))]
+#[tactic(auto, unfolding(crate::specs::Forms::pause_in))]
 pub(crate) fn pause(tokens: Tokens) -> Result<(u64, u64), TextKind>
     ensures { result ≡ pause_in (tokens_left tokens.entry) }
 {

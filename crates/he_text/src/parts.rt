@@ -62,25 +62,15 @@ impl<'a> Tokens<'a> {
         Some(token)
     }
 
-    // The first two tokens, and the tokens behind them.
-    pub(crate) fn first_two(self) -> Option<(&'a [u8], &'a [u8], Tokens<'a>)>
-        ensures { MatchOption result (length (tokens_left self.entry) < 2) (λ x. tokens_left self.entry ≡ x.0.now ∷ x.1.now ∷ tokens_left x.2) }
+    // The two tokens, if there are just so many.
+    pub(crate) fn two(self) -> Option<(&'a [u8], &'a [u8])>
+        ensures { MatchOption result (length (tokens_left self.entry) ≡ 2 → ⊥) (λ x. tokens_left self.entry ≡ x.0.now ∷ x.1.now ∷ []) }
     {
         let mut left = self;
         let Some(first) = left.next() else {
             return None;
         };
-        match left.next() {
-            Some(second) => Some((first, second, left)),
-            None => None,
-        }
-    }
-
-    // The two tokens, if there are just so many.
-    pub(crate) fn two(self) -> Option<(&'a [u8], &'a [u8])>
-        ensures { MatchOption result (length (tokens_left self.entry) ≡ 2 → ⊥) (λ x. tokens_left self.entry ≡ x.0.now ∷ x.1.now ∷ []) }
-    {
-        let Some((first, second, mut left)) = self.first_two() else {
+        let Some(second) = left.next() else {
             return None;
         };
         match left.next() {

@@ -145,18 +145,19 @@ fn read_told<A: Allocator + Copy>(
 // The race that the other lines end.
 fn read_rest<A: Allocator + Copy>(
     first: Order,
-    start: TimelineBuilder<A>,
+    mut race: TimelineBuilder<A>,
     lines: &mut Lines,
 ) -> Result<Timeline<A>, TextKind>
     requires { HasRoom lines.old }
     ensures count { IsAmong lines.old lines.new }
-    ensures read { MatchResult result (λ race. read_body lines.old.number first start (lines_left lines.old) ≡ Ok (race, lines_left lines.new)) (λ kind. FailsAt lines.new.number kind (read_body lines.old.number first start (lines_left lines.old))) }
-    ensures fits { IfOk result (λ race. IsRace race) }
+    ensures read { MatchResult result (λ told. read_body lines.old.number first race (lines_left lines.old) ≡ Ok (told, lines_left lines.new)) (λ kind. FailsAt lines.new.number kind (read_body lines.old.number first race (lines_left lines.old))) }
+    ensures fits { IfOk result (λ told. IsRace told) }
     ensures shorter { length lines.new.rest.now ≤ length lines.old.rest.now }
 {
-    let mut race = start;
-    read_told(first, &mut race, lines)?;
-    Ok(race.finish())
+    match read_told(first, &mut race, lines) {
+        Ok(()) => Ok(race.finish()),
+        Err(kind) => Err(kind),
+    }
 }
 
 // The first line.

@@ -22,7 +22,7 @@ fn short(low: u64, high: u64, token: &[u8]) -> Result<u16, TextKind>
 }
 
 // policy PREFIX PRECEDENCE LABEL
-#[tactic(auto, unfolding(crate::specs::Forms::row_in), using(crate::proofs::FormLaws::row_of_three))]
+#[tactic(auto, unfolding(crate::specs::Forms::row_in))]
 pub(crate) fn row(tokens: Tokens) -> Result<Row, TextKind>
     ensures { result ≡ row_in (tokens_left tokens.entry) }
 {
@@ -96,19 +96,23 @@ fn source_marks(tokens: Tokens) -> Result<(bool, bool), TextKind>
 }
 
 // source SOURCE INTERFACE [deprecated] [temporary]
-#[tactic(auto, unfolding(crate::specs::Forms::host_source_in), using(crate::proofs::FormLaws::source_of_two))]
+#[tactic(auto, unfolding(crate::specs::Forms::host_source_in))]
 pub(crate) fn source(tokens: Tokens) -> Result<Source, TextKind>
     ensures { result ≡ host_source_in (tokens_left tokens.entry) }
 {
-    let Some((address, number, marks)) = tokens.first_two() else {
+    let mut left = tokens;
+    let Some(address) = left.next() else {
         return Err(TextKind::Word);
     };
-    if marks.len() > SOURCE_MARKS {
+    let Some(number) = left.next() else {
+        return Err(TextKind::Word);
+    };
+    if left.len() > SOURCE_MARKS {
         return Err(TextKind::Word);
     }
     let (ip, plen) = source_address(address)?;
     let interface = interface(number)?;
-    let (deprecated, temporary) = source_marks(marks)?;
+    let (deprecated, temporary) = source_marks(left)?;
     Ok(Source {
         ip,
         plen,
@@ -132,21 +136,25 @@ fn route_marks(tokens: Tokens) -> Result<bool, TextKind>
 }
 
 // route PREFIX INTERFACE [tunnel]
-#[tactic(auto, unfolding(crate::specs::Forms::host_route_in), using(crate::proofs::FormLaws::route_of_two))]
+#[tactic(auto, unfolding(crate::specs::Forms::host_route_in))]
 pub(crate) fn route(tokens: Tokens) -> Result<Route, TextKind>
     ensures { result ≡ host_route_in (tokens_left tokens.entry) }
 {
-    let Some((prefix, number, marks)) = tokens.first_two() else {
+    let mut left = tokens;
+    let Some(prefix) = left.next() else {
         return Err(TextKind::Word);
     };
-    if marks.len() > ROUTE_MARKS {
+    let Some(number) = left.next() else {
+        return Err(TextKind::Word);
+    };
+    if left.len() > ROUTE_MARKS {
         return Err(TextKind::Word);
     }
     let Some(prefix) = read_prefix(prefix) else {
         return Err(TextKind::Prefix);
     };
     let interface = interface(number)?;
-    let tunnel = route_marks(marks)?;
+    let tunnel = route_marks(left)?;
     Ok(Route {
         prefix,
         interface,
