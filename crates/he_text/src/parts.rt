@@ -63,6 +63,7 @@ impl<'a> Tokens<'a> {
     }
 
     // The two tokens, if there are just so many.
+    #[inline(always)]
     pub(crate) fn two(self) -> Option<(&'a [u8], &'a [u8])>
         ensures { MatchOption result (length (tokens_left self.entry) ≡ 2 → ⊥) (λ x. tokens_left self.entry ≡ x.0.now ∷ x.1.now ∷ []) }
     {
@@ -80,6 +81,7 @@ impl<'a> Tokens<'a> {
     }
 
     // The three tokens, if there are just so many.
+    #[inline(always)]
     pub(crate) fn three(self) -> Option<(&'a [u8], &'a [u8], &'a [u8])>
         ensures { MatchOption result (length (tokens_left self.entry) ≡ 3 → ⊥) (λ x. tokens_left self.entry ≡ x.0.now ∷ x.1.now ∷ x.2.now ∷ []) }
     {
