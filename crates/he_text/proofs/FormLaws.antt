@@ -1,12 +1,13 @@
 -- The addresses of an answer, read one after the other.
-use Rattle.std.proofs.Common.{◌≡◌, ℕ, ◌+◌, ◌<◌, ◌≤◌, List, [], ◌∷◌, ◌++◌, length, Result, Ok, Err, refl, sym, ◌∙◌, ap, arith, append_assoc}
+use Rattle.std.proofs.Common.{◌≡◌, ℕ, Bool, ◌+◌, ◌<◌, ◌≤◌, List, [], ◌∷◌, ◌++◌, length, Result, Ok, Err, refl, sym, ◌∙◌, ap, arith, append_assoc}
 use Rattle.std.proofs.lemmas.List.{append-nil, length-append}
 use Rattle.he_addr.specs.declared.ip.Family.{Family}
 use Rattle.he_addr.specs.declared.ip.Ip.{Ip}
 use Rattle.he_text.specs.declared.fault.TextKind.{TextKind}
 use Rattle.he_plan.specs.Building.{add_answer}
 use Rattle.he_plan.specs.Race.{Race}
-use Rattle.he_text.specs.Forms.{address_in, addresses_in, listed_in, answer_in, ◌>>=◌}
+use Rattle.he_text.specs.declared.fault.TextKind.TheVariants as kinds
+use Rattle.he_text.specs.Forms.{address_in, addresses_in, listed_in, answer_in, setting_in, pause_in, row_in, connect_in, ◌>>=◌}
 use Rattle.he_text.specs.Reading.{prepend, built, with_tick, take_listed, take_answer}
 
 prepend_more : (ips : List Ip) (ip : Ip) (read : Result (List Ip) TextKind) → prepend ips (read >>= λ more. Ok (ip ∷ more)) ≡ prepend (ips ++ ip ∷ []) read
@@ -64,3 +65,34 @@ answer_taken family tokens listed tick race is =
 pub answer_wrong : (family : Family) (tokens : List (List ℕ)) (kind : TextKind) (race : Race) → answer_in family tokens ≡ Err kind → take_answer family tokens race ≡ Err kind
 unfolding take_answer
 answer_wrong family tokens kind race is = ap (λ r. r >>= λ reply. built (add_answer family reply.tick reply.addresses race)) is
+
+-- a line with another number of tokens than its form has
+pub setting_of_two : (tokens : List (List ℕ)) → (length tokens ≡ 2 → ⊥) → setting_in tokens ≡ Err kinds.Word
+unfolding setting_in
+setting_of_two [] other = refl
+setting_of_two (a ∷ []) other = refl
+setting_of_two (a ∷ b ∷ []) other = absurd (other refl)
+setting_of_two (a ∷ b ∷ c ∷ more) other = refl
+
+pub pause_of_two : (tokens : List (List ℕ)) → (length tokens ≡ 2 → ⊥) → pause_in tokens ≡ Err kinds.Word
+unfolding pause_in
+pause_of_two [] other = refl
+pause_of_two (a ∷ []) other = refl
+pause_of_two (a ∷ b ∷ []) other = absurd (other refl)
+pause_of_two (a ∷ b ∷ c ∷ more) other = refl
+
+pub row_of_three : (tokens : List (List ℕ)) → (length tokens ≡ 3 → ⊥) → row_in tokens ≡ Err kinds.Word
+unfolding row_in
+row_of_three [] other = refl
+row_of_three (a ∷ []) other = refl
+row_of_three (a ∷ b ∷ []) other = refl
+row_of_three (a ∷ b ∷ c ∷ []) other = absurd (other refl)
+row_of_three (a ∷ b ∷ c ∷ d ∷ more) other = refl
+
+pub connect_of_three : (known : Ip → Bool) (tokens : List (List ℕ)) → (length tokens ≡ 3 → ⊥) → connect_in known tokens ≡ Err kinds.Word
+unfolding connect_in
+connect_of_three known [] other = refl
+connect_of_three known (a ∷ []) other = refl
+connect_of_three known (a ∷ b ∷ []) other = refl
+connect_of_three known (a ∷ b ∷ c ∷ []) other = absurd (other refl)
+connect_of_three known (a ∷ b ∷ c ∷ d ∷ more) other = refl

@@ -1,5 +1,5 @@
 -- What an order is of, and how it is written, place by place.
-use Rattle.std.proofs.Common.{◌≡◌, ℕ, ◌+◌, ◌<◌, Bool, true, false, IsTrue, cond, filter, map, decimal, codes, refl, ◌&&◌, List, [], ◌∷◌, ◌++◌, Option, Some, None, option_map, length, take, get_or, sym, ◌∙◌, ap, arith, append_assoc}
+use Rattle.std.proofs.Common.{◌≡◌, ℕ, ◌+◌, ◌<◌, Bool, true, false, IsTrue, cond, filter, map, decimal, codes, refl, ◌&&◌, List, [], ◌∷◌, ◌++◌, Option, Some, None, option_map, length, take, get_or, sym, ◌∙◌, ap, subst, arith, append_assoc}
 use Rattle.std.specs.List.{list_all}
 use Rattle.std.proofs.lemmas.List.Folds.{list_all-append}
 use Rattle.std.proofs.lemmas.List.{append-nil, take_more, length-take-le}
@@ -11,7 +11,7 @@ use Rattle.he_select.specs.declared.policy.Row.{Row}
 use Rattle.he_select.specs.Hosts.{HostLists}
 use Rattle.he_select.specs.declared.host.Source.{Source}
 use Rattle.he_select.specs.declared.sorting.Sourced.{Sourced}
-use Rattle.he_select.specs.Preference.{order_of, sourced_by}
+use Rattle.he_select.specs.Preference.{sourced_by}
 use Rattle.he_select.specs.Selection.{SelectionInput, selection_input, source_of}
 use Rattle.he_addr.specs.Printing.{printed}
 use Rattle.he_text.specs.Orders.{from_text, order_line, order_lines, usable_addresses}
@@ -79,15 +79,18 @@ ordered_lines input place (ip ∷ ips) =
     ap (λ source. written_line (decimal place ∷ printed ip ∷ codes "from" ∷ source ∷ []) ++ sourced_lines (place + 1) (map (sourced_by input) ips)) (source_text_is (source_of input ip))
     ∙ ap (λ text. order_line input place ip ++ text) (ordered_lines input (place + 1) ips)
 
--- the lines of the race's own order, where they were written with its table and its host
-pub order_written : (race : Race) (rows : List Row) (host : HostLists) (given : List Ip) (sorted : List Sourced) (old new : List ℕ)
-    → rows ≡ race.policy → host ≡ race.host → given ≡ usable_addresses race → sorted ≡ map (sourced_by (selection_input rows host)) (order_of (selection_input rows host) given)
+-- what holds with a table, a host and addresses holds with the race's own, where they are these
+pub of_race : (Is : List Row → HostLists → List Ip → Type 0) (race : Race) (rows : List Row) (host : HostLists) (given : List Ip)
+    → rows ≡ race.policy → host ≡ race.host → given ≡ usable_addresses race → Is rows host given → Is race.policy race.host (usable_addresses race)
+of_race Is race rows host given of_rows of_host of_given is =
+    subst (Is race.policy race.host) of_given (subst (λ lists. Is race.policy lists given) of_host (subst (λ table. Is table host given) of_rows is))
+
+-- the lines of the race's own order
+pub order_written : (race : Race) (sorted : List Sourced) (old new : List ℕ)
+    → sorted ≡ map (sourced_by (selection_input race.policy race.host)) (order race (usable_addresses race))
     → new ≡ old ++ sourced_lines 0 sorted
     → new ≡ old ++ order_lines (selection_input race.policy race.host) 0 (order race (usable_addresses race))
-order_written race rows host given sorted old new of_rows of_host of_given of_sorted written =
+order_written race sorted old new of_sorted written =
     written
     ∙ ap (λ lines. old ++ sourced_lines 0 lines) of_sorted
-    ∙ ap (λ text. old ++ text) (ordered_lines (selection_input rows host) 0 (order_of (selection_input rows host) given))
-    ∙ ap (λ ips. old ++ order_lines (selection_input rows host) 0 (order_of (selection_input rows host) ips)) of_given
-    ∙ ap (λ table. old ++ order_lines (selection_input table host) 0 (order_of (selection_input table host) (usable_addresses race))) of_rows
-    ∙ ap (λ lists. old ++ order_lines (selection_input race.policy lists) 0 (order_of (selection_input race.policy lists) (usable_addresses race))) of_host
+    ∙ ap (λ text. old ++ text) (ordered_lines (selection_input race.policy race.host) 0 (order race (usable_addresses race)))

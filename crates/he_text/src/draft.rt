@@ -3,7 +3,7 @@
 ghost use Rattle.std.specs.Prelude.{◌≡◌, ◌⊎◌, ◌≤◌, IsOk, Ok, Err, length, MatchResult};
 ghost use Rattle.he_plan.specs.declared.limits.TheConstants.{MAX_ADDRESSES};
 ghost use Rattle.he_text.specs.Left.{tokens_left};
-ghost use Rattle.he_text.specs.Reading.{Fails, admit, once, put, settings_from, take_answer, take_listed, take_told, order_at_start, none_given};
+ghost use Rattle.he_text.specs.Reading.{Fails, admit, kind_of, once, put, settings_from, take_answer, take_listed, take_told, order_at_start, none_given};
 
 use crate::fault::TextKind;
 use crate::forms;
@@ -14,7 +14,7 @@ use he_addr::Family;
 use he_plan::limits::{
     DEFAULT_ATTEMPT, DEFAULT_COUNT, DEFAULT_LIMIT, DEFAULT_RESOLUTION, MAX_ADDRESSES,
 };
-use he_plan::{Settings, TimelineBuilder};
+use he_plan::{BuildFault, Settings, TimelineBuilder};
 use std::alloc::Allocator;
 
 // The order of the lines: the group of the last one, and how many lines of that group there are, if there may be only so
@@ -124,6 +124,16 @@ fn once(given: Option<u64>, value: u64) -> Result<Option<u64>, TextKind>
     }
 }
 
+// What a call of the builder did, its fault told as that of a text.
+fn built(made: Result<(), BuildFault>) -> Result<(), TextKind>
+    ensures { MatchResult made (λ _. result ≡ Ok tt) (λ fault. result ≡ Err (kind_of fault)) }
+{
+    match made {
+        Ok(()) => Ok(()),
+        Err(fault) => Err(TextKind::from(fault)),
+    }
+}
+
 // Adds an answer with at most so many addresses to the race.
 #[tactic(auto, unfolding(crate::specs::Reading::take_listed))]
 fn take_listed<const ROOM: usize, A: Allocator + Copy>(
@@ -137,8 +147,7 @@ fn take_listed<const ROOM: usize, A: Allocator + Copy>(
 {
     let mut ips = IpList::<ROOM>::none();
     forms::listed(family, given.tokens, &mut ips)?;
-    race.answer(family, given.tick, ips.as_slice())?;
-    Ok(())
+    built(race.answer(family, given.tick, ips.as_slice()))
 }
 
 #[tactic(auto, using(crate::proofs::FormLaws::answer_taken))]
@@ -171,13 +180,11 @@ pub(crate) fn take<A: Allocator + Copy>(
         Word::A => take_answer(Family::V4, tokens, race),
         Word::Connect => {
             let (ip, outcome) = forms::connect(tokens, race)?;
-            race.outcome_of_known(ip, outcome)?;
-            Ok(())
+            built(race.outcome_of_known(ip, outcome))
         }
         Word::Pause => {
             let (from, to) = forms::pause(tokens)?;
-            race.pause(from, to)?;
-            Ok(())
+            built(race.pause(from, to))
         }
         Word::End => forms::end(tokens),
         _ => Err(TextKind::Word),

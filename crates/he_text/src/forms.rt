@@ -24,7 +24,9 @@ fn number(low: u64, high: u64, token: &[u8]) -> Result<u64, TextKind>
     ensures value { result ≡ number_from low high token.now }
     ensures range { IfOk result (λ value. value ≤ high) }
 {
-    let value = read_number(token).ok_or(TextKind::Number)?;
+    let Some(value) = read_number(token) else {
+        return Err(TextKind::Number);
+    };
     if low <= value && value <= high {
         Ok(value)
     } else {
@@ -59,11 +61,12 @@ fn most(name: Name) -> u64
 pub(crate) fn setting(tokens: Tokens) -> Result<(Name, u64), TextKind>
     ensures { result ≡ setting_in (tokens_left tokens.entry) }
 {
-    let mut left = tokens;
-    let (Some(name), Some(value), None) = (left.next(), left.next(), left.next()) else {
+    let Some((name, value)) = tokens.two() else {
         return Err(TextKind::Word);
     };
-    let name = Name::read(name).ok_or(TextKind::Word)?;
+    let Some(name) = Name::read(name) else {
+        return Err(TextKind::Word);
+    };
     let value = number(least(name), most(name), value)?;
     Ok((name, value))
 }
@@ -73,8 +76,7 @@ pub(crate) fn setting(tokens: Tokens) -> Result<(Name, u64), TextKind>
 pub(crate) fn pause(tokens: Tokens) -> Result<(u64, u64), TextKind>
     ensures { result ≡ pause_in (tokens_left tokens.entry) }
 {
-    let mut left = tokens;
-    let (Some(from), Some(to), None) = (left.next(), left.next(), left.next()) else {
+    let Some((from, to)) = tokens.two() else {
         return Err(TextKind::Word);
     };
     let from = number(0, MAX_TICK, from)?;

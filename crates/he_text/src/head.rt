@@ -12,6 +12,7 @@ use crate::fault::TextKind;
 use crate::forms;
 use crate::parts::Tokens;
 use crate::words::{Name, Word};
+use he_addr::Memory;
 use he_plan::TimelineBuilder;
 use he_select::limits::ROWS;
 use he_select::{Host, Policy, PolicyFault, Route, Row, Source};
@@ -66,8 +67,10 @@ impl<A: Allocator + Copy> Head<A> {
         if !more {
             check_table(&self.rows, row)?;
         }
-        self.rows.push(row)?;
-        Ok(())
+        match self.rows.push(row) {
+            Ok(()) => Ok(()),
+            Err(_) => Err(TextKind::Memory),
+        }
     }
 
     #[tactic(auto, unfolding(crate::specs::Reading::add_source))]
@@ -77,8 +80,10 @@ impl<A: Allocator + Copy> Head<A> {
         if source.repeats(&self.sources) {
             return Err(TextKind::Repeated);
         }
-        self.sources.push(source)?;
-        Ok(())
+        match self.sources.push(source) {
+            Ok(()) => Ok(()),
+            Err(_) => Err(TextKind::Memory),
+        }
     }
 
     #[tactic(auto, unfolding(crate::specs::Reading::add_route))]
@@ -88,8 +93,10 @@ impl<A: Allocator + Copy> Head<A> {
         if route.repeats(&self.routes) {
             return Err(TextKind::Repeated);
         }
-        self.routes.push(route)?;
-        Ok(())
+        match self.routes.push(route) {
+            Ok(()) => Ok(()),
+            Err(_) => Err(TextKind::Memory),
+        }
     }
 
     // Adds what a line of the first four groups gives, behind its word. Whether more rows follow it is told for a row.
@@ -158,10 +165,15 @@ fn policy<A: Allocator + Copy>(alloc: A, rows: &[Row]) -> Result<Policy<A>, Text
     ensures { MatchResult result (λ policy. policy_from rows.now ≡ Ok policy) (λ kind. Fails kind (policy_from rows.now)) }
 {
     if rows.is_empty() {
-        return Policy::standard(alloc).map_err(|_| TextKind::Memory);
+        return match Policy::standard(alloc) {
+            Ok(policy) => Ok(policy),
+            Err(Memory) => Err(TextKind::Memory),
+        };
     }
-    let policy = Policy::from_rows(alloc, rows)?;
-    Ok(policy)
+    match Policy::from_rows(alloc, rows) {
+        Ok(policy) => Ok(policy),
+        Err(fault) => Err(TextKind::from(fault)),
+    }
 }
 
 #[tactic(auto, unfolding(crate::specs::Reading::host_from))]
@@ -172,6 +184,8 @@ fn host<A: Allocator + Copy>(
 ) -> Result<Host<A>, TextKind>
     ensures { MatchResult result (λ host. host_from sources.now routes.now ≡ Ok host) (λ kind. Fails kind (host_from sources.now routes.now)) }
 {
-    let host = Host::new(alloc, sources, routes)?;
-    Ok(host)
+    match Host::new(alloc, sources, routes) {
+        Ok(host) => Ok(host),
+        Err(fault) => Err(TextKind::from(fault)),
+    }
 }

@@ -1,9 +1,12 @@
 // Orders of addresses written to texts.
 
-ghost use Rattle.std.specs.Prelude.{◌≡◌, ◌++◌, filter, IsTrue, IfOk, OnOk, OnErr};
+ghost use Rattle.std.specs.Prelude.{◌≡◌, ◌++◌, filter, map, IsTrue, IfOk, OnOk, OnErr};
 ghost use Rattle.std.specs.List.{list_all};
 ghost use Rattle.he_addr.specs.Ip.{is_usable};
+ghost use Rattle.he_plan.specs.Attempts.{order};
 ghost use Rattle.he_plan.specs.Race.{reply_of, addresses_of};
+ghost use Rattle.he_select.specs.Preference.{sourced_by};
+ghost use Rattle.he_select.specs.Selection.{selection_input};
 ghost use Rattle.he_text.specs.Orders.{order_text, usable_addresses};
 ghost use Rattle.he_text.specs.Writing.{AppendsText, sourced_line, sourced_lines};
 
@@ -76,6 +79,17 @@ fn write_places<A: Allocator + Copy>(sorted: &[Sourced], out: &mut Vec<u8, A>) -
     Ok(())
 }
 
+// The usable addresses in sorted order, each with the source that the host uses for it.
+fn sorted_addresses<A: Allocator + Copy, B: Allocator>(
+    alloc: A,
+    timeline: &Timeline<B>,
+) -> Result<Vec<Sourced, A>, Memory>
+    ensures { IfOk result (λ sorted. sorted.items ≡ map (sourced_by (selection_input timeline.now.policy timeline.now.host)) (order timeline.now (usable_addresses timeline.now))) }
+{
+    let usable = usable_addresses(alloc, timeline)?;
+    order_with_sources(alloc, timeline.policy(), timeline.host(), &usable)
+}
+
 fn write_whole<A: Allocator + Copy, B: Allocator>(
     alloc: A,
     timeline: &Timeline<B>,
@@ -83,10 +97,7 @@ fn write_whole<A: Allocator + Copy, B: Allocator>(
 ) -> Result<(), Memory>
     ensures { AppendsText result out.old.items out.new.items (order_text timeline.now) }
 {
-    let policy = timeline.policy();
-    let host = timeline.host();
-    let usable = usable_addresses(alloc, timeline)?;
-    let sorted = order_with_sources(alloc, policy, host, &usable)?;
+    let sorted = sorted_addresses(alloc, timeline)?;
     write_places(&sorted, out)?;
     write_line(b"end", &[], out)
 }

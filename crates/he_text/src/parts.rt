@@ -62,6 +62,39 @@ impl<'a> Tokens<'a> {
         Some(token)
     }
 
+    // The two tokens, if there are just so many.
+    #[inline(always)]
+    pub(crate) fn two(self) -> Option<(&'a [u8], &'a [u8])>
+        ensures { MatchOption result (length (tokens_left self.entry) ≡ 2 → ⊥) (λ x. tokens_left self.entry ≡ x.0.now ∷ x.1.now ∷ []) }
+    {
+        let mut left = self;
+        let Some(first) = left.next() else {
+            return None;
+        };
+        let Some(second) = left.next() else {
+            return None;
+        };
+        match left.next() {
+            None => Some((first, second)),
+            Some(_) => None,
+        }
+    }
+
+    // The three tokens, if there are just so many.
+    #[inline(always)]
+    pub(crate) fn three(self) -> Option<(&'a [u8], &'a [u8], &'a [u8])>
+        ensures { MatchOption result (length (tokens_left self.entry) ≡ 3 → ⊥) (λ x. tokens_left self.entry ≡ x.0.now ∷ x.1.now ∷ x.2.now ∷ []) }
+    {
+        let mut left = self;
+        let Some(first) = left.next() else {
+            return None;
+        };
+        match left.two() {
+            Some((second, third)) => Some((first, second, third)),
+            None => None,
+        }
+    }
+
     // How many tokens are still to be read.
     pub(crate) fn len(&self) -> usize
         ensures { result ≡ length (tokens_left self.now) }

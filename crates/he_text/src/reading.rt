@@ -29,8 +29,12 @@ fn first_word(line: &[u8]) -> Result<(Word, Tokens<'_>), TextKind>
     ensures { MatchResult result (λ x. word_of (tokens_of line.now) ≡ Ok (x.0, tokens_left x.1)) (λ kind. word_of (tokens_of line.now) ≡ Err kind) }
 {
     let mut tokens = Tokens::new(line);
-    let token = tokens.next().ok_or(TextKind::Word)?;
-    let word = Word::read(token).ok_or(TextKind::Word)?;
+    let Some(token) = tokens.next() else {
+        return Err(TextKind::Word);
+    };
+    let Some(word) = Word::read(token) else {
+        return Err(TextKind::Word);
+    };
     Ok((word, tokens))
 }
 
@@ -115,28 +119,44 @@ fn read_head<A: Allocator + Copy>(alloc: A, lines: &mut Lines) -> Result<(Order,
     }
 }
 
-// The other lines, up to the end of the race.
+// The other lines, up to the end of the race, each told to the race.
+fn read_told<A: Allocator + Copy>(
+    first: Order,
+    race: &mut TimelineBuilder<A>,
+    lines: &mut Lines,
+) -> Result<(), TextKind>
+    requires { HasRoom lines.old }
+    ensures count { IsAmong lines.old lines.new }
+    ensures read { MatchResult result (λ _. read_body lines.old.number first race.old (lines_left lines.old) ≡ Ok (race.new, lines_left lines.new)) (λ kind. FailsAt lines.new.number kind (read_body lines.old.number first race.old (lines_left lines.old))) }
+    ensures shorter { length lines.new.rest.now ≤ length lines.old.rest.now }
+{
+    let mut order = first;
+    loop {
+        let (line, rest) = lines.next_line()?;
+        let (word, next) = take_told(line, order, race)?;
+        lines.pass(rest);
+        if word.is_end() {
+            return Ok(());
+        }
+        order = next;
+    }
+}
+
+// The race that the other lines end.
 fn read_rest<A: Allocator + Copy>(
     first: Order,
-    start: TimelineBuilder<A>,
+    mut race: TimelineBuilder<A>,
     lines: &mut Lines,
 ) -> Result<Timeline<A>, TextKind>
     requires { HasRoom lines.old }
     ensures count { IsAmong lines.old lines.new }
-    ensures read { MatchResult result (λ race. read_body lines.old.number first start (lines_left lines.old) ≡ Ok (race, lines_left lines.new)) (λ kind. FailsAt lines.new.number kind (read_body lines.old.number first start (lines_left lines.old))) }
-    ensures fits { IfOk result (λ race. IsRace race) }
+    ensures read { MatchResult result (λ told. read_body lines.old.number first race (lines_left lines.old) ≡ Ok (told, lines_left lines.new)) (λ kind. FailsAt lines.new.number kind (read_body lines.old.number first race (lines_left lines.old))) }
+    ensures fits { IfOk result (λ told. IsRace told) }
     ensures shorter { length lines.new.rest.now ≤ length lines.old.rest.now }
 {
-    let mut order = first;
-    let mut race = start;
-    loop {
-        let (line, rest) = lines.next_line()?;
-        let (word, next) = take_told(line, order, &mut race)?;
-        lines.pass(rest);
-        if word.is_end() {
-            return Ok(race.finish());
-        }
-        order = next;
+    match read_told(first, &mut race, lines) {
+        Ok(()) => Ok(race.finish()),
+        Err(kind) => Err(kind),
     }
 }
 

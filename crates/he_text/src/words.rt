@@ -13,7 +13,7 @@ use he_select::limits::{ROUTES, ROWS, SOURCES};
 pub(crate) const HEADER: &[u8] = b"race 1";
 
 // The words that begin a line behind the first one.
-#[derive(Clone, Copy, Debug, PartialEq, Eq)]
+#[derive(Clone, Copy)]
 pub(crate) enum Word {
     Set,
     Policy,
@@ -117,7 +117,7 @@ impl Word {
 }
 
 // The settings' names.
-#[derive(Clone, Copy, Debug, PartialEq, Eq)]
+#[derive(Clone, Copy)]
 pub(crate) enum Name {
     Resolution,
     Attempt,

@@ -68,7 +68,9 @@ impl<const ROOM: usize> IpList<ROOM> {
 fn address(family: Family, token: &[u8]) -> Result<Ip, TextKind>
     ensures { result ≡ address_in family token.now }
 {
-    let ip = read_ip(token).ok_or(TextKind::Address)?;
+    let Some(ip) = read_ip(token) else {
+        return Err(TextKind::Address);
+    };
     if ip.family() == family {
         Ok(ip)
     } else {
@@ -149,7 +151,9 @@ fn known<A: Allocator + Copy>(token: &[u8], race: &TimelineBuilder<A>) -> Result
     ensures value { result ≡ known_in (is_in_answer race.now) token.now }
     ensures known { IfOk result (λ ip. is_in_answer race.now ip ≡ true) }
 {
-    let ip = read_ip(token).ok_or(TextKind::Address)?;
+    let Some(ip) = read_ip(token) else {
+        return Err(TextKind::Address);
+    };
     if race.stands(ip) {
         Ok(ip)
     } else {
@@ -171,7 +175,7 @@ fn succeeds(mark: &[u8]) -> Result<bool, TextKind>
 }
 
 // connect ADDRESS ok N, connect ADDRESS fail N
-#[tactic(auto, unfolding(crate::specs::Forms::connect_in))]
+#[tactic(auto, unfolding(crate::specs::Forms::connect_in), using(crate::proofs::FormLaws::connect_of_three))]
 pub(crate) fn connect<A: Allocator + Copy>(
     tokens: Tokens,
     race: &TimelineBuilder<A>,
@@ -179,13 +183,7 @@ pub(crate) fn connect<A: Allocator + Copy>(
     ensures value { result ≡ connect_in (is_in_answer race.now) (tokens_left tokens.entry) }
     ensures known { IfOk result (λ told. is_in_answer race.now told.0 ≡ true) }
 {
-    let mut left = tokens;
-    let (Some(address), Some(mark), Some(ticks), None) = (
-        left.next(),
-        left.next(),
-        left.next(),
-        left.next(),
-    ) else {
+    let Some((address, mark, ticks)) = tokens.three() else {
         return Err(TextKind::Word);
     };
     let ip = known(address, race)?;

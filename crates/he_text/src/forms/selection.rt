@@ -1,6 +1,6 @@
 // What address selection looks at: the rows of the policy table, and the sources and routes of the host.
 
-ghost use Rattle.std.specs.Prelude.{◌≡◌, ◌≤◌};
+ghost use Rattle.std.specs.Prelude.{◌≡◌, ◌≤◌, [], ◌∷◌};
 ghost use Rattle.he_text.specs.Forms.{number_from, row_in, source_address_in, interface_in, source_marks_in, host_source_in, route_marks_in, host_route_in};
 ghost use Rattle.he_text.specs.Left.{tokens_left};
 
@@ -26,16 +26,12 @@ fn short(low: u64, high: u64, token: &[u8]) -> Result<u16, TextKind>
 pub(crate) fn row(tokens: Tokens) -> Result<Row, TextKind>
     ensures { result ≡ row_in (tokens_left tokens.entry) }
 {
-    let mut left = tokens;
-    let (Some(prefix), Some(precedence), Some(label), None) = (
-        left.next(),
-        left.next(),
-        left.next(),
-        left.next(),
-    ) else {
+    let Some((prefix, precedence, label)) = tokens.three() else {
         return Err(TextKind::Word);
     };
-    let prefix = read_prefix(prefix).ok_or(TextKind::Prefix)?;
+    let Some(prefix) = read_prefix(prefix) else {
+        return Err(TextKind::Prefix);
+    };
     let precedence = short(0, MAX_PRECEDENCE, precedence)?;
     let label = short(0, MAX_LABEL, label)?;
     Ok(Row {
@@ -50,7 +46,9 @@ pub(crate) fn row(tokens: Tokens) -> Result<Row, TextKind>
 fn source_address(token: &[u8]) -> Result<(Ip, u8), TextKind>
     ensures { result ≡ source_address_in token.now }
 {
-    let (ip, plen) = read_source(token).ok_or(TextKind::Prefix)?;
+    let Some((ip, plen)) = read_source(token) else {
+        return Err(TextKind::Prefix);
+    };
     if ip.is_usable() {
         Ok((ip, plen))
     } else {
@@ -64,21 +62,36 @@ fn interface(token: &[u8]) -> Result<u16, TextKind>
     short(MIN_INTERFACE, MAX_INTERFACE, token)
 }
 
+// What the one mark of a source says.
+#[tactic(auto, unfolding(crate::specs::Forms::source_marks_in))]
+fn one_mark(only: &[u8]) -> Result<(bool, bool), TextKind>
+    ensures { result ≡ source_marks_in (only.now ∷ []) }
+{
+    if only == b"deprecated".as_slice() {
+        Ok((true, false))
+    } else if only == b"temporary".as_slice() {
+        Ok((false, true))
+    } else {
+        Err(TextKind::Word)
+    }
+}
+
 // Whether a source is deprecated, and whether it is temporary.
 #[tactic(auto, unfolding(crate::specs::Forms::source_marks_in))]
 fn source_marks(tokens: Tokens) -> Result<(bool, bool), TextKind>
     ensures { result ≡ source_marks_in (tokens_left tokens.entry) }
 {
     let mut left = tokens;
-    match (left.next(), left.next()) {
-        (None, _) => Ok((false, false)),
-        (Some(only), None) if only == b"deprecated".as_slice() => Ok((true, false)),
-        (Some(only), None) if only == b"temporary".as_slice() => Ok((false, true)),
-        (Some(first), Some(second))
-            if first == b"deprecated".as_slice() && second == b"temporary".as_slice() => {
-            Ok((true, true))
-        }
-        _ => Err(TextKind::Word),
+    let Some(first) = left.next() else {
+        return Ok((false, false));
+    };
+    let Some(second) = left.next() else {
+        return one_mark(first);
+    };
+    if first == b"deprecated".as_slice() && second == b"temporary".as_slice() {
+        Ok((true, true))
+    } else {
+        Err(TextKind::Word)
     }
 }
 
@@ -88,7 +101,10 @@ pub(crate) fn source(tokens: Tokens) -> Result<Source, TextKind>
     ensures { result ≡ host_source_in (tokens_left tokens.entry) }
 {
     let mut left = tokens;
-    let (Some(address), Some(number)) = (left.next(), left.next()) else {
+    let Some(address) = left.next() else {
+        return Err(TextKind::Word);
+    };
+    let Some(number) = left.next() else {
         return Err(TextKind::Word);
     };
     if left.len() > SOURCE_MARKS {
@@ -125,13 +141,18 @@ pub(crate) fn route(tokens: Tokens) -> Result<Route, TextKind>
     ensures { result ≡ host_route_in (tokens_left tokens.entry) }
 {
     let mut left = tokens;
-    let (Some(prefix), Some(number)) = (left.next(), left.next()) else {
+    let Some(prefix) = left.next() else {
+        return Err(TextKind::Word);
+    };
+    let Some(number) = left.next() else {
         return Err(TextKind::Word);
     };
     if left.len() > ROUTE_MARKS {
         return Err(TextKind::Word);
     }
-    let prefix = read_prefix(prefix).ok_or(TextKind::Prefix)?;
+    let Some(prefix) = read_prefix(prefix) else {
+        return Err(TextKind::Prefix);
+    };
     let interface = interface(number)?;
     let tunnel = route_marks(left)?;
     Ok(Route {

@@ -15,10 +15,5 @@ returns g c =
     (order_lines (selection_input race.policy race.host) 0 (order race (usable_addresses race)))
     (written_line (codes "end" ∷ []))
     c.write_line.result
-    (order_written race c.policy-policy.result.now c.host-host.result.now c.deref.result.now c.deref-2.result.now
-    c.args.out.now.items c.write_places.new.out.items
-    c.policy-policy.ensures.value c.host-host.ensures.value
-    (c.deref.ensures.value ∙ c.in_ok-usable.ensures.addresses)
-    (c.deref-2.ensures.value ∙ c.in_ok-sorted.ensures)
-    c.in_ok-write_places.ensures)
+    (order_written race c.deref.result.now c.args.out.now.items c.write_places.new.out.items (c.deref.ensures.value ∙ c.in_ok-sorted.ensures) c.in_ok-write_places.ensures)
     c.write_line.ensures
