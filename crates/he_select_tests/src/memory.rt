@@ -8,6 +8,7 @@ use crate::hosts::{V4, V6, route, source};
 use he_addr::Ip;
 use he_select::{Host, Policy, Route, Source, Sourced, order, order_with_sources};
 use refusing::{MOST_RUNS, Refusing};
+use std::mem::drop;
 
 fn all_usable(addresses: &[Ip]) -> bool
     ensures { result ≡ list_all is_usable addresses.now }
@@ -19,17 +20,25 @@ fn all_usable(addresses: &[Ip]) -> bool
 // refused.
 fn is_policy_copied<'h>(heap: &'h Refusing, policy: &Policy<&'h Refusing>) -> Option<bool> {
     let copy = policy.copy(heap).ok()?;
-    Some(copy == *policy && copy.rows() == policy.rows())
+    let is_same = copy == *policy && copy.rows() == policy.rows();
+    drop(copy);
+    Some(is_same)
 }
 
 fn is_policy_made<'h>(heap: &'h Refusing, policy: &Policy<&'h Refusing>) -> Option<bool> {
     let again = Policy::from_rows(heap, policy.rows()).ok()?;
-    Some(again == *policy)
+    let is_same = again == *policy;
+    drop(again);
+    Some(is_same)
 }
 
 fn is_host_copied<'h>(heap: &'h Refusing, host: &Host<&'h Refusing>) -> Option<bool> {
     let copy = host.copy(heap).ok()?;
-    Some(copy == *host && copy.sources() == host.sources() && copy.routes() == host.routes())
+    let is_same = copy == *host
+        && copy.sources() == host.sources()
+        && copy.routes() == host.routes();
+    drop(copy);
+    Some(is_same)
 }
 
 // Whether the IPv6 address, which is preferred by the standard table, comes first.
@@ -71,22 +80,47 @@ fn is_sorted_with_sources<'h>(
 fn is_host_well<'h>(
     heap: &'h Refusing,
     policy: &Policy<&'h Refusing>,
+    host: &Host<&'h Refusing>,
+) -> Option<bool> {
+    Some(
+        is_host_copied(heap, host)?
+            && is_sorted(heap, policy, host)?
+            && is_sorted_with_sources(heap, policy, host)?,
+    )
+}
+
+fn is_made_host_well<'h>(
+    heap: &'h Refusing,
+    policy: &Policy<&'h Refusing>,
     sources: &[Source],
     routes: &[Route],
 ) -> Option<bool> {
     let host = Host::new(heap, sources, routes).ok()?;
-    let is_copied = is_host_copied(heap, &host)?;
-    let is_sorted = is_sorted(heap, policy, &host)? && is_sorted_with_sources(heap, policy, &host)?;
-    Some(is_copied && is_sorted && host.sources() == sources)
+    let is_well = is_host_well(heap, policy, &host);
+    let is_made = host.sources() == sources;
+    drop(host);
+    Some(is_well? && is_made)
+}
+
+fn is_policy_well<'h>(
+    heap: &'h Refusing,
+    policy: &Policy<&'h Refusing>,
+    sources: &[Source],
+    routes: &[Route],
+) -> Option<bool> {
+    Some(
+        is_policy_copied(heap, policy)?
+            && is_policy_made(heap, policy)?
+            && is_made_host_well(heap, policy, sources, routes)?,
+    )
 }
 
 // Whether what all calls answer is right; none where one answered a fault, as none but `Memory` may be.
 fn is_well(heap: &Refusing, sources: &[Source], routes: &[Route]) -> Option<bool> {
     let policy = Policy::standard(heap).ok()?;
-    let is_copied = is_policy_copied(heap, &policy)?;
-    let is_made = is_policy_made(heap, &policy)?;
-    let is_host_well = is_host_well(heap, &policy, sources, routes)?;
-    Some(is_copied && is_made && is_host_well)
+    let is_well = is_policy_well(heap, &policy, sources, routes);
+    drop(policy);
+    is_well
 }
 
 // How many growths were refused one after the other, up to the first run that is granted all; none if a run wasn't
