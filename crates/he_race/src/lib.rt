@@ -67,8 +67,11 @@
 mod alone;
 pub mod attempt;
 pub mod connector;
+mod course;
 pub mod faults;
 pub mod limits;
+mod live;
+pub mod race;
 pub mod run;
 pub mod scripted;
 pub mod ticker;
@@ -77,7 +80,9 @@ pub mod wheel;
 
 pub use attempt::{AttemptFuture, Finish};
 pub use connector::Connector;
-pub use faults::{ConnectFault, TickFault};
+pub use faults::{ConnectFault, RaceFault, TickFault};
+pub use live::Raced;
+pub use race::RaceFuture;
 pub use run::run_attempt;
 pub use scripted::{Scripted, ScriptedTrial};
 pub use ticker::Ticker;
