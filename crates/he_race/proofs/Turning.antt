@@ -13,6 +13,7 @@ use Rattle.he_plan.specs.Agreement.{AreAlike}
 use Rattle.he_plan.specs.Attempts.{MayStart}
 use Rattle.he_plan.specs.Building.{with_outcome, with_pause}
 use Rattle.he_plan.specs.Finish.{outcome_in, outcome_of}
+use Rattle.he_plan.specs.Planning.{IsPlanned}
 use Rattle.he_plan.specs.Race.{Race, Reply, has_outcome}
 use Rattle.he_plan.specs.Timeline.{IsRace}
 use Rattle.he_plan.proofs.Bools.{above, and_left, and_right, le_from, or_left_none, or_one, or_right_none}
@@ -75,6 +76,11 @@ polled-more first old new now answer p r =
       pauses = ap (λ (race : Race). race.pauses) recorded ∙ p.pauses;
       planned = λ h. rw recorded (planned-told old.recorded r.x.ip (ended_by (is_connection answer) (now - r.x.tick)) first.planner.attempts.items first.planner.queue.v6 first.planner.queue.v4 first.planner.queue.ips.items first.planner.queue.next (p.planned h));
     }
+
+-- the queue is still the one of the attempts
+pub planned-still : (old new : Course) → Polled old new → IsPlanned old.recorded old.planner.attempts.items old.planner.queue.v6 old.planner.queue.v4 old.planner.queue.ips.items old.planner.queue.next → IsPlanned new.recorded new.planner.attempts.items new.planner.queue.v6 new.planner.queue.v4 new.planner.queue.ips.items new.planner.queue.next
+planned-still old new p h =
+    subst (λ (x : Course). IsPlanned x.recorded x.planner.attempts.items x.planner.queue.v6 x.planner.queue.v4 x.planner.queue.ips.items x.planner.queue.next) (sym p.is) (p.planned h)
 
 -- past the limit the race ends at it
 pub ended-late : (race : Race) (now : ℕ) (xs : List Attempt) → Begins race now xs → now ≡ race.settings.limit + 1 → IsEnded race xs false

@@ -1,5 +1,5 @@
--- What holds of a race that is being run, between two turns and in one: of what is recorded of it, and of the attempts that
--- were made.
+-- What holds of a race that is being run, between two turns and in one: of what is recorded of it, and of the
+-- attempts that were made.
 use Rattle.std.specs.Prelude.{ℕ, ◌≡◌, ◌+◌, ◌<◌, ◌≤◌, ◌⊎◌, Bool, true, false, List, [], if◌then◌else◌, Option, Some, None, IfSome, IsTrue, nat_lt}
 use Rattle.std.specs.List.{All, Contains, list_all}
 use Rattle.he_plan.specs.declared.attempts.Attempt.{Attempt}
@@ -47,7 +47,8 @@ pub record HasSuccess (race : Race) (xs : List Attempt) : Type 0 where
   pub duration : ℕ
   pub success : outcome_of race x.ip ≡ Some (outcomes.Ok duration)
 
--- the attempts are those of the record so far: each is next in turn, and an address has an outcome only where it was tried
+-- the attempts are those of the record so far: each is next in turn, and an address has an outcome only where it was
+-- tried
 pub record AreMade (race : Race) (xs : List Attempt) : Type 0 where
   pub in_turn : AreNextInTurn race xs
   pub tried : IsTrue (list_all (λ p. is_tried xs p.0) race.outcomes)

@@ -47,14 +47,15 @@ abbrev pub Answers : {Conn : Type 0} → Course → ℕ → Option (Result Conn 
 Answers old now None new = new ≡ old
 Answers old now (Some answer) new = Records old now answer new
 
--- the record replays: its transcript is that of the rules, and there is a winner's connection exactly where the race was won
+-- the record replays: its transcript is that of the rules, and there is a winner's connection exactly where the race
+-- was won
 pub record Replays {Conn : Type 0} (race : Race) (raced : Raced Conn) : Type 0 where
   pub alike : AreAlike race raced.recorded
   pub transcript : IsTranscript raced.recorded raced.transcript
   pub winner : is_some raced.winner ≡ is_won raced.transcript.result
 
--- what a race that is being run may give, with what is recorded so far: an end that replays, or a fault; where nothing is left
--- of it, that it is over, and only then
+-- what a race that is being run may give, with what is recorded so far: an end that replays, or a fault; where
+-- nothing is left of it, that it is over, and only then
 abbrev pub GivesFrom : {Conn : Type 0} → Option Race → Result (Raced Conn) RaceFault → Type 0
 GivesFrom (Some race) (Ok raced) = Replays race raced
 GivesFrom (Some race) (Err faults.Over) = ⊥
@@ -65,8 +66,8 @@ GivesFrom None (Err fault) = fault ≡ faults.Over
 abbrev pub GivesOf : {C Conn Run : Type 0} → Option (Live C Conn Run) → Result (Raced Conn) RaceFault → Type 0
 GivesOf {C} {Conn} {Run} live result = GivesFrom {Conn = Conn} (option_map (λ (x : Live C Conn Run). x.course.recorded) live) result
 
--- the race ends at the tick: it is won, or at its limit, or exhausted: no attempt is unfinished, and each usable address of
--- both answers, which have come, was tried
+-- the race ends at the tick: it is won, or at its limit, or exhausted: no attempt is unfinished, and each usable
+-- address of both answers, which have come, was tried
 abbrev pub is_over : {X : Type 0} → Course → ℕ → List X → Bool → Bool
 is_over course now unfinished won =
     won || (nat_le course.recorded.settings.limit now
@@ -84,8 +85,8 @@ first_of (Some conn) answer = Some conn
 first_of None (Ok conn) = Some conn
 first_of None (Err fault) = None
 
--- a turn in which some of the unfinished attempts were polled: the connector, what is recorded, those that are still pending,
--- and the first connection
+-- a turn in which some of the unfinished attempts were polled: the connector, what is recorded, those that are still
+-- pending, and the first connection
 pub record Sweep (C Conn Run : Type 0) : Type 0 where
   pub connector : C
   pub course : Course
@@ -116,13 +117,15 @@ module _ {C Conn Run : Type 0} (connector : ConnectorOf C Conn Run) (trial : Tri
   asked_tick due [] = due
   asked_tick due (o ∷ unfinished) = asked_tick (earliest due (due_of connector trial o.future)) unfinished
 
-  -- after a poll of an attempt: one that is pending stays, as the poll left it; of one that answers, how it ended is recorded
+  -- after a poll of an attempt: one that is pending stays, as the poll left it; of one that answers, how it ended is
+  -- recorded
   abbrev pub after_poll : Sweep C Conn Run → Unfinished C Conn Run → ℕ → Poll (Finish Conn) → C → AttemptFuture C Conn Run → Sweep C Conn Run
   after_poll s o now Pending c future = record s { connector = c; pending = s.pending ++ record o { future = future } ∷ [] }
   after_poll s o now (Ready f) c future =
       record s { connector = c; course = told s.course o.attempt now f.result; first = first_of s.first f.result }
 
-  -- each of the attempts is polled once at the tick: with the answer, the connector and the state that the poll leaves
+  -- each of the attempts is polled once at the tick: with the answer, the connector and the state that the poll
+  -- leaves
   abbrev pub ArePolled : ℕ → Sweep C Conn Run → List (Unfinished C Conn Run) → Sweep C Conn Run → Type 0
   ArePolled now from [] to = to ≡ from
   ArePolled now from (o ∷ os) to =
@@ -232,7 +235,8 @@ module _ {C Conn Run : Type 0} (connector : ConnectorOf C Conn Run) (trial : Tri
       EndsLate (begun c live now) now c' raced ⊎ EndsPolled (begun c live now) live.unfinished.items now c' raced
   Turned c live now c' (steps.Waits new tick) = Goes (begun c live now) live.unfinished.items now c' new tick
 
-  -- a poll takes a turn where none was at the tick or later; else nothing changes, and the tick after the last turn is asked for
+  -- a poll takes a turn where none was at the tick or later; else nothing changes, and the tick after the last turn
+  -- is asked for
   abbrev pub PolledFrom : Option ℕ → C → Live C Conn Run → ℕ → C → Step C Conn Run → Type 0
   PolledFrom None c live now c' step = Turned c live now c' step
   PolledFrom (Some turn) c live now c' step =

@@ -1,5 +1,5 @@
-// A race that is being run, apart from its connections: what is recorded of it, the attempts that were made, and what is
-// due next.
+// A race that is being run, apart from its connections: what is recorded of it, the attempts that were made, and
+// what is due next.
 
 ghost use Rattle.std.specs.Prelude.{◌≡◌, ◌+◌, ◌-◌, ◌<◌, ◌≤◌, ◌&&◌, ◌||◌, not, Bool, [], Some, None, true, false, map, option_map, IfOk, IfSome, OnOk};
 ghost use Rattle.std.specs.List.{list_all};
@@ -126,6 +126,20 @@ impl Course {
             turn: Some(now),
             due,
         })
+    }
+
+    // The record of the race that ended.
+    pub(crate) fn into_record(self) -> Timeline
+        ensures { result ≡ self.recorded }
+    {
+        let Course {
+            alloc: _,
+            recorded,
+            planner: _,
+            turn: _,
+            due: _,
+        } = self;
+        recorded.finish()
     }
 
     // The transcript of the race that ended.

@@ -27,10 +27,10 @@ pub enum TickFault {
 /// Why a race gives no result.
 #[derive(Clone, Copy, Debug, PartialEq, Eq, Error)]
 pub enum RaceFault {
-    /// An allocation was refused.
+    /// An allocation was refused, or the ticker answered that one was.
     #[error("out of memory")]
     Memory,
-    /// The ticker's clock is lost.
+    /// The ticker answered that its clock is lost.
     #[error("the clock is lost")]
     Clock,
     /// The race has given its result before.

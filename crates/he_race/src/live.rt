@@ -12,6 +12,7 @@ ghost use Rattle.he_race.specs.Turns.{Answers, ArePolled, AsksInTime, BeginsAt, 
 use crate::attempt::{AttemptFuture, Finish};
 use crate::connector::Connector;
 use crate::course::Course;
+use crate::drops::discard;
 use crate::faults::ConnectFault;
 use futures::task::{Context, Poll};
 use he_addr::Memory;
@@ -97,11 +98,18 @@ impl<C: Connector> Live<C> {
         ensures kept { Keeps cx.old cx.new }
     {
         let limit = self.course.limit();
-        self.course.begin_turn(now)?;
-        if now > limit {
-            return self.end(None);
+        match self.course.begin_turn(now) {
+            Err(fault) => {
+                discard(self);
+                Err(fault)
+            }
+            Ok(()) => {
+                if now > limit {
+                    return self.end(None);
+                }
+                self.run_turn(now, connector, cx)
+            }
         }
-        self.run_turn(now, connector, cx)
     }
 
     // What a turn at or before the limit does once it has begun.
@@ -118,14 +126,23 @@ impl<C: Connector> Live<C> {
         ensures turned { IfOk result (TurnsFrom C.Connector C.Run.Trial (unpolled connector.old self.course) self.unfinished.items now connector.new) }
         ensures kept { Keeps cx.old cx.new }
     {
-        let winner = self.poll_all(now, connector, cx)?;
-        if self.is_over(now, winner.is_some()) {
-            return self.end(winner);
+        match self.poll_all(now, connector, cx) {
+            Err(fault) => {
+                discard(self);
+                Err(fault)
+            }
+            Ok(winner) => {
+                if self.is_over(now, winner.is_some()) {
+                    return self.end(winner);
+                }
+                discard(winner);
+                self.end_turn(now, connector, cx)
+            }
         }
-        self.end_turn(now, connector, cx)
     }
 
-    // Polls each unfinished attempt once, in order of place, records those that finish, and answers the first connection.
+    // Polls each unfinished attempt once, in order of place, records those that finish, and answers the first
+    // connection.
     fn poll_all(
         &mut self,
         now: u64,
@@ -179,13 +196,14 @@ impl<C: Connector> Live<C> {
                     result: answer,
                 } = finish;
                 self.course.finish(attempt, now, answer.is_ok())?;
-                let _ = self.unfinished.remove(i);
+                discard(self.unfinished.remove(i));
                 Ok(Some(answer))
             }
         }
     }
 
-    // Whether the race ends at the tick: it is won, at its limit, or exhausted, since nothing is left to wait for or to try.
+    // Whether the race ends at the tick: it is won, at its limit, or exhausted, since nothing is left to wait for or
+    // to try.
     fn is_over(&self, now: u64, is_won: bool) -> bool
         ensures { result ≡ is_over self.now.course now self.now.unfinished.items is_won }
     {
@@ -215,16 +233,20 @@ impl<C: Connector> Live<C> {
         requires { IsEnded self.course.recorded self.course.planner.attempts.items (is_some winner) }
         ensures { IfOk result (EndsWith self.course.recorded winner) }
     {
-        let Live {
-            course,
-            unfinished: _,
-        } = self;
-        let transcript = course.transcript()?;
-        Ok(Step::Ended(Raced {
-            transcript,
-            recorded: course.recorded.finish(),
-            winner,
-        }))
+        let Live { course, unfinished } = self;
+        discard(unfinished);
+        match course.transcript() {
+            Err(fault) => {
+                discard(course);
+                discard(winner);
+                Err(fault)
+            }
+            Ok(transcript) => Ok(Step::Ended(Raced {
+                transcript,
+                recorded: course.into_record(),
+                winner,
+            })),
+        }
     }
 }
 
@@ -275,7 +297,11 @@ fn with_made<C: Connector>(
     let attempt = begin(attempts[made], connector, cx);
     match unfinished.push(attempt) {
         Ok(()) => Ok(unfinished),
-        Err(_) => Err(Memory),
+        Err(refused) => {
+            discard(refused);
+            discard(unfinished);
+            Err(Memory)
+        }
     }
 }
 
@@ -287,6 +313,6 @@ fn begin<C: Connector>(attempt: Attempt, connector: &mut C, cx: &mut Context<'_>
     ensures kept { Keeps cx.old cx.new }
 {
     let mut future = AttemptFuture::new(attempt.place, attempt.ip, attempt.tick);
-    let _ = future.poll_attempt(connector, attempt.tick, cx);
+    discard(future.poll_attempt(connector, attempt.tick, cx));
     Unfinished { attempt, future }
 }

@@ -1,6 +1,6 @@
 // A race as a future.
 
-ghost use Rattle.std.specs.Prelude.{◌≡◌, None, Some, IfOk, IfSome, IsSomeAnd};
+ghost use Rattle.std.specs.Prelude.{◌≡◌, None, IfOk, IfSome, IsSomeAnd};
 ghost use Rattle.std.specs.Borrow.{Lends, sem};
 ghost use Rattle.futures.specs.Poll.{IfReady, OnPending};
 ghost use Rattle.futures.specs.Task.{Covers, Keeps};
@@ -10,6 +10,7 @@ ghost use Rattle.he_race.specs.Racing.{RacePolls, fault_of};
 ghost use Rattle.he_race.specs.Turns.{GivesOf, IsLive};
 
 use crate::connector::Connector;
+use crate::drops::{discard, put};
 use crate::faults::{RaceFault, TickFault};
 use crate::live::{Live, Raced, Step};
 use crate::ticker::Ticker;
@@ -19,7 +20,8 @@ use he_addr::Memory;
 use he_plan::Timeline;
 use std::alloc::{Allocator, Global};
 
-/// A race of attempts over a connector and a ticker (RFC 8305 sections 3 to 5).
+/// A race of attempts over a connector and a ticker (RFC 8305 sections 3 to 5). It is polled until it gives its
+/// result, and answers `RaceFault::Over` from then on.
 #[derive(Drop)]
 pub struct RaceFuture<C: Connector, T: Ticker> {
     connector: C,
@@ -28,8 +30,8 @@ pub struct RaceFuture<C: Connector, T: Ticker> {
 }
 
 impl<C: Connector, T: Ticker> RaceFuture<C, T> {
-    /// The race of this timeline's settings, policy, host and answers, before its first turn. It looks at nothing else of the
-    /// timeline: what attempts do, and when the client sleeps, is the connector's and the ticker's.
+    /// The race of this timeline's settings, policy, host and answers, before its first turn. It looks at nothing
+    /// else of the timeline: what attempts do, and when the client sleeps, is the connector's and the ticker's.
     pub fn new<A: Allocator>(
         alloc: Global,
         timeline: &Timeline<A>,
@@ -108,12 +110,3 @@ fn fault_of(fault: TickFault) -> RaceFault
         TickFault::Lost => RaceFault::Clock,
     }
 }
-
-// Puts the value into its place. What was there is dropped.
-fn put<T: Drop>(place: &mut Option<T>, value: T)
-    ensures { place.new ≡ Some value }
-{
-    *place = Some(value);
-}
-
-fn discard<T: Drop>(_value: T) {}

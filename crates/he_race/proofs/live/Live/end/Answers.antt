@@ -4,13 +4,13 @@ use Rattle.he_plan.specs.Race.{Race}
 use Rattle.he_plan.specs.Transcript.{IsTranscript}
 use Rattle.he_race.proofs.live.Live.end.Goals as goal
 
-pub returns : goal.returns
-returns g c =
-    let same : c.finish.result ≡ c.args.self.course.recorded = c.finish.ensures.value in (
+pub returns-in-Ok : goal.returns-in-Ok
+returns-in-Ok g c =
+    let same : c.into_record.result ≡ c.args.self.course.recorded = c.into_record.ensures in (
       record {
         alike = subst (AreAlike c.args.self.course.recorded) (sym same) refl;
-        transcript = subst (λ (race : Race). IsTranscript race c.in_ok-transcript.transcript) (sym same) c.in_ok-transcript.ensures.transcript;
-        winner = sym (c.in_ok-transcript.ensures.ending (is_some c.args.winner) c.requires);
+        transcript = subst (λ (race : Race). IsTranscript race c.in-Ok.transcript) (sym same) c.in-Ok.ensures.transcript;
+        winner = sym (c.in-Ok.ensures.ending (is_some c.args.winner) c.requires);
       },
       same,
       refl,
