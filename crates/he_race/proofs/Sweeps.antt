@@ -212,10 +212,10 @@ module _ {C Conn Run : Type 0} (connector : ConnectorOf C Conn Run) (trial : Tri
   turn-in_time c c' live now (Ok (steps.Waits new tick)) h = let by : asked_tick connector trial new.course.due new.unfinished.items ≤ MAX_POLL_TICK = asked-by new h.kept in omega (arith, by, h.asked)
 
   -- a poll that takes a turn
-  pub polled-turn : {E : Type 0} (c c' : C) (live : Live C Conn Run) (now : ℕ) (at : ℕ) (r : Result (Step C Conn Run) E) → at ≡ min now (live.course.recorded.settings.limit + 1) → floor live.course.turn ≤ at → IfOk r (Turned connector trial c live at c') → IfOk r (PolledAt connector trial c live now c')
-  polled-turn c c' live now at (Err e) same later h = tt
-  polled-turn c c' live now at (Ok step) same later h =
-      subst (λ (n : ℕ). PolledFrom connector trial live.course.turn c live n c' step) same (by_turn live.course.turn later)
+  pub polled-turn : {E : Type 0} (c c' : C) (live : Live C Conn Run) (now : ℕ) (at limit : ℕ) (r : Result (Step C Conn Run) E) → at ≡ min now (limit + 1) → limit ≡ live.course.recorded.settings.limit → floor live.course.turn ≤ at → IfOk r (Turned connector trial c live at c') → IfOk r (PolledAt connector trial c live now c')
+  polled-turn c c' live now at limit (Err e) same l later h = tt
+  polled-turn c c' live now at limit (Ok step) same l later h =
+      subst (λ (n : ℕ). PolledFrom connector trial live.course.turn c live n c' step) (same ∙ ap (λ (n : ℕ). min now (n + 1)) l) (by_turn live.course.turn later)
     where
       by_turn : (turn : Option ℕ) → floor turn ≤ at → PolledFrom connector trial turn c live at c' step
       by_turn None later = h
