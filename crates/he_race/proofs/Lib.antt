@@ -1,4 +1,11 @@
+pub mod Builds
+pub mod DueTicks
+pub mod Ending
+pub mod Races
+pub mod Recorded
 pub mod Runs
 pub mod Scripts
+pub mod Sweeps
+pub mod Turning
 pub mod Waits
 pub mod Wheels

@@ -11,7 +11,8 @@ use Rattle.he_race.specs.declared.connector.Connector.{Ghosts as ConnectorOf}
 use Rattle.he_race.specs.declared.trial.Trial.{Ghosts as TrialOf}
 
 module _ {C Conn Run : Type 0} (connector : ConnectorOf C Conn Run) (trial : TrialOf Run Conn) where
-  -- what the trial, or the fault of a connector that could not begin one, answers at `now`, and the attempt that is left
+  -- what the trial, or the fault of a connector that could not begin one, answers at `now`, and the attempt that is
+  -- left
   abbrev pub RunAnswers : Result Run ConnectFault → ℕ → ℕ → Poll (Finish Conn) → AttemptFuture C Conn Run → Type 0
   RunAnswers (Ok run) next now Pending new =
       (run' : Run) × trial.polls run now Pending run' × (new ≡ Connecting (Ok run') next false)

@@ -1,5 +1,9 @@
+pub mod Answered
 pub mod Attempt
+pub mod Racing
+pub mod Recording
 pub mod Running
 pub mod Scripted
+pub mod Turns
 pub mod Waiting
 pub mod Wheel

@@ -30,7 +30,8 @@ pub enum AttemptFuture<C: Connector> {
         ip: Ip,
         start: u64,
     },
-    /// Begun at the tick before `next`: the trial, or why the connector could not begin one. It isn't polled before `next`.
+    /// Begun at the tick before `next`: the trial, or why the connector could not begin one. It isn't polled before
+    /// `next`.
     Connecting {
         run: Result<C::Run, ConnectFault>,
         next: u64,
@@ -50,9 +51,9 @@ impl<C: Connector> AttemptFuture<C> {
         AttemptFuture::Sleeping { place, ip, start }
     }
 
-    /// Polls at the tick `now`, at most `MAX_POLL_TICK`. Before its start it is pending. At the first poll at or after it the
-    /// attempt begins and is pending; from the next tick on it polls its trial, and answers what the trial answers, or why
-    /// the connector could not begin one. After that it isn't called again.
+    /// Polls at the tick `now`, at most `MAX_POLL_TICK`. Before its start it is pending. At the first poll at or
+    /// after it the attempt begins and is pending; from the next tick on it polls its trial, and answers what the
+    /// trial answers, or why the connector could not begin one. After that it isn't called again.
     pub fn poll_attempt(
         &mut self,
         connector: &mut C,
@@ -108,7 +109,8 @@ impl<C: Connector> AttemptFuture<C> {
         }
     }
 
-    /// The next tick at which anything can change, where it is known: the start, the tick after it, or what the trial says.
+    /// The next tick at which anything can change, where it is known: the start, the tick after it, or what the
+    /// trial says.
     pub fn due(&self) -> Option<u64>
         ensures { result ≡ due_of C.Connector C.Run.Trial self.now }
     {

@@ -20,8 +20,8 @@ pub trait Connector: Drop {
     // What `begin` may answer for the attempt of a place, at an address and a tick, and the state that it leaves.
     ghost begins: { Self → ℕ → Ip → ℕ → Result Self.Run ConnectFault → Self → Type 0 };
 
-    /// Begins to connect to the address, for the attempt of this place, at the tick `now`, at most `MAX_POLL_TICK`. A fault
-    /// is the attempt's failure.
+    /// Begins to connect to the address, for the attempt of this place, at the tick `now`, at most `MAX_POLL_TICK`.
+    /// A fault is the attempt's failure.
     fn begin(&mut self, place: usize, ip: Ip, now: u64) -> Result<Self::Run, ConnectFault>
         requires in_time { now ≤ MAX_POLL_TICK }
         ensures step { begins self.old place ip now result self.new }

@@ -23,3 +23,17 @@ pub enum TickFault {
     #[error("the clock is lost")]
     Lost,
 }
+
+/// Why a race gives no result.
+#[derive(Clone, Copy, Debug, PartialEq, Eq, Error)]
+pub enum RaceFault {
+    /// An allocation was refused, or the ticker answered that one was.
+    #[error("out of memory")]
+    Memory,
+    /// The ticker answered that its clock is lost.
+    #[error("the clock is lost")]
+    Clock,
+    /// The race has given its result before.
+    #[error("the race is over")]
+    Over,
+}

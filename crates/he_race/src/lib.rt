@@ -1,14 +1,17 @@
-//! A race of connection attempts (RFC 8305 section 5) as futures, apart from sockets and clocks: what connects and what
-//! tells time are traits, so that the same machine runs over real sockets and over recorded races. A tick is a millisecond
-//! since the race's start.
+//! A race of connection attempts (RFC 8305 section 5) as futures, apart from sockets and clocks: what connects and
+//! what tells time are traits, so that the same machine runs over real sockets and over recorded races. A tick is a
+//! millisecond since the race's start.
 //!
 //! # The parts
 //!
 //! - [`Connector`] begins the connection of an attempt, [`Trial`] is that connection while it is being made, and
 //!   [`Ticker`] tells the tick and wakes at one.
-//! - [`AttemptFuture`] is one attempt: it sleeps until its start, then begins, and from the next tick on polls its trial.
-//! - [`Scripted`] and [`WheelTicker`] are the connector and the ticker of a recorded race, and [`run_attempt`] drives one
-//!   attempt over them to its fate.
+//! - [`AttemptFuture`] is one attempt: it sleeps until its start, then begins, and from the next tick on polls its
+//!   trial.
+//! - [`RaceFuture`] is a race of attempts over a connector and a ticker: a future that gives [`Raced`], the
+//!   transcript of the race, its record as a timeline, and the winner's connection.
+//! - [`Scripted`] and [`WheelTicker`] are the connector and the ticker of a recorded race, and [`run_attempt`]
+//!   drives one attempt over them to its fate.
 //!
 //! No call takes a handle: nothing here waits, starts a thread or reads a clock. Whoever polls does.
 //!
@@ -38,6 +41,26 @@
 //! attempt.poll_attempt(&mut connector, 21, &mut cx);   // polls the trial
 //! ```
 //!
+//! # A race
+//!
+//! A poll of a race takes a turn at the ticker's tick where there was none at that tick or later, and else asks for
+//! the tick after the last turn. In a turn the race records what it slept, polls each unfinished attempt once,
+//! records those that answered, ends where it is won, exhausted or at its limit, or else begins the attempt that is
+//! due; then it asks the ticker for the least tick at which anything can change.
+//!
+//! ```text
+//! let mut race = RaceFuture::new(alloc, &timeline, connector, ticker)?;
+//! match race.poll(&mut cx) {
+//!     Poll::Pending => ..,                        // the ticker was asked for a tick, and has registered in `cx` or yielded
+//!     Poll::Ready(Ok(raced)) => ..,               // the losers were dropped in this poll; `raced.winner` is the connection
+//!     Poll::Ready(Err(RaceFault::Clock)) => ..,   // the ticker answered Lost
+//!     Poll::Ready(Err(_)) => ..,                  // memory was refused, or the race had given its result before
+//! }
+//! ```
+//!
+//! What is dropped when: a trial that answers, in the poll that found its answer; all other trials and connections,
+//! in the poll that ends the race, before it returns; on a fault everything but connector and ticker.
+//!
 //! | Trait | Owes |
 //! |---|---|
 //! | `Trial` | a poll that is pending has registered in `cx`, or `due` names a tick before which every poll is pending, or `due` is None and every later poll is pending |
@@ -46,29 +69,44 @@
 //!
 //! What each of them does to its own state is a relation that the implementation states (`polls`, `begins`, `tells`,
 //! `wakes`); the contracts here are said through these relations. The ticks handed to them are at most
-//! [`limits::MAX_POLL_TICK`]. An implementation may not assume in which order, or how often, attempts are polled, only that
-//! a trial isn't polled again once it has answered. A trial that isn't needed any more is dropped, with its connection:
-//! `Drop` is where a socket closes.
+//! [`limits::MAX_POLL_TICK`]. An implementation may not assume in which order, or how often, attempts are polled,
+//! only that a trial isn't polled again once it has answered. A trial that isn't needed any more is dropped, with
+//! its connection: `Drop` is where a socket closes.
 //!
 //! # What is proved
 //!
-//! - `AttemptFuture` takes only the steps of `specs/Attempt.antt` between its three states; a finish has the tick of its
-//!   poll and the trial's own answer, or the fault of its connector. Where a poll is pending, the trial has registered, or
-//!   `due` is at most the next tick at which anything can change (`specs/Waiting.antt`).
-//! - A trial of `Scripted` that begins at `s` answers its address's outcome, of duration `d`, at polls from `s + d` on,
-//!   and is pending before; a silent one always is.
+//! - `AttemptFuture` takes only the steps of `specs/Attempt.antt` between its three states; a finish has the tick of
+//!   its poll and the trial's own answer, or the fault of its connector. Where a poll is pending, the trial has
+//!   registered, or `due` is at most the next tick at which anything can change (`specs/Waiting.antt`).
+//! - What a `RaceFuture` gives replays, for every connector and ticker: its transcript is the one that the rules of
+//!   a race make of its record; the record has the given settings, policy, host and answers; and there is a winner's
+//!   connection exactly where the race was won (`Replays` in `specs/Turns.antt`).
+//! - In a turn each unfinished attempt is polled once, with an answer and a new state that its trial's relation
+//!   allows; how one that answers ended is recorded, with the ticks since its start, and nothing else is; a pause is
+//!   recorded exactly where something was due before the turn, from there to it; the race ends exactly where the
+//!   rules end it (`ArePolled`, `Goes`, `EndsPolled` and `EndsLate`).
+//! - A poll that is pending has asked its ticker for the least of the due tick and the attempts' `due`, or, where it
+//!   took no turn, for the tick after the last one; `Clock` comes only where the ticker answered Lost; after its
+//!   answer, and only then, a race is over (`RacePolls` in `specs/Racing.antt`).
+//! - A trial of `Scripted` that begins at `s` answers its address's outcome, of duration `d`, at polls from `s + d`
+//!   on, and is pending before; a silent one always is.
 //! - `WheelTicker` starts at the first tick that no pause covers, goes on to the least tick asked for, moved by the
 //!   pauses, and a refused request leaves it as it was (`specs/Wheel.antt`).
 //! - `run_attempt` answers the fate that `he_plan` defines (`Finish`).
 //!
-//! Tested only: that calls succeed where memory is granted, and a connector of a user's own.
+//! Tested only: that calls succeed where memory is granted, that a race answers `Memory` for no other cause, and a
+//! connector and tickers of a user's own.
 #![tactic(auto)]
 
 mod alone;
 pub mod attempt;
 pub mod connector;
+mod course;
+mod drops;
 pub mod faults;
 pub mod limits;
+mod live;
+pub mod race;
 pub mod run;
 pub mod scripted;
 pub mod ticker;
@@ -77,7 +115,9 @@ pub mod wheel;
 
 pub use attempt::{AttemptFuture, Finish};
 pub use connector::Connector;
-pub use faults::{ConnectFault, TickFault};
+pub use faults::{ConnectFault, RaceFault, TickFault};
+pub use live::Raced;
+pub use race::RaceFuture;
 pub use run::run_attempt;
 pub use scripted::{Scripted, ScriptedTrial};
 pub use ticker::Ticker;

@@ -17,8 +17,8 @@ use he_addr::Memory;
 use he_plan::{Attempt, Fate, Plan, Timeline};
 use std::alloc::{Allocator, Global};
 
-/// What becomes of the plan's attempt of this place, by polling it at its start and then at each tick at which it is due,
-/// moved by the timeline's pauses, until it finishes or the limit has passed.
+/// What becomes of the plan's attempt of this place, by polling it at its start and then at each tick at which it is
+/// due, moved by the timeline's pauses, until it finishes or the limit has passed.
 pub fn run_attempt<A: Allocator, B: Allocator>(
     alloc: Global,
     timeline: &Timeline<A>,

@@ -10,8 +10,8 @@ use he_addr::Ip;
 use he_plan::{Outcome, Timeline};
 use std::alloc::{Allocator, Global};
 
-/// The connector that gives a timeline's outcomes: a trial that begins at a tick answers its address's outcome once the
-/// outcome's duration is over. Its connections are nothing, `()`. It looks at no pause: who polls it does.
+/// The connector that gives a timeline's outcomes: a trial that begins at a tick answers its address's outcome once
+/// the outcome's duration is over. Its connections are nothing, `()`. It looks at no pause: who polls it does.
 #[derive(Drop)]
 pub struct Scripted<'a, A: Allocator = Global> {
     timeline: &'a Timeline<A>,

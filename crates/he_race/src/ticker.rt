@@ -9,7 +9,8 @@ use crate::faults::TickFault;
 use crate::limits::MAX_POLL_TICK;
 use futures::task::Context;
 
-/// What tells the tick, in milliseconds since the race's start, and wakes the race's task at a tick that was asked for.
+/// What tells the tick, in milliseconds since the race's start, and wakes the race's task at a tick that was asked
+/// for.
 pub trait Ticker: Drop {
     // What `now` may tell, and the state that it leaves.
     ghost tells: { Self → ℕ → Self → Type 0 };
@@ -21,8 +22,8 @@ pub trait Ticker: Drop {
     fn now(&mut self) -> u64
         ensures { tells self.old result self.new };
 
-    /// Asks that the task be polled again at the tick, at most `MAX_POLL_TICK`, or soon after. Where it answers Ok it has
-    /// registered in `cx` or yielded.
+    /// Asks that the task be polled again at the tick, at most `MAX_POLL_TICK`, or soon after. Where it answers Ok
+    /// it has registered in `cx` or yielded.
     fn wake_at(&mut self, tick: u64, cx: &mut Context<'_>) -> Result<(), TickFault>
         requires in_time { tick ≤ MAX_POLL_TICK }
         ensures step { wakes self.old tick result self.new }

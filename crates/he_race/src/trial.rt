@@ -14,9 +14,9 @@ use futures::task::{Context, Poll};
 
 /// A connection that is being made, polled with the tick of the poll.
 ///
-/// A poll that is pending owes one of three: it has registered in `cx`, so that the task is polled again once something
-/// happened; or `due` names a tick before which every poll is pending; or `due` is None, and every later poll is pending. A
-/// trial is dropped where its attempt is, answered or not: its `Drop` closes what it opened.
+/// A poll that is pending owes one of three: it has registered in `cx`, so that the task is polled again once
+/// something happened; or `due` names a tick before which every poll is pending; or `due` is None, and every later
+/// poll is pending. A trial is dropped where its attempt is, answered or not: its `Drop` closes what it opened.
 pub trait Trial: Drop {
     /// The connection.
     type Conn: Drop;
@@ -29,8 +29,8 @@ pub trait Trial: Drop {
 
     ghost due_tick: { Self → Option ℕ };
 
-    /// Polls at the tick `now`, at most `MAX_POLL_TICK`. It answers the connection or why there is none; after an answer it
-    /// isn't called again.
+    /// Polls at the tick `now`, at most `MAX_POLL_TICK`. It answers the connection or why there is none; after an
+    /// answer it isn't called again.
     fn poll_trial(
         &mut self,
         now: u64,

@@ -14,8 +14,8 @@ use std::alloc::{Allocator, Global};
 use std::collections::BTreeSet;
 use std::marker::Model;
 
-/// A timer wheel's part in a recorded race: it stands at a tick, keeps the ticks that it was asked for, and `jump` goes on
-/// to the least of them. The timeline's pauses move it: it never stands at a tick that a pause covers.
+/// A timer wheel's part in a recorded race: it stands at a tick, keeps the ticks that it was asked for, and `jump`
+/// goes on to the least of them. The timeline's pauses move it: it never stands at a tick that a pause covers.
 #[derive(Drop)]
 pub struct WheelTicker<'a, A: Allocator = Global, B: Allocator = Global> {
     timeline: &'a Timeline<B>,
@@ -46,8 +46,8 @@ impl<'a, A: Allocator, B: Allocator> WheelTicker<'a, A, B> {
         })
     }
 
-    /// Goes on to the least tick asked for, or to the end of the pause that covers it, and drops the requests up to there;
-    /// where none is asked for, answers false. It takes no memory.
+    /// Goes on to the least tick asked for, or to the end of the pause that covers it, and drops the requests up to
+    /// there; where none is asked for, answers false. It takes no memory.
     pub fn jump(&mut self) -> Result<bool, Memory>
         ensures never_fails { IsOk result }
         ensures goes { IfOk result (λ went. Jumps self.old went self.new) }

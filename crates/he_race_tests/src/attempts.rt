@@ -1,7 +1,7 @@
 // One attempt at a time: what it comes to by the rules of a race.
 
-use crate::homes::{Given, race};
-use he_plan::{Fate, Outcome, plan};
+use crate::homes::{Given, discard, race};
+use he_plan::{Fate, Outcome, Plan, Timeline, plan};
 use he_race::run_attempt;
 use std::alloc::Global;
 use std::test::Fail;
@@ -17,6 +17,7 @@ struct Case {
 const fn plain(limit: u64, v6: Option<Outcome>, v4: Option<Outcome>) -> Given {
     Given {
         limit,
+        answers: (20, 20),
         v6,
         v4,
         pause: None,
@@ -30,6 +31,7 @@ fn cases() -> [Case; 9] {
     let silent = plain(30_000, None, None);
     let paused = Given {
         limit: 30_000,
+        answers: (90, 10),
         v6: Some(Outcome::Ok(20)),
         v4: None,
         pause: Some((30, 400)),
@@ -89,11 +91,23 @@ fn cases() -> [Case; 9] {
 
 fn is_right(alloc: Global, case: &Case) -> Result<bool, Fail> {
     let timeline = race(alloc, &case.given)?;
-    let plan = plan(alloc, &timeline)?;
+    let is_right = is_right_of(alloc, case, &timeline);
+    discard(timeline);
+    is_right
+}
+
+fn is_right_of(alloc: Global, case: &Case, timeline: &Timeline) -> Result<bool, Fail> {
+    let plan = plan(alloc, timeline)?;
+    let is_right = is_fate(alloc, case, timeline, &plan);
+    discard(plan);
+    is_right
+}
+
+fn is_fate(alloc: Global, case: &Case, timeline: &Timeline, plan: &Plan) -> Result<bool, Fail> {
     if case.place >= plan.attempts().len() {
         return Ok(false);
     }
-    Ok(run_attempt(alloc, &timeline, &plan, case.place)? == case.fate)
+    Ok(run_attempt(alloc, timeline, plan, case.place)? == case.fate)
 }
 
 fn right_cases(alloc: Global) -> Result<usize, Fail> {

@@ -12,6 +12,9 @@ pub const V6_A: Ip = Ip::V6(0x2001_0db8_0001_0000_0000_0000_0000_0001);
 /// 198.51.100.1
 pub const V4_A: Ip = Ip::V4(0xc633_6401);
 
+/// Drops the value. Generic, so that no caller's proof looks into what is dropped.
+pub fn discard<T: Drop>(_value: T) {}
+
 fn source(ip: Ip, plen: u8) -> Source {
     Source {
         ip,
@@ -43,25 +46,19 @@ fn host(alloc: Global) -> Result<Host, Fail> {
     Ok(Host::new(alloc, &sources, &routes)?)
 }
 
-/// A race whose answers come at 20 and 20, or at 90 and 10 where it has a pause, with these outcomes of its two addresses.
+/// A race whose answers come at these ticks, with these outcomes of its two addresses.
 #[derive(Clone, Copy)]
 pub struct Given {
     pub limit: u64,
+    pub answers: (u64, u64),
     pub v6: Option<Outcome>,
     pub v4: Option<Outcome>,
     pub pause: Option<(u64, u64)>,
 }
 
-pub fn race(alloc: Global, given: &Given) -> Result<Timeline, Fail> {
-    let settings = Settings::new(50, 250, 1, given.limit)?;
-    let policy = Policy::standard(alloc)?;
-    let mut builder = TimelineBuilder::new(alloc, settings, policy, host(alloc)?);
-    let (aaaa, a) = match given.pause {
-        Some(_) => (90, 10),
-        None => (20, 20),
-    };
-    builder.answer(Family::V6, aaaa, &[V6_A])?;
-    builder.answer(Family::V4, a, &[V4_A])?;
+fn fill(builder: &mut TimelineBuilder, given: &Given) -> Result<(), Fail> {
+    builder.answer(Family::V6, given.answers.0, &[V6_A])?;
+    builder.answer(Family::V4, given.answers.1, &[V4_A])?;
     if let Some(outcome) = given.v6 {
         builder.outcome(V6_A, outcome)?;
     }
@@ -71,5 +68,38 @@ pub fn race(alloc: Global, given: &Given) -> Result<Timeline, Fail> {
     if let Some((from, to)) = given.pause {
         builder.pause(from, to)?;
     }
-    Ok(builder.finish())
+    Ok(())
+}
+
+fn empty(alloc: Global, settings: Settings, host: Host) -> Result<TimelineBuilder, Fail> {
+    match Policy::standard(alloc) {
+        Ok(policy) => Ok(TimelineBuilder::new(alloc, settings, policy, host)),
+        Err(refused) => {
+            discard(host);
+            Err(refused.into())
+        }
+    }
+}
+
+pub fn race(alloc: Global, given: &Given) -> Result<Timeline, Fail> {
+    let settings = Settings::new(50, 250, 1, given.limit)?;
+    let mut builder = empty(alloc, settings, host(alloc)?)?;
+    match fill(&mut builder, given) {
+        Ok(()) => Ok(builder.finish()),
+        Err(fault) => {
+            discard(builder);
+            Err(fault)
+        }
+    }
+}
+
+/// The first race: its IPv6 address succeeds after 35, and the IPv4 address does what is given.
+pub fn first_race(v4: Option<Outcome>) -> Given {
+    Given {
+        limit: 30_000,
+        answers: (20, 25),
+        v6: Some(Outcome::Ok(35)),
+        v4,
+        pause: None,
+    }
 }

@@ -1,5 +1,5 @@
-//! Tests of `he_race` that no file of races can hold: what one attempt comes to, a ticker that jumps, and a connector of a
-//! user's own.
+//! Tests of `he_race` that no file of races can hold: what one attempt comes to, a ticker that jumps, a race over
+//! tickers that misbehave, and a connector of a user's own.
 #![tactic(auto)]
 
 #[cfg(test)]
@@ -8,5 +8,7 @@ mod attempts;
 mod homes;
 #[cfg(test)]
 mod own;
+#[cfg(test)]
+mod races;
 #[cfg(test)]
 mod wheel;

@@ -1,31 +1,38 @@
 // A ticker over a race that sleeps from 30 to 399.
 
-use crate::homes::{Given, race};
+use crate::homes::{Given, discard, race};
 use futures::task::{Doorbell, Solo};
 use he_plan::Timeline;
 use he_race::{Ticker, WheelTicker};
 use std::alloc::Global;
 use std::test::Fail;
 
-static ASKED: [u64; 4] = [60, 10, 5, 60];
+static ASKED: [u8; 4] = [60, 10, 5, 60];
 
 // Asks for 60, 10, 5 and 60 again at tick 0, and for 3 once it stands at 10.
 fn visited(solo: &Solo, alloc: Global, timeline: &Timeline) -> Result<[u64; 4], Fail> {
     let mut ticker = WheelTicker::new(alloc, timeline)?;
+    let visited = ticks(solo, &mut ticker);
+    discard(ticker);
+    visited
+}
+
+fn ask(solo: &Solo, ticker: &mut WheelTicker<'_>, tick: u8) -> Result<(), Fail> {
+    let mut cx = solo.begin();
+    let asked = ticker.wake_at(u64::from(tick), &mut cx);
+    cx.cancel();
+    Ok(asked?)
+}
+
+fn ticks(solo: &Solo, ticker: &mut WheelTicker<'_>) -> Result<[u64; 4], Fail> {
     for tick in &ASKED {
-        let mut cx = solo.begin();
-        let asked = ticker.wake_at(*tick, &mut cx);
-        cx.cancel();
-        asked?;
+        ask(solo, ticker, *tick)?;
     }
     ticker.jump()?;
     let first = ticker.now();
     ticker.jump()?;
     let second = ticker.now();
-    let mut cx = solo.begin();
-    let asked = ticker.wake_at(3, &mut cx);
-    cx.cancel();
-    asked?;
+    ask(solo, ticker, 3)?;
     ticker.jump()?;
     let third = ticker.now();
     ticker.jump()?;
@@ -41,13 +48,15 @@ fn ticker_goes_where_it_was_asked(rt: HostRuntime) -> Result<(), Fail> {
         alloc,
         &Given {
             limit: 30_000,
+            answers: (90, 10),
             v6: None,
             v4: None,
             pause: Some((30, 400)),
         },
     )?;
     let solo = Solo::new(&rt, Doorbell::spinning())?;
-    let visited = visited(&solo, alloc, &timeline)?;
-    assert_eq!(rt; visited, [5, 10, 11, 400]);
+    let visited = visited(&solo, alloc, &timeline);
+    discard(timeline);
+    assert_eq!(rt; visited?, [5, 10, 11, 400]);
     Ok(())
 }

@@ -1,0 +1,388 @@
+-- What is known of a race that is being run when a turn begins, when an attempt finishes in it, and when it ends.
+use Rattle.std.proofs.Common.{◌≡◌, ℕ, zero, suc, ◌+◌, ◌-◌, ◌≤◌, ◌<◌, ◌&&◌, ◌||◌, ◌++◌, Bool, true, false, not, List, [], ◌∷◌, if◌then◌else◌, length, find, get_or, Option, Some, None, Result, Ok, Err, IfSome, IfOk, OnOk, IsSomeAnd, nat_le, nat_lt, refl, sym, ◌∙◌, ap, subst, arith, inl, inr, length-append}
+use Rattle.std.specs.List.{All, Contains, list_all, slice_get}
+use Rattle.std.specs.Option.{option_map, option_map_or}
+use Rattle.std.proofs.lemmas.Bool.{cases_lt}
+use Rattle.std.proofs.lemmas.Bool.Decides.{Decides-eqb}
+use Rattle.std.proofs.lemmas.List.Elements.{All-contains, All-head, All-nil, All-push, All-tail, All-weaker}
+use Rattle.std.proofs.lemmas.List.Folds.{list_all-append, list_any-append}
+use Rattle.he_addr.specs.declared.ip.Ip.{Ip}
+use Rattle.he_addr.specs.declared.ip.Ip.TheVariants.{V4, V6}
+use Rattle.he_addr.specs.Ip.{same_ip}
+use Rattle.he_plan.specs.declared.attempts.Attempt.{Attempt}
+use Rattle.he_plan.specs.declared.outcome.Outcome.{Outcome}
+use Rattle.he_plan.specs.declared.outcome.Outcome.TheVariants as outcomes
+use Rattle.he_plan.specs.Agreement.{AgreeBelow}
+use Rattle.he_plan.specs.Attempts.{AreNextInTurn, IsFree, IsLeast, IsNext, IsSeen, MayStart, is_tried, is_untried, last_of, seen, seen_past}
+use Rattle.he_plan.specs.Building.{last_end, with_outcome, with_pause}
+use Rattle.he_plan.specs.Continuing.{Follow}
+use Rattle.he_plan.specs.Due.{IsAfterTurn, IsDue, IsDueTick, IsTaken}
+use Rattle.he_plan.specs.Finish.{outcome_in, outcome_of}
+use Rattle.he_plan.specs.Planning.{IsPlanned, PlansNext, was_received}
+use Rattle.he_plan.specs.Race.{Race, Reply, has_outcome}
+use Rattle.he_plan.specs.Timeline.{IsRace}
+use Rattle.he_plan.proofs.Agreeing.{in_turn-below, starts-below}
+use Rattle.he_plan.proofs.Bools.{and_both, and_left, and_right, before, clash, inside, lt_test, not_le, or_left, or_left_none, or_right, or_right_none}
+use Rattle.he_plan.proofs.Dueness.{due-no_sooner, starts-delayed, starts-free}
+use Rattle.he_plan.proofs.Growing.{outcome-below, outcome-others, outcome-own, pause-away, pause-below, pauses-over}
+use Rattle.he_plan.proofs.InTurn.{in_turn-follow, in_turn-more, in_turn-none}
+use Rattle.he_plan.proofs.Lawful.{seen_past-more}
+use Rattle.he_plan.proofs.Planned.{last_of-more}
+use Rattle.he_plan.proofs.Queued.{IsQueue-new}
+use Rattle.he_plan.proofs.Ranges.{same_ip-sym}
+use Rattle.he_plan.proofs.Starting.{IsSeen-seen}
+use Rattle.he_race.specs.Recording.{Begins, EndedBy, FailedBelow, HasSuccess, InTurn, Rests, ended_by, floor, unrecorded}
+use Rattle.he_race.proofs.DueTicks.{due_starts}
+
+own_ip : (ip : Ip) → same_ip ip ip ≡ true
+own_ip (V4 n) = (Decides-eqb n n).1 refl
+own_ip (V6 n) = (Decides-eqb n n).1 refl
+
+same_ip-is : (x y : Ip) → same_ip x y ≡ true → x ≡ y
+same_ip-is (V4 m) (V4 n) e = ap V4 ((Decides-eqb m n).0 e)
+same_ip-is (V6 m) (V6 n) e = ap V6 ((Decides-eqb m n).0 e)
+same_ip-is (V4 m) (V6 n) e = cc
+same_ip-is (V6 m) (V4 n) e = cc
+
+if_some : (P Q : Outcome → Type 0) (o : Option Outcome) → ((x : Outcome) → P x → Q x) → IfSome o P → IfSome o Q
+if_some P Q None f h = tt
+if_some P Q (Some x) f h = f x h
+
+-- ticks that all come before one
+pub all_before : (tick : ℕ) (xs : List Attempt) → All (λ (x : Attempt). x.tick < tick) xs → list_all (λ (x : Attempt). nat_lt x.tick tick) xs ≡ true
+all_before tick [] h = refl
+all_before tick (x ∷ xs) h = and_both _ _ (lt_test x.tick tick (All-head (λ (y : Attempt). y.tick < tick) x xs h)) (all_before tick xs (All-tail (λ (y : Attempt). y.tick < tick) x xs h))
+
+get_last : {X : Type 0} (xs : List X) (x : X) → slice_get (xs ++ x ∷ []) (length xs) ≡ Some x
+get_last [] x = refl
+get_last (y ∷ xs) x = get_last xs x
+
+last_end-more : (pauses : List (ℕ × ℕ)) (p : ℕ × ℕ) → last_end (pauses ++ p ∷ []) ≡ p.1
+last_end-more pauses p =
+    let e : length (pauses ++ p ∷ []) - 1 ≡ length pauses = omega (arith, length-append pauses (p ∷ [])) in
+    rw e (ap (λ (o : Option (ℕ × ℕ)). option_map_or (λ (q : ℕ × ℕ). q.1) o 0) (get_last pauses p))
+
+-- nothing is due before the first tick after the last turn
+pub due_later : (race : Race) → IsRace race → (turn : Option ℕ) (xs : List Attempt) (due : ℕ) → IsAfterTurn race turn xs → IsDue race turn xs due → floor turn ≤ due
+due_later race r None xs due after is = omega arith
+due_later race r (Some n) xs due after is = by_kind is
+  where
+    answer : (o : Option Reply) → IsSomeAnd o (λ x. (¬ IsTaken (Some n) x) × (x.tick ≡ due)) → n + 1 ≤ due
+    answer None h = absurd h
+    answer (Some x) h = elim (cases_lt n x.tick) [ inl later ↦ omega (arith, h.1) | inr by ↦ absurd (h.0 by) ]
+
+    by_kind : IsDue race (Some n) xs due → n + 1 ≤ due
+    by_kind (inl six) = answer race.aaaa six
+    by_kind (inr (inl four)) = answer race.a four
+    by_kind (inr (inr (inl delay))) = elim (cases_lt n due) [ inl later ↦ omega arith | inr by ↦ absurd (after.2 (due_starts race r (Some n) xs due n (inl delay) (omega arith) by after.0 after.1)) ]
+    by_kind (inr (inr (inr (inl start)))) = elim (cases_lt n due) [ inl later ↦ omega arith | inr by ↦ absurd (after.2 (due_starts race r (Some n) xs due n (inr start) (omega arith) by after.0 after.1)) ]
+    by_kind (inr (inr (inr (inr limit)))) = omega (arith, limit, after.1)
+
+failed_ended : (race : Race) (now : ℕ) (x : Attempt) (o : Outcome) → FailedBelow race now x o → EndedBy race now false x o
+failed_ended race now x (outcomes.Ok d) h = absurd h
+failed_ended race now x (outcomes.Fail d) h = (h.0, omega (arith, h.1))
+
+failed_later : (race race' : Race) (below now : ℕ) (x : Attempt) → below ≤ now → ((t : ℕ) → t < below → IsFree race t → IsFree race' t) → (o : Outcome) → FailedBelow race below x o → FailedBelow race' now x o
+failed_later race race' below now x up free (outcomes.Ok d) h = absurd h
+failed_later race race' below now x up free (outcomes.Fail d) h = (free (x.tick + d) h.1 h.0, omega (arith, h.1))
+
+not_won : false ≡ true → ⊥
+not_won e = cc
+
+pub begins-late : (race : Race) (turn : Option ℕ) (xs : List Attempt) (due now : ℕ) → Rests race turn xs → IsDueTick race turn xs due → floor turn ≤ now → due < now → IsRace (with_pause race due now) → Begins (with_pause race due now) now xs
+begins-late race turn xs due now rest is up late r' =
+    let race' : Race = with_pause race due now in
+    let r : IsRace race = rest.valid in
+    let agree : AgreeBelow due race race' = pause-below race due now in
+    let base : floor turn ≤ due = due_later race r turn xs due rest.after is.holds in
+    let past : All (λ (x : Attempt). x.tick < due) xs = All-weaker (λ (x : Attempt). x.tick < floor turn) (λ (x : Attempt). x.tick < due) (λ x h. omega (arith, h)) xs rest.past in
+    let failed : All (λ (x : Attempt). IfSome (outcome_of race' x.ip) (FailedBelow race' now x)) xs = All-weaker (λ (x : Attempt). IfSome (outcome_of race x.ip) (FailedBelow race (floor turn) x)) (λ (x : Attempt). IfSome (outcome_of race' x.ip) (FailedBelow race' now x))
+    (λ x h. if_some (FailedBelow race (floor turn) x) (FailedBelow race' now x) (outcome_of race x.ip) (failed_later race race' (floor turn) now x up (λ t lt free. (agree.free t (omega arith)).0 free)) h) xs rest.failed in
+    record {
+      in_turn = record {
+        valid = r';
+        made = record { in_turn = in_turn-below due race race' r r' agree xs (all_before due xs past) rest.made.in_turn; tried = rest.made.tried };
+        past = All-weaker (λ (x : Attempt). x.tick < due) (λ (x : Attempt). x.tick < now) (λ x h. omega (arith, h)) xs past;
+        over = let e : last_end race'.pauses ≡ now = last_end-more race.pauses (due, now) in omega (arith, e);
+        ended = All-weaker (λ (x : Attempt). IfSome (outcome_of race' x.ip) (FailedBelow race' now x)) (λ (x : Attempt). IfSome (outcome_of race' x.ip) (EndedBy race' now false x)) (λ x h. if_some (FailedBelow race' now x) (EndedBy race' now false x) (outcome_of race' x.ip) (failed_ended race' now x) h) xs failed;
+        stops = stops agree;
+        success = λ e. absurd (not_won e);
+      };
+      failed = failed;
+    }
+  where
+    stops : AgreeBelow due race (with_pause race due now) → (t : ℕ) → MayStart (with_pause race due now) xs t → now ≤ t
+    stops agree t m = elim (cases_lt t due) [
+      | inl sooner ↦
+          let k : seen race due ≤ t = due-no_sooner race rest.valid turn xs due rest.after is t ((starts-below due race (with_pause race due now) rest.valid r' agree xs t sooner).1 m) in
+          let s : IsSeen race due (seen race due) = IsSeen-seen race rest.valid due in
+          absurd (let l : due ≤ seen race due = s.holds.0 in let no : ⊥ = omega arith in no)
+      | inr after ↦ elim (cases_lt t now) [
+        | inl within ↦ absurd (clash _ (pause-away race due now t (omega arith) within) (starts-free (with_pause race due now) r' xs t m))
+        | inr by ↦ omega arith
+      ]
+    ]
+
+pub begins-now : (race : Race) (turn : Option ℕ) (xs : List Attempt) (due now : ℕ) → Rests race turn xs → IsDueTick race turn xs due → floor turn ≤ now → now ≤ due → Begins race now xs
+begins-now race turn xs due now rest is up early =
+    let r : IsRace race = rest.valid in
+    let failed : All (λ (x : Attempt). IfSome (outcome_of race x.ip) (FailedBelow race now x)) xs = All-weaker (λ (x : Attempt). IfSome (outcome_of race x.ip) (FailedBelow race (floor turn) x)) (λ (x : Attempt). IfSome (outcome_of race x.ip) (FailedBelow race now x))
+    (λ x h. if_some (FailedBelow race (floor turn) x) (FailedBelow race now x) (outcome_of race x.ip) (failed_later race race (floor turn) now x up (λ t lt free. free)) h) xs rest.failed in
+    record {
+      in_turn = record {
+        valid = r;
+        made = rest.made;
+        past = All-weaker (λ (x : Attempt). x.tick < floor turn) (λ (x : Attempt). x.tick < now) (λ x h. omega (arith, h)) xs rest.past;
+        over = omega (arith, rest.over);
+        ended = All-weaker (λ (x : Attempt). IfSome (outcome_of race x.ip) (FailedBelow race now x)) (λ (x : Attempt). IfSome (outcome_of race x.ip) (EndedBy race now false x)) (λ x h. if_some (FailedBelow race now x) (EndedBy race now false x) (outcome_of race x.ip) (failed_ended race now x) h) xs failed;
+        stops = λ t m. (let k : seen race due ≤ t = due-no_sooner race r turn xs due rest.after is t m in let s : IsSeen race due (seen race due) = IsSeen-seen race r due in let l : due ≤ seen race due = s.holds.0 in omega arith);
+        success = λ e. absurd (not_won e);
+      };
+      failed = failed;
+    }
+
+-- the planner's queue stays right where the client sleeps after the last start
+past_pause : (from to last x : ℕ) → last < from → nat_le (seen_past ((from, to) ∷ []) x) last ≡ nat_le x last
+past_pause from to last x above = elim (cases_lt x from) [
+  | inl earlier ↦ ap (λ (b : Bool). nat_le (if b then to else x) last) (before from to x earlier)
+  | inr after ↦ by_test after (nat_le from x && nat_lt x to) refl ∙ sym (not_le x last (omega arith))
+]
+  where
+    by_test : from ≤ x → (b : Bool) → (nat_le from x && nat_lt x to) ≡ b → nat_le (if b then to else x) last ≡ false
+    by_test after false e = not_le x last (omega arith)
+    by_test after true e = not_le to last (let within : (from ≤ x) × (x < to) = inside from to x e in omega (arith, within.1))
+
+received_still : (race : Race) (from to : ℕ) (last : Option Attempt) (reply : Option Reply) → IfSome last (λ x. x.tick < from) → was_received (with_pause race from to) last reply ≡ was_received race last reply
+received_still race from to None reply above = refl
+received_still race from to (Some x) None above = refl
+received_still race from to (Some x) (Some reply) above =
+    ap (λ (k : ℕ). nat_le k x.tick) (seen_past-more race.pauses (from, to) reply.tick) ∙ past_pause from to x.tick (seen race reply.tick) above
+
+last_before : (tick : ℕ) (xs : List Attempt) → All (λ (x : Attempt). x.tick < tick) xs → IfSome (last_of xs) (λ x. x.tick < tick)
+last_before tick xs h = by_get (length xs - 1) xs h
+  where
+    by_get : (k : ℕ) (ys : List Attempt) → All (λ (x : Attempt). x.tick < tick) ys → IfSome (slice_get ys k) (λ x. x.tick < tick)
+    by_get k [] h = tt
+    by_get zero (y ∷ ys) h = All-head (λ (x : Attempt). x.tick < tick) y ys h
+    by_get (suc k) (y ∷ ys) h = by_get k ys (All-tail (λ (x : Attempt). x.tick < tick) y ys h)
+
+pub planned-slept : (race : Race) (from to : ℕ) (xs : List Attempt) (v6 v4 : Bool) (ips : List Ip) (next : ℕ) → All (λ (x : Attempt). x.tick < from) xs → IsPlanned race xs v6 v4 ips next → IsPlanned (with_pause race from to) xs v6 v4 ips next
+planned-slept race from to xs v6 v4 ips next above p = record {
+  in_range = p.in_range;
+  queue = record {
+    rest = record { members = p.queue.rest.members; own_six = p.queue.rest.own_six; own_four = p.queue.rest.own_four; rest = p.queue.rest.rest };
+    six = p.queue.six ∙ sym (received_still race from to (last_of xs) race.aaaa (last_before from xs above));
+    four = p.queue.four ∙ sym (received_still race from to (last_of xs) race.a (last_before from xs above));
+  };
+}
+
+pub planned-told : (race : Race) (ip : Ip) (outcome : Outcome) (xs : List Attempt) (v6 v4 : Bool) (ips : List Ip) (next : ℕ) → IsPlanned race xs v6 v4 ips next → IsPlanned (with_outcome race ip outcome) xs v6 v4 ips next
+planned-told race ip outcome xs v6 v4 ips next p = record {
+  in_range = p.in_range;
+  queue = record {
+    rest = record { members = p.queue.rest.members; own_six = p.queue.rest.own_six; own_four = p.queue.rest.own_four; rest = p.queue.rest.rest };
+    six = p.queue.six;
+    four = p.queue.four;
+  };
+}
+
+-- an attempt that was made is tried
+pub tried_made : (xs : List Attempt) (x : Attempt) → Contains xs x → is_tried xs x.ip ≡ true
+tried_made xs x at = by_index xs at.0 at.1 at.2
+  where
+    by_index : (xs : List Attempt) (k : ℕ) → k < length xs → get_or xs k x ≡ x → is_tried xs x.ip ≡ true
+    by_index [] k lt e = absurd (let no : ⊥ = omega arith in no)
+    by_index (y ∷ xs) zero lt e = or_left _ _ (ap (λ (z : Attempt). same_ip z.ip x.ip) e ∙ own_ip x.ip)
+    by_index (y ∷ xs) (suc k) lt e = or_right _ _ (by_index xs k (omega arith) e)
+
+found_passes : (p : Ip → Bool) (xs : List Ip) (y : Ip) → find p xs ≡ Some y → p y ≡ true
+found_passes p [] y h = cc
+found_passes p (x ∷ xs) y h = at_head (p x) refl h (found_passes p xs y)
+  where
+    at_head : (b : Bool) → p x ≡ b → (if b then Some x else find p xs) ≡ Some y → (find p xs ≡ Some y → p y ≡ true) → p y ≡ true
+    at_head true e h rest = let same : x ≡ y = cc in ap p (sym same) ∙ e
+    at_head false e h rest = rest h
+
+not_true : (b : Bool) → not b ≡ true → b ≡ false
+not_true true h = cc
+not_true false h = refl
+
+pub next_untried : (race : Race) (done : List Attempt) (next : Attempt) → IsNext race done next → is_tried done next.ip ≡ false
+next_untried race done next is = not_true _ (found_passes (is_untried done) _ next.ip is.ip)
+
+-- an attempt was untried before it
+untried_later : (race : Race) (done xs : List Attempt) → Follow race done xs → (k : ℕ) (d : Attempt) → k < length xs → is_tried done (get_or xs k d).ip ≡ false
+untried_later race done [] f k d lt = absurd (let no : ⊥ = omega arith in no)
+untried_later race done (x ∷ xs) f zero d lt = next_untried race done x f.0
+untried_later race done (x ∷ xs) f (suc k) d lt =
+    or_left_none _ _ (sym (list_any-append (λ (z : Attempt). same_ip z.ip (get_or xs k d).ip) done (x ∷ [])) ∙ untried_later race (done ++ x ∷ []) xs f.1 k d (omega arith))
+
+apart_later : (race : Race) (done xs : List Attempt) (x : Attempt) → Follow race (done ++ x ∷ []) xs → (k : ℕ) (d : Attempt) → k < length xs → same_ip x.ip (get_or xs k d).ip ≡ false
+apart_later race done xs x f k d lt =
+    or_left_none _ _ (or_right_none (is_tried done (get_or xs k d).ip) _ (sym (list_any-append (λ (z : Attempt). same_ip z.ip (get_or xs k d).ip) done (x ∷ [])) ∙ untried_later race (done ++ x ∷ []) xs f k d lt))
+
+-- attempts at one address are one
+one_of : (race : Race) (done xs : List Attempt) → Follow race done xs → (j k : ℕ) (d : Attempt) → j < length xs → k < length xs → same_ip (get_or xs j d).ip (get_or xs k d).ip ≡ true → get_or xs j d ≡ get_or xs k d
+one_of race done [] f j k d lj lk same = absurd (let no : ⊥ = omega arith in no)
+one_of race done (x ∷ xs) f zero zero d lj lk same = refl
+one_of race done (x ∷ xs) f zero (suc k) d lj lk same = absurd (clash _ same (apart_later race done xs x f.1 k d (omega arith)))
+one_of race done (x ∷ xs) f (suc j) zero d lj lk same = absurd (clash _ (same_ip-sym x.ip (get_or xs j d).ip ∙ same) (apart_later race done xs x f.1 j d (omega arith)))
+one_of race done (x ∷ xs) f (suc j) (suc k) d lj lk same = one_of race (done ++ x ∷ []) xs f.1 j k d (omega arith) (omega arith) same
+
+pub one_attempt : (race : Race) (xs : List Attempt) → AreNextInTurn race xs → (x : Attempt) → Contains xs x → (k : ℕ) (d : Attempt) → k < length xs → same_ip x.ip (get_or xs k d).ip ≡ true → get_or xs k d ≡ x
+one_attempt race xs turn x at k d lt same =
+    let f : Follow race [] xs = in_turn-follow race xs turn in
+    let here : get_or xs at.0 d ≡ x = get_or-default xs at.0 d x at.1 ∙ at.2 in
+    sym (one_of race [] xs f at.0 k d at.1 lt (ap (λ (z : Attempt). same_ip z.ip (get_or xs k d).ip) here ∙ same)) ∙ here
+  where
+    get_or-default : (ys : List Attempt) (j : ℕ) (a b : Attempt) → j < length ys → get_or ys j a ≡ get_or ys j b
+    get_or-default [] j a b lt = absurd (let no : ⊥ = omega arith in no)
+    get_or-default (y ∷ ys) zero a b lt = refl
+    get_or-default (y ∷ ys) (suc j) a b lt = get_or-default ys j a b (omega arith)
+
+-- an address that was not tried has no outcome
+untold : (xs : List Attempt) (told : List (Ip × Outcome)) (ip : Ip) → list_all (λ (p : Ip × Outcome). is_tried xs p.0) told ≡ true → is_tried xs ip ≡ false → outcome_in told ip ≡ None
+untold xs [] ip all none = refl
+untold xs (p ∷ told) ip all none = by_head (same_ip p.0 ip) refl (untold xs told ip (and_right _ _ all) none)
+  where
+    by_head : (b : Bool) → same_ip p.0 ip ≡ b → outcome_in told ip ≡ None → option_map (λ (q : Ip × Outcome). q.1) (if b then Some p else find (λ (q : Ip × Outcome). same_ip q.0 ip) told) ≡ None
+    by_head true e rest = absurd (clash (is_tried xs ip) (ap (is_tried xs) (sym (same_ip-is p.0 ip e)) ∙ and_left _ _ all) none)
+    by_head false e rest = rest
+
+failed_now : (race : Race) (now : ℕ) (x : Attempt) (o : Outcome) → EndedBy race now false x o → FailedBelow race (now + 1) x o
+failed_now race now x (outcomes.Ok d) h = absurd (not_won h.0)
+failed_now race now x (outcomes.Fail d) h = (h.0, omega (arith, h.1))
+
+-- a turn ends
+all_failed : (race : Race) (now : ℕ) (xs : List Attempt) → All (λ (x : Attempt). IfSome (outcome_of race x.ip) (EndedBy race now false x)) xs → All (λ (x : Attempt). IfSome (outcome_of race x.ip) (FailedBelow race (now + 1) x)) xs
+all_failed race now xs h =
+    All-weaker (λ (x : Attempt). IfSome (outcome_of race x.ip) (EndedBy race now false x)) (λ (x : Attempt). IfSome (outcome_of race x.ip) (FailedBelow race (now + 1) x)) (λ x k. if_some (EndedBy race now false x) (FailedBelow race (now + 1) x) (outcome_of race x.ip) (failed_now race now x) k) xs h
+
+pub rests-still : (race : Race) (now : ℕ) (xs : List Attempt) → InTurn race now xs false → now < race.settings.limit → ¬ MayStart race xs now → Rests race (Some now) xs
+rests-still race now xs t early none = record {
+  valid = t.valid;
+  made = t.made;
+  past = All-weaker (λ (x : Attempt). x.tick < now) (λ (x : Attempt). x.tick < now + 1) (λ x h. omega (arith, h)) xs t.past;
+  over = omega (arith, t.over);
+  failed = all_failed race now xs t.ended;
+  after = (pauses-over race t.valid now t.over, early, none);
+}
+
+tried_more : (xs : List Attempt) (x : Attempt) (told : List (Ip × Outcome)) → list_all (λ (p : Ip × Outcome). is_tried xs p.0) told ≡ true → list_all (λ (p : Ip × Outcome). is_tried (xs ++ x ∷ []) p.0) told ≡ true
+tried_more xs x [] h = refl
+tried_more xs x (p ∷ told) h =
+    let head : is_tried xs p.0 ≡ true = and_left (is_tried xs p.0) (list_all (λ (q : Ip × Outcome). is_tried xs q.0) told) h in
+    let rest : list_all (λ (q : Ip × Outcome). is_tried xs q.0) told ≡ true = and_right (is_tried xs p.0) (list_all (λ (q : Ip × Outcome). is_tried xs q.0) told) h in
+    and_both _ _ (list_any-append (λ (z : Attempt). same_ip z.ip p.0) xs (x ∷ []) ∙ or_left (is_tried xs p.0) (is_tried (x ∷ []) p.0) head) (tried_more xs x told rest)
+
+pub planned_next : (race : Race) (now : ℕ) (xs all : List Attempt) → InTurn race now xs false → MayStart race xs now → (p : PlansNext race xs all now) → IsNext race xs p.next
+planned_next race now xs all t may p = record {
+  place = p.place;
+  tick = rw p.at (record { holds = may; least = λ m k. t.stops m k });
+  ip = rw p.at p.ip;
+}
+
+pub rests-started : (race : Race) (now : ℕ) (xs all : List Attempt) → InTurn race now xs false → MayStart race xs now → PlansNext race xs all now → Rests race (Some now) all
+rests-started race now xs all t may p =
+    let next : IsNext race xs p.next = planned_next race now xs all t may p in
+    rw p.more (record {
+      valid = t.valid;
+      made = record { in_turn = in_turn-more race xs p.next t.made.in_turn next; tried = tried_more xs p.next race.outcomes t.made.tried };
+      past = All-push (λ (x : Attempt). x.tick < now + 1) xs p.next (All-weaker (λ (x : Attempt). x.tick < now) (λ (x : Attempt). x.tick < now + 1) (λ x h. omega (arith, h)) xs t.past) (omega (arith, p.at));
+      over = omega (arith, t.over);
+      failed = All-push (λ (x : Attempt). IfSome (outcome_of race x.ip) (FailedBelow race (now + 1) x)) xs p.next (all_failed race now xs t.ended) (silent p.next (untold xs race.outcomes p.next.ip t.made.tried (next_untried race xs p.next next)));
+      after = (pauses-over race t.valid now t.over, may.0, none next);
+    })
+  where
+    silent : (x : Attempt) → outcome_of race x.ip ≡ None → IfSome (outcome_of race x.ip) (FailedBelow race (now + 1) x)
+    silent x e = rw e tt
+
+    none : IsNext race xs p.next → ¬ MayStart race (xs ++ p.next ∷ []) now
+    none next m =
+        let late : p.next.tick + race.settings.attempt ≤ now = starts-delayed race (xs ++ p.next ∷ []) p.next now (last_of-more xs p.next) m in
+        omega (arith, late, p.at, t.valid.settings.attempt_least)
+
+-- an attempt finishes in a turn
+pub finished : (race : Race) (now : ℕ) (xs : List Attempt) (won ok : Bool) (x : Attempt) → InTurn race now xs won → Contains xs x → outcome_of race x.ip ≡ None → has_outcome x.ip race.outcomes ≡ false → IsRace (with_outcome race x.ip (ended_by ok (now - x.tick))) → InTurn (with_outcome race x.ip (ended_by ok (now - x.tick))) now xs (won || ok)
+finished race now xs won ok x t at silent first r' = record {
+  valid = r';
+  made = record {
+    in_turn = in_turn-below now race race' t.valid r' (outcome-below race x.ip o now) xs (all_before now xs t.past) t.made.in_turn;
+    tried = list_all-append (λ (p : Ip × Outcome). is_tried xs p.0) race.outcomes ((x.ip, o) ∷ []) ∙ and_both _ _ t.made.tried (and_both _ _ (tried_made xs x at) refl);
+  };
+  past = t.past;
+  over = t.over;
+  ended = λ k d lt. by_ip k d lt (same_ip x.ip (get_or xs k d).ip) refl;
+  stops = λ s m. elim (cases_lt s now) [ inl sooner ↦ t.stops s ((starts-below now race race' t.valid r' (outcome-below race x.ip o now) xs s sooner).1 m) | inr later ↦ later ];
+  success = by_success ok refl won refl;
+}
+  where
+    o : Outcome
+    o = ended_by ok (now - x.tick)
+
+    race' : Race
+    race' = with_outcome race x.ip o
+
+    now_free : IsFree race' now
+    now_free = pauses-over race' r' now t.over
+
+    wider : (y : Attempt) (out : Outcome) → EndedBy race now won y out → EndedBy race' now (won || ok) y out
+    wider y (outcomes.Ok d) h = (or_left _ _ h.0, h.1)
+    wider y (outcomes.Fail d) h = h
+
+    own : (ok : Bool) → x.tick < now → EndedBy (with_outcome race x.ip (ended_by ok (now - x.tick))) now (won || ok) x (ended_by ok (now - x.tick))
+    own true lt = (or_right won true refl, omega arith)
+    own false lt = let e : x.tick + (now - x.tick) ≡ now = omega arith in (rw e (pauses-over race t.valid now t.over), omega arith)
+
+    by_ip : (k : ℕ) (d : Attempt) → k < length xs → (b : Bool) → same_ip x.ip (get_or xs k d).ip ≡ b → IfSome (outcome_of race' (get_or xs k d).ip) (EndedBy race' now (won || ok) (get_or xs k d))
+    by_ip k d lt true e =
+        let P : Attempt → Type 0 = λ z. IfSome (outcome_of race' z.ip) (EndedBy race' now (won || ok) z) in
+        let told : outcome_of race' x.ip ≡ Some o = outcome-own race x.ip o first in
+        subst P (sym (one_attempt race xs t.made.in_turn x at k d lt e)) (rw told (own ok (All-contains (λ (z : Attempt). z.tick < now) xs x t.past at)))
+    by_ip k d lt false e =
+        rw (outcome-others race x.ip (get_or xs k d).ip o e) (if_some (EndedBy race now won (get_or xs k d)) (EndedBy race' now (won || ok) (get_or xs k d)) (outcome_of race (get_or xs k d).ip) (wider (get_or xs k d)) (t.ended k d lt))
+
+    kept : HasSuccess race xs → HasSuccess race' xs
+    kept h = by_same (same_ip x.ip h.x.ip) refl
+      where
+        by_same : (b : Bool) → same_ip x.ip h.x.ip ≡ b → HasSuccess race' xs
+        by_same true e = let none : Some (outcomes.Ok h.duration) ≡ None = sym h.success ∙ (ap (outcome_of race) (sym (same_ip-is x.ip h.x.ip e)) ∙ silent) in cc
+        by_same false e = record { x = h.x; made = h.made; duration = h.duration; success = outcome-others race x.ip h.x.ip o e ∙ h.success }
+
+    by_success : (a : Bool) → ok ≡ a → (b : Bool) → won ≡ b → (won || ok) ≡ true → HasSuccess race' xs
+    by_success true e b f h = record { x = x; made = at; duration = now - x.tick; success = outcome-own race x.ip o first ∙ ap (λ (v : Bool). Some (ended_by v (now - x.tick))) e }
+    by_success false e true f h = kept (t.success f)
+    by_success false e false f h = absurd (let no : false ≡ true = sym (rw (f, e) refl) ∙ h in not_won no)
+
+pub may_now : (race : Race) (now tick : ℕ) (xs : List Attempt) → InTurn race now xs false → IsLeast (MayStart race xs) tick → tick ≤ now → MayStart race xs now
+may_now race now tick xs t is by = subst (MayStart race xs) (let k : now ≤ tick = t.stops tick is.holds in omega arith) is.holds
+
+pub none_yet : (race : Race) (now tick : ℕ) (xs : List Attempt) → IsLeast (MayStart race xs) tick → now < tick → ¬ MayStart race xs now
+none_yet race now tick xs is late m = let k : tick ≤ now = is.least now m in omega arith
+
+pub rests-ok : {P E : Type 0} (items : P → List Attempt) (race : Race) (now : ℕ) (xs : List Attempt) → InTurn race now xs false → MayStart race xs now → (r : Result P E) → IfOk r (λ p. PlansNext race xs (items p) now) → IfOk r (λ p. Rests race (Some now) (items p))
+rests-ok items race now xs t may (Ok p) h = rests-started race now xs (items p) t may h
+rests-ok items race now xs t may (Err e) h = tt
+
+pub begins-slept : {E : Type 0} (race new : Race) (turn : Option ℕ) (xs : List Attempt) (due now : ℕ) → Rests race turn xs → IsDueTick race turn xs due → floor turn ≤ now → due < now → (r : Result (Unit {0}) E) → OnOk r (new ≡ with_pause race due now) → OnOk r (IsRace new) → OnOk r (Begins new now xs)
+begins-slept race new turn xs due now rest is up late (Ok done) e v = rw e (begins-late race turn xs due now rest is up late (subst IsRace e v))
+begins-slept race new turn xs due now rest is up late (Err f) e v = tt
+
+pub planned-ok : {E : Type 0} (race new : Race) (turn : Option ℕ) (xs : List Attempt) (due now : ℕ) (v6 v4 : Bool) (ips : List Ip) (next : ℕ) → Rests race turn xs → IsDueTick race turn xs due → IsPlanned race xs v6 v4 ips next → (r : Result (Unit {0}) E) → OnOk r (new ≡ with_pause race due now) → OnOk r (IsPlanned new xs v6 v4 ips next)
+planned-ok race new turn xs due now v6 v4 ips next rest is p (Ok done) e =
+    let base : floor turn ≤ due = due_later race rest.valid turn xs due rest.after is.holds in
+    rw e (planned-slept race due now xs v6 v4 ips next (All-weaker (λ (x : Attempt). x.tick < floor turn) (λ (x : Attempt). x.tick < due) (λ x h. omega (arith, h)) xs rest.past) p)
+planned-ok race new turn xs due now v6 v4 ips next rest is p (Err f) e = tt
+
+pub planned-new : (race : Race) → IsPlanned race [] false false [] 0
+planned-new race = record { in_range = tt; queue = IsQueue-new race }
+
+pub rests-new : (race given : Race) → IsRace race → race ≡ unrecorded given → Rests race None []
+rests-new race given r e = record {
+  valid = r;
+  made = record { in_turn = in_turn-none race; tried = ap (λ (x : Race). list_all (λ (p : Ip × Outcome). is_tried [] p.0) x.outcomes) e };
+  past = All-nil (λ (x : Attempt). x.tick < 0);
+  over = let o : last_end race.pauses ≡ 0 = ap (λ (x : Race). last_end x.pauses) e in omega arith;
+  failed = All-nil (λ (x : Attempt). IfSome (outcome_of race x.ip) (FailedBelow race 0 x));
+  after = tt;
+}

@@ -1,0 +1,15 @@
+use Rattle.std.proofs.Common.{arith}
+use Rattle.he_race.proofs.Recorded.{begins-now, begins-slept, planned-ok}
+use Rattle.he_race.proofs.course.Course.begin_turn.Goals as goal
+
+pub returns-then-self-now-clause-begins : goal.returns-then-self-now-clause-begins
+returns-then-self-now-clause-begins c =
+    begins-slept c.args.self.now.recorded c.add_pause.new.recorded c.args.self.now.turn c.args.self.now.planner.attempts.items c.args.self.now.due c.args.now c.requires.course.rests c.requires.course.due c.requires.later (omega arith) c.add_pause.result c.add_pause.ensures.recorded c.add_pause.ensures.valid
+
+pub returns-then-self-now-clause-planned : goal.returns-then-self-now-clause-planned
+returns-then-self-now-clause-planned c =
+    planned-ok c.args.self.now.recorded c.add_pause.new.recorded c.args.self.now.turn c.args.self.now.planner.attempts.items c.args.self.now.due c.args.now _ _ _ _ c.requires.course.rests c.requires.course.due c.requires.course.planned c.add_pause.result c.add_pause.ensures.recorded
+
+pub returns-clause-begins : goal.returns-clause-begins
+returns-clause-begins c =
+    begins-now c.args.self.now.recorded c.args.self.now.turn c.args.self.now.planner.attempts.items c.args.self.now.due c.args.now c.requires.course.rests c.requires.course.due c.requires.later (omega arith)

@@ -1,0 +1,38 @@
+use Rattle.std.proofs.Common.{◌≡◌, ap, sym, subst, arith}
+use Rattle.std.specs.List.{All}
+use Rattle.he_plan.specs.Agreement.{AreAlike}
+use Rattle.he_race.specs.declared.course.Course.{Course}
+use Rattle.he_race.specs.Recording.{slept}
+use Rattle.he_race.specs.Turns.{IsUnfinished}
+use Rattle.he_race.proofs.Sweeps.{turned-late, turned-run}
+use Rattle.he_race.proofs.Turning.{ended-late, same_limit, slept-alike}
+use Rattle.he_race.proofs.live.Live.take_turn.Goals as goal
+
+pub end-requires : goal.end-requires
+end-requires g c =
+    let recorded : c.begin_turn.new.self.recorded ≡ slept c.args.self.course.recorded c.args.self.course.due c.args.now = ap (λ (x : Course). x.recorded) c.in-Ok.ensures.recorded in
+    let alike : AreAlike c.args.self.course.recorded c.begin_turn.new.self.recorded = subst (AreAlike c.args.self.course.recorded) (sym recorded) (slept-alike c.args.self.course.recorded c.args.self.course.due c.args.now) in
+    ended-late c.begin_turn.new.self.recorded c.args.now c.begin_turn.new.self.planner.attempts.items c.in-Ok.ensures.begins (omega (arith, same_limit c.args.self.course.recorded c.begin_turn.new.self.recorded alike))
+
+pub returns-then-now-limit-clause-turned : goal.returns-then-now-limit-clause-turned
+returns-then-now-limit-clause-turned g c =
+    let recorded : c.begin_turn.new.self.recorded ≡ slept c.args.self.course.recorded c.args.self.course.due c.args.now = ap (λ (x : Course). x.recorded) c.in-Ok.ensures.recorded in
+    let alike : AreAlike c.args.self.course.recorded c.begin_turn.new.self.recorded = subst (AreAlike c.args.self.course.recorded) (sym recorded) (slept-alike c.args.self.course.recorded c.args.self.course.due c.args.now) in
+    turned-late g.C.Connector g.C.Run.Trial c.args.connector.now c.args.self c.args.now c.begin_turn.new.self c.end.result c.in-Ok.ensures.recorded (omega (arith, same_limit c.args.self.course.recorded c.begin_turn.new.self.recorded alike)) c.end.ensures
+
+pub run_turn-requires-clause-turn : goal.run_turn-requires-clause-turn
+run_turn-requires-clause-turn g c = c.in-Ok.ensures.begins.in_turn
+
+pub run_turn-requires-clause-unfinished : goal.run_turn-requires-clause-unfinished
+run_turn-requires-clause-unfinished g c =
+    subst (λ (x : Course). All (IsUnfinished g.C.Connector g.C.Run.Trial x.planner.attempts.items) c.args.self.unfinished.items) (sym c.in-Ok.ensures.recorded) c.requires.live.unfinished
+
+pub run_turn-requires-clause-early : goal.run_turn-requires-clause-early
+run_turn-requires-clause-early g c =
+    let recorded : c.begin_turn.new.self.recorded ≡ slept c.args.self.course.recorded c.args.self.course.due c.args.now = ap (λ (x : Course). x.recorded) c.in-Ok.ensures.recorded in
+    let alike : AreAlike c.args.self.course.recorded c.begin_turn.new.self.recorded = subst (AreAlike c.args.self.course.recorded) (sym recorded) (slept-alike c.args.self.course.recorded c.args.self.course.due c.args.now) in
+    omega (arith, same_limit c.args.self.course.recorded c.begin_turn.new.self.recorded alike)
+
+pub returns-else-now-limit-clause-turned : goal.returns-else-now-limit-clause-turned
+returns-else-now-limit-clause-turned g c =
+    turned-run g.C.Connector g.C.Run.Trial c.args.connector.now c.run_turn.new.connector c.args.self c.args.now c.begin_turn.new.self c.run_turn.result c.in-Ok.ensures.recorded c.run_turn.ensures.turned

@@ -1,0 +1,113 @@
+-- What holds of a race that is being run, between two turns and in one: of what is recorded of it, and of the
+-- attempts that were made.
+use Rattle.std.specs.Prelude.{ℕ, ◌≡◌, ◌+◌, ◌<◌, ◌≤◌, ◌⊎◌, Bool, true, false, List, [], if◌then◌else◌, Option, Some, None, IfSome, IsTrue, nat_lt}
+use Rattle.std.specs.List.{All, Contains, list_all}
+use Rattle.he_plan.specs.declared.attempts.Attempt.{Attempt}
+use Rattle.he_plan.specs.declared.outcome.Outcome.{Outcome}
+use Rattle.he_plan.specs.declared.outcome.Outcome.TheVariants as outcomes
+use Rattle.he_plan.specs.declared.transcript.Outcome3.{Outcome3}
+use Rattle.he_plan.specs.declared.transcript.Outcome3.TheVariants as results
+use Rattle.he_plan.specs.Attempts.{AreNextInTurn, IsFree, MayStart, is_tried}
+use Rattle.he_plan.specs.Building.{last_end, with_pause}
+use Rattle.he_plan.specs.Due.{IsAfterTurn, IsDueTick}
+use Rattle.he_plan.specs.Finish.{outcome_of}
+use Rattle.he_plan.specs.Planning.{IsPlanned, PlansNext}
+use Rattle.he_plan.specs.Race.{Race}
+use Rattle.he_plan.specs.Timeline.{IsRace}
+use Rattle.he_race.specs.declared.course.Course.{Course}
+
+-- the first tick after the last turn
+abbrev pub floor : Option ℕ → ℕ
+floor None = 0
+floor (Some turn) = turn + 1
+
+-- the race's settings, policy, host and answers, before anything is recorded
+abbrev pub unrecorded : Race → Race
+unrecorded race = record race { outcomes = []; pauses = [] }
+
+-- how an attempt that started at `start` and finished at `finish` is recorded
+abbrev pub ended_by : Bool → ℕ → Outcome
+ended_by true duration = outcomes.Ok duration
+ended_by false duration = outcomes.Fail duration
+
+-- the outcome is a failure, at a free tick below this one
+abbrev pub FailedBelow : Race → ℕ → Attempt → Outcome → Type 0
+FailedBelow race below x (outcomes.Ok duration) = ⊥
+FailedBelow race below x (outcomes.Fail duration) = IsFree race (x.tick + duration) × (x.tick + duration < below)
+
+-- the outcome is a failure by this tick, or, in a race that is won, a success at it
+abbrev pub EndedBy : Race → ℕ → Bool → Attempt → Outcome → Type 0
+EndedBy race now won x (outcomes.Ok duration) = (won ≡ true) × (x.tick + duration ≡ now)
+EndedBy race now won x (outcomes.Fail duration) = IsFree race (x.tick + duration) × (x.tick + duration ≤ now)
+
+-- an attempt has succeeded
+pub record HasSuccess (race : Race) (xs : List Attempt) : Type 0 where
+  pub x : Attempt
+  pub made : Contains xs x
+  pub duration : ℕ
+  pub success : outcome_of race x.ip ≡ Some (outcomes.Ok duration)
+
+-- the attempts are those of the record so far: each is next in turn, and an address has an outcome only where it was
+-- tried
+pub record AreMade (race : Race) (xs : List Attempt) : Type 0 where
+  pub in_turn : AreNextInTurn race xs
+  pub tried : IsTrue (list_all (λ p. is_tried xs p.0) race.outcomes)
+
+-- between two turns: every attempt was made, and ended if it did, by the last turn, which left none to start
+pub record Rests (race : Race) (turn : Option ℕ) (xs : List Attempt) : Type 0 where
+  pub valid : IsRace race
+  pub made : AreMade race xs
+  pub past : All (λ x. x.tick < floor turn) xs
+  pub over : last_end race.pauses ≤ floor turn
+  pub failed : All (λ x. IfSome (outcome_of race x.ip) (FailedBelow race (floor turn) x)) xs
+  pub after : IsAfterTurn race turn xs
+
+-- in a turn, with an attempt that succeeded in it or none
+pub record InTurn (race : Race) (now : ℕ) (xs : List Attempt) (won : Bool) : Type 0 where
+  pub valid : IsRace race
+  pub made : AreMade race xs
+  pub past : All (λ x. x.tick < now) xs
+  pub over : last_end race.pauses ≤ now
+  pub ended : All (λ x. IfSome (outcome_of race x.ip) (EndedBy race now won x)) xs
+  pub stops : (t : ℕ) → MayStart race xs t → now ≤ t
+  pub success : won ≡ true → HasSuccess race xs
+
+-- the race ends at the tick: it is won there, or no attempt may start any more
+pub record EndsRace (race : Race) (stop : ℕ) (xs : List Attempt) (won : Bool) : Type 0 where
+  pub valid : IsRace race
+  pub in_turn : AreNextInTurn race xs
+  pub past : All (λ x. x.tick ≤ stop) xs
+  pub free : won ≡ true → IsFree race stop
+  pub early : stop ≤ race.settings.limit
+  pub ended : All (λ x. IfSome (outcome_of race x.ip) (EndedBy race stop won x)) xs
+  pub stops : (t : ℕ) → MayStart race xs t → stop ≤ t
+  pub success : won ≡ true → HasSuccess race xs
+  pub over : won ≡ false → (t : ℕ) → ¬ MayStart race xs t
+
+abbrev pub is_won : Outcome3 → Bool
+is_won (results.Won place tick) = true
+is_won _ = false
+
+-- a turn has begun: no attempt has ended in it
+pub record Begins (race : Race) (now : ℕ) (xs : List Attempt) : Type 0 where
+  pub in_turn : InTurn race now xs false
+  pub failed : All (λ x. IfSome (outcome_of race x.ip) (FailedBelow race now x)) xs
+
+-- the race with a pause from the due tick on, where the turn comes after it
+abbrev pub slept : Race → ℕ → ℕ → Race
+slept race due now = if nat_lt due now then with_pause race due now else race
+
+-- what is kept of a race between two turns
+pub record IsCourse (c : Course) : Type 0 where
+  pub rests : Rests c.recorded c.turn c.planner.attempts.items
+  pub due : IsDueTick c.recorded c.turn c.planner.attempts.items c.due
+  pub planned : IsPlanned c.recorded c.planner.attempts.items c.planner.queue.v6 c.planner.queue.v4 c.planner.queue.ips.items c.planner.queue.next
+
+-- the race has ended, won or not
+pub record IsEnded (race : Race) (xs : List Attempt) (won : Bool) : Type 0 where
+  pub stop : ℕ
+  pub ends : EndsRace race stop xs won
+
+-- no attempt is made, or the next one at the tick
+abbrev pub MakesOne : Race → List Attempt → List Attempt → ℕ → Type 0
+MakesOne race xs all now = (all ≡ xs) ⊎ PlansNext race xs all now

@@ -1,0 +1,264 @@
+-- What a race that is being run keeps between two polls, and what it ends with.
+use Rattle.std.specs.Prelude.{ℕ, ◌≡◌, ◌+◌, ◌-◌, ◌<◌, ◌≤◌, ◌==◌, ◌&&◌, ◌||◌, ◌⊎◌, ◌++◌, ⊤, length, min, nat_le, Bool, true, false, MatchBool, List, [], ◌∷◌, slice_get, Option, Some, None, is_some, option_map, Result, Ok, Err}
+use Rattle.std.specs.List.{All, Contains, remove, slice_set}
+use Rattle.futures.specs.declared.task.Poll.{Poll}
+use Rattle.futures.specs.declared.task.Poll.TheVariants.{Ready, Pending}
+use Rattle.he_plan.specs.declared.attempts.Attempt.{Attempt}
+use Rattle.he_plan.specs.Agreement.{AreAlike}
+use Rattle.he_plan.specs.Building.{with_outcome}
+use Rattle.he_plan.specs.Planning.{IsPlanned}
+use Rattle.he_plan.specs.Race.{Race, has_outcome}
+use Rattle.he_plan.specs.Timeline.{IsRace}
+use Rattle.he_plan.specs.Transcript.{IsTranscript}
+use Rattle.he_race.specs.declared.attempt.AttemptFuture.{AttemptFuture}
+use Rattle.he_race.specs.declared.attempt.AttemptFuture.TheVariants.{Sleeping}
+use Rattle.he_race.specs.declared.attempt.Finish.{Finish}
+use Rattle.he_race.specs.declared.connector.Connector.{Ghosts as ConnectorOf}
+use Rattle.he_race.specs.declared.course.Course.{Course}
+use Rattle.he_race.specs.declared.faults.ConnectFault.{ConnectFault}
+use Rattle.he_race.specs.declared.faults.RaceFault.{RaceFault}
+use Rattle.he_race.specs.declared.faults.RaceFault.TheVariants as faults
+use Rattle.he_race.specs.declared.limits.TheConstants.{MAX_POLL_TICK}
+use Rattle.he_race.specs.declared.live.Live.{Live}
+use Rattle.he_race.specs.declared.live.Unfinished.{Unfinished}
+use Rattle.he_race.specs.declared.live.Raced.{Raced}
+use Rattle.he_race.specs.declared.live.Step.{Step}
+use Rattle.he_race.specs.declared.live.Step.TheVariants as steps
+use Rattle.he_race.specs.declared.trial.Trial.{Ghosts as TrialOf}
+use Rattle.he_race.specs.Answered.{earliest, is_tried_out_by}
+use Rattle.he_race.specs.Attempt.{AttemptPolls, CanPoll, due_of}
+use Rattle.he_race.specs.Recording.{IsCourse, ended_by, is_won, slept}
+
+-- an attempt's answer is a connection
+abbrev pub is_connection : {Conn : Type 0} → Result Conn ConnectFault → Bool
+is_connection (Ok conn) = true
+is_connection (Err fault) = false
+
+-- at the tick an attempt of the race answered, and how it ended is recorded, after the ticks since its start
+pub record Records {Conn : Type 0} (old : Course) (now : ℕ) (answer : Result Conn ConnectFault) (new : Course) : Type 0 where
+  pub x : Attempt
+  pub made : Contains old.planner.attempts.items x
+  pub first : has_outcome x.ip old.recorded.outcomes ≡ false
+  pub is : new ≡ record old { recorded = with_outcome old.recorded x.ip (ended_by (is_connection answer) (now - x.tick)) }
+  pub valid : IsRace new.recorded
+
+-- a pending attempt changes nothing of the record
+abbrev pub Answers : {Conn : Type 0} → Course → ℕ → Option (Result Conn ConnectFault) → Course → Type 0
+Answers old now None new = new ≡ old
+Answers old now (Some answer) new = Records old now answer new
+
+-- the record replays: its transcript is that of the rules, and there is a winner's connection exactly where the race
+-- was won
+pub record Replays {Conn : Type 0} (race : Race) (raced : Raced Conn) : Type 0 where
+  pub alike : AreAlike race raced.recorded
+  pub transcript : IsTranscript raced.recorded raced.transcript
+  pub winner : is_some raced.winner ≡ is_won raced.transcript.result
+
+-- what a race that is being run may give, with what is recorded so far: an end that replays, or a fault; where
+-- nothing is left of it, that it is over, and only then
+abbrev pub GivesFrom : {Conn : Type 0} → Option Race → Result (Raced Conn) RaceFault → Type 0
+GivesFrom (Some race) (Ok raced) = Replays race raced
+GivesFrom (Some race) (Err faults.Over) = ⊥
+GivesFrom (Some race) (Err fault) = Unit {0}
+GivesFrom None (Ok raced) = ⊥
+GivesFrom None (Err fault) = fault ≡ faults.Over
+
+abbrev pub GivesOf : {C Conn Run : Type 0} → Option (Live C Conn Run) → Result (Raced Conn) RaceFault → Type 0
+GivesOf {C} {Conn} {Run} live result = GivesFrom {Conn = Conn} (option_map (λ (x : Live C Conn Run). x.course.recorded) live) result
+
+-- the race ends at the tick: it is won, or at its limit, or exhausted: no attempt is unfinished, and each usable
+-- address of both answers, which have come, was tried
+abbrev pub is_over : {X : Type 0} → Course → ℕ → List X → Bool → Bool
+is_over course now unfinished won =
+    won || (nat_le course.recorded.settings.limit now
+    || ((length unfinished == 0)
+    && (is_tried_out_by now course.planner.attempts.items course.recorded.aaaa && is_tried_out_by now course.planner.attempts.items course.recorded.a)))
+
+-- the course with how an attempt ended: after the ticks since its start
+abbrev pub told : {Conn : Type 0} → Course → Attempt → ℕ → Result Conn ConnectFault → Course
+told course x now answer =
+    record course { recorded = with_outcome course.recorded x.ip (ended_by (is_connection answer) (now - x.tick)) }
+
+-- the connection that there is, or else the answer's
+abbrev pub first_of : {Conn : Type 0} → Option Conn → Result Conn ConnectFault → Option Conn
+first_of (Some conn) answer = Some conn
+first_of None (Ok conn) = Some conn
+first_of None (Err fault) = None
+
+-- a turn in which some of the unfinished attempts were polled: the connector, what is recorded, those that are still
+-- pending, and the first connection
+pub record Sweep (C Conn Run : Type 0) : Type 0 where
+  pub connector : C
+  pub course : Course
+  pub pending : List (Unfinished C Conn Run)
+  pub first : Option Conn
+
+-- a turn that begins, in which nothing was polled yet
+abbrev pub unpolled : {C Conn Run : Type 0} → C → Course → Sweep C Conn Run
+unpolled c course = record { connector = c; course = course; pending = []; first = None }
+
+-- a turn begins: the client slept from the due tick on
+abbrev pub begun : {C Conn Run : Type 0} → C → Live C Conn Run → ℕ → Sweep C Conn Run
+begun c live now = unpolled c (record live.course { recorded = slept live.course.recorded live.course.due now })
+
+module _ {C Conn Run : Type 0} (connector : ConnectorOf C Conn Run) (trial : TrialOf Run Conn) where
+  -- an attempt of the race that may be polled
+  pub record IsUnfinished (xs : List Attempt) (o : Unfinished C Conn Run) : Type 0 where
+    pub made : Contains xs o.attempt
+    pub can : CanPoll connector trial o.future
+
+  -- what is kept between two polls
+  pub record IsLive (live : Live C Conn Run) : Type 0 where
+    pub course : IsCourse live.course
+    pub unfinished : All (IsUnfinished live.course.planner.attempts.items) live.unfinished.items
+
+  -- the least of the due tick and the ticks at which an unfinished attempt is due
+  abbrev pub asked_tick : ℕ → List (Unfinished C Conn Run) → ℕ
+  asked_tick due [] = due
+  asked_tick due (o ∷ unfinished) = asked_tick (earliest due (due_of connector trial o.future)) unfinished
+
+  -- after a poll of an attempt: one that is pending stays, as the poll left it; of one that answers, how it ended is
+  -- recorded
+  abbrev pub after_poll : Sweep C Conn Run → Unfinished C Conn Run → ℕ → Poll (Finish Conn) → C → AttemptFuture C Conn Run → Sweep C Conn Run
+  after_poll s o now Pending c future = record s { connector = c; pending = s.pending ++ record o { future = future } ∷ [] }
+  after_poll s o now (Ready f) c future =
+      record s { connector = c; course = told s.course o.attempt now f.result; first = first_of s.first f.result }
+
+  -- each of the attempts is polled once at the tick: with the answer, the connector and the state that the poll
+  -- leaves
+  abbrev pub ArePolled : ℕ → Sweep C Conn Run → List (Unfinished C Conn Run) → Sweep C Conn Run → Type 0
+  ArePolled now from [] to = to ≡ from
+  ArePolled now from (o ∷ os) to =
+      (answer : Poll (Finish Conn)) × (c : C) × (future : AttemptFuture C Conn Run)
+      × AttemptPolls connector trial from.connector o.future now answer c future
+      × ArePolled now (after_poll from o now answer c future) os to
+
+  -- the attempt that stands at `i`, the answer of its poll, and what is left of it
+  abbrev pub LeftBy : Live C Conn Run → ℕ → ℕ → Unfinished C Conn Run → Poll (Finish Conn) → AttemptFuture C Conn Run → Option (Result Conn ConnectFault) → Live C Conn Run → Type 0
+  LeftBy old i now o Pending future answer new =
+      (answer ≡ None) × (new.course ≡ old.course) × (new.unfinished.items ≡ slice_set old.unfinished.items i (record o { future = future }))
+  LeftBy old i now o (Ready f) future answer new =
+      (answer ≡ Some f.result) × (new.course ≡ told old.course o.attempt now f.result)
+      × (new.unfinished.items ≡ remove (slice_set old.unfinished.items i (record o { future = future })) i)
+
+  -- the attempt that stands at `i` is polled once
+  pub record PollsAt (c : C) (old : Live C Conn Run) (i now : ℕ) (answer : Option (Result Conn ConnectFault)) (c' : C) (new : Live C Conn Run) : Type 0 where
+    pub o : Unfinished C Conn Run
+    pub at : slice_get old.unfinished.items i ≡ Some o
+    pub polled : Poll (Finish Conn)
+    pub future : AttemptFuture C Conn Run
+    pub polls : AttemptPolls connector trial c o.future now polled c' future
+    pub left : LeftBy old i now o polled future answer new
+
+  -- an attempt that was made begins at its start
+  pub record BeginsAt (c : C) (x : Attempt) (c' : C) (o : Unfinished C Conn Run) : Type 0 where
+    pub attempt : o.attempt ≡ x
+    pub polls : AttemptPolls connector trial c (Sleeping x.place x.ip x.tick) x.tick Pending c' o.future
+
+  -- after the attempts before, one that was made begins, and stands after the others
+  pub record BeginsNext (c : C) (xs all : List Attempt) (os : List (Unfinished C Conn Run)) (c' : C) (new : List (Unfinished C Conn Run)) : Type 0 where
+    pub x : Attempt
+    pub o : Unfinished C Conn Run
+    pub more : all ≡ xs ++ x ∷ []
+    pub begins : BeginsAt c x c' o
+    pub next : new ≡ os ++ o ∷ []
+
+  -- no attempt was made, and all stays as it was
+  pub record StaysAs (c : C) (xs all : List Attempt) (os : List (Unfinished C Conn Run)) (c' : C) (new : List (Unfinished C Conn Run)) : Type 0 where
+    pub none : all ≡ xs
+    pub still : c' ≡ c
+    pub same : new ≡ os
+
+  abbrev pub StartsOne : C → List Attempt → List Attempt → List (Unfinished C Conn Run) → C → List (Unfinished C Conn Run) → Type 0
+  StartsOne c xs all os c' new = StaysAs c xs all os c' new ⊎ BeginsNext c xs all os c' new
+
+  abbrev pub BeginsOne : C → Option Attempt → List (Unfinished C Conn Run) → C → List (Unfinished C Conn Run) → Type 0
+  BeginsOne c None os c' new = (c' ≡ c) × (new ≡ os)
+  BeginsOne c (Some x) os c' new = (o : Unfinished C Conn Run) × BeginsAt c x c' o × (new ≡ os ++ o ∷ [])
+
+  -- the attempt that stands at `made`, if there is one, begins, and stands after the others
+  abbrev pub BeginsFrom : C → List Attempt → ℕ → List (Unfinished C Conn Run) → C → List (Unfinished C Conn Run) → Type 0
+  BeginsFrom c all made os c' new = BeginsOne c (slice_get all made) os c' new
+
+  -- the end of a turn that goes on: the attempt that is due begins
+  pub record Continues (c : C) (old : Live C Conn Run) (now : ℕ) (c' : C) (new : Live C Conn Run) (tick : ℕ) : Type 0 where
+    pub recorded : new.course.recorded ≡ old.course.recorded
+    pub starts : StartsOne c old.course.planner.attempts.items new.course.planner.attempts.items old.unfinished.items c' new.unfinished.items
+    pub kept : IsLive new
+    pub turn : new.course.turn ≡ Some now
+    pub asked : tick ≡ asked_tick new.course.due new.unfinished.items
+
+  abbrev pub GoesOn : C → Live C Conn Run → ℕ → C → Step C Conn Run → Type 0
+  GoesOn c old now c' (steps.Ended raced) = ⊥
+  GoesOn c old now c' (steps.Waits new tick) = Continues c old now c' new tick
+
+  -- a turn that goes on: each unfinished attempt was polled, the race is not over, and the attempt that is due begins
+  pub record Goes (from : Sweep C Conn Run) (os : List (Unfinished C Conn Run)) (now : ℕ) (c' : C) (new : Live C Conn Run) (tick : ℕ) : Type 0 where
+    pub swept : Sweep C Conn Run
+    pub polled : ArePolled now from os swept
+    pub going : is_over swept.course now swept.pending (is_some swept.first) ≡ false
+    pub recorded : new.course.recorded ≡ swept.course.recorded
+    pub starts : StartsOne swept.connector swept.course.planner.attempts.items new.course.planner.attempts.items swept.pending c' new.unfinished.items
+    pub kept : IsLive new
+    pub alike : AreAlike from.course.recorded new.course.recorded
+    pub pauses : new.course.recorded.pauses ≡ from.course.recorded.pauses
+    pub turn : new.course.turn ≡ Some now
+    pub asked : tick ≡ asked_tick new.course.due new.unfinished.items
+
+  -- a turn after which the race is over, since each unfinished attempt was polled
+  pub record EndsPolled (from : Sweep C Conn Run) (os : List (Unfinished C Conn Run)) (now : ℕ) (c' : C) (raced : Raced Conn) : Type 0 where
+    pub swept : Sweep C Conn Run
+    pub polled : ArePolled now from os swept
+    pub over : is_over swept.course now swept.pending (is_some swept.first) ≡ true
+    pub still : c' ≡ swept.connector
+    pub recorded : raced.recorded ≡ swept.course.recorded
+    pub winner : raced.winner ≡ swept.first
+    pub replays : Replays from.course.recorded raced
+    pub pauses : raced.recorded.pauses ≡ from.course.recorded.pauses
+
+  -- past the limit the race ends, and nothing is polled
+  pub record EndsLate (from : Sweep C Conn Run) (now : ℕ) (c' : C) (raced : Raced Conn) : Type 0 where
+    pub late : from.course.recorded.settings.limit < now
+    pub still : c' ≡ from.connector
+    pub recorded : raced.recorded ≡ from.course.recorded
+    pub winner : raced.winner ≡ None
+    pub replays : Replays from.course.recorded raced
+
+  -- a turn at or before the limit, once what was slept is recorded
+  abbrev pub TurnsFrom : Sweep C Conn Run → List (Unfinished C Conn Run) → ℕ → C → Step C Conn Run → Type 0
+  TurnsFrom from os now c' (steps.Ended raced) = EndsPolled from os now c' raced
+  TurnsFrom from os now c' (steps.Waits new tick) = Goes from os now c' new tick
+
+  -- a turn at the tick ends the race or goes on
+  abbrev pub Turned : C → Live C Conn Run → ℕ → C → Step C Conn Run → Type 0
+  Turned c live now c' (steps.Ended raced) =
+      EndsLate (begun c live now) now c' raced ⊎ EndsPolled (begun c live now) live.unfinished.items now c' raced
+  Turned c live now c' (steps.Waits new tick) = Goes (begun c live now) live.unfinished.items now c' new tick
+
+  -- a poll takes a turn where none was at the tick or later; else nothing changes, and the tick after the last turn
+  -- is asked for
+  abbrev pub PolledFrom : Option ℕ → C → Live C Conn Run → ℕ → C → Step C Conn Run → Type 0
+  PolledFrom None c live now c' step = Turned c live now c' step
+  PolledFrom (Some turn) c live now c' step =
+      MatchBool (nat_le now turn) ((c' ≡ c) × (step ≡ steps.Waits live (turn + 1))) (Turned c live now c' step)
+
+  -- a poll at the tick; a tick past the limit counts as the one after it
+  abbrev pub PolledAt : C → Live C Conn Run → ℕ → C → Step C Conn Run → Type 0
+  PolledAt c live now c' step = PolledFrom live.course.turn c live (min now (live.course.recorded.settings.limit + 1)) c' step
+
+-- the tick that is asked for may be
+abbrev pub AsksInTime : {C Conn Run : Type 0} → Step C Conn Run → Type 0
+AsksInTime (steps.Ended raced) = ⊤
+AsksInTime (steps.Waits new tick) = tick ≤ MAX_POLL_TICK
+
+-- the race has ended, with this record and this connection
+abbrev pub EndsWith : {C Conn Run : Type 0} → Race → Option Conn → Step C Conn Run → Type 0
+EndsWith race winner (steps.Ended raced) = Replays race raced × (raced.recorded ≡ race) × (raced.winner ≡ winner)
+EndsWith race winner (steps.Waits new tick) = ⊥
+
+-- after all attempts were polled: outcomes are recorded, and nothing else has changed
+pub record Polled (old new : Course) : Type 0 where
+  pub is : new ≡ record old { recorded = new.recorded }
+  pub alike : AreAlike old.recorded new.recorded
+  pub pauses : new.recorded.pauses ≡ old.recorded.pauses
+  pub planned : IsPlanned old.recorded old.planner.attempts.items old.planner.queue.v6 old.planner.queue.v4 old.planner.queue.ips.items old.planner.queue.next → IsPlanned new.recorded old.planner.attempts.items old.planner.queue.v6 old.planner.queue.v4 old.planner.queue.ips.items old.planner.queue.next

@@ -1,0 +1,319 @@
+// A race that is being run, apart from its connections: what is recorded of it, the attempts that were made, and
+// what is due next.
+
+ghost use Rattle.std.specs.Prelude.{◌≡◌, ◌+◌, ◌-◌, ◌<◌, ◌≤◌, ◌&&◌, ◌||◌, not, Bool, [], Some, None, true, false, map, option_map, IfOk, IfSome, OnOk};
+ghost use Rattle.std.specs.List.{list_all};
+ghost use Rattle.he_addr.specs.Ip.{is_usable};
+ghost use Rattle.he_plan.specs.declared.limits.TheConstants.{MAX_LIMIT};
+ghost use Rattle.he_plan.specs.Attempts.{is_tried};
+ghost use Rattle.he_plan.specs.Building.{last_end, with_answer, with_outcome, with_pause};
+ghost use Rattle.he_plan.specs.Due.{IsAfterTurn, IsDueTick};
+ghost use Rattle.he_plan.specs.Finish.{fate_of};
+ghost use Rattle.he_plan.specs.Planning.{IsPlanned};
+ghost use Rattle.he_plan.specs.Race.{has_outcome, reply_of};
+ghost use Rattle.he_plan.specs.Timeline.{IsRace};
+ghost use Rattle.he_plan.specs.Transcript.{IsTranscript};
+ghost use Rattle.he_race.specs.Answered.{earliest, is_taken, is_tried_out_by, untaken_tick, with_reply};
+ghost use Rattle.he_race.specs.Recording.{Begins, InTurn, IsCourse, IsEnded, MakesOne, Rests, ended_by, floor, is_won, slept, unrecorded};
+
+use he_addr::{Family, Ip, Memory};
+use he_plan::{
+    Attempt, Fate, Outcome, Planner, Timeline, TimelineBuilder, Transcript, transcript_at_stop,
+    winner,
+};
+use std::alloc::{Allocator, Global};
+
+#[derive(Drop)]
+pub(crate) struct Course {
+    alloc: Global,
+    pub(crate) recorded: TimelineBuilder,
+    pub(crate) planner: Planner,
+    pub(crate) turn: Option<u64>,
+    pub(crate) due: u64,
+}
+
+impl Course {
+    // The race of the timeline's settings, policy, host and answers, before its first turn.
+    pub(crate) fn new<A: Allocator>(alloc: Global, timeline: &Timeline<A>) -> Result<Course, Memory>
+        ensures course { IfOk result IsCourse }
+        ensures recorded { IfOk result (λ c. c.recorded ≡ unrecorded timeline.now) }
+        ensures turn { IfOk result (λ c. c.turn ≡ None) }
+        ensures attempts { IfOk result (λ c. c.planner.attempts.items ≡ []) }
+    {
+        let recorded = without_record(alloc, timeline)?;
+        let planner = Planner::new(alloc);
+        let due = due_tick(recorded.timeline(), &planner, None);
+        Ok(Course {
+            alloc,
+            recorded,
+            planner,
+            turn: None,
+            due,
+        })
+    }
+
+    pub(crate) fn limit(&self) -> u64
+        ensures value { result ≡ self.now.recorded.settings.limit }
+        ensures range { result ≤ MAX_LIMIT }
+    {
+        self.recorded.timeline().settings().limit()
+    }
+
+    // Begins the turn at a tick: where something was due before it, the client slept from then on.
+    pub(crate) fn begin_turn(&mut self, now: u64) -> Result<(), Memory>
+        requires course { IsCourse self.old }
+        requires later { floor self.old.turn ≤ now }
+        ensures recorded { OnOk result (self.new ≡ record self.old { recorded = slept self.old.recorded self.old.due now }) }
+        ensures begins { OnOk result (Begins self.new.recorded now self.new.planner.attempts.items) }
+        ensures planned { OnOk result (IsPlanned self.new.recorded self.new.planner.attempts.items self.new.planner.queue.v6 self.new.planner.queue.v4 self.new.planner.queue.ips.items self.new.planner.queue.next) }
+    {
+        if self.due < now {
+            return add_pause(&mut self.recorded, self.due, now);
+        }
+        Ok(())
+    }
+
+    // Records how the attempt ended in the turn at the tick.
+    pub(crate) fn finish(&mut self, attempt: Attempt, now: u64, is_won: bool) -> Result<(), Memory>
+        requires valid { IsRace self.old.recorded }
+        requires past { attempt.tick ≤ now }
+        ensures recorded { OnOk result (self.new ≡ record self.old { recorded = with_outcome self.old.recorded attempt.ip (ended_by is_won (now - attempt.tick)) }) }
+        ensures first { OnOk result (has_outcome attempt.ip self.old.recorded.outcomes ≡ false) }
+        ensures valid { OnOk result (IsRace self.new.recorded) }
+    {
+        let duration = now - attempt.tick;
+        let outcome = if is_won {
+            Outcome::Ok(duration)
+        } else {
+            Outcome::Fail(duration)
+        };
+        add_outcome(&mut self.recorded, attempt.ip, outcome)
+    }
+
+    // Whether both answers have come by the tick, and each of their usable addresses was tried.
+    pub(crate) fn is_tried_out(&self, now: u64) -> bool
+        ensures { result ≡ (is_tried_out_by now self.now.planner.attempts.items self.now.recorded.aaaa && is_tried_out_by now self.now.planner.attempts.items self.now.recorded.a) }
+    {
+        let race = self.recorded.timeline();
+        let attempts = self.planner.attempts();
+        is_tried_out_by(now, attempts, race.answer(Family::V6))
+            && is_tried_out_by(now, attempts, race.answer(Family::V4))
+    }
+
+    // Ends the turn at the tick: an attempt that is due starts.
+    pub(crate) fn end_turn(self, now: u64) -> Result<Course, Memory>
+        requires in_turn { InTurn self.recorded now self.planner.attempts.items false }
+        requires planned { IsPlanned self.recorded self.planner.attempts.items self.planner.queue.v6 self.planner.queue.v4 self.planner.queue.ips.items self.planner.queue.next }
+        requires early { now < self.recorded.settings.limit }
+        ensures course { IfOk result IsCourse }
+        ensures recorded { IfOk result (λ c. c.recorded ≡ self.recorded) }
+        ensures turn { IfOk result (λ c. c.turn ≡ Some now) }
+        ensures made { IfOk result (λ c. MakesOne self.recorded self.planner.attempts.items c.planner.attempts.items now) }
+    {
+        let Course {
+            alloc,
+            recorded,
+            planner,
+            turn: _,
+            due: _,
+        } = self;
+        let planner = start_due(alloc, recorded.timeline(), planner, now)?;
+        let due = due_tick(recorded.timeline(), &planner, Some(now));
+        Ok(Course {
+            alloc,
+            recorded,
+            planner,
+            turn: Some(now),
+            due,
+        })
+    }
+
+    // The record of the race that ended.
+    pub(crate) fn into_record(self) -> Timeline
+        ensures { result ≡ self.recorded }
+    {
+        let Course {
+            alloc: _,
+            recorded,
+            planner: _,
+            turn: _,
+            due: _,
+        } = self;
+        recorded.finish()
+    }
+
+    // The transcript of the race that ended.
+    pub(crate) fn transcript(&self) -> Result<Transcript, Memory>
+        requires { (won : Bool) × IsEnded self.now.recorded self.now.planner.attempts.items won }
+        ensures transcript { IfOk result (IsTranscript self.now.recorded) }
+        ensures ending { IfOk result (λ t. (won : Bool) → IsEnded self.now.recorded self.now.planner.attempts.items won → is_won t.result ≡ won) }
+    {
+        let timeline = self.recorded.timeline();
+        let attempts = self.planner.attempts();
+        let fates = fates_of(self.alloc, timeline, attempts)?;
+        let winner = winner(&fates);
+        transcript_at_stop(self.alloc, timeline, attempts, &fates, winner)
+    }
+}
+
+// The race of the timeline's settings, policy, host and answers, of which nothing is recorded.
+fn without_record<A: Allocator>(
+    alloc: Global,
+    timeline: &Timeline<A>,
+) -> Result<TimelineBuilder, Memory>
+    ensures recorded { IfOk result (λ new. new ≡ unrecorded timeline.now) }
+    ensures valid { IfOk result IsRace }
+{
+    let policy = timeline.policy().copy(alloc)?;
+    let host = timeline.host().copy(alloc)?;
+    let mut builder = TimelineBuilder::new(alloc, timeline.settings(), policy, host);
+    copy_answer(&mut builder, timeline, Family::V6)?;
+    copy_answer(&mut builder, timeline, Family::V4)?;
+    Ok(builder)
+}
+
+fn copy_answer<A: Allocator>(
+    builder: &mut TimelineBuilder,
+    timeline: &Timeline<A>,
+    family: Family,
+) -> Result<(), Memory>
+    requires { IsRace builder.old }
+    ensures answer { OnOk result (builder.new ≡ with_reply builder.old family (reply_of timeline.now family)) }
+    ensures valid { OnOk result (IsRace builder.new) }
+{
+    if let Some((tick, addresses)) = timeline.answer(family) {
+        return add_answer(builder, family, tick, addresses);
+    }
+    Ok(())
+}
+
+fn add_answer(
+    builder: &mut TimelineBuilder,
+    family: Family,
+    tick: u64,
+    addresses: &[Ip],
+) -> Result<(), Memory>
+    requires { IsRace builder.old }
+    ensures answer { OnOk result (builder.new ≡ with_answer builder.old family (record { tick = tick; addresses = addresses.now })) }
+    ensures valid { OnOk result (IsRace builder.new) }
+{
+    match builder.answer(family, tick, addresses) {
+        Ok(()) => Ok(()),
+        Err(_) => Err(Memory),
+    }
+}
+
+fn add_pause(recorded: &mut TimelineBuilder, from: u64, to: u64) -> Result<(), Memory>
+    requires { IsRace recorded.old }
+    ensures recorded { OnOk result (recorded.new ≡ with_pause recorded.old from to) }
+    ensures valid { OnOk result (IsRace recorded.new) }
+{
+    match recorded.pause(from, to) {
+        Ok(()) => Ok(()),
+        Err(_) => Err(Memory),
+    }
+}
+
+fn add_outcome(recorded: &mut TimelineBuilder, ip: Ip, outcome: Outcome) -> Result<(), Memory>
+    requires { IsRace recorded.old }
+    ensures recorded { OnOk result (recorded.new ≡ with_outcome recorded.old ip outcome) }
+    ensures first { OnOk result (has_outcome ip recorded.old.outcomes ≡ false) }
+    ensures valid { OnOk result (IsRace recorded.new) }
+{
+    match recorded.outcome(ip, outcome) {
+        Ok(()) => Ok(()),
+        Err(_) => Err(Memory),
+    }
+}
+
+// Makes the next attempt, if one may start at the tick.
+fn start_due(alloc: Global, race: &Timeline, planner: Planner, now: u64) -> Result<Planner, Memory>
+    requires in_turn { InTurn race.now now planner.attempts.items false }
+    requires planned { IsPlanned race.now planner.attempts.items planner.queue.v6 planner.queue.v4 planner.queue.ips.items planner.queue.next }
+    requires early { now < race.now.settings.limit }
+    ensures rests { IfOk result (λ p. Rests race.now (Some now) p.attempts.items) }
+    ensures made { IfOk result (λ p. MakesOne race.now planner.attempts.items p.attempts.items now) }
+    ensures planned { IfOk result (λ p. IsPlanned race.now p.attempts.items p.queue.v6 p.queue.v4 p.queue.ips.items p.queue.next) }
+{
+    let Some(tick) = planner.next_tick(race) else {
+        return Ok(planner);
+    };
+    if tick > now {
+        return Ok(planner);
+    }
+    planner.start(alloc, race, now)
+}
+
+// The least tick at which something is due after the turn.
+fn due_tick(race: &Timeline, planner: &Planner, turn: Option<u64>) -> u64
+    requires planned { IsPlanned race.now planner.now.attempts.items planner.now.queue.v6 planner.now.queue.v4 planner.now.queue.ips.items planner.now.queue.next }
+    requires after { IsAfterTurn race.now turn planner.now.attempts.items }
+    requires over { last_end race.now.pauses ≤ floor turn }
+    ensures { IsDueTick race.now turn planner.now.attempts.items result }
+{
+    let limit = race.settings().limit();
+    let due = earliest(limit, planner.next_tick(race));
+    let due = earliest(due, untaken_tick(race, Family::V6, turn));
+    earliest(due, untaken_tick(race, Family::V4, turn))
+}
+
+fn earliest(due: u64, tick: Option<u64>) -> u64
+    ensures { result ≡ earliest due tick }
+{
+    match tick {
+        Some(tick) => due.min(tick),
+        None => due,
+    }
+}
+
+// The tick of the family's answer, where the turn did not take it.
+fn untaken_tick(race: &Timeline, family: Family, turn: Option<u64>) -> Option<u64>
+    ensures { result ≡ untaken_tick turn (reply_of race.now family) }
+{
+    match race.answer(family) {
+        Some((tick, _)) if !is_taken(turn, tick) => Some(tick),
+        _ => None,
+    }
+}
+
+fn is_taken(turn: Option<u64>, tick: u64) -> bool
+    ensures { result ≡ is_taken turn tick }
+{
+    match turn {
+        Some(turn) => tick <= turn,
+        None => false,
+    }
+}
+
+fn is_tried_out_by(now: u64, attempts: &[Attempt], answer: Option<(u64, &[Ip])>) -> bool
+    ensures { result ≡ is_tried_out_by now attempts.now (option_map (λ p. record { tick = p.0; addresses = p.1.now }) answer.entry) }
+{
+    match answer {
+        Some((tick, ips)) => tick <= now && are_tried(attempts, ips),
+        None => false,
+    }
+}
+
+fn are_tried(attempts: &[Attempt], ips: &[Ip]) -> bool
+    ensures { result ≡ list_all (λ ip. not (is_usable ip) || is_tried attempts.now ip) ips.now }
+{
+    ips.iter()
+        .all(|ip| !ip.is_usable() || is_tried(attempts, *ip))
+}
+
+fn is_tried(attempts: &[Attempt], ip: Ip) -> bool
+    ensures { result ≡ is_tried attempts.now ip }
+{
+    attempts.iter().any(|attempt| attempt.ip == ip)
+}
+
+// What became of each attempt, by place.
+fn fates_of(alloc: Global, timeline: &Timeline, attempts: &[Attempt]) -> Result<Vec<Fate>, Memory>
+    ensures { IfOk result (λ fates. fates.items ≡ map (fate_of timeline.now) attempts.now) }
+{
+    let mut fates = Vec::with_capacity(alloc, attempts.len()).map_err(|_| Memory)?;
+    for attempt in attempts {
+        fates.push(timeline.fate(attempt)).map_err(|_| Memory)?;
+    }
+    Ok(fates)
+}

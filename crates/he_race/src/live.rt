@@ -1,0 +1,318 @@
+// A race that is being run, with the connections of its unfinished attempts.
+
+ghost use Rattle.std.specs.Prelude.{All, if◌then◌else◌, ◌≡◌, ◌+◌, ◌-◌, ◌<◌, ◌≤◌, ◌&&◌, ◌||◌, ◌==◌, Bool, ℕ, [], MatchBool, None, Some, false, length, is_some, min, vec_len, IfOk, OnOk};
+ghost use Rattle.futures.specs.Task.{Keeps};
+ghost use Rattle.he_plan.specs.Agreement.{AreAlike};
+ghost use Rattle.he_plan.specs.Planning.{IsPlanned};
+ghost use Rattle.he_race.specs.declared.limits.TheConstants.{MAX_POLL_TICK};
+ghost use Rattle.he_race.specs.Attempt.{CanPoll};
+ghost use Rattle.he_race.specs.Recording.{InTurn, IsEnded, floor, unrecorded};
+ghost use Rattle.he_race.specs.Turns.{Answers, ArePolled, AsksInTime, BeginsAt, BeginsFrom, EndsWith, GoesOn, IsLive, IsUnfinished, Polled, PolledAt, PollsAt, Turned, TurnsFrom, asked_tick, first_of, is_connection, is_over, unpolled};
+
+use crate::attempt::{AttemptFuture, Finish};
+use crate::connector::Connector;
+use crate::course::Course;
+use crate::drops::discard;
+use crate::faults::ConnectFault;
+use futures::task::{Context, Poll};
+use he_addr::Memory;
+use he_plan::{Attempt, Timeline, Transcript};
+use std::alloc::{Allocator, Global};
+
+// An attempt that has not finished.
+#[derive(Drop)]
+pub(crate) struct Unfinished<C: Connector> {
+    pub(crate) attempt: Attempt,
+    pub(crate) future: AttemptFuture<C>,
+}
+
+#[derive(Drop)]
+pub(crate) struct Live<C: Connector> {
+    pub(crate) course: Course,
+    pub(crate) unfinished: Vec<Unfinished<C>>,
+}
+
+/// A race that has ended.
+#[derive(Drop)]
+pub struct Raced<Conn> {
+    /// What the rules of a race make of the record.
+    pub transcript: Transcript,
+    /// The given settings, policy, host and answers, with what each attempt did and when the client slept.
+    pub recorded: Timeline,
+    /// The winner's connection, where the race was won.
+    pub winner: Option<Conn>,
+}
+
+// What a poll comes to, where no memory is refused: the race has ended, or it goes on and is to be polled at a tick.
+#[derive(Drop)]
+pub(crate) enum Step<C: Connector> {
+    Ended(Raced<C::Conn>),
+    Waits(Live<C>, u64),
+}
+
+impl<C: Connector> Live<C> {
+    pub(crate) fn new<A: Allocator>(
+        alloc: Global,
+        timeline: &Timeline<A>,
+    ) -> Result<Live<C>, Memory>
+        ensures live { IfOk result (IsLive C.Connector C.Run.Trial) }
+        ensures recorded { IfOk result (λ live. live.course.recorded ≡ unrecorded timeline.now) }
+    {
+        Ok(Live {
+            course: Course::new(alloc, timeline)?,
+            unfinished: Vec::new(alloc),
+        })
+    }
+
+    // A poll at the tick: a turn where there was none yet at this tick or later.
+    pub(crate) fn step(
+        self,
+        now: u64,
+        connector: &mut C,
+        cx: &mut Context<'_>,
+    ) -> Result<Step<C>, Memory>
+        requires { IsLive C.Connector C.Run.Trial self }
+        ensures polled { IfOk result (PolledAt C.Connector C.Run.Trial connector.old self now connector.new) }
+        ensures in_time { IfOk result AsksInTime }
+        ensures kept { Keeps cx.old cx.new }
+    {
+        let limit = self.course.limit();
+        let now = now.min(limit + 1);
+        match self.course.turn {
+            Some(turn) if now <= turn => Ok(Step::Waits(self, turn + 1)),
+            _ => self.take_turn(now, connector, cx),
+        }
+    }
+
+    // The turn at the tick: it ends the race, or the race goes on and is to be polled again at a tick.
+    fn take_turn(
+        mut self,
+        now: u64,
+        connector: &mut C,
+        cx: &mut Context<'_>,
+    ) -> Result<Step<C>, Memory>
+        requires live { IsLive C.Connector C.Run.Trial self }
+        requires later { floor self.course.turn ≤ now }
+        requires in_time { now ≤ self.course.recorded.settings.limit + 1 }
+        ensures turned { IfOk result (Turned C.Connector C.Run.Trial connector.old self now connector.new) }
+        ensures kept { Keeps cx.old cx.new }
+    {
+        let limit = self.course.limit();
+        match self.course.begin_turn(now) {
+            Err(fault) => {
+                discard(self);
+                Err(fault)
+            }
+            Ok(()) => {
+                if now > limit {
+                    return self.end(None);
+                }
+                self.run_turn(now, connector, cx)
+            }
+        }
+    }
+
+    // What a turn at or before the limit does once it has begun.
+    fn run_turn(
+        mut self,
+        now: u64,
+        connector: &mut C,
+        cx: &mut Context<'_>,
+    ) -> Result<Step<C>, Memory>
+        requires turn { InTurn self.course.recorded now self.course.planner.attempts.items false }
+        requires planned { IsPlanned self.course.recorded self.course.planner.attempts.items self.course.planner.queue.v6 self.course.planner.queue.v4 self.course.planner.queue.ips.items self.course.planner.queue.next }
+        requires unfinished { All (IsUnfinished C.Connector C.Run.Trial self.course.planner.attempts.items) self.unfinished.items }
+        requires early { now ≤ self.course.recorded.settings.limit }
+        ensures turned { IfOk result (TurnsFrom C.Connector C.Run.Trial (unpolled connector.old self.course) self.unfinished.items now connector.new) }
+        ensures kept { Keeps cx.old cx.new }
+    {
+        match self.poll_all(now, connector, cx) {
+            Err(fault) => {
+                discard(self);
+                Err(fault)
+            }
+            Ok(winner) => {
+                if self.is_over(now, winner.is_some()) {
+                    return self.end(winner);
+                }
+                discard(winner);
+                self.end_turn(now, connector, cx)
+            }
+        }
+    }
+
+    // Polls each unfinished attempt once, in order of place, records those that finish, and answers the first
+    // connection.
+    fn poll_all(
+        &mut self,
+        now: u64,
+        connector: &mut C,
+        cx: &mut Context<'_>,
+    ) -> Result<Option<C::Conn>, Memory>
+        requires turn { InTurn self.old.course.recorded now self.old.course.planner.attempts.items false }
+        requires unfinished { All (IsUnfinished C.Connector C.Run.Trial self.old.course.planner.attempts.items) self.old.unfinished.items }
+        requires in_time { now ≤ MAX_POLL_TICK }
+        ensures turn { IfOk result (λ won. InTurn self.new.course.recorded now self.new.course.planner.attempts.items (is_some won)) }
+        ensures unfinished { OnOk result (All (IsUnfinished C.Connector C.Run.Trial self.new.course.planner.attempts.items) self.new.unfinished.items) }
+        ensures course { OnOk result (Polled self.old.course self.new.course) }
+        ensures each { IfOk result (λ won. ArePolled C.Connector C.Run.Trial now (unpolled connector.old self.old.course) self.old.unfinished.items (record { connector = connector.new; course = self.new.course; pending = self.new.unfinished.items; first = won })) }
+        ensures kept { Keeps cx.old cx.new }
+    {
+        let mut winner = None;
+        let mut i: usize = 0;
+        while i < self.unfinished.len() {
+            match self.poll_one(i, now, connector, cx)? {
+                None => i += 1,
+                Some(answer) => winner = first_of(winner, answer),
+            }
+        }
+        Ok(winner)
+    }
+
+    // Polls the unfinished attempt that stands at `i`. One that answers is recorded, and is no longer among them.
+    fn poll_one(
+        &mut self,
+        i: usize,
+        now: u64,
+        connector: &mut C,
+        cx: &mut Context<'_>,
+    ) -> Result<Option<Result<C::Conn, ConnectFault>>, Memory>
+        requires below { i < vec_len self.old.unfinished }
+        requires turn { (won : Bool) × InTurn self.old.course.recorded now self.old.course.planner.attempts.items won }
+        requires unfinished { All (IsUnfinished C.Connector C.Run.Trial self.old.course.planner.attempts.items) self.old.unfinished.items }
+        requires in_time { now ≤ MAX_POLL_TICK }
+        ensures course { IfOk result (λ answer. Answers self.old.course now answer self.new.course) }
+        ensures unfinished { OnOk result (All (IsUnfinished C.Connector C.Run.Trial self.old.course.planner.attempts.items) self.new.unfinished.items) }
+        ensures step { IfOk result (λ answer. PollsAt C.Connector C.Run.Trial connector.old self.old i now answer connector.new self.new) }
+        ensures left { IfOk result (λ answer. vec_len self.new.unfinished + (if is_some answer then 1 else 0) ≡ vec_len self.old.unfinished) }
+        ensures kept { Keeps cx.old cx.new }
+    {
+        let attempt = self.unfinished[i].attempt;
+        match self.unfinished[i].future.poll_attempt(connector, now, cx) {
+            Poll::Pending => Ok(None),
+            Poll::Ready(finish) => {
+                let Finish {
+                    tick: _,
+                    result: answer,
+                } = finish;
+                self.course.finish(attempt, now, answer.is_ok())?;
+                discard(self.unfinished.remove(i));
+                Ok(Some(answer))
+            }
+        }
+    }
+
+    // Whether the race ends at the tick: it is won, at its limit, or exhausted, since nothing is left to wait for or
+    // to try.
+    fn is_over(&self, now: u64, is_won: bool) -> bool
+        ensures { result ≡ is_over self.now.course now self.now.unfinished.items is_won }
+    {
+        is_won
+            || now >= self.course.limit()
+            || (self.unfinished.is_empty() && self.course.is_tried_out(now))
+    }
+
+    // Ends a turn that goes on: the attempt that is due at the tick, if one is, begins at once.
+    fn end_turn(self, now: u64, connector: &mut C, cx: &mut Context<'_>) -> Result<Step<C>, Memory>
+        requires in_turn { InTurn self.course.recorded now self.course.planner.attempts.items false }
+        requires planned { IsPlanned self.course.recorded self.course.planner.attempts.items self.course.planner.queue.v6 self.course.planner.queue.v4 self.course.planner.queue.ips.items self.course.planner.queue.next }
+        requires unfinished { All (IsUnfinished C.Connector C.Run.Trial self.course.planner.attempts.items) self.unfinished.items }
+        requires early { now < self.course.recorded.settings.limit }
+        ensures on { IfOk result (GoesOn C.Connector C.Run.Trial connector.old self now connector.new) }
+        ensures kept { Keeps cx.old cx.new }
+    {
+        let Live { course, unfinished } = self;
+        let made = course.planner.attempts().len();
+        let course = course.end_turn(now)?;
+        let unfinished = with_made(unfinished, course.planner.attempts(), made, connector, cx)?;
+        let tick = next_tick(course.due, &unfinished);
+        Ok(Step::Waits(Live { course, unfinished }, tick))
+    }
+
+    fn end(self, winner: Option<C::Conn>) -> Result<Step<C>, Memory>
+        requires { IsEnded self.course.recorded self.course.planner.attempts.items (is_some winner) }
+        ensures { IfOk result (EndsWith self.course.recorded winner) }
+    {
+        let Live { course, unfinished } = self;
+        discard(unfinished);
+        match course.transcript() {
+            Err(fault) => {
+                discard(course);
+                discard(winner);
+                Err(fault)
+            }
+            Ok(transcript) => Ok(Step::Ended(Raced {
+                transcript,
+                recorded: course.into_record(),
+                winner,
+            })),
+        }
+    }
+}
+
+// The least of the due tick and of the ticks at which an unfinished attempt is due.
+fn next_tick<C: Connector>(due: u64, unfinished: &[Unfinished<C>]) -> u64
+    ensures { result ≡ asked_tick C.Connector C.Run.Trial due unfinished.now }
+{
+    let mut tick = due;
+    for attempt in unfinished {
+        if let Some(due) = attempt.future.due() {
+            tick = tick.min(due);
+        }
+    }
+    tick
+}
+
+// The connection that there is, or else the answer's.
+fn first_of<Conn: Drop>(winner: Option<Conn>, answer: Result<Conn, ConnectFault>) -> Option<Conn>
+    ensures value { result ≡ first_of winner answer }
+    ensures is_some { is_some result ≡ (is_some winner || is_connection answer) }
+{
+    match winner {
+        Some(conn) => Some(conn),
+        None => match answer {
+            Ok(conn) => Some(conn),
+            Err(_) => None,
+        },
+    }
+}
+
+// The unfinished attempts, and after them the one at the place `made`, if there is one.
+fn with_made<C: Connector>(
+    mut unfinished: Vec<Unfinished<C>>,
+    attempts: &[Attempt],
+    made: usize,
+    connector: &mut C,
+    cx: &mut Context<'_>,
+) -> Result<Vec<Unfinished<C>>, Memory>
+    requires unfinished { All (IsUnfinished C.Connector C.Run.Trial attempts.now) unfinished.items }
+    requires in_time { All (λ x. x.tick ≤ MAX_POLL_TICK) attempts.now }
+    ensures unfinished { IfOk result (λ all. All (IsUnfinished C.Connector C.Run.Trial attempts.now) all.items) }
+    ensures starts { IfOk result (λ all. BeginsFrom C.Connector C.Run.Trial connector.old attempts.now made unfinished.items connector.new all.items) }
+    ensures kept { Keeps cx.old cx.new }
+{
+    if made >= attempts.len() {
+        return Ok(unfinished);
+    }
+    let attempt = begin(attempts[made], connector, cx);
+    match unfinished.push(attempt) {
+        Ok(()) => Ok(unfinished),
+        Err(refused) => {
+            discard(refused);
+            discard(unfinished);
+            Err(Memory)
+        }
+    }
+}
+
+// The attempt, begun at its start.
+fn begin<C: Connector>(attempt: Attempt, connector: &mut C, cx: &mut Context<'_>) -> Unfinished<C>
+    requires { attempt.tick ≤ MAX_POLL_TICK }
+    ensures begins { BeginsAt C.Connector C.Run.Trial connector.old attempt connector.new result }
+    ensures can { CanPoll C.Connector C.Run.Trial result.future }
+    ensures kept { Keeps cx.old cx.new }
+{
+    let mut future = AttemptFuture::new(attempt.place, attempt.ip, attempt.tick);
+    discard(future.poll_attempt(connector, attempt.tick, cx));
+    Unfinished { attempt, future }
+}

@@ -1,0 +1,112 @@
+// A race as a future.
+
+ghost use Rattle.std.specs.Prelude.{◌≡◌, None, IfOk, IfSome, IsSomeAnd};
+ghost use Rattle.std.specs.Borrow.{Lends, sem};
+ghost use Rattle.futures.specs.Poll.{IfReady, OnPending};
+ghost use Rattle.futures.specs.Task.{Covers, Keeps};
+ghost use Rattle.he_race.specs.Recording.{unrecorded};
+ghost use Rattle.he_race.specs.contracts.race.RaceFuture.{the_row};
+ghost use Rattle.he_race.specs.Racing.{RacePolls, fault_of};
+ghost use Rattle.he_race.specs.Turns.{GivesOf, IsLive};
+
+use crate::connector::Connector;
+use crate::drops::{discard, put};
+use crate::faults::{RaceFault, TickFault};
+use crate::live::{Live, Raced, Step};
+use crate::ticker::Ticker;
+use futures::Future;
+use futures::task::{Context, Poll};
+use he_addr::Memory;
+use he_plan::Timeline;
+use std::alloc::{Allocator, Global};
+
+/// A race of attempts over a connector and a ticker (RFC 8305 sections 3 to 5). It is polled until it gives its
+/// result, and answers `RaceFault::Over` from then on.
+#[derive(Drop)]
+pub struct RaceFuture<C: Connector, T: Ticker> {
+    connector: C,
+    ticker: T,
+    live: Option<Live<C>>,
+}
+
+impl<C: Connector, T: Ticker> RaceFuture<C, T> {
+    /// The race of this timeline's settings, policy, host and answers, before its first turn. It looks at nothing
+    /// else of the timeline: what attempts do, and when the client sleeps, is the connector's and the ticker's.
+    pub fn new<A: Allocator>(
+        alloc: Global,
+        timeline: &Timeline<A>,
+        connector: C,
+        ticker: T,
+    ) -> Result<RaceFuture<C, T>, Memory>
+        ensures connector { IfOk result (λ race. race.connector ≡ connector) }
+        ensures ticker { IfOk result (λ race. race.ticker ≡ ticker) }
+        ensures live { IfOk result (λ race. IsSomeAnd race.live (IsLive C.Connector C.Run.Trial)) }
+        ensures recorded { IfOk result (λ race. IsSomeAnd race.live (λ live. live.course.recorded ≡ unrecorded timeline.now)) }
+    {
+        let live = Live::new(alloc, timeline)?;
+        Ok(RaceFuture {
+            connector,
+            ticker,
+            live: Some(live),
+        })
+    }
+
+    /// The ticker.
+    pub fn ticker_mut(&mut self) -> &mut T
+        ensures value { result.now ≡ self.old.ticker }
+        ensures* writes_back { sem 𝓛 (Lends (the_row C.row T.row C.Conn.row C.Run.row) T.row self.entry result (λ w. record self.old { ticker = w })) }
+    {
+        &mut self.ticker
+    }
+}
+
+impl<C: Connector, T: Ticker> Future for RaceFuture<C, T> {
+    type Output = Result<Raced<C::Conn>, RaceFault>;
+
+    ghost use Rattle.std.specs.Prelude.{IfSome};
+    ghost use Rattle.he_race.specs.Turns.{GivesOf, IsLive};
+
+    ghost can_poll = { λ s. IfSome s.live (IsLive C.Connector C.Run.Trial) };
+
+    ghost gives = { λ s r. GivesOf s.live r };
+
+    fn poll(&mut self, cx: &mut Context<'_>) -> Poll<Result<Raced<C::Conn>, RaceFault>>
+        requires { IfSome self.old.live (IsLive C.Connector C.Run.Trial) }
+        ensures value { IfReady result (GivesOf self.old.live) }
+        ensures again { OnPending result (IfSome self.new.live (IsLive C.Connector C.Run.Trial)) }
+        ensures same { OnPending result ((x : _) → GivesOf self.new.live x → GivesOf self.old.live x) }
+        ensures registered { OnPending result (Covers cx.new (λ _. ⊥)) }
+        ensures kept { Keeps cx.old cx.new }
+        ensures over { IfReady result (λ _. self.new.live ≡ None) }
+        ensures turn { RacePolls C.Connector C.Run.Trial T.Ticker self.old result self.new }
+    {
+        let Some(live) = self.live.take() else {
+            return Poll::Ready(Err(RaceFault::Over));
+        };
+        let now = self.ticker.now();
+        match live.step(now, &mut self.connector, cx) {
+            Err(_) => Poll::Ready(Err(RaceFault::Memory)),
+            Ok(Step::Ended(raced)) => Poll::Ready(Ok(raced)),
+            Ok(Step::Waits(live, tick)) => match self.ticker.wake_at(tick, cx) {
+                Ok(()) => {
+                    put(&mut self.live, live);
+                    Poll::Pending
+                }
+                Err(fault) => {
+                    discard(live);
+                    Poll::Ready(Err(fault_of(fault)))
+                }
+            },
+        }
+    }
+}
+
+// What a fault of the ticker is to the race.
+fn fault_of(fault: TickFault) -> RaceFault
+    ensures { result ≡ fault_of fault }
+{
+    match fault {
+        TickFault::Memory => RaceFault::Memory,
+        TickFault::Lost => RaceFault::Clock,
+    }
+}

@@ -1,0 +1,320 @@
+// Races as futures, over tickers that stand still, go back, jump or are lost, and a connector that cannot begin.
+
+use crate::homes::{Given, V4_A, V6_A, discard, first_race, race};
+use futures::Future;
+use futures::task::{Context, Doorbell, Poll, Solo};
+use he_addr::Ip;
+use he_plan::{Mark, Outcome, Outcome3, Timeline};
+use he_race::{
+    ConnectFault, Connector, RaceFault, RaceFuture, Raced, Scripted, ScriptedTrial, TickFault,
+    Ticker, WheelTicker,
+};
+use std::alloc::Global;
+use std::test::Fail;
+
+// Tells these ticks, one at each poll, and then the last again. It is lost where it isn't asked for these, one after
+// the other, or has no memory.
+#[derive(Drop)]
+struct Moments {
+    ticks: [u64; 4],
+    asks: [u64; 4],
+    told: usize,
+    is_full: bool,
+}
+
+fn told_at(ticks: [u64; 4], asks: [u64; 4]) -> Moments {
+    Moments {
+        ticks,
+        asks,
+        told: 0,
+        is_full: false,
+    }
+}
+
+impl Ticker for Moments {
+    ghost use Rattle.std.specs.Prelude.{⊤};
+
+    ghost tells = { λ _ _ _. ⊤ };
+
+    ghost wakes = { λ _ _ _ _. ⊤ };
+
+    fn now(&mut self) -> u64 {
+        self.ticks[self.told.min(3)]
+    }
+
+    fn wake_at(&mut self, tick: u64, cx: &mut Context<'_>) -> Result<(), TickFault> {
+        if self.is_full {
+            return Err(TickFault::Memory);
+        }
+        if tick != self.asks[self.told.min(3)] {
+            return Err(TickFault::Lost);
+        }
+        self.told = self.told.saturating_add(1);
+        let _ = cx.yield_now::<()>();
+        Ok(())
+    }
+}
+
+// Goes on to the next tick asked for whenever it is asked the tick.
+#[derive(Drop)]
+struct Stepping<'a> {
+    wheel: WheelTicker<'a>,
+}
+
+impl<'a> Ticker for Stepping<'a> {
+    ghost use Rattle.std.specs.Prelude.{⊤};
+
+    ghost tells = { λ _ _ _. ⊤ };
+
+    ghost wakes = { λ _ _ _ _. ⊤ };
+
+    fn now(&mut self) -> u64 {
+        let _ = self.wheel.jump();
+        self.wheel.now()
+    }
+
+    fn wake_at(&mut self, tick: u64, cx: &mut Context<'_>) -> Result<(), TickFault> {
+        self.wheel.wake_at(tick, cx)
+    }
+}
+
+// Connects as the script says, but cannot begin at the first `faulty` places.
+#[derive(Drop)]
+struct FailsFirst<'a> {
+    script: Scripted<'a>,
+    faulty: usize,
+}
+
+impl<'a> Connector for FailsFirst<'a> {
+    type Conn = ();
+
+    type Run = ScriptedTrial;
+
+    ghost use Rattle.std.specs.Prelude.{⊤};
+
+    ghost begins = { λ _ _ _ _ _ _. ⊤ };
+
+    fn begin(&mut self, place: usize, ip: Ip, now: u64) -> Result<ScriptedTrial, ConnectFault> {
+        if place < self.faulty {
+            return Err(ConnectFault::Begin);
+        }
+        self.script.begin(place, ip, now)
+    }
+}
+
+// What the future gives within this many polls. It is dropped then.
+fn drive<F: Future>(solo: &Solo, mut future: F, polls: u8) -> Option<F::Output>
+    requires { F.can_poll future }
+{
+    for _ in 0..polls {
+        let mut cx = solo.begin();
+        let polled = future.poll(&mut cx);
+        cx.cancel();
+        if let Poll::Ready(given) = polled {
+            return Some(given);
+        }
+    }
+    None
+}
+
+// A race in short: its result, its attempts, and the pauses and the outcomes of its record.
+#[derive(Clone, Copy, Debug, PartialEq, Eq)]
+struct Short {
+    result: Outcome3,
+    attempts: usize,
+    last: Option<(u64, Mark)>,
+    pauses: usize,
+    pause: Option<(u64, u64)>,
+    v6: Option<Outcome>,
+    v4: Option<Outcome>,
+}
+
+fn summary(raced: &Raced<()>) -> Short {
+    let lines = raced.transcript.attempts();
+    let pauses = raced.recorded.pauses();
+    Short {
+        result: raced.transcript.result(),
+        attempts: lines.len(),
+        last: lines.last().map(|line| (line.tick, line.mark)),
+        pauses: pauses.len(),
+        pause: pauses.last().copied(),
+        v6: raced.recorded.outcome(V6_A),
+        v4: raced.recorded.outcome(V4_A),
+    }
+}
+
+// What is seen of a race.
+#[derive(Clone, Copy, Debug, PartialEq, Eq)]
+enum Seen {
+    Pending,
+    Gave(Short),
+    Failed(RaceFault),
+}
+
+fn seen_of<F: Future<Output = Result<Raced<()>, RaceFault>>>(solo: &Solo, future: F) -> Seen
+    requires { F.can_poll future }
+{
+    let given = drive(solo, future, 40);
+    let seen = seen_in(&given);
+    discard(given);
+    seen
+}
+
+fn seen_in(given: &Option<Result<Raced<()>, RaceFault>>) -> Seen {
+    match given {
+        None => Seen::Pending,
+        Some(Ok(raced)) => Seen::Gave(summary(raced)),
+        Some(Err(fault)) => Seen::Failed(*fault),
+    }
+}
+
+// The first race, over this ticker.
+fn by_ticker<T: Ticker>(alloc: Global, solo: &Solo, ticker: T) -> Result<Seen, Fail> {
+    match race(alloc, &first_race(None)) {
+        Ok(timeline) => {
+            let seen = seen_by(alloc, solo, &timeline, ticker);
+            discard(timeline);
+            seen
+        }
+        Err(fault) => {
+            discard(ticker);
+            Err(fault)
+        }
+    }
+}
+
+fn seen_by<T: Ticker>(
+    alloc: Global,
+    solo: &Solo,
+    timeline: &Timeline,
+    ticker: T,
+) -> Result<Seen, Fail> {
+    let future = RaceFuture::new(alloc, timeline, Scripted::new(timeline), ticker)?;
+    Ok(seen_of(solo, future))
+}
+
+fn won_at(tick: u64, duration: u64, pause: (u64, u64)) -> Seen {
+    Seen::Gave(Short {
+        result: Outcome3::Won(0, tick),
+        attempts: 1,
+        last: Some((20, Mark::Won(tick))),
+        pauses: 1,
+        pause: Some(pause),
+        v6: Some(Outcome::Ok(duration)),
+        v4: None,
+    })
+}
+
+// A ticker that jumps past the finish or past the limit: what the race slept is recorded.
+#[test]
+fn jumps_are_recorded_as_pauses(rt: HostRuntime) -> Result<(), Fail> {
+    let solo = Solo::new(&rt, Doorbell::spinning())?;
+    let alloc: Global = rt.alloc();
+    let late = told_at([0, 20, 500, 500], [20, 21, 0, 0]);
+    assert_eq!(rt; by_ticker(alloc, &solo, late)?, won_at(500, 480, (25, 500)));
+    let past = told_at([0, 20, 40_000, 40_000], [20, 21, 0, 0]);
+    let limit = Seen::Gave(Short {
+        result: Outcome3::Limit(30_000),
+        attempts: 1,
+        last: Some((20, Mark::Cancelled(30_000))),
+        pauses: 1,
+        pause: Some((25, 30_001)),
+        v6: None,
+        v4: None,
+    });
+    assert_eq!(rt; by_ticker(alloc, &solo, past)?, limit);
+    Ok(())
+}
+
+// A ticker that goes back or stands still is asked for the tick after the last turn; one that is lost, or has no
+// memory.
+#[test]
+fn tickers_that_misbehave(rt: HostRuntime) -> Result<(), Fail> {
+    let solo = Solo::new(&rt, Doorbell::spinning())?;
+    let alloc: Global = rt.alloc();
+    let back = told_at([0, 20, 10, 55], [20, 21, 21, 0]);
+    assert_eq!(rt; by_ticker(alloc, &solo, back)?, won_at(55, 35, (25, 55)));
+    let still = told_at([0, 20, 20, 20], [20, 21, 21, 21]);
+    assert_eq!(rt; by_ticker(alloc, &solo, still)?, Seen::Pending);
+    let lost = told_at([0, 20, 21, 55], [0, 0, 0, 0]);
+    assert_eq!(rt;
+        by_ticker(alloc, &solo, lost)?,
+        Seen::Failed(RaceFault::Clock)
+    );
+    let mut full = told_at([0, 20, 21, 55], [0, 0, 0, 0]);
+    full.is_full = true;
+    assert_eq!(rt;
+        by_ticker(alloc, &solo, full)?,
+        Seen::Failed(RaceFault::Memory)
+    );
+    Ok(())
+}
+
+// The race over a wheel, with a connector that cannot begin at the first `faulty` places.
+fn by_wheel(alloc: Global, solo: &Solo, given: &Given, faulty: usize) -> Result<Seen, Fail> {
+    let timeline = race(alloc, given)?;
+    let seen = seen_at(alloc, solo, &timeline, faulty);
+    discard(timeline);
+    seen
+}
+
+fn seen_at(alloc: Global, solo: &Solo, timeline: &Timeline, faulty: usize) -> Result<Seen, Fail> {
+    let wheel = WheelTicker::new(alloc, timeline)?;
+    let connector = FailsFirst {
+        script: Scripted::new(timeline),
+        faulty,
+    };
+    let future = RaceFuture::new(alloc, timeline, connector, Stepping { wheel })?;
+    Ok(seen_of(solo, future))
+}
+
+// The first attempt cannot begin, and the second wins; all cannot.
+#[test]
+fn attempts_that_cannot_begin_fail(rt: HostRuntime) -> Result<(), Fail> {
+    let solo = Solo::new(&rt, Doorbell::spinning())?;
+    let alloc: Global = rt.alloc();
+    let given = first_race(Some(Outcome::Ok(5)));
+    let second = Short {
+        result: Outcome3::Won(1, 275),
+        attempts: 2,
+        last: Some((270, Mark::Won(275))),
+        pauses: 0,
+        pause: None,
+        v6: Some(Outcome::Fail(1)),
+        v4: Some(Outcome::Ok(5)),
+    };
+    assert_eq!(rt; by_wheel(alloc, &solo, &given, 1)?, Seen::Gave(second));
+    let none = Short {
+        result: Outcome3::Exhausted(271),
+        last: Some((270, Mark::Failed(271))),
+        v4: Some(Outcome::Fail(1)),
+        ..second
+    };
+    assert_eq!(rt; by_wheel(alloc, &solo, &given, 2)?, Seen::Gave(none));
+    Ok(())
+}
+
+// A pause over the start: of it the record has what the race slept of it.
+#[test]
+fn pause_over_the_start_is_recorded(rt: HostRuntime) -> Result<(), Fail> {
+    let solo = Solo::new(&rt, Doorbell::spinning())?;
+    let alloc: Global = rt.alloc();
+    let given = Given {
+        limit: 30_000,
+        answers: (90, 10),
+        v6: Some(Outcome::Ok(20)),
+        v4: None,
+        pause: Some((30, 400)),
+    };
+    let slept = Short {
+        result: Outcome3::Won(0, 420),
+        attempts: 1,
+        last: Some((400, Mark::Won(420))),
+        pauses: 1,
+        pause: Some((60, 400)),
+        v6: Some(Outcome::Ok(20)),
+        v4: None,
+    };
+    assert_eq!(rt; by_wheel(alloc, &solo, &given, 0)?, Seen::Gave(slept));
+    Ok(())
+}
