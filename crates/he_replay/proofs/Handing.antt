@@ -1,5 +1,5 @@
 -- What the workers handed back: a fate of each job, and of each attempt of a race.
-use Rattle.std.proofs.Common.{get_or, ◌≡◌, ◌⊎◌, ℕ, zero, suc, ◌+◌, ◌-◌, ◌<◌, ◌≤◌, Bool, true, false, cond, set, eq-eqb, ne_eqb, List, [], ◌∷◌, ◌++◌, length, length-take, length-drop, map, take, drop, replicate, Option, Some, None, Result, Ok, Err, IfOk, refl, sym, subst, ap, ◌∙◌, inl, inr, ⊎_elim, arith}
+use Rattle.std.proofs.Common.{get_or, ◌≡◌, ◌⊎◌, ℕ, zero, suc, ◌+◌, ◌-◌, ◌<◌, ◌≤◌, Bool, cond, set, ne_eqb, List, [], ◌∷◌, ◌++◌, length, length-take, length-drop, map, take, drop, replicate, Option, Some, Result, Ok, Err, IfOk, refl, sym, subst, ap, ◌∙◌, inl, inr, ⊎_elim, arith}
 use Rattle.std.specs.List.{All, AllZip, Contains, slice_get, slice_range}
 use Rattle.std.proofs.lemmas.Bool.{cases_eq, cases_lt, cond-true, cond-false, lt-ltb, le-ltb}
 use Rattle.std.proofs.lemmas.List.{length-set, take_all, take_more}
@@ -18,10 +18,10 @@ use Rattle.he_plan.specs.Transcript.{AreTold, IsTranscript, Report}
 use Rattle.he_plan.proofs.Few.{plan-few}
 use Rattle.he_replay.specs.declared.attempting.Done.{Done}
 use Rattle.he_replay.specs.Batch.{HasTakenAll, HasWinners, IsOfSuccess, IsWinnerOf, batch_jobs, job_at, job_count}
-use Rattle.he_replay.specs.Working.{AreFates, AreHonest, AreHonestTold, AreSettled, IsHonest, IsHonestAt, IsHeld, IsKept, IsLater, IsRun, IsSkipped, IsTried, IsWorked, filled}
+use Rattle.he_replay.specs.Working.{AreFates, AreHonestTold, AreSettled, IsHonestAt, IsKept, IsWorked, filled}
 use Rattle.he_replay.proofs.Pooling.{honest_at_later, later_then, looked_later}
 use Rattle.he_replay.proofs.Winning.{settled}
-use Rattle.he_replay.proofs.Trying.{job_at-first, jobs-all, jobs-le, jobs-more}
+use Rattle.he_replay.proofs.Trying.{job_at-first, jobs-le, jobs-more}
 
 abbrev job_of : Done → ℕ
 job_of d = d.job

@@ -1,5 +1,5 @@
 -- What the notes of a pass tell as they grow.
-use Rattle.std.proofs.Common.{◌≡◌, ℕ, ◌+◌, ◌<◌, ◌≤◌, ◌/◌, ◌%◌, Bool, true, false, cond, nat_eq, eq-eqb, min, List, [], ◌∷◌, ◌++◌, map, Some, refl, sym, subst, ap, ◌∙◌, inl, inr, ⊎_elim, arith}
+use Rattle.std.proofs.Common.{◌≡◌, ℕ, ◌<◌, ◌≤◌, ◌/◌, ◌%◌, Bool, true, cond, nat_eq, eq-eqb, min, List, [], ◌∷◌, ◌++◌, map, Some, refl, sym, subst, ap, ◌∙◌, inl, inr, ⊎_elim, arith}
 use Rattle.std.specs.Prelude.{All, slice_get, slice_index_or, option_map}
 use Rattle.std.proofs.lemmas.List.{map-append}
 use Rattle.std.proofs.lemmas.Option.{slice_get-map}
@@ -16,7 +16,7 @@ use Rattle.he_plan.specs.Race.{Race}
 use Rattle.he_replay.specs.Batch.{IsOfSuccess, batch_jobs, job_at}
 use Rattle.he_replay.specs.Working.{AreHonest, IsHonest, IsHonestAt, IsLater, IsRun, IsSkipped, IsSound}
 use Rattle.he_replay.specs.declared.attempting.Done.{Done}
-use Rattle.he_board.proofs.Lists.{least_of-append, least_of-le_top}
+use Rattle.he_board.proofs.Lists.{least_of-append}
 use Rattle.he_plan.proofs.Lawful.{plan-one}
 
 pub least_of-falls : (r : ℕ) (xs ys : List (ℕ × ℕ)) → least_of r (xs ++ ys) ≤ least_of r xs

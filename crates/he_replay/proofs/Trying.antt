@@ -1,6 +1,6 @@
 -- The numbers of jobs, which of them are known to be taken, and the plans of races.
-use Rattle.std.proofs.Common.{◌≡◌, ℕ, zero, suc, ◌+◌, ◌-◌, ◌*◌, ◌<◌, ◌≤◌, Bool, true, false, cond, inl, inr, set, List, [], ◌∷◌, ◌++◌, length, take, get_or, replicate, Option, Some, None, IfSome, refl, sym, subst, ap, ◌∙◌, arith}
-use Rattle.std.specs.List.{All, AllZip, slice_get}
+use Rattle.std.proofs.Common.{◌≡◌, ℕ, zero, suc, ◌+◌, ◌-◌, ◌*◌, ◌<◌, ◌≤◌, inl, inr, set, List, [], ◌∷◌, ◌++◌, length, take, get_or, replicate, Option, Some, None, IfSome, refl, sym, subst, ap, ◌∙◌, arith}
+use Rattle.std.specs.List.{All, slice_get}
 use Rattle.std.proofs.lemmas.Bool.{cond-true, cond-false, lt-ltb, le-ltb, cases_lt}
 use Rattle.std.proofs.lemmas.List.{take_all, take_more}
 use Rattle.std.proofs.lemmas.Option.{get_or_from_slice_get, slice_get-get_or, slice_get_within}

@@ -1,5 +1,5 @@
 -- Which offer wins, and what is told of a race's attempts, once all workers are back.
-use Rattle.std.proofs.Common.{◌≡◌, ◌≢◌, ◌⊎◌, ℕ, zero, suc, ◌+◌, ◌*◌, ◌<◌, ◌≤◌, ◌/◌, ◌%◌, Bool, true, false, cond, eq-eqb, ne_eqb, List, [], ◌∷◌, length, map, take, drop, Option, Some, None, refl, sym, subst, ap, ◌∙◌, inl, inr, ⊎_elim, arith}
+use Rattle.std.proofs.Common.{◌≡◌, ℕ, zero, suc, ◌<◌, ◌≤◌, ◌/◌, ◌%◌, Bool, cond, eq-eqb, ne_eqb, List, [], ◌∷◌, length, map, Option, Some, None, refl, sym, subst, ap, ◌∙◌, inl, inr, ⊎_elim, arith}
 use Rattle.std.specs.List.{All, AllZip, Contains, slice_get}
 use Rattle.std.specs.Option.{option_map}
 use Rattle.std.proofs.lemmas.Bool.{cases_eq, cases_lt}
@@ -20,8 +20,8 @@ use Rattle.he_plan.specs.Timeline.{IsRace}
 use Rattle.he_plan.specs.Transcript.{AreTold, IsToldFate}
 use Rattle.he_plan.proofs.Finishing.{success-in_range}
 use Rattle.he_plan.proofs.Lawful.{plan-one}
-use Rattle.he_replay.specs.Batch.{IsOfSuccess, IsWinnerOf}
-use Rattle.he_replay.specs.Working.{AreHonestTold, IsHonest, IsRun, IsSkipped}
+use Rattle.he_replay.specs.Batch.{IsOfSuccess}
+use Rattle.he_replay.specs.Working.{AreHonestTold, IsHonest}
 
 some_one : {X : Type 0} (x y : X) → Some x ≡ Some y → x ≡ y
 some_one {X} x y e = cc

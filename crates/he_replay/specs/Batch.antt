@@ -1,5 +1,5 @@
 -- Which jobs a batch of races has, and what the pass of a batch tells at its end.
-use Rattle.std.specs.Prelude.{ℕ, ◌≡◌, ◌+◌, ◌-◌, ◌<◌, ◌/◌, ◌%◌, if◌then◌else◌, List, [], ◌∷◌, map, All, Option, Some, count_by, nat_lt, slice_get}
+use Rattle.std.specs.Prelude.{ℕ, ◌≡◌, ◌+◌, ◌-◌, ◌/◌, ◌%◌, if◌then◌else◌, List, [], ◌∷◌, map, Option, Some, count_by, nat_lt, slice_get}
 use Rattle.he_addr.specs.Ip.{is_usable}
 use Rattle.he_board.specs.declared.limits.TheConstants.{PLACES}
 use Rattle.he_board.specs.declared.view.View.{View}

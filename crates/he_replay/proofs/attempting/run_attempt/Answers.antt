@@ -1,8 +1,7 @@
-use Rattle.std.proofs.Common.{◌≡◌, ◌∙◌, List, sym, subst, ap}
+use Rattle.std.proofs.Common.{sym, subst, ap}
 use Rattle.std.specs.Prelude.{All}
 use Rattle.he_board.specs.declared.view.View.{View}
 use Rattle.he_board.specs.Passes.{notes}
-use Rattle.he_plan.specs.Race.{Race}
 use Rattle.he_replay.specs.Batch.{IsOfSuccess}
 use Rattle.he_replay.proofs.Pooling.{looked_later, offered_later, later_then, skipped_honest, success_honest, other_honest, success_real}
 use Rattle.he_replay.proofs.attempting.run_attempt.Goals as goal

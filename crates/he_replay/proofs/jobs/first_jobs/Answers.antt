@@ -1,4 +1,4 @@
-use Rattle.std.proofs.Common.{List, arith, ◌≡◌, ◌≤◌, length, take, ap, subst}
+use Rattle.std.proofs.Common.{List, arith, ◌≡◌, ◌≤◌, take, subst}
 use Rattle.std.specs.List.{All}
 use Rattle.std.proofs.lemmas.List.{take_all}
 use Rattle.he_board.specs.declared.limits.TheConstants.{PLACES}

@@ -1,4 +1,4 @@
-use Rattle.std.proofs.Common.{arith, ap, ◌≡◌, ◌∙◌, ◌+◌, ◌-◌, ◌/◌, ◌≤◌}
+use Rattle.std.proofs.Common.{arith, ap, ◌≡◌, ◌∙◌, ◌-◌, ◌/◌}
 use borrow.Author.Rules.{rules, lives}
 use Rattle.he_board.specs.declared.view.View.{View}
 use Rattle.he_board.specs.Passes.{notes}

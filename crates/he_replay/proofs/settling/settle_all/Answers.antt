@@ -1,4 +1,4 @@
-use Rattle.std.proofs.Common.{List, ℕ, subst, ◌+◌, arith, get_or, ◌≡◌, ◌<◌, ◌≤◌, ◌∙◌, sym, ap, refl, length, set, Some, None}
+use Rattle.std.proofs.Common.{List, ℕ, subst, ◌+◌, arith, ◌≡◌, sym, length}
 use Rattle.std.proofs.lemmas.Option.{slice_get-get_or}
 use Rattle.std.specs.List.{All}
 use Rattle.he_replay.specs.Batch.{IsOfSuccess}
@@ -6,7 +6,7 @@ use Rattle.he_board.specs.Passes.{notes}
 use Rattle.he_plan.specs.Transcript.{Report}
 use Rattle.he_replay.specs.Working.{AreSettled}
 use Rattle.he_replay.proofs.Handing.{some_race, fates_kept, kept_same, looked_kept, settled_more, settled_none}
-use Rattle.he_replay.proofs.Trying.{plans-at, plans-length, plans-set}
+use Rattle.he_replay.proofs.Trying.{plans-length}
 use Rattle.he_replay.proofs.settling.settle_all.Goals as goal
 
 pub settle_race-requires-clause-fates : goal.settle_race-requires-clause-fates

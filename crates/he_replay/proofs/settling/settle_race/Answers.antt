@@ -1,7 +1,6 @@
-use Rattle.std.proofs.Common.{arith, get_or, ◌≡◌, ◌≤◌, ◌∙◌, sym, Some}
+use Rattle.std.proofs.Common.{arith, ◌∙◌, sym}
 use Rattle.std.proofs.lemmas.Option.{slice_get-get_or}
 use Rattle.he_board.specs.Passes.{notes}
-use Rattle.he_plan.specs.Race.{Race}
 use Rattle.he_replay.proofs.Handing.{enough, if_ok_all, race_settled, told_of, won_by}
 use Rattle.he_replay.proofs.settling.settle_race.Goals as goal
 

@@ -1,6 +1,5 @@
-use Rattle.std.proofs.Common.{arith, get_or, ◌≡◌, ◌<◌, ◌≤◌, ◌+◌, ◌-◌, take}
-use Rattle.he_replay.specs.Batch.{batch_jobs}
-use Rattle.he_replay.proofs.Trying.{AreJobs, are_jobs, first_is, first_within, jobs_le}
+use Rattle.std.proofs.Common.{arith, ◌+◌}
+use Rattle.he_replay.proofs.Trying.{are_jobs, first_is, first_within, jobs_le}
 use Rattle.he_replay.proofs.working.jobs_of_race.Goals as goal
 
 pub bounds-batch-number : goal.bounds-batch-number

@@ -1,10 +1,7 @@
-use Rattle.std.proofs.Common.{rules, ◌≡◌, ◌<◌, ◌∙◌, ap, List, Some, sym, subst, ℕ, slice_get}
-use Rattle.std.specs.Prelude.{All, IfSome}
+use Rattle.std.proofs.Common.{List, sym, subst, ℕ}
+use Rattle.std.specs.Prelude.{All}
 use Rattle.std.proofs.lemmas.Option.{slice_get-get_or}
 use Rattle.he_board.specs.Passes.{notes}
-use Rattle.he_plan.specs.declared.attempts.Attempt.{Attempt}
-use Rattle.he_plan.specs.Attempts.{AreAttempts}
-use Rattle.he_plan.specs.Race.{Race}
 use Rattle.he_replay.specs.Batch.{IsOfSuccess}
 use Rattle.he_replay.proofs.Pooling.{known_sound, taken_sound, honest_at, planned_at}
 use Rattle.he_replay.proofs.working.try_job.Goals as goal

@@ -1,4 +1,4 @@
-use Rattle.std.proofs.Common.{arith, rules, ap, ◌∙◌, ◌≡◌, ◌<◌, ◌≤◌, ◌+◌, length, None}
+use Rattle.std.proofs.Common.{arith, ◌≡◌, ◌<◌, length}
 use Rattle.he_board.specs.Passes.{notes}
 use Rattle.he_replay.proofs.Trying.{more-end, more-then, plans-length, trying_held, trying_next, trying_tried}
 use Rattle.he_replay.proofs.working.try_race.Goals as goal
