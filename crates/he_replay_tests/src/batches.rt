@@ -142,7 +142,9 @@ fn run_timelines<R: Threads + Sync, A: Allocator + Copy + Send + Sync>(
     if timelines.len() != RACES || batch_jobs(timelines) > JOBS || workers < 1 || workers > 64 {
         return None;
     }
-    let (board, pass) = Board::new(alloc, JOBS, RACES).ok()?;
+    let Ok((board, pass)) = Board::new(alloc, JOBS, RACES) else {
+        return None;
+    };
     let (pass, result) = replay_batch(rt, alloc, timelines, &board, pass, workers, gate);
     let is_done = result.is_ok();
     let is_right = is_written(alloc, result);
