@@ -3,13 +3,14 @@
 use he_replay::{ReplayFault, orders, replay};
 use he_stream::{FromReader, ToWriter};
 use std::alloc::AllocError;
+use std::thread::Threads;
 use std::{fs, io};
 use stream_fakes::{FakeReader, FakeWriter};
 
 // How many bytes a read gives at most.
 const STEPS: [usize; 3] = [1, 7, usize::MAX];
 
-const WORKERS: [u16; 3] = [1, 2, 7];
+const WORKERS: [u16; 4] = [1, 2, 7, 64];
 
 /// How many runs there were, and how many of them came out otherwise than their files say.
 #[derive(Clone, Copy)]
@@ -45,7 +46,12 @@ impl Counts {
 /// # Errors
 ///
 /// A file of the example that cannot be read, a line that cannot be written, and want of memory.
-pub fn run_example(rt: &HostRuntime, name: &str, counts: &mut Counts) -> io::Result<()> {
+pub fn run_example<R: Threads + Sync>(
+    rt: &HostRuntime,
+    threads: &R,
+    name: &str,
+    counts: &mut Counts,
+) -> io::Result<()> {
     let text = read_beside(rt, name, "timeline")?.unwrap_or(Vec::new(rt.alloc()));
     let fault = read_beside(rt, name, "fault")?.unwrap_or(Vec::new(rt.alloc()));
     let transcript = read_beside(rt, name, "transcript")?;
@@ -59,7 +65,7 @@ pub fn run_example(rt: &HostRuntime, name: &str, counts: &mut Counts) -> io::Res
         )?;
     }
     if let Some(transcript) = transcript {
-        run_replay(rt, name, &text, &transcript, &fault, counts)?;
+        run_replay(rt, threads, name, &text, &transcript, &fault, counts)?;
     }
     if let Some(order) = order {
         run_orders(rt, name, &text, &order, &fault, counts)?;
@@ -67,8 +73,9 @@ pub fn run_example(rt: &HostRuntime, name: &str, counts: &mut Counts) -> io::Res
     Ok(())
 }
 
-fn run_replay(
+fn run_replay<R: Threads + Sync>(
     rt: &HostRuntime,
+    threads: &R,
     name: &str,
     text: &[u8],
     wanted: &[u8],
@@ -79,7 +86,7 @@ fn run_replay(
         for workers in WORKERS {
             let mut input = FromReader::new(FakeReader::new(text, step));
             let mut output = ToWriter::new(FakeWriter::new(rt.alloc()));
-            let ended = replay(rt, rt.alloc(), &mut input, &mut output, workers);
+            let ended = replay(threads, rt.alloc(), &mut input, &mut output, workers);
             let is_same = output.writer().held() == wanted && tells(rt, ended, fault)?;
             counts.count(rt, name, "the transcript differs", is_same)?;
         }

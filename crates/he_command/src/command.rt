@@ -23,7 +23,7 @@ const REPLAY_ABOUT: &str = "Reads timelines of races and writes what happens in 
 const ORDER_ABOUT: &str = "Reads timelines of races and writes the order of their addresses";
 
 const WORKERS_HELP: &str =
-    "A number of workers, 1 to 64; the races run one after the other as yet, whatever it is";
+    "The most workers that share the races, 1 to 64; the output is the same for each number";
 
 const EXIT_STATUS: &str = "\
 Exit status: 0 when all is done; 1 after a fault, with one line on standard error;

@@ -13,6 +13,7 @@ use he_replay::{ReplayFault, orders, replay};
 use he_stream::{InputStream, OutputStream, write_whole};
 use std::alloc::Global;
 use std::io::Write;
+use std::thread::Threads;
 
 /// The exit status when all was done.
 pub const DONE: u8 = 0;
@@ -26,8 +27,8 @@ pub const USAGE: u8 = 2;
 /// Runs the command line `words`, of which the first is the program's name, and answers the exit
 /// status. Output and help that was asked for go to `output`; what is wrong goes to `faults`. What
 /// cannot be written to `faults` leaves the status as it is.
-pub fn run_words<'a, T, I: InputStream, O: OutputStream, F: Write>(
-    rt: &T,
+pub fn run_words<'a, R: Threads + Sync, I: InputStream, O: OutputStream, F: Write>(
+    rt: &R,
     alloc: Global,
     words: &'a [&'a str],
     input: &mut I,
@@ -43,8 +44,8 @@ pub fn run_words<'a, T, I: InputStream, O: OutputStream, F: Write>(
 }
 
 /// Runs what a command line asks for, and answers the exit status.
-pub fn run_line<T, I: InputStream, O: OutputStream, F: Write>(
-    rt: &T,
+pub fn run_line<R: Threads + Sync, I: InputStream, O: OutputStream, F: Write>(
+    rt: &R,
     alloc: Global,
     line: Result<Action, Error>,
     input: &mut I,
@@ -63,8 +64,8 @@ pub fn run_line<T, I: InputStream, O: OutputStream, F: Write>(
 }
 
 // Runs an action.
-fn run_action<T, I: InputStream, O: OutputStream>(
-    rt: &T,
+fn run_action<R: Threads + Sync, I: InputStream, O: OutputStream>(
+    rt: &R,
     alloc: Global,
     action: Action,
     input: &mut I,

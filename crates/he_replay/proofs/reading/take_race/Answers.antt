@@ -1,6 +1,6 @@
 use Rattle.std.proofs.Common.{refl, drop}
 use Rattle.he_replay.proofs.Lines.{told_fault}
-use Rattle.he_replay.proofs.output.take_race.Goals as goal
+use Rattle.he_replay.proofs.reading.take_race.Goals as goal
 
 pub returns-in_default : goal.returns-in_default
 returns-in_default g c =
