@@ -1,20 +1,12 @@
 //! The command line.
 ghost use Rattle.std.specs.Prelude.{◌≤◌, IfOk};
-ghost use Rattle.he_command.specs.Command.{HasWorkers};
+ghost use Rattle.he_replay.specs.Actions.{HasWorkers};
 
 use crate::limits::{DEFAULT_WORKERS, DEFAULT_WORKERS_TEXT};
 use clap::{Arg, ArgMatches, Command, Error, value_parser};
+use he_replay::Action;
 use he_replay::limits::{LEAST_WORKERS, MOST_WORKERS};
 use std::alloc::{AllocError, Global};
-
-/// What the command line asks for.
-#[derive(Clone, Copy)]
-pub enum Action {
-    /// Replay the timelines of the input.
-    Replay { workers: u16 },
-    /// Write the orders of the addresses of the input's races.
-    Order,
-}
 
 const ABOUT: &str = "Replays Happy Eyeballs races (RFC 8305) and orders their addresses (RFC 6724)";
 

@@ -1,3 +1,4 @@
+pub mod Actions
 pub mod Batch
 pub mod Known
 pub mod Limits

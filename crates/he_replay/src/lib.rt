@@ -1,6 +1,7 @@
 //! Replaying races: texts of timelines read from an input, and what happens in each written to an output.
 //!
-//! `replay` writes the transcript of each race, `orders` the order of its addresses (RFC 6724).
+//! `replay` writes the transcript of each race, `orders` the order of its addresses (RFC 6724), and `run_action` does one of
+//! the two by name.
 //!
 //! Proved, whatever the input and the output (by `specs/Stream` and `specs/Output`): after success and after a fault of the
 //! text, what was written and flushed is the transcripts, or the orders, of the races up to the first fault, the line of a
@@ -22,6 +23,7 @@
 //! `replay` goes through `replay_batch`, and any speed.
 #![tactic(auto)]
 
+pub mod actions;
 mod attempting;
 pub mod batching;
 pub mod content;
@@ -41,6 +43,7 @@ mod sharing;
 pub mod stream;
 mod working;
 
+pub use actions::{Action, run_action};
 pub use batching::replay_batch;
 pub use fault::ReplayFault;
 pub use gate::{Gate, NoGate};
