@@ -5,6 +5,8 @@ use he_command::run_words;
 use he_stream::{FromReader, ToWriter};
 use std::alloc::Global;
 use std::io;
+use std::mem::drop;
+use std::thread::Threads;
 use stream_fakes::{FakeReader, FakeWriter};
 
 const TEXT: &[u8] = b"race 1
@@ -237,15 +239,31 @@ fn writer_of(alloc: Global, streams: Streams) -> FakeWriter {
 }
 
 // Whether the line of this row ends as it must, with a writer of faults that takes so many bytes.
-fn is_right(rt: &HostRuntime, row: &Row, faults_room: usize) -> bool {
+fn is_right<R: Threads + Sync>(
+    rt: &HostRuntime,
+    threads: &R,
+    row: &Row,
+    faults_room: usize,
+) -> bool {
     let (words, text, streams, status, output, fault) = row;
     let mut input = FromReader::new(reader_of(text, *streams));
     let mut written = ToWriter::new(writer_of(rt.alloc(), *streams));
     let mut faults = FakeWriter::new(rt.alloc()).with_room(faults_room);
-    let got = run_words(rt, rt.alloc(), words, &mut input, &mut written, &mut faults);
+    let got = run_words(
+        threads,
+        rt.alloc(),
+        words,
+        &mut input,
+        &mut written,
+        &mut faults,
+    );
     let is_told = faults_room == 0 || faults.held().starts_with(fault);
     let is_quiet = *status != 0 || faults.calls() == 0;
-    got == *status && written.writer().held().starts_with(output) && is_told && is_quiet
+    let is_written = written.writer().held().starts_with(output);
+    drop(input);
+    drop(written);
+    drop(faults);
+    got == *status && is_written && is_told && is_quiet
 }
 
 /// Runs each command line of the table, once more with a writer of faults that takes nothing, and counts the runs. A
@@ -254,12 +272,12 @@ fn is_right(rt: &HostRuntime, row: &Row, faults_room: usize) -> bool {
 /// # Errors
 ///
 /// A line that cannot be written.
-pub fn run_command_lines(rt: &HostRuntime) -> io::Result<Counts> {
+pub fn run_command_lines<R: Threads + Sync>(rt: &HostRuntime, threads: &R) -> io::Result<Counts> {
     let mut counts = Counts { ran: 0, differ: 0 };
     for (at, row) in ROWS.iter().enumerate() {
         let name = format!(in rt.alloc(); "command line {at}")?;
         for faults_room in [usize::MAX, 0] {
-            let is_same = is_right(rt, row, faults_room);
+            let is_same = is_right(rt, threads, row, faults_room);
             counts.count(rt, name.as_str(), "it ends otherwise", is_same)?;
         }
     }

@@ -3,13 +3,15 @@
 use he_replay::{ReplayFault, orders, replay};
 use he_stream::{FromReader, ToWriter};
 use std::alloc::AllocError;
+use std::mem::drop;
+use std::thread::Threads;
 use std::{fs, io};
 use stream_fakes::{FakeReader, FakeWriter};
 
 // How many bytes a read gives at most.
 const STEPS: [usize; 3] = [1, 7, usize::MAX];
 
-const WORKERS: [u16; 3] = [1, 2, 7];
+const WORKERS: [u16; 4] = [1, 2, 7, 64];
 
 /// How many runs there were, and how many of them came out otherwise than their files say.
 #[derive(Clone, Copy)]
@@ -45,12 +47,34 @@ impl Counts {
 /// # Errors
 ///
 /// A file of the example that cannot be read, a line that cannot be written, and want of memory.
-pub fn run_example(rt: &HostRuntime, name: &str, counts: &mut Counts) -> io::Result<()> {
+pub fn run_example<R: Threads + Sync>(
+    rt: &HostRuntime,
+    threads: &R,
+    name: &str,
+    counts: &mut Counts,
+) -> io::Result<()> {
     let text = read_beside(rt, name, "timeline")?.unwrap_or(Vec::new(rt.alloc()));
     let fault = read_beside(rt, name, "fault")?.unwrap_or(Vec::new(rt.alloc()));
-    let transcript = read_beside(rt, name, "transcript")?;
-    let order = read_beside(rt, name, "order")?;
-    if transcript.is_none() && order.is_none() {
+    run_both(rt, threads, name, &text, &fault, counts)
+}
+
+// Runs the text through `replay` and `orders`, where what they write stands beside it.
+fn run_both<R: Threads + Sync>(
+    rt: &HostRuntime,
+    threads: &R,
+    name: &str,
+    text: &[u8],
+    fault: &[u8],
+    counts: &mut Counts,
+) -> io::Result<()> {
+    let ran = counts.ran;
+    if let Some(transcript) = read_beside(rt, name, "transcript")? {
+        run_replay(rt, threads, name, text, &transcript, fault, counts)?;
+    }
+    if let Some(order) = read_beside(rt, name, "order")? {
+        run_orders(rt, name, text, &order, fault, counts)?;
+    }
+    if counts.ran == ran {
         counts.count(
             rt,
             name,
@@ -58,17 +82,12 @@ pub fn run_example(rt: &HostRuntime, name: &str, counts: &mut Counts) -> io::Res
             false,
         )?;
     }
-    if let Some(transcript) = transcript {
-        run_replay(rt, name, &text, &transcript, &fault, counts)?;
-    }
-    if let Some(order) = order {
-        run_orders(rt, name, &text, &order, &fault, counts)?;
-    }
     Ok(())
 }
 
-fn run_replay(
+fn run_replay<R: Threads + Sync>(
     rt: &HostRuntime,
+    threads: &R,
     name: &str,
     text: &[u8],
     wanted: &[u8],
@@ -79,8 +98,11 @@ fn run_replay(
         for workers in WORKERS {
             let mut input = FromReader::new(FakeReader::new(text, step));
             let mut output = ToWriter::new(FakeWriter::new(rt.alloc()));
-            let ended = replay(rt, rt.alloc(), &mut input, &mut output, workers);
-            let is_same = output.writer().held() == wanted && tells(rt, ended, fault)?;
+            let ended = replay(threads, rt.alloc(), &mut input, &mut output, workers);
+            let is_written = output.writer().held() == wanted;
+            drop(input);
+            drop(output);
+            let is_same = tells(rt, ended, fault)? && is_written;
             counts.count(rt, name, "the transcript differs", is_same)?;
         }
     }
@@ -99,7 +121,10 @@ fn run_orders(
         let mut input = FromReader::new(FakeReader::new(text, step));
         let mut output = ToWriter::new(FakeWriter::new(rt.alloc()));
         let ended = orders(rt.alloc(), &mut input, &mut output);
-        let is_same = output.writer().held() == wanted && tells(rt, ended, fault)?;
+        let is_written = output.writer().held() == wanted;
+        drop(input);
+        drop(output);
+        let is_same = tells(rt, ended, fault)? && is_written;
         counts.count(rt, name, "the order differs", is_same)?;
     }
     Ok(())

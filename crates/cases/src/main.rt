@@ -3,7 +3,7 @@
 //! An example is a text of timelines, `NAME.timeline`. Beside it stand what `replay` writes for it,
 //! `NAME.transcript`, what `orders` writes, `NAME.order`, or both. `NAME.fault` is there where the text is faulty:
 //! the line that the program prints after either of the two. Each example is run in pieces of 1 byte, of 7 bytes and
-//! whole, and `replay` with 1, 2 and 7 workers. Command lines are run beside them, over streams that may fail
+//! whole, and `replay` with 1, 2, 7 and 64 workers. Command lines are run beside them, over streams that may fail
 //! (`command_lines.rt`). A line names each run that differs, and the last two say how many there were. Nothing is
 //! proved of this program but that it is safe and ends.
 #![tactic(auto)]
@@ -19,12 +19,12 @@ fn main(rt: HostRuntime) -> io::Result<()> {
     let mut counts = Counts { ran: 0, differ: 0 };
     let names = names(&rt)?;
     for name in names.as_slice() {
-        run_example(&rt, name.as_str(), &mut counts)?;
+        run_example(&rt, &rt, name.as_str(), &mut counts)?;
     }
     let examples = names.len();
     let Counts { ran, differ } = counts;
     println!(rt; "{examples} examples: {ran} runs, {differ} differ")?;
-    let Counts { ran, differ } = run_command_lines(&rt)?;
+    let Counts { ran, differ } = run_command_lines(&rt, &rt)?;
     println!(rt; "{ran} runs of command lines, {differ} differ")
 }
 

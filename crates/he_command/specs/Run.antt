@@ -4,22 +4,15 @@ use Rattle.clap.specs.Values.{kind_of}
 use Rattle.clap.specs.declared.error.Error.{Error}
 use Rattle.clap.specs.declared.error.kind.ErrorKind.{ErrorKind}
 use Rattle.clap.specs.declared.error.kind.ErrorKind.TheVariants as kinds
-use Rattle.he_replay.specs.Stream.{Replays, Orders}
+use Rattle.he_replay.specs.Actions.{RunsAction}
+use Rattle.he_replay.specs.declared.actions.Action.{Action}
 use Rattle.he_replay.specs.declared.fault.ReplayFault.{ReplayFault}
-use Rattle.he_command.specs.declared.command.Action.{Action}
-use Rattle.he_command.specs.declared.command.Action.TheVariants.{Replay, Order}
 use Rattle.he_command.specs.declared.run.TheConstants.{DONE, FAULT, USAGE}
 
 -- the status that tells how a command ended
 abbrev pub status_of : Result (Unit {0}) ReplayFault → ℕ
 status_of (Ok done) = DONE
 status_of (Err fault) = FAULT
-
--- what each action does. Given: what the input gave, and whether it broke off after that; Whole and Part: the text of which
--- all was put into the output and then flushed, or a first part until that failed; Kept: nothing was put into the output
-abbrev pub RunsAction : Action → (List ℕ → Bool → Type 0) → (List ℕ → Type 0) → (List ℕ → Type 0) → Type 0 → Result (Unit {0}) ReplayFault → Type 0
-RunsAction (Replay workers) Given Whole Part Kept result = Replays Given Whole Part Kept result
-RunsAction Order Given Whole Part Kept result = Orders Given Whole Part Kept result
 
 -- help or the version was asked for
 abbrev pub IsHelp : ErrorKind → Type 0

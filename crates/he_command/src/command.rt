@@ -1,20 +1,12 @@
 //! The command line.
 ghost use Rattle.std.specs.Prelude.{◌≤◌, IfOk};
-ghost use Rattle.he_command.specs.Command.{HasWorkers};
+ghost use Rattle.he_replay.specs.Actions.{HasWorkers};
 
 use crate::limits::{DEFAULT_WORKERS, DEFAULT_WORKERS_TEXT};
 use clap::{Arg, ArgMatches, Command, Error, value_parser};
+use he_replay::Action;
 use he_replay::limits::{LEAST_WORKERS, MOST_WORKERS};
 use std::alloc::{AllocError, Global};
-
-/// What the command line asks for.
-#[derive(Clone, Copy)]
-pub enum Action {
-    /// Replay the timelines of the input.
-    Replay { workers: u16 },
-    /// Write the orders of the addresses of the input's races.
-    Order,
-}
 
 const ABOUT: &str = "Replays Happy Eyeballs races (RFC 8305) and orders their addresses (RFC 6724)";
 
@@ -23,7 +15,7 @@ const REPLAY_ABOUT: &str = "Reads timelines of races and writes what happens in 
 const ORDER_ABOUT: &str = "Reads timelines of races and writes the order of their addresses";
 
 const WORKERS_HELP: &str =
-    "A number of workers, 1 to 64; the races run one after the other as yet, whatever it is";
+    "The most workers that share the races, 1 to 64; the output is the same for each number";
 
 const EXIT_STATUS: &str = "\
 Exit status: 0 when all is done; 1 after a fault, with one line on standard error;

@@ -16,5 +16,5 @@ pub mod command;
 pub mod limits;
 pub mod run;
 
-pub use command::{Action, read_words};
+pub use command::read_words;
 pub use run::{DONE, FAULT, USAGE, report, report_not_text, run_line, run_words};

@@ -3,16 +3,17 @@ ghost use Rattle.std.specs.Prelude.{◌≡◌, IfOk, Result};
 ghost use Rattle.clap.specs.Values.{kind_of};
 ghost use Rattle.he_stream.specs.Input.{Gives};
 ghost use Rattle.he_stream.specs.Output.{PutsPart, PutsWhole};
-ghost use Rattle.he_command.specs.Command.{HasWorkers};
-ghost use Rattle.he_command.specs.Run.{AnswersLine, RunsAction, RunsLine, Shows, status_of};
+ghost use Rattle.he_replay.specs.Actions.{HasWorkers};
+ghost use Rattle.he_command.specs.Run.{AnswersLine, RunsLine, Shows, status_of};
 
-use crate::command::{Action, read_words};
+use crate::command::read_words;
 use clap::Error;
 use clap::error::ErrorKind;
-use he_replay::{ReplayFault, orders, replay};
+use he_replay::{Action, ReplayFault, run_action};
 use he_stream::{InputStream, OutputStream, write_whole};
 use std::alloc::Global;
 use std::io::Write;
+use std::thread::Threads;
 
 /// The exit status when all was done.
 pub const DONE: u8 = 0;
@@ -26,8 +27,8 @@ pub const USAGE: u8 = 2;
 /// Runs the command line `words`, of which the first is the program's name, and answers the exit
 /// status. Output and help that was asked for go to `output`; what is wrong goes to `faults`. What
 /// cannot be written to `faults` leaves the status as it is.
-pub fn run_words<'a, T, I: InputStream, O: OutputStream, F: Write>(
-    rt: &T,
+pub fn run_words<'a, R: Threads + Sync, I: InputStream, O: OutputStream, F: Write>(
+    rt: &R,
     alloc: Global,
     words: &'a [&'a str],
     input: &mut I,
@@ -43,8 +44,8 @@ pub fn run_words<'a, T, I: InputStream, O: OutputStream, F: Write>(
 }
 
 /// Runs what a command line asks for, and answers the exit status.
-pub fn run_line<T, I: InputStream, O: OutputStream, F: Write>(
-    rt: &T,
+pub fn run_line<R: Threads + Sync, I: InputStream, O: OutputStream, F: Write>(
+    rt: &R,
     alloc: Global,
     line: Result<Action, Error>,
     input: &mut I,
@@ -59,25 +60,6 @@ pub fn run_line<T, I: InputStream, O: OutputStream, F: Write>(
     match line {
         Ok(action) => report_end(run_action(rt, alloc, action, input, output), faults),
         Err(error) => answer_line(alloc, &error, output, faults),
-    }
-}
-
-// Runs an action.
-fn run_action<T, I: InputStream, O: OutputStream>(
-    rt: &T,
-    alloc: Global,
-    action: Action,
-    input: &mut I,
-    output: &mut O,
-) -> Result<(), ReplayFault>
-    requires { HasWorkers action }
-    ensures { RunsAction action (Gives I.remaining I.takes input.old input.new)
-        (PutsWhole O.contents O.puts O.flushes output.old output.new)
-        (PutsPart O.contents O.puts O.flushes output.old output.new) (output.new ≡ output.old) result }
-{
-    match action {
-        Action::Replay { workers } => replay(rt, alloc, input, output, workers),
-        Action::Order => orders(alloc, input, output),
     }
 }
 

@@ -1,4 +1,9 @@
+pub mod Handing
+pub mod Joining
 pub mod Known
 pub mod Lines
 pub mod OneOutput
+pub mod Pooling
 pub mod Races
+pub mod Trying
+pub mod Winning

@@ -1,17 +1,19 @@
 -- One race more: what is read of an input, and what is written for it, grow together.
-use Rattle.std.proofs.Common.{ℕ, ◌≡◌, ◌+◌, ◌-◌, ◌<◌, ◌≤◌, ◌++◌, List, [], ◌∷◌, length, take, drop, Bool, Option, Some, sym, ◌∙◌, ap, subst, refl, arith, append_assoc, inr, length-append}
-use Rattle.std.specs.List.{slice_range}
+use Rattle.std.proofs.Common.{ℕ, zero, suc, ◌≡◌, ◌+◌, ◌-◌, ◌<◌, ◌≤◌, ◌++◌, List, [], ◌∷◌, length, take, drop, Bool, Option, Some, sym, ◌∙◌, ap, subst, refl, arith, append_assoc, inr, length-append}
+use Rattle.std.specs.List.{AllZip, slice_get, slice_range}
 use Rattle.std.proofs.lemmas.List.{take-append-drop, append-nil}
 use Rattle.std.proofs.lemmas.List.Sums.{sum_by-append}
 use Rattle.std.proofs.Math.Seq.{take-add}
 use Rattle.he_plan.specs.Race.{Race}
+use Rattle.he_plan.specs.Transcript.{IsTranscript, Report}
 use Rattle.he_text.specs.FaultSearch.{fault_of}
 use Rattle.he_text.specs.Text.{IsRaceText}
+use Rattle.he_text.specs.Written.{transcript_text}
 use Rattle.he_text.specs.declared.fault.TextFault.{TextFault}
 use Rattle.he_replay.specs.Limits.{most_races}
 use Rattle.he_replay.specs.declared.output.InputFault.{InputFault}
-use Rattle.he_replay.specs.Output.{AreTexts, IsFault, IsOutput, fault_behind, line_count}
-use Rattle.he_replay.specs.Steps.{TakesRace, IsUnderWay}
+use Rattle.he_replay.specs.Output.{AreTexts, IsFault, IsTranscriptText, fault_behind, line_count}
+use Rattle.he_replay.specs.Steps.{IsRead, IsUnderWay, TakesRace, WritesRace, transcripts_text}
 
 pub AreTexts-snoc : (IsText : List ℕ → Race → Type 0) (races : List Race) (text : List ℕ) → AreTexts IsText races text
     → (race : Race) (last : List ℕ) → IsText last race → AreTexts IsText (races ++ race ∷ []) (text ++ last)
@@ -28,37 +30,73 @@ take_to input from end le =
     let sum : end ≡ from + (end - from) = omega arith in
     ap (λ (n : ℕ). take n input) sum ∙ take-add from (end - from) input
 
-pub one_more : (IsText : List ℕ → Race → Type 0) (input text new : List ℕ) (from count end : ℕ) → IsUnderWay IsText input text from count → TakesRace IsText input from text new end
-    → IsUnderWay IsText input new end (count + 1)
-one_more IsText input text new from count end way takes =
+pub one_more : (input : List ℕ) (races new : List Race) (from count end : ℕ) → IsUnderWay input races from count → TakesRace input from races new end
+    → IsUnderWay input new end (count + 1)
+one_more input races new from count end way takes =
     let le : from ≤ end = omega (arith, takes.past) in
     let split : take end input ≡ take from input ++ slice_range input from end = take_to input from end le in
-    record {
-      races = way.races ++ takes.race ∷ [];
+    subst (λ (xs : List Race). IsUnderWay input xs end (count + 1)) (sym takes.appended) (record {
       within = takes.within;
-      whole = let P : List ℕ → Type 0 = AreTexts IsRaceText (way.races ++ takes.race ∷ []) in
-          subst P (sym split) (AreTexts-snoc IsRaceText way.races (take from input) way.whole takes.race _ takes.read);
-      counted = length-append way.races (takes.race ∷ []) ∙ ap (λ (n : ℕ). n + 1) way.counted;
-      told = let P : List ℕ → Type 0 = AreTexts IsText (way.races ++ takes.race ∷ []) in
-          subst P (sym takes.written.appended) (AreTexts-snoc IsText way.races text way.told takes.race takes.written.told takes.written.is_told);
-    }
+      whole = let P : List ℕ → Type 0 = AreTexts IsRaceText (races ++ takes.race ∷ []) in
+          subst P (sym split) (AreTexts-snoc IsRaceText races (take from input) way.whole takes.race _ takes.read);
+      counted = length-append races (takes.race ∷ []) ∙ ap (λ (n : ℕ). n + 1) way.counted;
+    })
 
 -- what is read ends here, with this fault of the rest behind so many lines
-pub ended : (IsText : List ℕ → Race → Type 0) (input text : List ℕ) (is_broken : Bool) (from lines count : ℕ) (fault : Option InputFault) → IsUnderWay IsText input text from count
-    → lines ≡ line_count (take from input) → count ≤ most_races → IsFault is_broken count lines (drop from input) fault → IsOutput IsText input is_broken text fault
-ended IsText input text is_broken from lines count fault way lines_are few is = record {
-  races = way.races;
+pub ended : (input : List ℕ) (races : List Race) (is_broken : Bool) (from lines count : ℕ) (fault : Option InputFault) → IsUnderWay input races from count
+    → lines ≡ line_count (take from input) → count ≤ most_races → IsFault is_broken count lines (drop from input) fault → IsRead input is_broken races fault
+ended input races is_broken from lines count fault way lines_are few is = record {
   before = take from input;
   rest = drop from input;
   parts = sym (take-append-drop from input);
   whole = way.whole;
   few = let same = way.counted in omega arith;
-  told = way.told;
   fault_is =
       let P : ℕ → Type 0 = λ n. IsFault is_broken n (line_count (take from input)) (drop from input) fault in
       let Q : ℕ → Type 0 = λ n. IsFault is_broken count n (drop from input) fault in
       subst P (sym way.counted) (subst Q lines_are is);
 }
+
+take_next : {X : Type 0} (xs : List X) (i : ℕ) (x : X) → slice_get xs i ≡ Some x → take (suc i) xs ≡ take i xs ++ x ∷ []
+take_next [] i x at = cc
+take_next {X} (y ∷ xs) zero x at = ap (λ (z : X). z ∷ []) (one y x at)
+  where
+    one : (a b : X) → Some a ≡ Some b → a ≡ b
+    one a b e = cc
+take_next {X} (y ∷ xs) (suc i) x at = ap (λ (ys : List X). y ∷ ys) (take_next xs i x at)
+
+-- one text more
+pub one_more_text : (IsText : List ℕ → Race → Type 0) (races : List Race) (i : ℕ) (race : Race) (old new : List ℕ) → slice_get races i ≡ Some race
+    → AreTexts IsText (take i races) old → WritesRace IsText race old new → AreTexts IsText (take (i + 1) races) new
+one_more_text IsText races i race old new here told writes =
+    let next : suc i ≡ i + 1 = omega arith in
+    let more : take (i + 1) races ≡ take i races ++ race ∷ [] = subst (λ (n : ℕ). take n races ≡ take i races ++ race ∷ []) next (take_next races i race here) in
+    let P : List Race → Type 0 = λ xs. AreTexts IsText xs new in
+    let Q : List ℕ → Type 0 = AreTexts IsText (take i races ++ race ∷ []) in
+    subst P (sym more) (subst Q (sym writes.appended) (AreTexts-snoc IsText (take i races) old told race writes.told writes.is_told))
+
+-- the texts of the races' transcripts
+pub transcripts_told : (races : List Race) (reports : List Report) → AllZip IsTranscript races reports → AreTexts IsTranscriptText races (transcripts_text reports)
+transcripts_told [] [] are = refl
+transcripts_told [] (report ∷ reports) are = absurd are
+transcripts_told (race ∷ races) [] are = absurd are
+transcripts_told (race ∷ races) (report ∷ reports) are = (transcript_text report, transcripts_text reports, refl, (report, are.0, refl), transcripts_told races reports are.1)
+
+transcripts-suc : (reports : List Report) (i : ℕ) (report : Report) → slice_get reports i ≡ Some report → transcripts_text (take (suc i) reports) ≡ transcripts_text (take i reports) ++ transcript_text report
+transcripts-suc reports i report here = ap transcripts_text (take_next reports i report here) ∙ transcripts-snoc (take i reports) report
+  where
+    transcripts-snoc : (xs : List Report) (x : Report) → transcripts_text (xs ++ x ∷ []) ≡ transcripts_text xs ++ transcript_text x
+    transcripts-snoc [] x = append-nil (transcript_text x)
+    transcripts-snoc (y ∷ xs) x = ap (λ (t : List ℕ). transcript_text y ++ t) (transcripts-snoc xs x) ∙ sym (append_assoc (transcript_text y) (transcripts_text xs) (transcript_text x))
+
+-- one transcript more
+pub one_more_transcript : (reports : List Report) (i : ℕ) (report : Report) (old new : List ℕ) → slice_get reports i ≡ Some report
+    → old ≡ transcripts_text (take i reports) → new ≡ old ++ transcript_text report → new ≡ transcripts_text (take (i + 1) reports)
+one_more_transcript reports i report old new here told written =
+    let next : suc i ≡ i + 1 = omega arith in
+    let more = transcripts-suc reports i report here in
+    let goal : new ≡ transcripts_text (take (suc i) reports) = written ∙ (ap (λ (t : List ℕ). t ++ transcript_text report) told ∙ sym more) in
+    subst (λ (n : ℕ). new ≡ transcripts_text (take n reports)) next goal
 
 -- a fault that was found in what follows
 pub found_fault : (is_broken : Bool) (count lines : ℕ) (rest : List ℕ) (found : TextFault) → 0 < length rest → count < most_races

@@ -1,9 +1,13 @@
 //! What is written of a race.
-ghost use Rattle.std.specs.Prelude.{OnOk};
-ghost use Rattle.he_replay.specs.Output.{IsOrderText, IsTextOf, IsTranscriptText};
+ghost use Rattle.std.specs.Prelude.{◌≡◌, ◌++◌, IfOk, List, OnOk};
+ghost use Rattle.std.specs.List.{AllZip};
+ghost use Rattle.he_plan.specs.Race.{Race};
+ghost use Rattle.he_plan.specs.Transcript.{IsTranscript};
+ghost use Rattle.he_text.specs.Written.{transcript_text};
+ghost use Rattle.he_replay.specs.Output.{AreTexts, IsOrderText, IsTextOf, IsTranscriptText};
 ghost use Rattle.he_replay.specs.Steps.{WritesRace};
 
-use he_plan::{Timeline, transcript_of};
+use he_plan::{Timeline, Transcript, transcript_of};
 use he_text::{write_order, write_transcript};
 use std::alloc::{AllocError, Allocator};
 
@@ -41,7 +45,16 @@ fn append_transcript<A: Allocator + Copy>(
     ensures { OnOk result (WritesRace IsTranscriptText timeline.now text.old.items text.new.items) }
 {
     let transcript = transcript_of(alloc, timeline).map_err(|_| AllocError)?;
-    write_transcript(&transcript, text).map_err(|_| AllocError)
+    append_text(&transcript, text)
+}
+
+fn append_text<A: Allocator + Copy>(
+    transcript: &Transcript<A>,
+    text: &mut Vec<u8, A>,
+) -> Result<(), AllocError>
+    ensures { OnOk result (text.new.items ≡ text.old.items ++ transcript_text transcript.now) }
+{
+    write_transcript(transcript, text).map_err(|_| AllocError)
 }
 
 fn append_order<A: Allocator + Copy>(
@@ -52,4 +65,33 @@ fn append_order<A: Allocator + Copy>(
     ensures { OnOk result (WritesRace IsOrderText timeline.now text.old.items text.new.items) }
 {
     write_order(alloc, timeline, text).map_err(|_| AllocError)
+}
+
+// The texts of the races, one after the other.
+pub(crate) fn write_races<A: Allocator + Copy>(
+    alloc: A,
+    timelines: &[Timeline<A>],
+    content: Content,
+) -> Result<Vec<u8, A>, AllocError>
+    ensures { IfOk result (λ text. AreTexts (IsTextOf content) timelines.now text.items) }
+{
+    let mut text = Vec::new(alloc);
+    for timeline in timelines {
+        content.write(alloc, timeline, &mut text)?;
+    }
+    Ok(text)
+}
+
+// The texts of the transcripts, one after the other.
+pub(crate) fn write_transcripts<A: Allocator + Copy>(
+    alloc: A,
+    transcripts: &[Transcript<A>],
+) -> Result<Vec<u8, A>, AllocError>
+    ensures { (races : List Race) → AllZip IsTranscript races transcripts.now → IfOk result (λ text. AreTexts IsTranscriptText races text.items) }
+{
+    let mut text = Vec::new(alloc);
+    for transcript in transcripts {
+        append_text(transcript, &mut text)?;
+    }
+    Ok(text)
 }

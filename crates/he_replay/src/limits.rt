@@ -8,3 +8,7 @@ pub const MOST_WORKERS: u16 = 64;
 
 /// The most races of a text.
 pub const MOST_RACES: usize = 1_024;
+
+/// The fewest jobs for each worker that `replay` takes: fewer are not worth a thread. The most jobs are enough for the most
+/// workers.
+pub const JOBS_OF_A_WORKER: usize = 2_048;

@@ -4,9 +4,9 @@ ghost use Rattle.he_stream.specs.Input.{Gives};
 ghost use Rattle.he_stream.specs.Output.{PutsPart, PutsWhole};
 ghost use Rattle.he_replay.specs.Stream.{Orders};
 
-use crate::content::Content;
 use crate::fault::ReplayFault;
-use crate::stream::stream;
+use crate::output::order_output;
+use crate::stream::{put_output, take_input};
 use he_stream::{InputStream, OutputStream};
 use std::alloc::Allocator;
 
@@ -33,5 +33,7 @@ pub fn orders<A: Allocator + Copy, I: InputStream, O: OutputStream>(
         (PutsWhole O.contents O.puts O.flushes output.old output.new)
         (PutsPart O.contents O.puts O.flushes output.old output.new) (output.new ≡ output.old) result }
 {
-    stream(alloc, input, output, Content::Order)
+    let given = take_input(alloc, input)?;
+    let answer = order_output(alloc, given.bytes.as_slice(), given.is_broken)?;
+    put_output(output, &answer)
 }

@@ -1,29 +1,22 @@
-//! Races read from an input, and a text of each written to an output.
-ghost use Rattle.std.specs.Prelude.{◌≡◌, IfOk};
+//! What an input gives, and what is put into an output for it.
+ghost use Rattle.std.specs.Prelude.{IfOk};
 ghost use Rattle.he_stream.specs.Input.{Gives};
 ghost use Rattle.he_stream.specs.Output.{PutsPart, PutsWhole};
-ghost use Rattle.he_replay.specs.Output.{IsTextOf};
-ghost use Rattle.he_replay.specs.Stream.{Streams};
+ghost use Rattle.he_replay.specs.Steps.{PutsAnswer};
 
-use crate::content::Content;
 use crate::fault::ReplayFault;
-use crate::output::{InputFault, output_of};
+use crate::output::{InputFault, Output};
 use he_stream::{InputStream, OutputStream, ReadFault, read_input, write_whole};
 use std::alloc::{AllocError, Allocator};
 
-// Reads races to the end of the input and writes what is asked for of each.
-pub(crate) fn stream<A: Allocator + Copy, I: InputStream, O: OutputStream>(
-    alloc: A,
-    input: &mut I,
+// Writes the output of an input, and answers what is wrong with the input.
+pub(crate) fn put_output<A: Allocator, O: OutputStream>(
     output: &mut O,
-    content: Content,
+    answer: &Output<A>,
 ) -> Result<(), ReplayFault>
-    ensures { Streams (IsTextOf content) (Gives I.remaining I.takes input.old input.new)
-        (PutsWhole O.contents O.puts O.flushes output.old output.new)
-        (PutsPart O.contents O.puts O.flushes output.old output.new) (output.new ≡ output.old) result }
+    ensures { PutsAnswer (PutsWhole O.contents O.puts O.flushes output.old output.new)
+        (PutsPart O.contents O.puts O.flushes output.old output.new) answer.now.text.items answer.now.fault result }
 {
-    let given = take_input(alloc, input)?;
-    let answer = output_of(alloc, given.bytes.as_slice(), given.is_broken, content)?;
     write_whole(output, answer.text.as_slice())?;
     match answer.fault {
         None => Ok(()),
@@ -34,13 +27,16 @@ pub(crate) fn stream<A: Allocator + Copy, I: InputStream, O: OutputStream>(
 
 // What an input gave, and whether it broke off after that.
 #[derive(Drop)]
-struct Given<A: Allocator> {
-    bytes: Vec<u8, A>,
-    is_broken: bool,
+pub(crate) struct Given<A: Allocator> {
+    pub(crate) bytes: Vec<u8, A>,
+    pub(crate) is_broken: bool,
 }
 
 // Reads all that the input gives. It fails for want of memory alone.
-fn take_input<A: Allocator, I: InputStream>(alloc: A, input: &mut I) -> Result<Given<A>, AllocError>
+pub(crate) fn take_input<A: Allocator, I: InputStream>(
+    alloc: A,
+    input: &mut I,
+) -> Result<Given<A>, AllocError>
     ensures { IfOk result (λ given. Gives I.remaining I.takes input.old input.new given.bytes.items given.is_broken) }
 {
     let mut bytes = Vec::new(alloc);

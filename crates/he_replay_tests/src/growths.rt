@@ -5,10 +5,11 @@ use he_replay::ReplayFault;
 use he_stream::{FromReader, ToWriter};
 use refusing::{Refusing, each_growth_refused};
 use std::alloc::Global;
+use std::thread::Threads;
 use stream_fakes::{FakeReader, FakeWriter};
 
 // Whether a call whose allocator may refuse answers Memory and writes nothing only where it has refused, and writes all else.
-fn is_right<T>(rt: &T, heap: &Refusing<Global>, alloc: Global, call: Call) -> bool {
+fn is_right<R: Threads + Sync>(rt: &R, heap: &Refusing<Global>, alloc: Global, call: Call) -> bool {
     let mut input = FromReader::new(FakeReader::new(TEXT, 64));
     let mut output = ToWriter::new(FakeWriter::new(alloc));
     match call.run(rt, heap, &mut input, &mut output) {

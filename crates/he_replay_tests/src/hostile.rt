@@ -6,6 +6,7 @@ use he_stream::{FromReader, ToWriter};
 use he_text::{TextFault, TextKind};
 use std::alloc::{AllocError, Allocator, Global};
 use std::test::Fail;
+use std::thread::Threads;
 use stream_fakes::{FakeReader, FakeWriter};
 
 pub const TEXT: &[u8] = b"race 1
@@ -39,9 +40,9 @@ impl Call {
         }
     }
 
-    pub fn run<T, A: Allocator + Copy>(
+    pub fn run<R: Threads + Sync, A: Allocator + Copy + Send + Sync>(
         self,
-        rt: &T,
+        rt: &R,
         alloc: A,
         input: &mut FromReader<FakeReader<'_>>,
         output: &mut ToWriter<FakeWriter>,
@@ -54,8 +55,8 @@ impl Call {
 }
 
 // Whether the call over the reader and the writer answers this, has written this, and has flushed so often.
-fn is_right<T>(
-    rt: &T,
+fn is_right<R: Threads + Sync>(
+    rt: &R,
     alloc: Global,
     call: Call,
     reader: FakeReader<'_>,
@@ -75,7 +76,7 @@ fn fault(line: u64, kind: TextKind) -> Result<(), ReplayFault> {
 
 // How many first parts of the text, the empty one and the whole left out, are unfinished where the input ends behind them, and
 // a failed read where it breaks there. Nothing is written of them.
-fn right_cuts<T>(rt: &T, alloc: Global, call: Call) -> usize {
+fn right_cuts<R: Threads + Sync>(rt: &R, alloc: Global, call: Call) -> usize {
     let mut right: usize = 0;
     for count in 1..TEXT.len() {
         let cut = &TEXT[..count];
@@ -106,7 +107,7 @@ fn right_cuts<T>(rt: &T, alloc: Global, call: Call) -> usize {
 }
 
 // How many bytes the writer may take, fewer than all, so that exactly these are written.
-fn right_rooms<T>(rt: &T, alloc: Global, call: Call) -> usize {
+fn right_rooms<R: Threads + Sync>(rt: &R, alloc: Global, call: Call) -> usize {
     let wanted = call.output();
     let mut right: usize = 0;
     for room in 0..wanted.len() {
@@ -167,7 +168,7 @@ static BROKEN: [(bool, &[u8], Result<(), ReplayFault>); 6] = [
 ];
 
 // How many of these end as they must, and have the output of the text where it stands before them.
-fn right_breaks<T>(rt: &T, alloc: Global, call: Call) -> Result<usize, AllocError> {
+fn right_breaks<R: Threads + Sync>(rt: &R, alloc: Global, call: Call) -> Result<usize, AllocError> {
     let mut right: usize = 0;
     for (is_behind, more, answer) in &BROKEN {
         let mut text = Vec::new(alloc);
@@ -188,7 +189,7 @@ fn right_breaks<T>(rt: &T, alloc: Global, call: Call) -> Result<usize, AllocErro
 }
 
 // A flush that fails, behind a whole output and behind the output before a fault; and a text in pieces, with interruptions.
-fn right_ends<T>(rt: &T, alloc: Global, call: Call) -> bool {
+fn right_ends<R: Threads + Sync>(rt: &R, alloc: Global, call: Call) -> bool {
     let wanted = call.output();
     let failing = FakeWriter::new(alloc).failing_flush();
     let failing_too = FakeWriter::new(alloc).failing_flush();

@@ -8,16 +8,18 @@ use he_command::{report, report_not_text, run_words};
 use he_replay::ReplayFault;
 use he_stream::{FromReader, ToWriter};
 use std::process::ExitCode;
+use std::thread::Threads;
 use std::{env, io};
 
 fn main(rt: HostRuntime) -> ExitCode {
-    ExitCode::from(run_program(&rt))
+    ExitCode::from(run_program(&rt, &rt))
 }
 
-// Runs the command line that the program was started with, and answers the exit status.
-fn run_program(rt: &HostRuntime) -> u8 {
+// Runs the command line that the program was started with, and answers the exit status. The runtime lends threads in `main`
+// alone, so `main` hands it on as what lends them too.
+fn run_program<R: Threads + Sync>(rt: &HostRuntime, threads: &R) -> u8 {
     match words_of(rt) {
-        Ok(words) => run_texts(rt, words.as_slice()),
+        Ok(words) => run_texts(rt, threads, words.as_slice()),
         Err(error) if error.kind() == io::ErrorKind::OutOfMemory => report(
             ReplayFault::Memory,
             &mut rt.stderr(),
@@ -31,14 +33,14 @@ fn words_of(rt: &HostRuntime) -> io::Result<Vec<String>> {
     Ok(env::args(rt)?.collect(rt.alloc())?)
 }
 
-fn run_texts(rt: &HostRuntime, words: &[String]) -> u8 {
+fn run_texts<R: Threads + Sync>(rt: &HostRuntime, threads: &R, words: &[String]) -> u8 {
     let texts = words
         .iter()
         .map(|word| word.as_str())
         .collect::<Vec<&str>>(rt.alloc());
     match texts {
         Ok(texts) => run_words(
-            rt,
+            threads,
             rt.alloc(),
             texts.as_slice(),
             &mut FromReader::new(rt.stdin()),

@@ -1,0 +1,39 @@
+//! What can be done with a text of races, by name.
+ghost use Rattle.std.specs.Prelude.{◌≡◌};
+ghost use Rattle.he_stream.specs.Input.{Gives};
+ghost use Rattle.he_stream.specs.Output.{PutsPart, PutsWhole};
+ghost use Rattle.he_replay.specs.Actions.{HasWorkers, RunsAction};
+
+use crate::fault::ReplayFault;
+use crate::ordering::orders;
+use crate::replaying::replay;
+use he_stream::{InputStream, OutputStream};
+use std::alloc::Allocator;
+use std::thread::Threads;
+
+/// What is done with the timelines of an input.
+#[derive(Clone, Copy)]
+pub enum Action {
+    /// Replay them by at most so many workers, 1 to 64 (`limits::LEAST_WORKERS`, `limits::MOST_WORKERS`).
+    Replay { workers: u16 },
+    /// Write the orders of the addresses of their races.
+    Order,
+}
+
+/// Does what the action asks for: [`replay`] or [`orders`], with the faults of that call.
+pub fn run_action<
+    R: Threads + Sync,
+    A: Allocator + Copy + Send + Sync,
+    I: InputStream,
+    O: OutputStream,
+>(rt: &R, alloc: A, action: Action, input: &mut I, output: &mut O) -> Result<(), ReplayFault>
+    requires { HasWorkers action }
+    ensures { RunsAction action (Gives I.remaining I.takes input.old input.new)
+        (PutsWhole O.contents O.puts O.flushes output.old output.new)
+        (PutsPart O.contents O.puts O.flushes output.old output.new) (output.new ≡ output.old) result }
+{
+    match action {
+        Action::Replay { workers } => replay(rt, alloc, input, output, workers),
+        Action::Order => orders(alloc, input, output),
+    }
+}

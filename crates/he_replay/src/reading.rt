@@ -1,0 +1,111 @@
+//! The races of an input, read one after the other.
+ghost use Rattle.std.specs.Prelude.{◌≡◌, ◌+◌, ◌^◌, ◌<◌, ◌≤◌, [], IfOk, length};
+ghost use Rattle.he_replay.specs.Output.{IsFault, fault_at_end, fault_behind, line_count};
+ghost use Rattle.he_replay.specs.Steps.{IsRead, IsStep};
+
+use crate::limits::MOST_RACES;
+use crate::output::InputFault;
+use he_plan::Timeline;
+use he_text::{TextFault, TextKind, read_race};
+use std::alloc::{AllocError, Allocator};
+
+// Reads the races of an input up to the first fault, and answers the fault. `is_broken` tells that the input broke off after
+// these bytes.
+pub(crate) fn read_races<A: Allocator + Copy>(
+    alloc: A,
+    input: &[u8],
+    is_broken: bool,
+    timelines: &mut Vec<Timeline<A>, A>,
+) -> Result<Option<InputFault>, AllocError>
+    requires { timelines.old.items ≡ [] }
+    ensures { IfOk result (IsRead input.now is_broken timelines.new.items) }
+{
+    let mut from = 0;
+    for _ in 0..MOST_RACES {
+        match take_race(alloc, input, from, timelines)? {
+            Step::Race(end) => from = end,
+            Step::End => return Ok(fault_at_end(is_broken)),
+            Step::Fault(found) => {
+                let lines = line_count(&input[..from]);
+                return Ok(Some(fault_behind(is_broken, lines, found)));
+            }
+        }
+    }
+    let lines = line_count(&input[..from]);
+    Ok(fault_past_races(is_broken, lines, &input[from..]))
+}
+
+// What stands at a place of an input: a race that ends there, nothing, or a fault.
+pub(crate) enum Step {
+    Race(usize),
+    End,
+    Fault(TextFault),
+}
+
+// Reads the race at the place, and appends it.
+fn take_race<A: Allocator + Copy>(
+    alloc: A,
+    input: &[u8],
+    from: usize,
+    timelines: &mut Vec<Timeline<A>, A>,
+) -> Result<Step, AllocError>
+    requires { from ≤ length input.now }
+    ensures { IfOk result (IsStep input.now from timelines.old.items timelines.new.items) }
+{
+    match read_race(alloc, input, from) {
+        Ok(None) => Ok(Step::End),
+        Ok(Some((timeline, end))) => {
+            timelines.push(timeline)?;
+            Ok(Step::Race(end))
+        }
+        Err(fault) => match fault.kind {
+            TextKind::Memory => Err(AllocError),
+            _ => Ok(Step::Fault(fault)),
+        },
+    }
+}
+
+// What is wrong with an input that ends behind whole races.
+fn fault_at_end(is_broken: bool) -> Option<InputFault>
+    ensures { result ≡ fault_at_end is_broken }
+{
+    if is_broken {
+        Some(InputFault::Read)
+    } else {
+        None
+    }
+}
+
+// A fault behind so many lines. Where the input broke off, the text is unfinished for that alone.
+fn fault_behind(is_broken: bool, lines: u64, found: TextFault) -> InputFault
+    requires { lines + found.line < 2 ^ 64 }
+    ensures { result ≡ fault_behind is_broken lines (found.line, found.kind) }
+{
+    match found.kind {
+        TextKind::Unfinished if is_broken => InputFault::Read,
+        kind => InputFault::Text(TextFault {
+            line: lines + found.line,
+            kind,
+        }),
+    }
+}
+
+// What is wrong with an input behind the last race that a text may have.
+fn fault_past_races(is_broken: bool, lines: u64, rest: &[u8]) -> Option<InputFault>
+    requires { lines < 2 ^ 63 }
+    ensures { IsFault is_broken MOST_RACES lines rest.now result }
+{
+    if rest.is_empty() {
+        return fault_at_end(is_broken);
+    }
+    Some(InputFault::Text(TextFault {
+        line: lines + 1,
+        kind: TextKind::TooMany,
+    }))
+}
+
+fn line_count(text: &[u8]) -> u64
+    ensures { result ≡ line_count text.now }
+{
+    text.iter().filter(|byte| **byte == b'\n').count() as u64
+}
