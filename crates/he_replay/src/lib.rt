@@ -39,6 +39,7 @@ pub mod replaying;
 mod settling;
 mod sharing;
 pub mod stream;
+mod telling;
 mod working;
 
 pub use batching::replay_batch;
