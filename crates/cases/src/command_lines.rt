@@ -248,7 +248,14 @@ fn is_right<R: Threads + Sync>(
     let mut input = FromReader::new(reader_of(text, *streams));
     let mut written = ToWriter::new(writer_of(rt.alloc(), *streams));
     let mut faults = FakeWriter::new(rt.alloc()).with_room(faults_room);
-    let got = run_words(threads, rt.alloc(), words, &mut input, &mut written, &mut faults);
+    let got = run_words(
+        threads,
+        rt.alloc(),
+        words,
+        &mut input,
+        &mut written,
+        &mut faults,
+    );
     let is_told = faults_room == 0 || faults.held().starts_with(fault);
     let is_quiet = *status != 0 || faults.calls() == 0;
     got == *status && written.writer().held().starts_with(output) && is_told && is_quiet
@@ -260,10 +267,7 @@ fn is_right<R: Threads + Sync>(
 /// # Errors
 ///
 /// A line that cannot be written.
-pub fn run_command_lines<R: Threads + Sync>(
-    rt: &HostRuntime,
-    threads: &R,
-) -> io::Result<Counts> {
+pub fn run_command_lines<R: Threads + Sync>(rt: &HostRuntime, threads: &R) -> io::Result<Counts> {
     let mut counts = Counts { ran: 0, differ: 0 };
     for (at, row) in ROWS.iter().enumerate() {
         let name = format!(in rt.alloc(); "command line {at}")?;
