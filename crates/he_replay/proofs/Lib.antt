@@ -5,5 +5,6 @@ pub mod Lines
 pub mod OneOutput
 pub mod Pooling
 pub mod Races
+pub mod Told
 pub mod Trying
 pub mod Winning

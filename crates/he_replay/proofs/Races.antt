@@ -25,7 +25,7 @@ pub line_count-append : (xs ys : List ℕ) → line_count (xs ++ ys) ≡ line_co
 line_count-append xs ys = sum_by-append _ xs ys
 
 -- up to the end of a range: up to its start, and the range
-take_to : (input : List ℕ) (from end : ℕ) → from ≤ end → take end input ≡ take from input ++ slice_range input from end
+pub take_to : (input : List ℕ) (from end : ℕ) → from ≤ end → take end input ≡ take from input ++ slice_range input from end
 take_to input from end le =
     let sum : end ≡ from + (end - from) = omega arith in
     ap (λ (n : ℕ). take n input) sum ∙ take-add from (end - from) input

@@ -5,4 +5,5 @@ pub mod Limits
 pub mod Output
 pub mod Steps
 pub mod Stream
+pub mod Telling
 pub mod Working

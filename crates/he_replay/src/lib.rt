@@ -41,6 +41,7 @@ pub mod replaying;
 mod settling;
 mod sharing;
 pub mod stream;
+mod telling;
 mod working;
 
 pub use actions::{Action, run_action};

@@ -3,10 +3,11 @@ ghost use Rattle.std.specs.Prelude.{◌≤◌, IfOk};
 ghost use Rattle.he_replay.specs.declared.limits.TheConstants.{LEAST_WORKERS, MOST_WORKERS};
 ghost use Rattle.he_replay.specs.Output.{IsOrderText, IsOutput, IsTranscriptText};
 
-use crate::content::{Content, write_races};
+use crate::content::Content;
 use crate::limits::{LEAST_WORKERS, MOST_WORKERS};
 use crate::reading::read_races;
 use crate::sharing::write_shared;
+use crate::telling::tell_races;
 use he_text::TextFault;
 use std::alloc::{AllocError, Allocator};
 use std::thread::Threads;
@@ -44,6 +45,9 @@ pub fn replay_output<R: Threads + Sync, A: Allocator + Copy + Send + Sync>(
     requires few { workers ≤ MOST_WORKERS }
     ensures { IfOk result (λ output. IsOutput IsTranscriptText input.now is_broken output.text.items output.fault) }
 {
+    if workers == LEAST_WORKERS {
+        return tell_races(alloc, input, is_broken, Content::Transcript);
+    }
     let mut timelines = Vec::new(alloc);
     let fault = read_races(alloc, input, is_broken, &mut timelines)?;
     let text = write_shared(rt, alloc, &timelines, workers)?;
@@ -63,8 +67,5 @@ pub fn order_output<A: Allocator + Copy>(
 ) -> Result<Output<A>, AllocError>
     ensures { IfOk result (λ output. IsOutput IsOrderText input.now is_broken output.text.items output.fault) }
 {
-    let mut timelines = Vec::new(alloc);
-    let fault = read_races(alloc, input, is_broken, &mut timelines)?;
-    let text = write_races(alloc, &timelines, Content::Order)?;
-    Ok(Output { text, fault })
+    tell_races(alloc, input, is_broken, Content::Order)
 }

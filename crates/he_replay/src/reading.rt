@@ -66,7 +66,7 @@ fn take_race<A: Allocator + Copy>(
 }
 
 // What is wrong with an input that ends behind whole races.
-fn fault_at_end(is_broken: bool) -> Option<InputFault>
+pub(crate) fn fault_at_end(is_broken: bool) -> Option<InputFault>
     ensures { result ≡ fault_at_end is_broken }
 {
     if is_broken {
@@ -77,7 +77,7 @@ fn fault_at_end(is_broken: bool) -> Option<InputFault>
 }
 
 // A fault behind so many lines. Where the input broke off, the text is unfinished for that alone.
-fn fault_behind(is_broken: bool, lines: u64, found: TextFault) -> InputFault
+pub(crate) fn fault_behind(is_broken: bool, lines: u64, found: TextFault) -> InputFault
     requires { lines + found.line < 2 ^ 64 }
     ensures { result ≡ fault_behind is_broken lines (found.line, found.kind) }
 {
@@ -91,7 +91,7 @@ fn fault_behind(is_broken: bool, lines: u64, found: TextFault) -> InputFault
 }
 
 // What is wrong with an input behind the last race that a text may have.
-fn fault_past_races(is_broken: bool, lines: u64, rest: &[u8]) -> Option<InputFault>
+pub(crate) fn fault_past_races(is_broken: bool, lines: u64, rest: &[u8]) -> Option<InputFault>
     requires { lines < 2 ^ 63 }
     ensures { IsFault is_broken MOST_RACES lines rest.now result }
 {
@@ -104,7 +104,7 @@ fn fault_past_races(is_broken: bool, lines: u64, rest: &[u8]) -> Option<InputFau
     }))
 }
 
-fn line_count(text: &[u8]) -> u64
+pub(crate) fn line_count(text: &[u8]) -> u64
     ensures { result ≡ line_count text.now }
 {
     text.iter().filter(|byte| **byte == b'\n').count() as u64

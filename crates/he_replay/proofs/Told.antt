@@ -1,0 +1,43 @@
+-- One race more that is told as it is read.
+use Rattle.std.proofs.Common.{ℕ, ◌≡◌, ◌+◌, ◌≤◌, ◌++◌, List, [], ◌∷◌, take, drop, Bool, Option, sym, ◌∙◌, ap, subst, arith, length-append}
+use Rattle.std.specs.List.{slice_range}
+use Rattle.std.proofs.lemmas.List.{take-append-drop}
+use Rattle.he_plan.specs.Race.{Race}
+use Rattle.he_text.specs.Text.{IsRaceText}
+use Rattle.he_replay.specs.Limits.{most_races}
+use Rattle.he_replay.specs.declared.output.InputFault.{InputFault}
+use Rattle.he_replay.specs.Output.{AreTexts, IsFault, IsOutput, line_count}
+use Rattle.he_replay.specs.Telling.{IsTelling, TellsRace}
+use Rattle.he_replay.proofs.Races.{AreTexts-snoc, take_to}
+
+pub one_more_told : (IsText : List ℕ → Race → Type 0) (input text new : List ℕ) (from count end : ℕ) → IsTelling IsText input text from count → TellsRace IsText input from text new end
+    → IsTelling IsText input new end (count + 1)
+one_more_told IsText input text new from count end way takes =
+    let le : from ≤ end = omega (arith, takes.past) in
+    let split : take end input ≡ take from input ++ slice_range input from end = take_to input from end le in
+    record {
+      races = way.races ++ takes.race ∷ [];
+      within = takes.within;
+      whole = let P : List ℕ → Type 0 = AreTexts IsRaceText (way.races ++ takes.race ∷ []) in
+          subst P (sym split) (AreTexts-snoc IsRaceText way.races (take from input) way.whole takes.race _ takes.read);
+      counted = length-append way.races (takes.race ∷ []) ∙ ap (λ (n : ℕ). n + 1) way.counted;
+      told = let P : List ℕ → Type 0 = AreTexts IsText (way.races ++ takes.race ∷ []) in
+          subst P (sym takes.written.appended) (AreTexts-snoc IsText way.races text way.told takes.race takes.written.told takes.written.is_told);
+    }
+
+-- what is read ends here, with this fault of the rest behind so many lines
+pub told_end : (IsText : List ℕ → Race → Type 0) (input text : List ℕ) (is_broken : Bool) (from lines count : ℕ) (fault : Option InputFault) → IsTelling IsText input text from count
+    → lines ≡ line_count (take from input) → count ≤ most_races → IsFault is_broken count lines (drop from input) fault → IsOutput IsText input is_broken text fault
+told_end IsText input text is_broken from lines count fault way lines_are few is = record {
+  races = way.races;
+  before = take from input;
+  rest = drop from input;
+  parts = sym (take-append-drop from input);
+  whole = way.whole;
+  few = let same = way.counted in omega arith;
+  told = way.told;
+  fault_is =
+      let P : ℕ → Type 0 = λ n. IsFault is_broken n (line_count (take from input)) (drop from input) fault in
+      let Q : ℕ → Type 0 = λ n. IsFault is_broken count n (drop from input) fault in
+      subst P (sym way.counted) (subst Q lines_are is);
+}
