@@ -102,7 +102,6 @@ mod alone;
 pub mod attempt;
 pub mod connector;
 mod course;
-mod drops;
 pub mod faults;
 pub mod limits;
 mod live;

@@ -12,12 +12,12 @@ ghost use Rattle.he_race.specs.Turns.{Answers, ArePolled, AsksInTime, BeginsAt, 
 use crate::attempt::{AttemptFuture, Finish};
 use crate::connector::Connector;
 use crate::course::Course;
-use crate::drops::discard;
 use crate::faults::ConnectFault;
 use futures::task::{Context, Poll};
 use he_addr::Memory;
 use he_plan::{Attempt, Timeline, Transcript};
 use std::alloc::{Allocator, Global};
+use std::mem::drop;
 
 // An attempt that has not finished.
 #[derive(Drop)]
@@ -100,7 +100,7 @@ impl<C: Connector> Live<C> {
         let limit = self.course.limit();
         match self.course.begin_turn(now) {
             Err(fault) => {
-                discard(self);
+                drop(self);
                 Err(fault)
             }
             Ok(()) => {
@@ -128,14 +128,14 @@ impl<C: Connector> Live<C> {
     {
         match self.poll_all(now, connector, cx) {
             Err(fault) => {
-                discard(self);
+                drop(self);
                 Err(fault)
             }
             Ok(winner) => {
                 if self.is_over(now, winner.is_some()) {
                     return self.end(winner);
                 }
-                discard(winner);
+                drop(winner);
                 self.end_turn(now, connector, cx)
             }
         }
@@ -196,7 +196,7 @@ impl<C: Connector> Live<C> {
                     result: answer,
                 } = finish;
                 self.course.finish(attempt, now, answer.is_ok())?;
-                discard(self.unfinished.remove(i));
+                drop(self.unfinished.remove(i));
                 Ok(Some(answer))
             }
         }
@@ -234,11 +234,11 @@ impl<C: Connector> Live<C> {
         ensures { IfOk result (EndsWith self.course.recorded winner) }
     {
         let Live { course, unfinished } = self;
-        discard(unfinished);
+        drop(unfinished);
         match course.transcript() {
             Err(fault) => {
-                discard(course);
-                discard(winner);
+                drop(course);
+                drop(winner);
                 Err(fault)
             }
             Ok(transcript) => Ok(Step::Ended(Raced {
@@ -298,8 +298,8 @@ fn with_made<C: Connector>(
     match unfinished.push(attempt) {
         Ok(()) => Ok(unfinished),
         Err(refused) => {
-            discard(refused);
-            discard(unfinished);
+            drop(refused);
+            drop(unfinished);
             Err(Memory)
         }
     }
@@ -313,6 +313,6 @@ fn begin<C: Connector>(attempt: Attempt, connector: &mut C, cx: &mut Context<'_>
     ensures kept { Keeps cx.old cx.new }
 {
     let mut future = AttemptFuture::new(attempt.place, attempt.ip, attempt.tick);
-    discard(future.poll_attempt(connector, attempt.tick, cx));
+    drop(future.poll_attempt(connector, attempt.tick, cx));
     Unfinished { attempt, future }
 }

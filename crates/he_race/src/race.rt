@@ -10,7 +10,6 @@ ghost use Rattle.he_race.specs.Racing.{RacePolls, fault_of};
 ghost use Rattle.he_race.specs.Turns.{GivesOf, IsLive};
 
 use crate::connector::Connector;
-use crate::drops::{discard, put};
 use crate::faults::{RaceFault, TickFault};
 use crate::live::{Live, Raced, Step};
 use crate::ticker::Ticker;
@@ -19,6 +18,7 @@ use futures::task::{Context, Poll};
 use he_addr::Memory;
 use he_plan::Timeline;
 use std::alloc::{Allocator, Global};
+use std::mem::drop;
 
 /// A race of attempts over a connector and a ticker (RFC 8305 sections 3 to 5). It is polled until it gives its
 /// result, and answers `RaceFault::Over` from then on.
@@ -93,7 +93,7 @@ impl<C: Connector, T: Ticker> Future for RaceFuture<C, T> {
                     Poll::Pending
                 }
                 Err(fault) => {
-                    discard(live);
+                    drop(live);
                     Poll::Ready(Err(fault_of(fault)))
                 }
             },
@@ -109,4 +109,11 @@ fn fault_of(fault: TickFault) -> RaceFault
         TickFault::Memory => RaceFault::Memory,
         TickFault::Lost => RaceFault::Clock,
     }
+}
+
+// Puts the value into its place. What was there is dropped. Generic, so that no caller's proof looks into what is dropped.
+fn put<T: Drop>(place: &mut Option<T>, value: T)
+    ensures { place.new ≡ Some value }
+{
+    *place = Some(value);
 }

@@ -1,9 +1,10 @@
 // One attempt at a time: what it comes to by the rules of a race.
 
-use crate::homes::{Given, discard, race};
+use crate::homes::{Given, race};
 use he_plan::{Fate, Outcome, Plan, Timeline, plan};
 use he_race::run_attempt;
 use std::alloc::Global;
+use std::mem::drop;
 use std::test::Fail;
 
 /// A race, the place of an attempt, and what becomes of it.
@@ -92,14 +93,14 @@ fn cases() -> [Case; 9] {
 fn is_right(alloc: Global, case: &Case) -> Result<bool, Fail> {
     let timeline = race(alloc, &case.given)?;
     let is_right = is_right_of(alloc, case, &timeline);
-    discard(timeline);
+    drop(timeline);
     is_right
 }
 
 fn is_right_of(alloc: Global, case: &Case, timeline: &Timeline) -> Result<bool, Fail> {
     let plan = plan(alloc, timeline)?;
     let is_right = is_fate(alloc, case, timeline, &plan);
-    discard(plan);
+    drop(plan);
     is_right
 }
 

@@ -4,6 +4,7 @@ use he_addr::{Family, Ip, Prefix};
 use he_plan::{Outcome, Settings, Timeline, TimelineBuilder};
 use he_select::{Host, Policy, Route, Source};
 use std::alloc::Global;
+use std::mem::drop;
 use std::test::Fail;
 
 /// 2001:db8:1::1
@@ -11,9 +12,6 @@ pub const V6_A: Ip = Ip::V6(0x2001_0db8_0001_0000_0000_0000_0000_0001);
 
 /// 198.51.100.1
 pub const V4_A: Ip = Ip::V4(0xc633_6401);
-
-/// Drops the value. Generic, so that no caller's proof looks into what is dropped.
-pub fn discard<T: Drop>(_value: T) {}
 
 fn source(ip: Ip, plen: u8) -> Source {
     Source {
@@ -75,7 +73,7 @@ fn empty(alloc: Global, settings: Settings, host: Host) -> Result<TimelineBuilde
     match Policy::standard(alloc) {
         Ok(policy) => Ok(TimelineBuilder::new(alloc, settings, policy, host)),
         Err(refused) => {
-            discard(host);
+            drop(host);
             Err(refused.into())
         }
     }
@@ -87,7 +85,7 @@ pub fn race(alloc: Global, given: &Given) -> Result<Timeline, Fail> {
     match fill(&mut builder, given) {
         Ok(()) => Ok(builder.finish()),
         Err(fault) => {
-            discard(builder);
+            drop(builder);
             Err(fault)
         }
     }

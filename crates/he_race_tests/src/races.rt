@@ -1,6 +1,6 @@
 // Races as futures, over tickers that stand still, go back, jump or are lost, and a connector that cannot begin.
 
-use crate::homes::{Given, V4_A, V6_A, discard, first_race, race};
+use crate::homes::{Given, V4_A, V6_A, first_race, race};
 use futures::Future;
 use futures::task::{Context, Doorbell, Poll, Solo};
 use he_addr::Ip;
@@ -10,6 +10,7 @@ use he_race::{
     Ticker, WheelTicker,
 };
 use std::alloc::Global;
+use std::mem::drop;
 use std::test::Fail;
 
 // Tells these ticks, one at each poll, and then the last again. It is lost where it isn't asked for these, one after
@@ -156,7 +157,7 @@ fn seen_of<F: Future<Output = Result<Raced<()>, RaceFault>>>(solo: &Solo, future
 {
     let given = drive(solo, future, 40);
     let seen = seen_in(&given);
-    discard(given);
+    drop(given);
     seen
 }
 
@@ -173,11 +174,11 @@ fn by_ticker<T: Ticker>(alloc: Global, solo: &Solo, ticker: T) -> Result<Seen, F
     match race(alloc, &first_race(None)) {
         Ok(timeline) => {
             let seen = seen_by(alloc, solo, &timeline, ticker);
-            discard(timeline);
+            drop(timeline);
             seen
         }
         Err(fault) => {
-            discard(ticker);
+            drop(ticker);
             Err(fault)
         }
     }
@@ -254,7 +255,7 @@ fn tickers_that_misbehave(rt: HostRuntime) -> Result<(), Fail> {
 fn by_wheel(alloc: Global, solo: &Solo, given: &Given, faulty: usize) -> Result<Seen, Fail> {
     let timeline = race(alloc, given)?;
     let seen = seen_at(alloc, solo, &timeline, faulty);
-    discard(timeline);
+    drop(timeline);
     seen
 }
 

@@ -1,10 +1,11 @@
 // A ticker over a race that sleeps from 30 to 399.
 
-use crate::homes::{Given, discard, race};
+use crate::homes::{Given, race};
 use futures::task::{Doorbell, Solo};
 use he_plan::Timeline;
 use he_race::{Ticker, WheelTicker};
 use std::alloc::Global;
+use std::mem::drop;
 use std::test::Fail;
 
 static ASKED: [u8; 4] = [60, 10, 5, 60];
@@ -13,7 +14,7 @@ static ASKED: [u8; 4] = [60, 10, 5, 60];
 fn visited(solo: &Solo, alloc: Global, timeline: &Timeline) -> Result<[u64; 4], Fail> {
     let mut ticker = WheelTicker::new(alloc, timeline)?;
     let visited = ticks(solo, &mut ticker);
-    discard(ticker);
+    drop(ticker);
     visited
 }
 
@@ -56,7 +57,7 @@ fn ticker_goes_where_it_was_asked(rt: HostRuntime) -> Result<(), Fail> {
     )?;
     let solo = Solo::new(&rt, Doorbell::spinning())?;
     let visited = visited(&solo, alloc, &timeline);
-    discard(timeline);
+    drop(timeline);
     assert_eq!(rt; visited?, [5, 10, 11, 400]);
     Ok(())
 }
