@@ -1,5 +1,5 @@
 # What a newcomer needs. The README says what each does and how long it takes.
-.PHONY: help race test edits install examples
+.PHONY: help race test edits install examples hostile hosts
 
 PREFIX ?= /usr/local
 RACE ?= crates/cases/data/ipv6-late-but-within-delay-leads.timeline
@@ -12,6 +12,8 @@ help:
 	@echo 'make edits                 tries the wrong edits that the gate leaves out: each must be refused'
 	@echo 'make install PREFIX=DIR    proves and builds the program, and puts it at DIR/bin/he'
 	@echo 'make examples HE=FILE      runs a built program over all examples'
+	@echo 'make hostile HE=FILE       runs a built program over streams that fail and with too little memory'
+	@echo 'make hosts HE=FILE         tries tools/host-lines on recorded hosts, and has a built program read its lines'
 
 race:
 	@cd crates/he_tool && rt try -- replay < $(abspath $(RACE))
@@ -28,3 +30,9 @@ install:
 
 examples:
 	scripts/examples $(HE)
+
+hostile:
+	scripts/hostile $(HE)
+
+hosts:
+	scripts/hosts $(HE)
