@@ -28,8 +28,8 @@ pub struct Prefix {
     bits: u128,
     len: u8,
 
-    // The last number that begins with the prefix. With it two comparisons tell whether an address does, which costs less
-    // than shifts.
+    // The last number that begins with the prefix. With it two comparisons tell whether an address does, which costs
+    // less than shifts.
     #[derive_where(skip)]
     last: u128,
 }

@@ -43,8 +43,8 @@ fn parse_ip_of(family: Family, text: &[u8]) -> Option<Ip>
     }
 }
 
-/// The address of this family that a text spells, as [`read_ip`] reads it; None for every other text. Only the reader of the
-/// family looks at the text.
+/// The address of this family that a text spells, as [`read_ip`] reads it; None for every other text. Only the reader of
+/// the family looks at the text.
 pub fn read_ip_of(family: Family, text: &[u8]) -> Option<Ip>
     ensures value { result ≡ ip_of_in family text.now }
     ensures found { IfSome result (λ ip. Spells text.now ip × (family_of ip ≡ family)) }
