@@ -1,5 +1,6 @@
 mod AddressBytes
 mod AddressTexts
+mod Between
 mod Bounds
 pub mod Common_bits
 mod HexDigits

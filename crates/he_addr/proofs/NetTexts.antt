@@ -1,19 +1,25 @@
 -- Texts of addresses as the standard library reads them: what its grammar says, as the answers of the functions.
-use Rattle.std.proofs.Common.{◌≡◌, ℕ, List, [], ◌∷◌, length, Option, Some, None, refl, sym, ap, ◌∙◌, subst, append-nil, lit≤, arith, ne_eqb}
+use Rattle.std.proofs.Common.{◌≡◌, ℕ, List, [], ◌∷◌, length, Option, Some, None, true, cond, refl, sym, ap, ◌∙◌, subst, append-nil, lit≤, arith, ne_eqb}
 use Rattle.std.proofs.lemmas.Option.{none-some, same_Some}
 use Rattle.std.specs.Int.{w32, w128, from_be_bytes}
 use Rattle.std.specs.Option.{option_map, option_map_or}
 use Rattle.std.specs.declared.net.ip_addr.IpAddr.{IpAddr}
 use Rattle.std.specs.declared.net.ip_addr.IpAddr.TheVariants as addresses
+use Rattle.std.specs.declared.net.ipv4_addr.Ipv4Addr.{Ipv4Addr}
+use Rattle.std.specs.declared.net.ipv6_addr.Ipv6Addr.{Ipv6Addr}
 use Rattle.std.specs.Net.Addr.{ipv4_bits, ipv6_bits, octets_of}
-use Rattle.std.specs.Net.Grammar.{IsDotted, IsColonHex, IsIpText}
+use Rattle.std.specs.Net.Grammar.{IsDotted, IsColonHex, IsIpv4Text, IsIpv6Text, IsIpText}
 use Rattle.std.specs.Net.Reader.{Read, read_ipv4, read_ipv6, whole_value}
 use Rattle.std.proofs.NetLemmas.Ipv4.{read_ipv4_complete, read_ipv4_sound}
 use Rattle.std.proofs.NetLemmas.Ipv6.{read_ipv6_complete, read_ipv6_sound, EndsGroups-nil, IsDotted-not_colon_hex}
+use Rattle.he_addr.specs.declared.ip.Family.{Family}
+use Rattle.he_addr.specs.declared.ip.Family.TheVariants as families
 use Rattle.he_addr.specs.declared.ip.Ip.{Ip}
 use Rattle.he_addr.specs.declared.ip.Ip.TheVariants.{V4, V6}
-use Rattle.he_addr.specs.Reading.{v4_in, v6_in, ip_in}
+use Rattle.he_addr.specs.Ip.{family_of, is_of}
+use Rattle.he_addr.specs.Reading.{◌>>=◌, v4_in, v6_in, ip_in, ip_of_in}
 use Rattle.he_addr.specs.Text.{ip_of, Spells}
+use Rattle.he_addr.proofs.Options.{bind_some, allowed}
 
 -- a value with text after it is no value of a whole text
 more_none : {A : Type 0} (x : A) (c : ℕ) (rest : List ℕ) → whole_value (Some (x, c ∷ rest)) ≡ None
@@ -44,6 +50,21 @@ v6_some text groups h = rw (sym (ap read_ipv6 (append-nil text)) ∙ read_ipv6_c
 v6_none : (text : List ℕ) → ((groups : List ℕ) → IsColonHex text groups → ⊥) → v6_in text ≡ None
 unfolding v6_in
 v6_none text h = rw (whole_none (read_ipv6 text) (λ groups read. let (front, split, colons) = read_ipv6_sound text groups [] read in h groups (subst (λ t. IsColonHex t groups) (sym (split ∙ append-nil front)) colons)))
+
+-- what the reader of one family finds is what the function of that family answers
+pub v4_in_text : (text : List ℕ) (address : Ipv4Addr) → IsIpv4Text text address → v4_in text ≡ Some (ipv4_bits address)
+unfolding ipv4_bits
+v4_in_text text address h = v4_some text _ h
+
+pub v4_in_no_text : (text : List ℕ) → ((address : Ipv4Addr) → IsIpv4Text text address → ⊥) → v4_in text ≡ None
+v4_in_no_text text h = v4_none text (λ octets dotted. h (record { octets = octets }) dotted)
+
+pub v6_in_text : (text : List ℕ) (address : Ipv6Addr) → IsIpv6Text text address → v6_in text ≡ Some (ipv6_bits address)
+unfolding ipv6_bits
+v6_in_text text address h = v6_some text _ h
+
+pub v6_in_no_text : (text : List ℕ) → ((address : Ipv6Addr) → IsIpv6Text text address → ⊥) → v6_in text ≡ None
+v6_in_no_text text h = v6_none text (λ groups colons. h (record { segments = groups }) colons)
 
 -- what the text spells is what the function answers
 pub ip_in_text : (text : List ℕ) (address : IpAddr) → IsIpText text address → ip_in text ≡ Some (ip_of address)
@@ -90,3 +111,59 @@ ip_in_some text ip h = four (v4_in text) refl h
 
 pub ip_in-spelled : (text : List ℕ) (ip : Ip) → Spells text ip → ip_in text ≡ Some ip
 ip_in-spelled text ip (address, spelled, same) = ip_in_text text address spelled ∙ ap Some (sym same)
+
+-- no text is one of both families
+v4_in_alone : (text : List ℕ) (n : ℕ) → v4_in text ≡ Some n → v6_in text ≡ None
+unfolding v4_in
+v4_in_alone text n h = read (whole_value (read_ipv4 text)) refl h
+  where
+    read : (o : Option (List ℕ)) → whole_value (read_ipv4 text) ≡ o → option_map (λ octets. from_be_bytes w32 octets) o ≡ Some n → v6_in text ≡ None
+    read None e h = cc
+    read (Some octets) e h =
+        let (front, split, dotted) = read_ipv4_sound text octets [] (whole_some (read_ipv4 text) octets e) in
+        let whole : IsDotted text octets = subst (λ t. IsDotted t octets) (sym (split ∙ append-nil front)) dotted in
+        v6_none text (λ groups colons. IsDotted-not_colon_hex text octets groups whole colons)
+
+-- the address of one family is the answer of the reader of that family
+pub of_v4 : (text : List ℕ) → ip_of_in families.V4 text ≡ option_map V4 (v4_in text)
+unfolding ip_of_in ip_in
+of_v4 text = four (v4_in text) (v6_in text)
+  where
+    four : (four six : Option ℕ) → (option_map_or (λ n. Some (V4 n)) four (option_map (λ n. V6 n) six) >>= (λ ip. cond (is_of families.V4 ip) (Some ip) None)) ≡ option_map V4 four
+    four None None = refl
+    four None (Some n) = refl
+    four (Some n) six = refl
+
+pub of_v6 : (text : List ℕ) → ip_of_in families.V6 text ≡ option_map V6 (v6_in text)
+unfolding ip_of_in ip_in
+of_v6 text = four (v4_in text) refl
+  where
+    kept : (six : Option ℕ) → (option_map (λ n. V6 n) six >>= (λ ip. cond (is_of families.V6 ip) (Some ip) None)) ≡ option_map V6 six
+    kept None = refl
+    kept (Some n) = refl
+
+    four : (o : Option ℕ) → v4_in text ≡ o → (option_map_or (λ n. Some (V4 n)) o (option_map (λ n. V6 n) (v6_in text)) >>= (λ ip. cond (is_of families.V6 ip) (Some ip) None)) ≡ option_map V6 (v6_in text)
+    four None e = kept (v6_in text)
+    four (Some n) e = ap (option_map V6) (sym (v4_in_alone text n e))
+
+of_family : (family : Family) (ip : Ip) → is_of family ip ≡ true → family_of ip ≡ family
+of_family families.V4 (V4 n) h = refl
+of_family families.V6 (V6 n) h = refl
+of_family families.V4 (V6 n) h = cc
+of_family families.V6 (V4 n) h = cc
+
+of_its_family : (ip : Ip) → is_of (family_of ip) ip ≡ true
+of_its_family (V4 n) = refl
+of_its_family (V6 n) = refl
+
+pub ip_of_in_some : (family : Family) (text : List ℕ) (ip : Ip) → ip_of_in family text ≡ Some ip → Spells text ip × (family_of ip ≡ family)
+unfolding ip_of_in
+ip_of_in_some family text ip h =
+    let read = bind_some (ip_in text) (λ ip. cond (is_of family ip) (Some ip) None) ip h in
+    let kept = allowed (is_of family read.0) (Some read.0) ip read.2 in
+    let same = same_Some read.0 ip kept.1 in
+    (ip_in_some text ip (read.1 ∙ ap Some same), of_family family ip (ap (is_of family) (sym same) ∙ kept.0))
+
+pub ip_of_in-spelled : (family : Family) (text : List ℕ) (ip : Ip) → Spells text ip → family_of ip ≡ family → ip_of_in family text ≡ Some ip
+unfolding ip_of_in
+ip_of_in-spelled family text ip spelled same = rw (ip_in-spelled text ip spelled, subst (λ f. is_of f ip ≡ true) same (of_its_family ip))

@@ -15,6 +15,11 @@ abbrev pub is_v6 : Ip → Bool
 is_v6 (V4 n) = false
 is_v6 (V6 n) = true
 
+-- whether the address is one of the family
+abbrev pub is_of : Family → Ip → Bool
+is_of families.V6 ip = is_v6 ip
+is_of families.V4 ip = not (is_v6 ip)
+
 abbrev pub same_ip : Ip → Ip → Bool
 same_ip (V4 m) (V4 n) = m == n
 same_ip (V6 m) (V6 n) = m == n

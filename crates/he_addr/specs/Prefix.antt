@@ -1,5 +1,5 @@
 -- Prefixes: what one holds, which addresses lie in it, and how long a part two addresses have in common.
-use Rattle.std.specs.Prelude.{ℕ, ◌-◌, ◌%◌, ◌^◌, ◌<◌, ◌≤◌, ◌≡◌, ◌&&◌, Bool, nat_le}
+use Rattle.std.specs.Prelude.{ℕ, ◌+◌, ◌-◌, ◌%◌, ◌^◌, ◌<◌, ◌≤◌, ◌≡◌, ◌&&◌, Bool, nat_le}
 use Rattle.he_addr.specs.declared.ip.Ip.{Ip}
 use Rattle.he_addr.specs.declared.ip.Ip.TheVariants.{V4, V6}
 use Rattle.he_addr.specs.Bits.{agrees, greatest}
@@ -16,6 +16,10 @@ pub record IsPrefix (bits len : ℕ) : Type 0 where
   pub short : len ≤ v6_bits
   pub fits : bits < 2 ^ 128
   pub clear : bits % 2 ^ (128 - len) ≡ 0
+
+-- the greatest number whose first `len` bits are those of `bits`
+abbrev pub last_of : ℕ → ℕ → ℕ
+last_of bits len = bits + (2 ^ (128 - len) - 1)
 
 -- the address, as a mapped number, begins with the prefix
 abbrev pub contains : PrefixBits → Ip → Bool

@@ -5,8 +5,10 @@ use Rattle.std.specs.Int.{w32, w128, from_be_bytes}
 use Rattle.std.specs.Net.Addr.{octets_of}
 use Rattle.std.specs.Net.Reader.{read_ipv4, read_ipv6, whole_value}
 use Rattle.std.specs.Option.{option_map, option_map_or}
+use Rattle.he_addr.specs.declared.ip.Family.{Family}
 use Rattle.he_addr.specs.declared.ip.Ip.{Ip}
 use Rattle.he_addr.specs.declared.ip.Ip.TheVariants.{V4, V6}
+use Rattle.he_addr.specs.Ip.{is_of}
 use Rattle.he_addr.specs.Prefix.{PrefixBits, width_of}
 use Rattle.he_addr.specs.Text.{prefix_of}
 
@@ -45,6 +47,12 @@ v6_in text = option_map (λ groups. from_be_bytes w128 (octets_of groups)) (whol
 -- the address of a text
 unfoldable pub ip_in : List ℕ → Option Ip
 ip_in text = option_map_or (λ n. Some (V4 n)) (v4_in text) (option_map (λ n. V6 n) (v6_in text))
+
+-- the address of a text, where it is one of the family
+unfoldable pub ip_of_in : Family → List ℕ → Option Ip
+ip_of_in family text = do
+  ip ← ip_in text
+  if is_of family ip then Some ip else None
 
 -- the address and the length of a source text
 unfoldable pub source_in : List ℕ → Option (Ip × ℕ)

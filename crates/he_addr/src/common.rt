@@ -1,11 +1,10 @@
 // The common part of two addresses.
 
 ghost use Rattle.std.specs.Prelude.{◌≡◌, ℕ, ◌≤◌, min};
-ghost use Rattle.he_addr.specs.Bits.{IsCommon, GreatestIsGreatest, agrees};
+ghost use Rattle.he_addr.specs.Bits.{IsCommon, GreatestIsGreatest};
 ghost use Rattle.he_addr.specs.Prefix.{common_of, width_of};
 
 use crate::ip::Ip;
-use crate::prefix::V6_BITS;
 
 /// The common prefix length of a source and a destination of one family (RFC 6724 section 2.2): the greatest number of
 /// leading bits that the two have in common, at most the source's prefix length. 0 for addresses of two families.
@@ -24,14 +23,6 @@ fn common_v4(a: u32, b: u32) -> u8
     ensures { IsCommon 32 a b result }
 {
     (a ^ b).leading_zeros() as u8
-}
-
-// Whether the first `len` bits of two IPv6 numbers agree: their difference has as many leading zeros.
-pub(crate) fn agree_v6(a: u128, b: u128, len: u8) -> bool
-    requires { len ≤ V6_BITS }
-    ensures { result ≡ agrees 128 a b len }
-{
-    len <= common_v6(a, b)
 }
 
 fn common_v6(a: u128, b: u128) -> u8

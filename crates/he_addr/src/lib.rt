@@ -4,8 +4,9 @@
 //! IPv6. Their calls answer what RFC 6724 asks of them: scope, whether an address can be connected to, whether it lies in
 //! a prefix, and how long a part a source and a destination have in common.
 //!
-//! Texts are bytes. [`read_ip`], [`read_prefix`], [`read_source`] and [`read_number`] answer a value exactly where the
-//! whole text spells it, and None for every other text; they allocate nothing. Addresses are read by `std::net`.
+//! Texts are bytes. [`read_ip`], [`read_ip_of`], [`read_prefix`], [`read_source`] and [`read_number`] answer a value
+//! exactly where the whole text spells it, and None for every other text; they allocate nothing. Addresses are read by
+//! `std::net`.
 //! [`write_ip`], [`write_prefix`], [`write_source`] and [`write_number`] append to a vector by at most one growth, and
 //! leave it as it was where that is refused ([`Memory`]).
 //!
@@ -44,5 +45,5 @@ pub use decimal::{read_number, write_number};
 pub use ip::{Family, Ip};
 pub use memory::Memory;
 pub use prefix::Prefix;
-pub use reading::{read_ip, read_prefix, read_source};
+pub use reading::{read_ip, read_ip_of, read_prefix, read_source};
 pub use writing::{write_ip, write_prefix, write_source};

@@ -3,9 +3,8 @@
 ghost use Rattle.std.specs.Prelude.{◌≡◌, ◌-◌, ◌%◌, ◌^◌, ◌≤◌, ◌==◌, IfSome, IfNone};
 ghost use Rattle.he_addr.specs.Bits.{agrees};
 ghost use Rattle.he_addr.specs.Ip.{family_of, is_v6};
-ghost use Rattle.he_addr.specs.Prefix.{PrefixBits, IsPrefix, contains, is_inside_mapped, common_of};
+ghost use Rattle.he_addr.specs.Prefix.{PrefixBits, IsPrefix, contains, is_inside_mapped};
 
-use crate::common::agree_v6;
 use crate::ip::Ip;
 use std::marker::Model;
 
@@ -23,20 +22,32 @@ pub const MAPPED_LEN: u8 = V6_BITS - V4_BITS;
 
 /// An address prefix: its first `len` bits over IPv6 numbers, the bits past them zero. An IPv4 prefix of length n is the
 /// mapped prefix of length 96 + n, so `0.0.0.0/0` and `::ffff:0:0/96` are one prefix.
-#[derive(Clone, Copy, Debug, PartialEq, Eq)]
+#[derive(Clone, Copy)]
+#[derive_where(Debug, PartialEq, Eq)]
 pub struct Prefix {
     bits: u128,
     len: u8,
+
+    // The last number that begins with the prefix. With it two comparisons tell whether an address does, which costs
+    // less than shifts.
+    #[derive_where(skip)]
+    last: u128,
 }
 
 impl Model for Prefix {
+    ghost use Rattle.std.specs.Prelude.{◌≡◌};
+    ghost use Rattle.std.proofs.Common.{ap, sym};
+    ghost use Rattle.he_addr.specs.Prefix.{PrefixBits, IsPrefix, last_of};
+
     ghost Value = { PrefixBits };
 
     ghost view = { λ p. record { bits = p.bits; len = p.len } };
 
-    ghost invariant = { λ p. IsPrefix p.bits p.len };
+    ghost invariant = { λ p. IsPrefix p.bits p.len × (p.last ≡ last_of p.bits p.len) };
 
-    ghost inverse = { λ b. record { bits = b.bits; len = b.len } };
+    ghost inverse = { λ b. record { bits = b.bits; len = b.len; last = last_of b.bits b.len } };
+
+    ghost inverse_ok = { λ a h. ap (λ l. record { bits = a.bits; len = a.len; last = l }) (sym h.1) };
 }
 
 impl Prefix {
@@ -47,7 +58,11 @@ impl Prefix {
         requires { IsPrefix bits len }
         ensures { result ≡ record { bits = bits; len = len } }
     {
-        Self { bits, len }
+        Self {
+            bits,
+            len,
+            last: bits + free_ones(len),
+        }
     }
 
     /// The prefix of the first `len` bits of `bits`: None where `len` is above 128 or a bit past the length is set.
@@ -59,7 +74,7 @@ impl Prefix {
         if len > V6_BITS || !is_clear(bits, len) {
             return None;
         }
-        Some(Prefix { bits, len })
+        Some(Prefix::new(bits, len))
     }
 
     /// The bits, the first one the highest.
@@ -86,10 +101,11 @@ impl Prefix {
 
     /// Whether the number, of an address as [`Ip::mapped`] gives it, begins with this prefix. Who asks many prefixes about one
     /// address makes its number once.
+    #[tactic(auto, using(crate::proofs::Between::before_first))]
     pub fn begins(self, number: u128) -> bool
         ensures { result ≡ agrees 128 number self.bits self.len }
     {
-        agree_v6(number, self.bits, self.len)
+        number >= self.bits && number <= self.last
     }
 
     /// Whether the prefix lies inside `::ffff:0:0/96`, so that it holds IPv4 addresses alone.
@@ -97,6 +113,18 @@ impl Prefix {
         ensures { result ≡ is_inside_mapped self }
     {
         MAPPED_LEN <= self.len && self.bits >> V4_BITS == MAPPED
+    }
+}
+
+// The number with all bits past the length set.
+fn free_ones(len: u8) -> u128
+    requires { len ≤ V6_BITS }
+    ensures { result ≡ 2 ^ (128 - len) - 1 }
+{
+    if len == 0 {
+        u128::MAX
+    } else {
+        (1 << (V6_BITS - len)) - 1
     }
 }
 

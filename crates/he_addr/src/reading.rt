@@ -1,17 +1,17 @@
 // Addresses, sources and prefixes read from texts.
 
 ghost use Rattle.std.specs.Prelude.{◌≡◌, ◌≤◌, ℕ, IfSome, IfNone};
-ghost use Rattle.he_addr.specs.Ip.{InRange};
+ghost use Rattle.he_addr.specs.Ip.{InRange, family_of};
 ghost use Rattle.he_addr.specs.Prefix.{PrefixBits, width_of};
-ghost use Rattle.he_addr.specs.Reading.{ip_in, source_in, prefix_in};
+ghost use Rattle.he_addr.specs.Reading.{ip_in, ip_of_in, source_in, prefix_in, v4_in, v6_in};
 ghost use Rattle.he_addr.specs.Text.{Spells, SpellsSource, SpellsPrefix};
 
 use crate::decimal::read_numeral;
-use crate::ip::Ip;
+use crate::ip::{Family, Ip};
 use crate::parts::cut;
 use crate::prefix::{MAPPED_LEN, Prefix, V4_BITS, V6_BITS};
 use crate::printing::SLASH;
-use std::net::IpAddr;
+use std::net::{IpAddr, Ipv4Addr, Ipv6Addr};
 
 /// The most digits of a prefix length in the texts.
 pub const LENGTH_DIGITS: usize = 3;
@@ -28,6 +28,50 @@ pub fn read_ip(text: &[u8]) -> Option<Ip>
     match IpAddr::parse_ascii(text) {
         Ok(IpAddr::V4(address)) => Some(Ip::V4(address.to_bits())),
         Ok(IpAddr::V6(address)) => Some(Ip::V6(address.to_bits())),
+        Err(_) => None,
+    }
+}
+
+#[tactic(auto, using(crate::proofs::NetTexts::of_v4, crate::proofs::NetTexts::of_v6))]
+fn parse_ip_of(family: Family, text: &[u8]) -> Option<Ip>
+    ensures value { result ≡ ip_of_in family text.now }
+    ensures range { IfSome result InRange }
+{
+    match family {
+        Family::V4 => read_v4(text).map(Ip::V4),
+        Family::V6 => read_v6(text).map(Ip::V6),
+    }
+}
+
+/// The address of this family that a text spells, as [`read_ip`] reads it; None for every other text. Only the reader of
+/// the family looks at the text.
+pub fn read_ip_of(family: Family, text: &[u8]) -> Option<Ip>
+    ensures value { result ≡ ip_of_in family text.now }
+    ensures found { IfSome result (λ ip. Spells text.now ip × (family_of ip ≡ family)) }
+    ensures none { IfNone result ((ip : Ip) → Spells text.now ip → family_of ip ≡ family → ⊥) }
+    ensures range { IfSome result InRange }
+{
+    parse_ip_of(family, text)
+}
+
+// The number of the IPv4 address that a text spells.
+#[tactic(auto, using(crate::proofs::NetTexts::v4_in_text, crate::proofs::NetTexts::v4_in_no_text))]
+fn read_v4(text: &[u8]) -> Option<u32>
+    ensures { result ≡ v4_in text.now }
+{
+    match Ipv4Addr::parse_ascii(text) {
+        Ok(address) => Some(address.to_bits()),
+        Err(_) => None,
+    }
+}
+
+// The number of the IPv6 address that a text spells.
+#[tactic(auto, using(crate::proofs::NetTexts::v6_in_text, crate::proofs::NetTexts::v6_in_no_text))]
+fn read_v6(text: &[u8]) -> Option<u128>
+    ensures { result ≡ v6_in text.now }
+{
+    match Ipv6Addr::parse_ascii(text) {
+        Ok(address) => Some(address.to_bits()),
         Err(_) => None,
     }
 }

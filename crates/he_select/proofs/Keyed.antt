@@ -3,11 +3,10 @@ use Rattle.std.proofs.Common.{◌≡◌, ℕ, Bool, true, false, refl, sym, List
 use Rattle.std.specs.Prelude.{Option, None, Some, is_some}
 use Rattle.std.specs.Bool.{beq}
 use Rattle.std.specs.Option.{option_map_or}
-use Rattle.std.specs.Cmp.{IsTotalOrder, bool_cmp_total}
+use Rattle.std.specs.Cmp.{IsTotalOrder}
 use Rattle.std.specs.declared.cmp.Ordering.{Ordering}
 use Rattle.std.specs.declared.cmp.Ordering.TheVariants.{Less, Equal, Greater}
 use Rattle.std.specs.Ordering.{nat_cmp, bool_cmp, ordering_then}
-use Rattle.std.proofs.lemmas.Cmp.{nat_cmp_total, then_total, on_total, back_total}
 use Rattle.he_addr.specs.declared.ip.Ip.{Ip}
 use Rattle.he_addr.specs.Ip.{is_v6, scope_of, IsUsable}
 use Rattle.he_addr.specs.Prefix.{common_of}
@@ -15,6 +14,7 @@ use Rattle.he_select.specs.declared.host.Source.{Source}
 use Rattle.he_select.specs.declared.policy.Row.{Row}
 use Rattle.he_select.specs.declared.ranking.Key.{Key}
 use Rattle.he_select.specs.DestinationKeys.{destination_key, key_cmp}
+use Rattle.he_select.specs.KeyOrder.{key_order_total}
 use Rattle.he_select.specs.Preference.{Member, common_with_source, destination_rules, has_current_source, has_like_label, has_like_scope, is_native}
 use Rattle.he_select.specs.Rules.{first_of}
 use Rattle.he_select.specs.Selection.{SelectionInput, is_reachable, source_of}
@@ -23,16 +23,7 @@ use Rattle.he_select.proofs.Orders.{alike, sourced, sourced_common, step, then_e
 
 pub keys_total : IsTotalOrder key_cmp
 unfolding key_cmp
-keys_total =
-    then_total (on_total (λ (k : Key). k.unreachable) bool_cmp_total)
-    (then_total (on_total (λ (k : Key). k.other_scope) bool_cmp_total)
-    (then_total (on_total (λ (k : Key). k.deprecated) bool_cmp_total)
-    (then_total (on_total (λ (k : Key). k.other_label) bool_cmp_total)
-    (then_total (back_total (on_total (λ (k : Key). k.precedence.0) nat_cmp_total))
-    (then_total (on_total (λ (k : Key). k.tunnel) bool_cmp_total)
-    (then_total (on_total (λ (k : Key). k.scope) nat_cmp_total)
-    (then_total (back_total (on_total (λ (k : Key). k.common.0) nat_cmp_total))
-    (on_total (λ (k : Key). k.place) nat_cmp_total))))))))
+keys_total = key_order_total
 
 last : (o p : Ordering) → ordering_then o p ≡ Equal → p ≡ Equal
 last Less p e = cc

@@ -3,6 +3,7 @@ pub mod Equality
 pub mod Faults
 pub mod HostFaults
 pub mod Hosts
+pub mod KeyOrder
 pub mod LabelledRules
 pub mod Laws
 pub mod Places

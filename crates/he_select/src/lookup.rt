@@ -28,18 +28,17 @@ fn longest_row(rows: &[Row], number: u128) -> Option<Row>
     best.copied()
 }
 
-// The length is looked at first: it costs less than the bits.
+// The bits are looked at first, since few rows contain an address.
 #[inline(always)]
 fn keep_row<'a>(best: Option<&'a Row>, row: &'a Row, number: u128) -> Option<&'a Row>
     ensures { option_map (λ kept. kept.now) result ≡ keep_fitting (λ row. agrees 128 number row.prefix.bits row.prefix.len) is_longer_row (option_map (λ kept. kept.now) best.entry) row.now }
 {
+    if !row.prefix.begins(number) {
+        return best;
+    }
     match best {
         Some(kept) if row.prefix.len() <= kept.prefix.len() => best,
-        _ => if row.prefix.begins(number) {
-            Some(row)
-        } else {
-            best
-        },
+        _ => Some(row),
     }
 }
 
@@ -66,9 +65,12 @@ pub(crate) fn find_route(routes: &[Route], ip: Ip) -> Option<Route>
 fn keep_route<'a>(best: Option<&'a Route>, route: &'a Route, ip: Ip) -> Option<&'a Route>
     ensures { option_map (λ kept. kept.now) result ≡ keep_fitting (serves ip) is_longer_route (option_map (λ kept. kept.now) best.entry) route.now }
 {
+    if !serves(route, ip) {
+        return best;
+    }
     match best {
         Some(kept) if route.prefix.len() <= kept.prefix.len() => best,
-        _ => if serves(route, ip) { Some(route) } else { best },
+        _ => Some(route),
     }
 }
 

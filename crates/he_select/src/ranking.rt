@@ -3,8 +3,12 @@
 ghost use Rattle.std.specs.Prelude.{◌≡◌, Option, IsTrue, IfSome};
 ghost use Rattle.std.specs.List.{list_all};
 ghost use Rattle.std.specs.Option.{option_map_or};
-ghost use Rattle.he_addr.specs.Ip.{InRange};
+ghost use Rattle.std.specs.Cmp.{eq_by_cmp_equiv, partial_equiv_from_equiv, partial_order_from_total};
+ghost use Rattle.std.specs.Ordering.{as_partial_cmp, eq_by_cmp};
+ghost use Rattle.std.proofs.Common.{refl};
+ghost use Rattle.he_addr.specs.Ip.{InRange, scope_of};
 ghost use Rattle.he_addr.specs.Prefix.{common_of};
+ghost use Rattle.he_select.specs.KeyOrder.{key_order, key_order_total, late_key_cmp};
 ghost use Rattle.he_select.specs.Ranking.{attributes_of, chosen_by, key_by, ranked_from};
 ghost use Rattle.he_select.specs.HostFaults.{is_sound_source};
 
@@ -14,10 +18,10 @@ use crate::policy::Row;
 use crate::selection::{Destination, Labelled};
 use crate::sorting::Sourced;
 use he_addr::{Ip, common_len};
-use std::cmp::Reverse;
+use std::cmp::{Ordering, Reverse};
 
 /// A number for each rule, in the rules' order; the preferred destination has the least key.
-#[derive(Clone, Copy, PartialEq, Eq, PartialOrd, Ord)]
+#[derive(Clone, Copy)]
 pub(crate) struct Key {
     pub(crate) unreachable: bool,
     pub(crate) other_scope: bool,
@@ -28,6 +32,83 @@ pub(crate) struct Key {
     pub(crate) scope: u8,
     pub(crate) common: Reverse<u8>,
     pub(crate) place: usize,
+}
+
+// Most keys that are compared differ in one of the last rules. To ask whether two fields differ costs less than to tell
+// their order, so the derived order, which tells it of each field, would take twice as long.
+impl Ord for Key {
+    ghost cmp = { key_order };
+
+    ghost total = { key_order_total };
+
+    ghost matches_partial_cmp = { λ a b. refl };
+
+    ghost matches_eq = { λ a b. refl };
+
+    #[inline(always)]
+    #[tactic(auto, unfolding(crate::specs::KeyOrder::late_key_cmp))]
+    fn cmp(&self, other: &Key) -> Ordering {
+        if self.unreachable != other.unreachable {
+            return self.unreachable.cmp(&other.unreachable);
+        }
+        if self.other_scope != other.other_scope {
+            return self.other_scope.cmp(&other.other_scope);
+        }
+        if self.deprecated != other.deprecated {
+            return self.deprecated.cmp(&other.deprecated);
+        }
+        if self.other_label != other.other_label {
+            return self.other_label.cmp(&other.other_label);
+        }
+        self.late_cmp(other)
+    }
+}
+
+impl PartialOrd for Key {
+    ghost partial_cmp = { as_partial_cmp key_order };
+
+    ghost laws = { partial_order_from_total key_order_total };
+
+    fn partial_cmp(&self, other: &Key) -> Option<Ordering> {
+        Some(self.cmp(other))
+    }
+}
+
+impl PartialEq for Key {
+    ghost eq = { eq_by_cmp key_order };
+
+    ghost laws = { partial_equiv_from_equiv (eq_by_cmp_equiv key_order_total) };
+
+    fn eq(&self, other: &Key) -> bool {
+        self.cmp(other).is_eq()
+    }
+}
+
+impl Eq for Key {
+    ghost laws = { eq_by_cmp_equiv key_order_total };
+}
+
+impl Key {
+    /// The order by the rules from 6 on.
+    #[inline(always)]
+    #[tactic(auto, unfolding(crate::specs::KeyOrder::late_key_cmp))]
+    fn late_cmp(&self, other: &Key) -> Ordering
+        ensures { result ≡ late_key_cmp self.now other.now }
+    {
+        if self.precedence != other.precedence {
+            return self.precedence.cmp(&other.precedence);
+        }
+        if self.tunnel != other.tunnel {
+            return self.tunnel.cmp(&other.tunnel);
+        }
+        if self.scope != other.scope {
+            return self.scope.cmp(&other.scope);
+        }
+        if self.common != other.common {
+            return self.common.cmp(&other.common);
+        }
+        self.place.cmp(&other.place)
+    }
 }
 
 /// A destination with its source and its key.
@@ -47,7 +128,9 @@ struct Attributes {
     route: Option<Route>,
 }
 
-/// The destination that stands at this place of the list, with its source and its key.
+/// The destination that stands at this place of the list, with its source and its key. In line, so that who wants the key
+/// alone pays for no more.
+#[inline(always)]
 pub(crate) fn rank(
     rows: &[Row],
     routes: &[Route],
@@ -88,12 +171,13 @@ impl Attributes {
 
     #[tactic(auto, unfolding(crate::specs::Ranking::chosen_by))]
     fn choose_source(&self, sources: &[Labelled]) -> Option<Labelled>
-        requires { IsTrue (list_all (λ labelled. is_sound_source labelled.source) sources.now) }
+        requires sources { IsTrue (list_all (λ labelled. is_sound_source labelled.source) sources.now) }
+        requires scope { self.now.scope ≡ scope_of self.now.ip }
         ensures chosen { result ≡ chosen_by self.now sources.now }
         ensures sound { IfSome result (λ labelled. IsTrue (is_sound_source labelled.source)) }
     {
         let route = self.route?;
-        Destination::new(self.ip, self.label, &route).best_of(sources)
+        Destination::new(self.ip, self.scope, self.label, &route).best_of(sources)
     }
 
     #[tactic(auto, unfolding(crate::specs::Ranking::key_by))]
