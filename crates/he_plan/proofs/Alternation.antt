@@ -63,7 +63,7 @@ pub list_any-interlace : (p : Ip → Bool) (ips : List Ip) (count : ℕ) → lis
 list_any-interlace p [] count = refl
 list_any-interlace p (first ∷ ips) count = list_any-interlace_by p (family_of first) (first ∷ ips) count
 
-filter_short : (p : Ip → Bool) (ips : List Ip) → length (filter p ips) ≤ length ips
+pub filter_short : (p : Ip → Bool) (ips : List Ip) → length (filter p ips) ≤ length ips
 filter_short p [] = omega arith
 filter_short p (ip ∷ ips) = by_head (p ip) (filter_short p ips)
   where

@@ -118,7 +118,7 @@ none_of family p (x ∷ ips) not h =
     let rest : list_any p ips ≡ false = none_of family p ips not (and_right _ _ h) in
     rw (out, rest)
 
-answer_of : (family : Family) (reply : Reply) → is_answer family (Some reply) ≡ true → are_of family reply.addresses ≡ true
+pub answer_of : (family : Family) (reply : Reply) → is_answer family (Some reply) ≡ true → are_of family reply.addresses ≡ true
 answer_of family reply h = and_right _ _ (and_left _ _ h)
 
 pub part_none : (family : Family) (p : Ip → Bool) (included : Bool) (reply : Option Reply) → ((ip : Ip) → is_of family ip ≡ true → p ip ≡ false) → is_answer family reply ≡ true → count_by p (part_of included reply) ≡ 0

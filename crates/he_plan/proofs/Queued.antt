@@ -164,12 +164,6 @@ filter_kept p (x ∷ xs) h =
     let rest : filter (λ y. not (p y)) xs ≡ xs = filter_kept p xs (or_right_none _ _ h) in
     rw (out, rest)
 
--- where no attempt was made, each address is untried
-pub untried_all : (done : List Attempt) (xs : List Ip) → length done ≡ 0 → xs ≡ filter (is_untried done) xs
-untried_all [] [] none = refl
-untried_all [] (x ∷ xs) none = ap (λ ys. x ∷ ys) (untried_all [] xs none)
-untried_all (x ∷ done) xs none = absurd (omega arith)
-
 untried_more : (done : List Attempt) (x : Attempt) (ip : Ip) → is_untried (done ++ x ∷ []) ip ≡ (is_untried done ip && not (same_ip x.ip ip))
 untried_more done x ip = ap not (list_any-append (λ (y : Attempt). same_ip y.ip ip) done (x ∷ [])) ∙ not_either (is_tried done ip) (same_ip x.ip ip)
   where

@@ -1,12 +1,12 @@
 -- Mirrors the code: what private functions answer: ticks that look at no pause, the winner so far, what is told of an
 -- attempt.
-use Rattle.std.specs.Prelude.{ℕ, ◌+◌, ◌≤◌, ◌<◌, ◌&&◌, if◌then◌else◌, ◌++◌, List, [], ◌∷◌, min, max, Option, Some, None, option_map, IfSome, nat_le, nat_lt, ◌≡◌, Bool, true, false, length, drop, filter, map, find, slice_index_or}
+use Rattle.std.specs.Prelude.{ℕ, ◌+◌, ◌≤◌, ◌<◌, ◌&&◌, if◌then◌else◌, ◌++◌, List, [], ◌∷◌, min, max, Option, Some, None, option_map, IfSome, nat_le, nat_lt, ◌≡◌, ◌⊎◌, Bool, true, false, length, drop, filter, map, find, slice_index_or}
 use Rattle.std.specs.List.{list_any}
 use Rattle.std.specs.List.Sorted.{IsPermutation}
 use Rattle.he_addr.specs.declared.ip.Family.{Family}
 use Rattle.he_addr.specs.declared.ip.Family.TheVariants as families
 use Rattle.he_addr.specs.declared.ip.Ip.{Ip}
-use Rattle.he_addr.specs.Ip.{is_usable}
+use Rattle.he_addr.specs.Ip.{is_usable, is_v6}
 use Rattle.he_plan.specs.declared.attempts.Attempt.{Attempt}
 use Rattle.he_plan.specs.declared.finish.Fate.{Fate}
 use Rattle.he_plan.specs.declared.finish.Fate.TheVariants.{Succeeded, Failed}
@@ -83,6 +83,14 @@ part_of included (Some reply) = if included then filter is_usable reply.addresse
 -- the addresses of the included answers, as received
 abbrev pub parts_of : Race → Bool → Bool → List Ip
 parts_of race v6 v4 = part_of v6 race.aaaa ++ part_of v4 race.a
+
+-- the address is of an answer that is included
+abbrev pub is_of_included : Bool → Bool → Ip → Bool
+is_of_included v6 v4 ip = if is_v6 ip then v6 else v4
+
+-- the usable addresses of both answers in order, or none as long as no list needed them
+abbrev pub AreSorted : Race → List Ip → Type 0
+AreSorted race sorted = (sorted ≡ []) ⊎ (sorted ≡ order race (parts_of race true true))
 
 -- the interlaced list of the included answers
 abbrev pub interlaced_list : Race → Bool → Bool → List Ip

@@ -11,11 +11,12 @@ use crate::limits::{
 };
 use crate::outcome::Outcome;
 use crate::settings::Settings;
-use crate::timeline::{Answer, Timeline};
+use crate::timeline::{Answer, Timeline, put};
 use he_addr::{Family, Ip};
 use he_select::{Host, Policy};
 use std::alloc::{Allocator, Global};
 use std::marker::Model;
+use std::mem::drop;
 use thiserror::Error;
 
 /// Why the builder refused a call: the first of these, in this order, whose cause stands.
@@ -106,20 +107,11 @@ impl<A: Allocator + Copy> TimelineBuilder<A> {
         if !are_of(family, addresses) {
             return Err(BuildFault::Stranger);
         }
-        let set = distinct_set(self.alloc, addresses)?;
-        let Ok(listed) = Vec::from_slice(self.alloc, addresses) else {
-            return Err(BuildFault::Memory);
-        };
-        self.timeline.set_answer(
-            family,
-            Answer {
-                tick,
-                addresses: listed,
-            },
-        );
+        let (answer, set) = distinct_answer(self.alloc, tick, addresses)?;
+        self.timeline.set_answer(family, answer);
         match family {
-            Family::V6 => self.six = set,
-            Family::V4 => self.four = set,
+            Family::V6 => put(&mut self.six, set),
+            Family::V4 => put(&mut self.four, set),
         }
         Ok(())
     }
@@ -181,7 +173,14 @@ impl<A: Allocator + Copy> TimelineBuilder<A> {
         ensures value { result ≡ self }
         ensures race { IsRace result }
     {
-        let TimelineBuilder { timeline, .. } = self;
+        let TimelineBuilder {
+            timeline,
+            six,
+            four,
+            ..
+        } = self;
+        drop(six);
+        drop(four);
         timeline
     }
 }
@@ -205,6 +204,30 @@ fn are_of(family: Family, ips: &[Ip]) -> bool
     ensures { result ≡ are_of family ips.now }
 {
     ips.iter().all(|ip| ip.family() == family)
+}
+
+// The answer with the set of its addresses, or why there is none: one stands twice, or else memory is refused.
+fn distinct_answer<A: Allocator + Copy>(
+    alloc: A,
+    tick: u64,
+    addresses: &[Ip],
+) -> Result<(Answer<A>, AddressSet<A>), BuildFault>
+    ensures answer { IfOk result (λ made. made.0 ≡ record { tick = tick; addresses = addresses.now }) }
+    ensures set { IfOk result (λ made. (made.1 ≡ []) ⊎ (made.1 ≡ addresses.now)) }
+    ensures distinct { IfOk result (λ _. are_distinct addresses.now ≡ true) }
+    ensures fault { IfErr result (IsRefused addresses.now) }
+{
+    let set = distinct_set(alloc, addresses)?;
+    match Vec::from_slice(alloc, addresses) {
+        Ok(listed) => Ok((
+            Answer {
+                tick,
+                addresses: listed,
+            },
+            set,
+        )),
+        Err(_) => Err(BuildFault::Memory),
+    }
 }
 
 // The set of the addresses, or why there is none: one stands twice, or else memory is refused.

@@ -36,8 +36,9 @@ pub(crate) fn course_of<A: Allocator + Copy, B: Allocator>(
     let mut fates = Vec::with_capacity(alloc, most)?;
     let mut winner = None;
     let mut queue = Queue::new(alloc);
+    let mut sorted = Vec::new(alloc);
     while let Some(tick) = unbeaten_tick(timeline, &attempts, &queue, winner) {
-        queue = advance(alloc, timeline, &attempts, tick, queue)?;
+        queue = advance(alloc, timeline, &attempts, tick, queue, &mut sorted)?;
         let attempt = Attempt {
             place: attempts.len(),
             tick,

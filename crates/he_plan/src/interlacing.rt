@@ -44,7 +44,11 @@ fn interlace_by<A: Allocator + Copy>(
     Ok(interlaced)
 }
 
-fn members<A: Allocator>(alloc: A, family: Family, ips: &[Ip]) -> Result<Vec<Ip, A>, AllocError>
+pub(crate) fn members<A: Allocator>(
+    alloc: A,
+    family: Family,
+    ips: &[Ip],
+) -> Result<Vec<Ip, A>, AllocError>
     ensures { IfOk result (λ v. v.items ≡ filter (is_of family) ips.now) }
 {
     let mut members = Vec::with_capacity(alloc, ips.len())?;

@@ -38,6 +38,7 @@ pub mod finish;
 pub mod interlacing;
 pub mod laws;
 pub mod limits;
+mod listing;
 pub mod outcome;
 mod outcomes;
 pub mod planner;

@@ -70,7 +70,8 @@ impl<A: Allocator + Copy> Planner<A> {
             mut attempts,
             queue,
         } = self;
-        let mut queue = advance(alloc, timeline, &attempts, tick, queue)?;
+        let mut sorted = Vec::new(alloc);
+        let mut queue = advance(alloc, timeline, &attempts, tick, queue, &mut sorted)?;
         let attempt = Attempt {
             place: attempts.len(),
             tick,

@@ -86,8 +86,8 @@ impl<A: Allocator + Copy> Timeline<A> {
         ensures { self.new ≡ with_answer self.old family answer }
     {
         match family {
-            Family::V6 => self.aaaa = Some(answer),
-            Family::V4 => self.a = Some(answer),
+            Family::V6 => put(&mut self.aaaa, Some(answer)),
+            Family::V4 => put(&mut self.a, Some(answer)),
         }
     }
 
@@ -253,6 +253,13 @@ impl<A: Allocator> Timeline<A> {
     {
         self.pauses.as_slice()
     }
+}
+
+// Written as a call, for which a proof looks at the parts of the value that stood there once and not on each path.
+pub(crate) fn put<T: Drop>(place: &mut T, value: T)
+    ensures { place.new ≡ value }
+{
+    *place = value;
 }
 
 fn answered_count<A: Allocator>(answer: &Option<Answer<A>>) -> usize {

@@ -1,5 +1,5 @@
 use Rattle.he_plan.specs.Attempts.{last_of}
-use Rattle.he_plan.specs.Planning.{IsQueue}
+use Rattle.he_plan.specs.Planning.{AreSorted, IsQueue}
 use Rattle.he_plan.proofs.Planned.{ticks_left}
 use Rattle.he_plan.proofs.Underway.{IsUnderway}
 use Rattle.he_plan.proofs.course.course_of.Given as goal
@@ -8,6 +8,7 @@ abbrev pub invariant-loop-tick : goal.invariant-loop-tick
 invariant-loop-tick g l = record {
   underway : IsUnderway l.timeline l.attempts.items l.fates.items l.winner;
   queue : IsQueue l.timeline l.attempts.items l.queue.v6 l.queue.v4 l.queue.ips.items l.queue.next;
+  sorted : AreSorted l.timeline l.sorted.items;
 }
 
 abbrev pub decreases-loop-tick : goal.decreases-loop-tick

@@ -1,4 +1,4 @@
-use Rattle.std.proofs.Common.{◌≡◌, ◌++◌, [], ◌∷◌, List, Some, length, sym, ◌∙◌, ap, subst}
+use Rattle.std.proofs.Common.{◌≡◌, ◌++◌, [], ◌∷◌, List, Some, length, sym, ◌∙◌, ap, subst, inl}
 use Rattle.std.proofs.lemmas.List.{append-nil}
 use Rattle.he_plan.specs.declared.attempts.Attempt.{Attempt}
 use Rattle.he_plan.specs.Attempts.{IsLeast, IsNext, MayStart}
@@ -15,6 +15,7 @@ loop-tick-init g c =
       first = λ more h. h;
       in_range = tt;
       queue = IsQueue-new c.args.timeline.now;
+      sorted = inl c.new-sorted.ensures.items;
     })
 
 pub loop-tick-smaller : goal.loop-tick-smaller
@@ -28,7 +29,7 @@ pub loop-tick-preserved : goal.loop-tick-preserved
 loop-tick-preserved g c =
     let x : Attempt = record { place = c.len.result; tick = c.in-Some.tick; ip = c.index.result.now } in
     let items : c.push.new.self.items ≡ c.loop-tick.attempts.items ++ x ∷ [] = c.in_ok-push.ensures.items in
-    let at : IsAtNext c.args.timeline.now c.loop-tick.attempts.items c.in-Some.tick c.in_ok-queue.queue.v6 c.in_ok-queue.queue.v4 c.in_ok-queue.queue.ips.items c.in_ok-queue.queue.next = subst (λ (done : List Attempt). IsAtNext c.args.timeline.now done c.in-Some.tick c.in_ok-queue.queue.v6 c.in_ok-queue.queue.v4 c.in_ok-queue.queue.ips.items c.in_ok-queue.queue.next) c.deref-in-Some.ensures.value c.in_ok-queue.ensures in
+    let at : IsAtNext c.args.timeline.now c.loop-tick.attempts.items c.in-Some.tick c.in_ok-queue.queue.v6 c.in_ok-queue.queue.v4 c.in_ok-queue.queue.ips.items c.in_ok-queue.queue.next = subst (λ (done : List Attempt). IsAtNext c.args.timeline.now done c.in-Some.tick c.in_ok-queue.queue.v6 c.in_ok-queue.queue.v4 c.in_ok-queue.queue.ips.items c.in_ok-queue.queue.next) c.deref-in-Some.ensures.value c.in_ok-queue.ensures.queue in
     let least : IsLeast (MayStart c.args.timeline.now c.loop-tick.attempts.items) c.in-Some.tick = subst (λ (done : List Attempt). IsLeast (MayStart c.args.timeline.now done) c.in-Some.tick) c.deref.ensures.value c.in-Some.ensures.some in
     let later : IsLater c.loop-tick.attempts.items c.in-Some.tick = subst (λ (done : List Attempt). IsLater done c.in-Some.tick) c.deref.ensures.value c.in-Some.ensures.later in
     let is : IsNext c.args.timeline.now c.loop-tick.attempts.items x = record { place = c.len.ensures ∙ sym c.deref.ensures.len ∙ ap length c.deref.ensures.value; tick = least; ip = at.first c.index.result.now ∙ ap Some (sym c.index.ensures) } in
@@ -36,6 +37,7 @@ loop-tick-preserved g c =
       first = AreFirst-more c.args.timeline.now c.loop-tick.attempts.items x c.loop-tick.invariant.first is;
       in_range = last_in_range c.loop-tick.attempts.items x later;
       queue = IsQueue-more c.args.timeline.now c.in-Some.ensures.race c.loop-tick.attempts.items x c.in_ok-queue.queue.v6 c.in_ok-queue.queue.v4 c.in_ok-queue.queue.ips.items c.in_ok-queue.queue.next c.index.result.now at c.index.ensures;
+      sorted = c.in_ok-queue.ensures.sorted;
     })
 
 pub returns : goal.returns

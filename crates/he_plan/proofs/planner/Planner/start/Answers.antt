@@ -1,4 +1,4 @@
-use Rattle.std.proofs.Common.{◌≡◌, ◌++◌, [], ◌∷◌, Some, List, length, sym, ◌∙◌, ap, refl, subst}
+use Rattle.std.proofs.Common.{◌≡◌, ◌++◌, [], ◌∷◌, Some, List, length, sym, ◌∙◌, ap, refl, subst, inl}
 use Rattle.he_plan.specs.declared.attempts.Attempt.{Attempt}
 use Rattle.he_plan.specs.Planning.{IsAtNext, IsLater}
 use Rattle.he_plan.proofs.Planned.{last_in_range, start_later}
@@ -13,7 +13,7 @@ pub returns-clause-next : goal.returns-clause-next
 returns-clause-next g c =
     let x : Attempt = record { place = c.len.result; tick = c.args.tick; ip = c.index.result.now } in
     let items : c.push.new.self.items ≡ c.args.self.attempts.items ++ x ∷ [] = c.in_ok-push.ensures.items in
-    let at : IsAtNext c.args.timeline.now c.args.self.attempts.items c.args.tick c.in_ok-queue.queue.v6 c.in_ok-queue.queue.v4 c.in_ok-queue.queue.ips.items c.in_ok-queue.queue.next = subst (λ (done : List Attempt). IsAtNext c.args.timeline.now done c.args.tick c.in_ok-queue.queue.v6 c.in_ok-queue.queue.v4 c.in_ok-queue.queue.ips.items c.in_ok-queue.queue.next) c.deref.ensures.value c.in_ok-queue.ensures in
+    let at : IsAtNext c.args.timeline.now c.args.self.attempts.items c.args.tick c.in_ok-queue.queue.v6 c.in_ok-queue.queue.v4 c.in_ok-queue.queue.ips.items c.in_ok-queue.queue.next = subst (λ (done : List Attempt). IsAtNext c.args.timeline.now done c.args.tick c.in_ok-queue.queue.v6 c.in_ok-queue.queue.v4 c.in_ok-queue.queue.ips.items c.in_ok-queue.queue.next) c.deref.ensures.value c.in_ok-queue.ensures.queue in
     record {
       next = x;
       more = items;
@@ -26,9 +26,12 @@ pub returns-clause-planned : goal.returns-clause-planned
 returns-clause-planned g c =
     let x : Attempt = record { place = c.len.result; tick = c.args.tick; ip = c.index.result.now } in
     let items : c.push.new.self.items ≡ c.args.self.attempts.items ++ x ∷ [] = c.in_ok-push.ensures.items in
-    let at : IsAtNext c.args.timeline.now c.args.self.attempts.items c.args.tick c.in_ok-queue.queue.v6 c.in_ok-queue.queue.v4 c.in_ok-queue.queue.ips.items c.in_ok-queue.queue.next = subst (λ (done : List Attempt). IsAtNext c.args.timeline.now done c.args.tick c.in_ok-queue.queue.v6 c.in_ok-queue.queue.v4 c.in_ok-queue.queue.ips.items c.in_ok-queue.queue.next) c.deref.ensures.value c.in_ok-queue.ensures in
+    let at : IsAtNext c.args.timeline.now c.args.self.attempts.items c.args.tick c.in_ok-queue.queue.v6 c.in_ok-queue.queue.v4 c.in_ok-queue.queue.ips.items c.in_ok-queue.queue.next = subst (λ (done : List Attempt). IsAtNext c.args.timeline.now done c.args.tick c.in_ok-queue.queue.v6 c.in_ok-queue.queue.v4 c.in_ok-queue.queue.ips.items c.in_ok-queue.queue.next) c.deref.ensures.value c.in_ok-queue.ensures.queue in
     let later : IsLater c.args.self.attempts.items c.args.tick = start_later c.args.timeline.now c.requires.race c.args.self.attempts.items c.args.tick c.requires.may_start in
     rw items (record {
       in_range = last_in_range c.args.self.attempts.items x later;
       queue = IsQueue-more c.args.timeline.now c.requires.race c.args.self.attempts.items x c.in_ok-queue.queue.v6 c.in_ok-queue.queue.v4 c.in_ok-queue.queue.ips.items c.in_ok-queue.queue.next c.index.result.now at c.index.ensures;
     })
+
+pub advance-requires-clause-sorted : goal.advance-requires-clause-sorted
+advance-requires-clause-sorted g c = inl c.new-sorted.ensures.items

@@ -1,0 +1,141 @@
+// The lists from which attempts take their addresses: those of the answers that are included, in order and interlaced.
+
+ghost use Rattle.std.specs.Prelude.{◌≡◌, ◌≤◌, ◌++◌, true, filter, length, IfOk, OnOk};
+ghost use Rattle.std.specs.List.Sorted.{IsPermutation};
+ghost use Rattle.he_addr.specs.Ip.{is_usable};
+ghost use Rattle.he_plan.specs.declared.limits.TheConstants.{MAX_ADDRESSES};
+ghost use Rattle.he_plan.specs.Alternating.{interlace};
+ghost use Rattle.he_plan.specs.Attempts.{order};
+ghost use Rattle.he_plan.specs.Planning.{AreSorted, interlaced_list, is_of_included, part_of, parts_of};
+ghost use Rattle.he_plan.specs.Race.{reply_of};
+ghost use Rattle.he_plan.specs.Timeline.{IsRace};
+
+use crate::interlacing::{interlace, members};
+use crate::timeline::{Timeline, are_addresses_in_range};
+use he_addr::{Family, Ip, Memory};
+use he_select::order;
+use std::alloc::{AllocError, Allocator};
+
+// The interlaced list of the included answers. The addresses of both answers are sorted at the first list that needs
+// it, and kept in `sorted`, which is empty before: the order of some of them is the order of all without the others.
+pub(crate) fn interlaced_list<A: Allocator + Copy, B: Allocator>(
+    alloc: A,
+    timeline: &Timeline<B>,
+    sorted: &mut Vec<Ip, A>,
+    v6: bool,
+    v4: bool,
+) -> Result<Vec<Ip, A>, Memory>
+    requires { AreSorted timeline.now sorted.old.items }
+    ensures value { IfOk result (λ v. v.items ≡ interlaced_list timeline.now v6 v4) }
+    ensures members { IfOk result (λ _. IsPermutation (parts_of timeline.now v6 v4) (order timeline.now (parts_of timeline.now v6 v4))) }
+    ensures sorted { OnOk result (AreSorted timeline.now sorted.new.items) }
+{
+    are_addresses_in_range(timeline);
+    // One address is in order as it stands.
+    if included_count(timeline, v6, v4) <= 1 {
+        return Ok(usable_addresses(alloc, timeline, v6, v4)?);
+    }
+    sort_once(alloc, timeline, sorted)?;
+    interlaced_part(alloc, sorted, v6, v4, timeline.settings().count())
+}
+
+// How many addresses the included answers have.
+fn included_count<A: Allocator>(timeline: &Timeline<A>, v6: bool, v4: bool) -> usize
+    ensures all { length (parts_of timeline.now v6 v4) ≤ result }
+    ensures race { IsRace timeline.now }
+{
+    part_count(timeline, Family::V6, v6) + part_count(timeline, Family::V4, v4)
+}
+
+fn part_count<A: Allocator>(timeline: &Timeline<A>, family: Family, included: bool) -> usize
+    ensures all { length (part_of included (reply_of timeline.now family)) ≤ result }
+    ensures few { result ≤ MAX_ADDRESSES }
+    ensures race { IsRace timeline.now }
+{
+    let addresses = timeline.answered(family);
+    if included { addresses.len() } else { 0 }
+}
+
+fn sort_once<A: Allocator + Copy, B: Allocator>(
+    alloc: A,
+    timeline: &Timeline<B>,
+    sorted: &mut Vec<Ip, A>,
+) -> Result<(), Memory>
+    requires { AreSorted timeline.now sorted.old.items }
+    ensures { OnOk result (sorted.new.items ≡ order timeline.now (parts_of timeline.now true true)) }
+{
+    if sorted.is_empty() {
+        *sorted = sorted_addresses(alloc, timeline)?;
+    }
+    Ok(())
+}
+
+// The usable addresses of both answers in order.
+fn sorted_addresses<A: Allocator + Copy, B: Allocator>(
+    alloc: A,
+    timeline: &Timeline<B>,
+) -> Result<Vec<Ip, A>, Memory>
+    ensures { IfOk result (λ v. v.items ≡ order timeline.now (parts_of timeline.now true true)) }
+{
+    let ips = usable_addresses(alloc, timeline, true, true)?;
+    order(alloc, timeline.policy(), timeline.host(), &ips)
+}
+
+// The usable addresses of the included answers, as received.
+fn usable_addresses<A: Allocator + Copy, B: Allocator>(
+    alloc: A,
+    timeline: &Timeline<B>,
+    v6: bool,
+    v4: bool,
+) -> Result<Vec<Ip, A>, AllocError>
+    ensures { IfOk result (λ v. v.items ≡ parts_of timeline.now v6 v4) }
+{
+    let mut ips = Vec::with_capacity(alloc, timeline.address_count())?;
+    push_part(&mut ips, timeline, Family::V6, v6)?;
+    push_part(&mut ips, timeline, Family::V4, v4)?;
+    Ok(ips)
+}
+
+fn push_part<A: Allocator, B: Allocator>(
+    ips: &mut Vec<Ip, A>,
+    timeline: &Timeline<B>,
+    family: Family,
+    included: bool,
+) -> Result<(), AllocError>
+    ensures { OnOk result (ips.new.items ≡ ips.old.items ++ part_of included (reply_of timeline.now family)) }
+{
+    match timeline.answer(family) {
+        Some((_, addresses)) if included => push_usable(ips, addresses),
+        _ => Ok(()),
+    }
+}
+
+fn push_usable<A: Allocator>(ips: &mut Vec<Ip, A>, addresses: &[Ip]) -> Result<(), AllocError>
+    ensures { OnOk result (ips.new.items ≡ ips.old.items ++ filter is_usable addresses.now) }
+{
+    for ip in addresses {
+        if ip.is_usable() {
+            ips.push(*ip)?;
+        }
+    }
+    Ok(())
+}
+
+// Of the sorted addresses those of the included answers, interlaced. One family alone stays as it is.
+fn interlaced_part<A: Allocator + Copy>(
+    alloc: A,
+    sorted: &[Ip],
+    v6: bool,
+    v4: bool,
+    count: u64,
+) -> Result<Vec<Ip, A>, Memory>
+    requires { 1 ≤ count }
+    ensures { IfOk result (λ v. v.items ≡ interlace (filter (is_of_included v6 v4) sorted.now) count) }
+{
+    match (v6, v4) {
+        (true, true) => interlace(alloc, sorted, count),
+        (true, false) => Ok(members(alloc, Family::V6, sorted)?),
+        (false, true) => Ok(members(alloc, Family::V4, sorted)?),
+        (false, false) => Ok(Vec::new(alloc)),
+    }
+}
