@@ -1,14 +1,33 @@
 -- The addresses of an answer, read one after the other.
-use Rattle.std.proofs.Common.{◌≡◌, ℕ, Bool, ◌+◌, ◌<◌, ◌≤◌, List, [], ◌∷◌, ◌++◌, length, Result, Ok, Err, refl, sym, ◌∙◌, ap, arith, append_assoc}
+use Rattle.std.proofs.Common.{◌≡◌, ℕ, Bool, true, false, cond, Option, Some, None, ◌+◌, ◌<◌, ◌≤◌, List, [], ◌∷◌, ◌++◌, length, Result, Ok, Err, refl, sym, ◌∙◌, ap, arith, append_assoc}
 use Rattle.std.proofs.lemmas.List.{append-nil, length-append}
+use Rattle.std.specs.Option.{ok_or}
 use Rattle.he_addr.specs.declared.ip.Family.{Family}
+use Rattle.he_addr.specs.declared.ip.Family.TheVariants as families
 use Rattle.he_addr.specs.declared.ip.Ip.{Ip}
+use Rattle.he_addr.specs.Reading.{ip_in, ip_of_in}
+use Rattle.he_addr.specs.Reading.{◌>>=◌ as bound}
+use Rattle.he_plan.specs.Timeline.{is_of}
 use Rattle.he_text.specs.declared.fault.TextKind.{TextKind}
 use Rattle.he_plan.specs.Building.{add_answer}
 use Rattle.he_plan.specs.Race.{Race}
 use Rattle.he_text.specs.declared.fault.TextKind.TheVariants as kinds
 use Rattle.he_text.specs.Forms.{address_in, addresses_in, listed_in, answer_in, setting_in, pause_in, row_in, connect_in, ◌>>=◌}
 use Rattle.he_text.specs.Reading.{prepend, built, with_tick, take_listed, take_answer}
+
+-- an address of a family is one that the reader of this family alone finds
+pub address_of : (family : Family) (token : List ℕ) → address_in family token ≡ ok_or (ip_of_in family token) kinds.Address
+unfolding address_in ip_of_in
+address_of family token = by_family family (ip_in token)
+  where
+    by_test : (b : Bool) (ip : Ip) → cond b (Ok ip) (Err kinds.Address) ≡ ok_or (cond b (Some ip) None) kinds.Address
+    by_test true ip = refl
+    by_test false ip = refl
+
+    by_family : (f : Family) (read : Option Ip) → (ok_or read kinds.Address >>= λ ip. cond (is_of f ip) (Ok ip) (Err kinds.Address)) ≡ ok_or (bound read (λ ip. cond (is_of f ip) (Some ip) None)) kinds.Address
+    by_family f None = refl
+    by_family families.V4 (Some ip) = by_test (is_of families.V4 ip) ip
+    by_family families.V6 (Some ip) = by_test (is_of families.V6 ip) ip
 
 prepend_more : (ips : List Ip) (ip : Ip) (read : Result (List Ip) TextKind) → prepend ips (read >>= λ more. Ok (ip ∷ more)) ≡ prepend (ips ++ ip ∷ []) read
 prepend_more ips ip (Ok more) = ap Ok (sym (append_assoc ips (ip ∷ []) more))

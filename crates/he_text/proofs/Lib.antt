@@ -40,4 +40,5 @@ mod SaysLaws
 mod SelectionFacts
 mod Tables
 mod ToldLaws
+mod WordLines
 mod WritingLaws

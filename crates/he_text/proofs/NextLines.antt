@@ -1,32 +1,48 @@
 -- Whether the next line begins with `policy`.
-use Rattle.std.proofs.Common.{◌≡◌, ℕ, ◌<◌, ◌≤◌, ◌==◌, ◌&&◌, Bool, true, false, leb, List, [], ◌∷◌, ◌++◌, length, Option, Some, None, Result, Ok, Err, Bor, refl, sym, ◌∙◌, ap, arith, append_assoc, append-nil}
-use Rattle.std.specs.Prelude.{is_some, codes}
+use Rattle.std.proofs.Common.{◌≡◌, ℕ, ◌<◌, ◌≤◌, ◌==◌, ◌&&◌, Bool, true, false, cond, leb, ltb, List, [], ◌∷◌, ◌++◌, length, Result, Ok, Err, refl, sym, ◌∙◌, ap, arith, append_assoc, append-nil}
+use Rattle.std.specs.Prelude.{codes}
 use Rattle.std.specs.List.{join_with_byte, starts_with}
-use Rattle.std.proofs.lemmas.Bool.{le-leb, and_parts}
+use Rattle.std.proofs.lemmas.Bool.{le-leb, ltb-true, ltb-false, and_parts}
 use Rattle.std.proofs.lemmas.Bool.Decides.{Decides-eqb}
-use Rattle.std.proofs.lemmas.List.Splits.{length-slice_split, join_with_byte-slice_split}
+use Rattle.std.proofs.lemmas.List.Splits.{join_with_byte-slice_split}
 use Rattle.std.proofs.lemmas.Slice.Eq.{starts_is}
 use Rattle.he_text.specs.declared.fault.TextKind.{TextKind}
+use Rattle.he_text.specs.declared.fault.TextKind.TheVariants as kinds
 use Rattle.he_text.specs.declared.limits.TheConstants.{MAX_LINE}
 use Rattle.he_text.specs.declared.words.Word.{Word}
 use Rattle.he_text.specs.declared.words.Word.TheVariants as words
 use Rattle.he_text.specs.Faults.{begins_policy, is_policy_next}
 use Rattle.he_text.specs.Forms.{word_of}
-use Rattle.he_text.specs.Left.{parts_behind}
-use Rattle.he_text.specs.Parts.{lines_of, pieces_of, tokens_of}
+use Rattle.he_text.specs.Parts.{lines_of, tokens_of}
+use Rattle.he_text.specs.Reading.{ended_by, wholeness}
 use Rattle.he_text.specs.Words.{spelling_of, is_policy}
+use Rattle.he_text.proofs.Results.{not_stopped}
 use Rattle.he_text.proofs.SaysLaws.{word_tokens}
 
 -- the next line begins with `policy` where its word is that, if it is a whole one
-pub next_begins : (mark : ℕ) (lines : List (List ℕ)) (line : List ℕ) (behind : Option (Bor (List ℕ))) (word : Result (Word × List (List ℕ)) TextKind)
-    → lines ≡ line ∷ parts_behind mark behind → is_some behind ≡ true → length line ≤ MAX_LINE → word_of (tokens_of line) ≡ word → is_policy_next lines ≡ begins_policy word
-next_begins mark lines line None word is whole short e = cc
-next_begins mark lines line (Some rest) word is whole short e =
-    ap is_policy_next is ∙ by_parts (pieces_of mark rest.now) (omega (arith, length-slice_split (λ b. b == mark) rest.now))
+pub next_begins : (lines after : List (List ℕ)) (line : List ℕ) → lines ≡ line ∷ after → wholeness lines ≡ Ok tt → is_policy_next lines ≡ begins_policy (word_of (tokens_of line))
+unfolding wholeness
+next_begins lines after line is whole = ap is_policy_next is ∙ by_parts after (sym (ap wholeness is) ∙ whole)
   where
-    by_parts : (parts : List (List ℕ)) → 0 < length parts → is_policy_next (line ∷ parts) ≡ begins_policy word
-    by_parts [] some = absurd (omega arith)
-    by_parts (next ∷ after) some = ap (λ b. b && begins_policy (word_of (tokens_of line))) (le-leb (length line) MAX_LINE short) ∙ ap begins_policy e
+    by_parts : (parts : List (List ℕ)) → wholeness (line ∷ parts) ≡ Ok tt → is_policy_next (line ∷ parts) ≡ begins_policy (word_of (tokens_of line))
+    by_parts [] w = let ended = (not_stopped (ltb MAX_LINE (length line)) (Err kinds.Unfinished) kinds.TooMany tt w).1 in cc
+    by_parts (next ∷ more) w =
+        let short : length line ≤ MAX_LINE = ltb-false MAX_LINE (length line) (not_stopped (ltb MAX_LINE (length line)) (ended_by (next ∷ more)) kinds.TooMany tt w).0 in
+        ap (λ b. b && begins_policy (word_of (tokens_of line))) (le-leb (length line) MAX_LINE short)
+
+longer : (m n : ℕ) → m < n → leb n m ≡ false
+longer m n lt = grind arith
+
+-- where it is no whole line, it isn't such a line
+pub none_whole : (lines : List (List ℕ)) (kind : TextKind) → wholeness lines ≡ Err kind → is_policy_next lines ≡ false
+unfolding wholeness
+none_whole [] kind wrong = refl
+none_whole (line ∷ []) kind wrong = refl
+none_whole (line ∷ next ∷ more) kind wrong = by_test (ltb MAX_LINE (length line)) refl wrong
+  where
+    by_test : (b : Bool) → ltb MAX_LINE (length line) ≡ b → cond b (Err kinds.TooMany) (ended_by (next ∷ more)) ≡ Err kind → is_policy_next (line ∷ next ∷ more) ≡ false
+    by_test true e h = ap (λ b. b && begins_policy (word_of (tokens_of line))) (longer MAX_LINE (length line) (ltb-true MAX_LINE (length line) e))
+    by_test false e h = cc
 
 -- the word of the next line, where that begins with `policy`
 pub next_word : (line : List ℕ) (after : List (List ℕ)) (word : Result (Word × List (List ℕ)) TextKind) → word_of (tokens_of line) ≡ word → is_policy_next (line ∷ after) ≡ true → begins_policy word ≡ true

@@ -1,13 +1,16 @@
 -- A text cut at a mark, and at every one.
-use Rattle.std.proofs.Common.{◌≡◌, ℕ, ◌+◌, ◌<◌, ◌≤◌, Bool, true, false, not, cond, ltb, eqb, List, [], ◌∷◌, ◌++◌, Option, Some, None, length, take, drop, refl, sym, ◌∙◌, ap, subst, arith, append_assoc, le_refl}
+use Rattle.std.proofs.Common.{◌≡◌, ℕ, w8, get_or, map, replicate, ◌+◌, ◌-◌, ◌%◌, ◌^◌, ◌<◌, ◌≤◌, Bool, true, false, not, cond, ltb, eqb, List, [], ◌∷◌, ◌++◌, Option, Some, None, length, take, drop, refl, sym, ◌∙◌, ap, subst, arith, append_assoc, le_refl}
 use Rattle.std.specs.List.{AllByRecursion, prefix_len, position, position_or_len, count_by, onto_first, join_with_byte}
 use Rattle.std.proofs.lemmas.List.Elements.{All-from_recursion}
 use Rattle.std.proofs.lemmas.Bool.{eq-eqb, ltb-true, ltb-false}
-use Rattle.std.proofs.lemmas.List.{length-take, take-append-drop}
+use Rattle.std.proofs.lemmas.List.{length-take, length-take-le, length-drop, get_or-take, take-append-drop, take-take, drop-take}
 use Rattle.std.proofs.lemmas.List.Folds.{prefix_len-append}
-use Rattle.std.proofs.lemmas.List.Sums.{fails_before_first, position_or_len_is, prefix_len-le-length}
+use Rattle.std.proofs.lemmas.List.Sums.{fails_before_first, passes_at_first, position_or_len_is, prefix_len-le-length}
 use Rattle.std.proofs.lemmas.List.Splits.{slice_split_at, slice_split_none, slice_split_first, length-slice_split}
+use Rattle.std.proofs.lemmas.Simd.{bitmask_splat, first_set_mask_l}
+use lib.Lanes.{zip2, mask_l, top}
 use Rattle.memchr.specs.Find.{IsFirstByte, is_byte}
+use Rattle.he_text.specs.Left.{lowest_bit, all_but}
 use Rattle.he_text.specs.Parts.{pieces_of}
 
 found : (b : Bool) (m n : ℕ) → cond b (Some m) None ≡ Some n → (b ≡ true) × (m ≡ n)
@@ -39,6 +42,46 @@ first_byte mark text (Some k) is =
     position_or_len_is (λ b. eqb b mark) text k 0 (omega (arith, is.0.high)) (λ j lt. is_false _ (is.0.before j (omega arith) lt)) (λ lt. is.1) in
     sym (ap (λ (n : ℕ). cond (ltb n (length text)) (Some n) None) at ∙ ap (λ (b : Bool). cond b (Some k) None) (below k (length text) is.0.high))
 
+-- what the bits of a vector's lanes tell of its bytes
+pub lowest_is : (mark r : ℕ) (text : List ℕ) → 32 ≤ length text
+    → r ≡ lowest_bit (mask_l (map (top 7) (zip2 (λ a b. cond (eqb a b) 255 0) (take 32 text) (replicate 32 mark))) % 2 ^ 64)
+    → r ≡ position_or_len (λ b. eqb b mark) (take 32 text)
+lowest_is mark r text room is =
+    let long : length (take 32 text) ≡ 32 = length-take-le 32 text room in
+    is ∙ ap lowest_bit (bitmask_splat w8 eqb (take 32 text) 32 mark long (omega arith)) ∙ first_set_mask_l (λ b. eqb b mark) (take 32 text) 32 long (omega arith)
+
+-- Among the first bytes there are so many before the first mark. Where a part of the text has no more, it has no mark;
+-- else the mark is there.
+near_fails : (mark room len : ℕ) (text : List ℕ) (k : ℕ) → k < len → k < room → k < position_or_len (λ b. eqb b mark) (take room text) → eqb (get_or (take len text) k 0) mark ≡ false
+near_fails mark room len text k inside among before =
+    ap (λ b. eqb b mark) (get_or-take len text k 0 inside ∙ sym (get_or-take room text k 0 among)) ∙ fails_before_first (λ b. eqb b mark) (take room text) k 0 before
+
+pub before_near : (mark room len : ℕ) (text : List ℕ) → room ≤ length text → len ≤ length text → len ≤ position_or_len (λ b. eqb b mark) (take room text)
+    → None ≡ position (λ b. eqb b mark) (take len text)
+before_near mark room len text within fits past =
+    let most : position_or_len (λ b. eqb b mark) (take room text) ≤ length (take room text) = prefix_len-le-length (λ b. not (eqb b mark)) (take room text) in
+    let all : length (take room text) ≡ room = length-take-le room text within in
+    let long : length (take len text) ≡ len = length-take-le len text fits in
+    let at : position_or_len (λ b. eqb b mark) (take len text) ≡ length (take len text) =
+    position_or_len_is (λ b. eqb b mark) (take len text) (length (take len text)) 0 (le_refl (length (take len text)))
+    (λ k lt. near_fails mark room len text k (omega arith) (omega arith) (omega arith)) (λ lt. absurd (omega arith)) in
+    sym (ap (λ (n : ℕ). cond (ltb n (length (take len text))) (Some n) None) at
+    ∙ ap (λ (b : Bool). cond b (Some (length (take len text))) None) (not_below (length (take len text)) (length (take len text)) (le_refl (length (take len text)))))
+
+pub at_near : (mark room len near : ℕ) (text : List ℕ) → room ≤ length text → len ≤ length text → near ≡ position_or_len (λ b. eqb b mark) (take room text) → near < len → near < room
+    → Some near ≡ position (λ b. eqb b mark) (take len text)
+at_near mark room len near text within fits is inside among =
+    let first : ℕ = position_or_len (λ b. eqb b mark) (take room text) in
+    let all : length (take room text) ≡ room = length-take-le room text within in
+    let long : length (take len text) ≡ len = length-take-le len text fits in
+    let passes : eqb (get_or (take room text) first 0) mark ≡ true = passes_at_first (λ b. eqb b mark) (take room text) 0 (omega arith) in
+    let here : get_or (take len text) near 0 ≡ get_or (take room text) first 0 =
+    get_or-take len text near 0 inside ∙ sym (get_or-take room text near 0 among) ∙ ap (λ (n : ℕ). get_or (take room text) n 0) is in
+    let at : position_or_len (λ b. eqb b mark) (take len text) ≡ near =
+    position_or_len_is (λ b. eqb b mark) (take len text) near 0 (omega arith)
+    (λ k lt. near_fails mark room len text k (omega arith) (omega arith) (omega arith)) (λ lt. ap (λ b. eqb b mark) here ∙ passes) in
+    sym (ap (λ (n : ℕ). cond (ltb n (length (take len text))) (Some n) None) at ∙ ap (λ b. cond b (Some near) None) (below near (length (take len text)) (omega arith)))
+
 -- the first mark of a front is that of the text
 pub near_found : (mark near : ℕ) (text : List ℕ) (at : ℕ) → position (λ b. eqb b mark) (take near text) ≡ Some at → (position (λ b. eqb b mark) text ≡ Some at) × (at < near)
 near_found mark near text at h =
@@ -64,6 +107,23 @@ parts_found mark text at h =
     let is = found (ltb first (length text)) first at h in
     let P : ℕ → Type 0 = λ n. pieces_of mark text ≡ take n text ∷ pieces_of mark (drop (n + 1) text) in
     subst P is.1 (slice_split_first (λ b. eqb b mark) text 0 (ltb-true first (length text) is.0))
+
+-- the parts of a text but for its end, behind its first mark
+pub rest_found : (mark behind at : ℕ) (text : List ℕ) → Some at ≡ position (λ b. eqb b mark) (take (length text - behind) text)
+    → pieces_of mark (all_but behind text) ≡ take at text ∷ pieces_of mark (all_but behind (drop (at + 1) text))
+rest_found mark behind at text h =
+    let len : ℕ = length text - behind in
+    let first : ℕ = position_or_len (λ b. eqb b mark) (take len text) in
+    let is = found (ltb first (length (take len text))) first at (sym h) in
+    let inside : first < length (take len text) = ltb-true first (length (take len text)) is.0 in
+    let long : length (take len text) ≡ len = length-take-le len text (omega arith) in
+    let split : len ≡ (at + 1) + (len - (at + 1)) = omega (arith, is.1) in
+    let fewer : length (drop (at + 1) text) - behind ≡ len - (at + 1) = omega (arith, length-drop (at + 1) text) in
+    parts_found mark (take len text) at (sym h)
+    ∙ ap (λ (token : List ℕ). token ∷ pieces_of mark (drop (at + 1) (take len text))) (take-take at len text (omega (arith, is.1)))
+    ∙ ap (λ (n : ℕ). take at text ∷ pieces_of mark (drop (at + 1) (take n text))) split
+    ∙ ap (λ (rest : List ℕ). take at text ∷ pieces_of mark rest) (drop-take (at + 1) (len - (at + 1)) text)
+    ∙ ap (λ (n : ℕ). take at text ∷ pieces_of mark (take n (drop (at + 1) text))) (sym fewer)
 
 -- a text without the mark is one part
 pub parts_whole : (mark : ℕ) (text : List ℕ) → position (λ b. eqb b mark) text ≡ None → pieces_of mark text ≡ text ∷ []

@@ -1,19 +1,31 @@
 -- Mirrors the code: what is left of a text while it is read.
-use Rattle.std.specs.Prelude.{ℕ, ◌≡◌, ◌+◌, ◌^◌, ◌<◌, ◌≤◌, length, List, [], Option, Some, None}
+use Rattle.std.specs.Prelude.{ℕ, ◌≡◌, ◌+◌, ◌-◌, ◌^◌, ◌<◌, ◌≤◌, ◌==◌, if◌then◌else◌, length, take, List, [], Option, Some, None}
 use Rattle.std.specs.Borrow.{Bor}
+use Rattle.std.specs.Int.{w64, trailing_zeros}
 use Rattle.he_text.specs.declared.parts.TheConstants.{TOKEN_END}
 use Rattle.he_text.specs.declared.lines.Lines.{Lines}
+use Rattle.he_text.specs.declared.parts.Line.{Line}
 use Rattle.he_text.specs.declared.parts.Tokens.{Tokens}
 use Rattle.he_text.specs.Parts.{pieces_of, lines_of}
 
--- the parts of what stands behind a mark, if there is one
-abbrev pub parts_behind : ℕ → Option (Bor (List ℕ)) → List (List ℕ)
-parts_behind mark None = []
-parts_behind mark (Some rest) = pieces_of mark rest.now
+-- a text but for so many bytes at its end
+abbrev pub all_but : ℕ → List ℕ → List ℕ
+all_but behind text = take (length text - behind) text
+
+abbrev pub line_bytes : Line → List ℕ
+line_bytes line = all_but line.behind line.text.now
+
+abbrev pub parts_before : ℕ → ℕ → Option (Bor (List ℕ)) → List (List ℕ)
+parts_before mark behind None = []
+parts_before mark behind (Some rest) = pieces_of mark (all_but behind rest.now)
 
 -- the tokens that are still to be read
 abbrev pub tokens_left : Tokens → List (List ℕ)
-tokens_left tokens = parts_behind TOKEN_END tokens.rest
+tokens_left tokens = parts_before TOKEN_END tokens.behind tokens.rest
+
+-- the place of the lowest bit that is set among 32; 32 where none is
+abbrev pub lowest_bit : ℕ → ℕ
+lowest_bit bits = if bits == 0 then 32 else trailing_zeros w64 bits
 
 -- the lines that are left, and last what follows them
 abbrev pub lines_left : Lines → List (List ℕ)

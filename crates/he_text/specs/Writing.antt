@@ -12,8 +12,8 @@ use Rattle.he_text.specs.declared.writing.Token.TheVariants as tokens
 abbrev pub token_text : Token → List ℕ
 token_text (tokens.Word text) = text.now
 token_text (tokens.Number n) = decimal n
-token_text (tokens.Address ip) = printed ip
-token_text (tokens.Source ip len) = source_text ip len
+token_text (tokens.Address ip) = printed ip.now
+token_text (tokens.Source source) = source_text source.now.ip source.now.plen
 token_text (tokens.Prefix prefix) = prefix_text false prefix.now
 token_text (tokens.Dotted prefix) = prefix_text true prefix.now
 

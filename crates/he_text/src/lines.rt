@@ -1,13 +1,13 @@
 // The lines of a text, one after the other.
 
 ghost use Rattle.std.specs.Prelude.{◌≡◌, ◌<◌, ◌+◌, ◌^◌, ◌∷◌, Ok, Err, length, MatchResult};
-ghost use Rattle.he_text.specs.Left.{lines_left, HasRoom};
+ghost use Rattle.he_text.specs.Left.{line_bytes, lines_left, HasRoom};
 ghost use Rattle.he_text.specs.Parts.{lines_of};
 ghost use Rattle.he_text.specs.Reading.{ended_by, wholeness};
 
 use crate::fault::TextKind;
 use crate::limits::MAX_LINE;
-use crate::parts::{LINE_END, find};
+use crate::parts::{LINE_END, Line, find};
 
 // What is left of a text from the beginning of a line, and the number of that line.
 #[derive(Clone, Copy)]
@@ -43,15 +43,16 @@ impl<'t> Lines<'t> {
     }
 
     // The line that comes next, and what stands behind it; or why it is no line.
-    pub(crate) fn next_line(&self) -> Result<(&'t [u8], &'t [u8]), TextKind>
-        ensures parts { MatchResult result (λ x. lines_left self.now ≡ x.0.now ∷ lines_of x.1.now) (λ _. Unit {0}) }
+    #[inline(always)]
+    pub(crate) fn next_line(&self) -> Result<(Line<'t>, &'t [u8]), TextKind>
+        ensures parts { MatchResult result (λ x. lines_left self.now ≡ line_bytes x.0 ∷ lines_of x.1.now) (λ _. Unit {0}) }
         ensures shorter { MatchResult result (λ x. length x.1.now < length self.now.rest.now) (λ _. Unit {0}) }
         ensures whole { MatchResult result (λ _. wholeness (lines_left self.now) ≡ Ok tt) (λ kind. wholeness (lines_left self.now) ≡ Err kind) }
     {
         // No line end is looked for behind the longest line.
         let near = self.rest.len().min(MAX_LINE + 1);
-        match find(&self.rest[..near], LINE_END) {
-            Some(at) => Ok((&self.rest[..at], &self.rest[at + 1..])),
+        match find(self.rest, near, LINE_END) {
+            Some(at) => Ok((Line::new(self.rest, at), &self.rest[at + 1..])),
             None if self.rest.len() > MAX_LINE => Err(TextKind::TooMany),
             None => Err(TextKind::Unfinished),
         }

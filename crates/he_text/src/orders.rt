@@ -62,11 +62,11 @@ fn write_place<A: Allocator + Copy>(
 ) -> Result<(), Memory>
     ensures { AppendsText result out.old.items out.new.items (sourced_line place sourced) }
 {
-    let source = match sourced.source {
+    let source = match &sourced.source {
         Some(source) => Token::Address(source),
         None => Token::Word(b"none"),
     };
-    let tokens = [Token::Address(sourced.ip), Token::Word(b"from"), source];
+    let tokens = [Token::Address(&sourced.ip), Token::Word(b"from"), source];
     write_numbered(place as u64, &tokens, out)
 }
 

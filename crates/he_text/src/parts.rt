@@ -1,10 +1,15 @@
 // Lines and tokens: the parts of a text between two bytes.
 
-ghost use Rattle.std.specs.Prelude.{◌≡◌, ◌<◌, ◌+◌, ◌^◌, ◌==◌, [], ◌∷◌, length, MatchOption, position};
-ghost use Rattle.he_text.specs.Left.{parts_behind, tokens_left};
-ghost use Rattle.he_text.specs.Parts.{pieces_of};
+ghost use Rattle.std.specs.Prelude.{◌≡◌, ◌≤◌, ◌<◌, ◌+◌, ◌^◌, ◌==◌, [], ◌∷◌, ◌++◌, length, take, MatchOption, IfSome, Ok, position};
+ghost use Rattle.std.specs.List.{position_or_len};
+ghost use Rattle.he_text.specs.Forms.{word_of};
+ghost use Rattle.he_text.specs.Left.{line_bytes, tokens_left, lowest_bit};
+ghost use Rattle.he_text.specs.Parts.{pieces_of, tokens_of};
+ghost use Rattle.he_text.specs.Words.{spelling_of};
 
+use crate::words::Word;
 use memchr::{memchr, memchr_iter};
+use std::simd::prelude::*;
 
 /// The byte after each line.
 pub(crate) const LINE_END: u8 = b'\n';
@@ -12,54 +17,133 @@ pub(crate) const LINE_END: u8 = b'\n';
 /// The byte between two tokens of a line.
 pub(crate) const TOKEN_END: u8 = b' ';
 
-// A shorter text is looked through here, since `memchr` looks at its bytes one by one too, and a call costs more.
-const SHORT: usize = 32;
+// The bytes of a vector. Most lines and nearly all tokens end among so many bytes, which are compared at once: a call of
+// `memchr` takes four times as long there, and a loop over the bytes longer still.
+const LANES: usize = 32;
 
-// The place of the first mark.
+// The place of the lowest bit that is set, or LANES.
 #[inline(always)]
-pub(crate) fn find(text: &[u8], mark: u8) -> Option<usize>
-    ensures { result ≡ position (λ b. b == mark) text.now }
+fn lowest_bit(bits: u64) -> usize
+    ensures { result ≡ lowest_bit bits }
 {
-    if text.len() < SHORT {
-        return text.iter().position(|byte| *byte == mark);
+    if bits == 0 {
+        LANES
+    } else {
+        bits.trailing_zeros() as usize
     }
-    memchr(mark, text)
 }
 
-// What stands before the first mark, and what stands behind it, if there is one.
+// How many of the first bytes stand before the first mark among them: all where none of them is the mark.
 #[inline(always)]
-#[tactic(auto, using(crate::proofs::PartLaws::parts_whole))]
-pub(crate) fn cut(text: &[u8], mark: u8) -> (&[u8], Option<&[u8]>)
-    ensures parts { pieces_of mark text.now ≡ result.0.now ∷ parts_behind mark result.1 }
-    ensures shorter { MatchOption result.1 (Unit {0}) (λ rest. length rest.now < length text.now) }
+fn bytes_before(text: &[u8], mark: u8) -> usize
+    requires { LANES ≤ length text.now }
+    ensures { result ≡ position_or_len (λ b. b == mark) (take LANES text.now) }
 {
-    match find(text, mark) {
-        Some(at) => (&text[..at], Some(&text[at + 1..])),
-        None => (text, None),
+    let marks = u8x32::from_slice(text).simd_eq(u8x32::splat(mark));
+    lowest_bit(marks.to_bitmask())
+}
+
+// The place of the first mark among the first `len` bytes. Those behind them are looked at too where that takes no longer.
+#[inline(always)]
+pub(crate) fn find(text: &[u8], len: usize, mark: u8) -> Option<usize>
+    requires { len ≤ length text.now }
+    ensures { result ≡ position (λ b. b == mark) (take len text.now) }
+{
+    if LANES <= text.len() {
+        let near = bytes_before(text, mark);
+        if len <= near {
+            return None;
+        }
+        if near < LANES {
+            return Some(near);
+        }
+    }
+    memchr(mark, &text[..len])
+}
+
+// A line, with all that stands behind it.
+#[derive(Clone, Copy)]
+pub(crate) struct Line<'t> {
+    text: &'t [u8],
+    // How many bytes of the text stand behind the line, its line end included.
+    behind: usize,
+}
+
+impl<'t> Line<'t> {
+    // The first `len` bytes of a text.
+    #[inline(always)]
+    pub(crate) fn new(text: &'t [u8], len: usize) -> Line<'t>
+        requires { len ≤ length text.now }
+        ensures { line_bytes result ≡ take len text.now }
+    {
+        Line {
+            text,
+            behind: text.len() - len,
+        }
+    }
+
+    // Its bytes.
+    #[inline(always)]
+    pub(crate) fn bytes(self) -> &'t [u8]
+        ensures { result.now ≡ line_bytes self.entry }
+    {
+        &self.text[..self.text.len().saturating_sub(self.behind)]
+    }
+
+    // Its tokens.
+    #[inline(always)]
+    pub(crate) fn tokens(self) -> Tokens<'t>
+        ensures { tokens_left result ≡ tokens_of (line_bytes self.entry) }
+    {
+        Tokens {
+            rest: Some(self.text),
+            behind: self.behind,
+        }
+    }
+
+    // The tokens behind this word, if the line begins with it and a space.
+    #[inline(always)]
+    pub(crate) fn behind_word(self, word: Word, spelled: &[u8]) -> Option<(Word, Tokens<'t>)>
+        requires { spelled.now ≡ spelling_of word ++ 32 ∷ [] }
+        ensures { IfSome result (λ x. word_of (tokens_of (line_bytes self.entry)) ≡ Ok (x.0, tokens_left x.1)) }
+    {
+        if !self.bytes().starts_with(spelled) {
+            return None;
+        }
+        let tokens = Tokens {
+            rest: Some(&self.text[spelled.len()..]),
+            behind: self.behind,
+        };
+        Some((word, tokens))
     }
 }
 
 // The tokens of a line that are still to be read.
 #[derive(Clone, Copy)]
 pub(crate) struct Tokens<'a> {
+    // What begins with them, up to the end of the text.
     rest: Option<&'a [u8]>,
+    // How many bytes of it stand behind the line.
+    behind: usize,
 }
 
 impl<'a> Tokens<'a> {
-    ghost use Rattle.he_text.specs.Parts.{tokens_of};
-
-    pub(crate) fn new(line: &'a [u8]) -> Tokens<'a>
-        ensures { tokens_left result ≡ tokens_of line.now }
-    {
-        Tokens { rest: Some(line) }
-    }
-
+    #[inline(always)]
     pub(crate) fn next(&mut self) -> Option<&'a [u8]>
         ensures token { MatchOption result (tokens_left self.old ≡ []) (λ token. tokens_left self.old ≡ token.now ∷ tokens_left self.new) }
     {
-        let (token, rest) = cut(self.rest?, TOKEN_END);
-        self.rest = rest;
-        Some(token)
+        let rest = self.rest?;
+        let len = rest.len().saturating_sub(self.behind);
+        match find(rest, len, TOKEN_END) {
+            Some(at) => {
+                self.rest = Some(&rest[at + 1..]);
+                Some(&rest[..at])
+            }
+            None => {
+                self.rest = None;
+                Some(&rest[..len])
+            }
+        }
     }
 
     // The two tokens, if there are just so many.
@@ -101,7 +185,7 @@ impl<'a> Tokens<'a> {
     {
         match self.rest {
             None => 0,
-            Some(rest) => count(rest, TOKEN_END) + 1,
+            Some(rest) => count(&rest[..rest.len().saturating_sub(self.behind)], TOKEN_END) + 1,
         }
     }
 }

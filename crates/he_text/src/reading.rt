@@ -4,11 +4,11 @@ ghost use Rattle.std.specs.Prelude.{◌≡◌, ◌+◌, ◌≤◌, ◌<◌, ◌�
 ghost use Rattle.he_plan.specs.Race.{Race};
 ghost use Rattle.he_plan.specs.Timeline.{IsRace};
 ghost use Rattle.he_text.specs.declared.fault.TextKind.TheVariants as kinds;
-ghost use Rattle.he_text.specs.Faults.{is_policy_next};
+ghost use Rattle.he_text.specs.Faults.{begins_policy, is_policy_next};
 ghost use Rattle.he_text.specs.FaultSearch.{fault_of};
 ghost use Rattle.he_text.specs.Forms.{word_of};
 ghost use Rattle.he_text.specs.declared.draft.Order.{Order};
-ghost use Rattle.he_text.specs.Left.{lines_left, tokens_left, HasRoom, IsAmong};
+ghost use Rattle.he_text.specs.Left.{line_bytes, lines_left, tokens_left, HasRoom, IsAmong};
 ghost use Rattle.he_text.specs.Parts.{lines_of, tokens_of};
 ghost use Rattle.he_text.specs.Reading.{Fails, FailsAt, take_line, read_body, head_of, take_head, settle, read_head, read_lines, order_at_start, no_head};
 ghost use Rattle.he_text.specs.Text.{IsRaceText, IsLineOf, TellsFault};
@@ -16,19 +16,59 @@ ghost use Rattle.he_text.specs.Text.{IsRaceText, IsLineOf, TellsFault};
 use crate::draft::{Order, take};
 use crate::fault::{TextFault, TextKind};
 use crate::head::Head;
-use crate::limits::MAX_LINE;
 use crate::lines::Lines;
-use crate::parts::{LINE_END, Tokens, cut};
+use crate::parts::{Line, Tokens};
 use crate::words::{HEADER, Word};
 use he_plan::{Timeline, TimelineBuilder};
 use std::alloc::Allocator;
 
-// The word of a line, and the tokens behind it.
-#[tactic(auto, unfolding(crate::specs::Forms::word_of))]
-fn first_word(line: &[u8]) -> Result<(Word, Tokens<'_>), TextKind>
-    ensures { MatchResult result (λ x. word_of (tokens_of line.now) ≡ Ok (x.0, tokens_left x.1)) (λ kind. word_of (tokens_of line.now) ≡ Err kind) }
+// The word of a line, and the tokens behind it. All words but `end` have tokens behind them, so they are looked for with the
+// space that follows them first: that tells where the other tokens begin.
+#[inline(always)]
+fn first_word(line: Line<'_>) -> Result<(Word, Tokens<'_>), TextKind>
+    ensures { MatchResult result (λ x. word_of (tokens_of (line_bytes line.entry)) ≡ Ok (x.0, tokens_left x.1)) (λ kind. word_of (tokens_of (line_bytes line.entry)) ≡ Err kind) }
 {
-    let mut tokens = Tokens::new(line);
+    match spaced_word(line) {
+        Some(found) => Ok(found),
+        None => only_word(line),
+    }
+}
+
+// The word of a line that begins with one and a space.
+#[inline(always)]
+fn spaced_word(line: Line<'_>) -> Option<(Word, Tokens<'_>)>
+    ensures { IfSome result (λ x. word_of (tokens_of (line_bytes line.entry)) ≡ Ok (x.0, tokens_left x.1)) }
+{
+    if let Some(found) = line.behind_word(Word::Connect, b"connect ") {
+        return Some(found);
+    }
+    if let Some(found) = line.behind_word(Word::Pause, b"pause ") {
+        return Some(found);
+    }
+    if let Some(found) = line.behind_word(Word::Source, b"source ") {
+        return Some(found);
+    }
+    if let Some(found) = line.behind_word(Word::Route, b"route ") {
+        return Some(found);
+    }
+    if let Some(found) = line.behind_word(Word::Policy, b"policy ") {
+        return Some(found);
+    }
+    if let Some(found) = line.behind_word(Word::Aaaa, b"aaaa ") {
+        return Some(found);
+    }
+    if let Some(found) = line.behind_word(Word::A, b"a ") {
+        return Some(found);
+    }
+    line.behind_word(Word::Set, b"set ")
+}
+
+// The word of a line, whatever stands behind it.
+#[tactic(auto, unfolding(crate::specs::Forms::word_of))]
+fn only_word(line: Line<'_>) -> Result<(Word, Tokens<'_>), TextKind>
+    ensures { MatchResult result (λ x. word_of (tokens_of (line_bytes line.entry)) ≡ Ok (x.0, tokens_left x.1)) (λ kind. word_of (tokens_of (line_bytes line.entry)) ≡ Err kind) }
+{
+    let mut tokens = line.tokens();
     let Some(token) = tokens.next() else {
         return Err(TextKind::Word);
     };
@@ -40,8 +80,8 @@ fn first_word(line: &[u8]) -> Result<(Word, Tokens<'_>), TextKind>
 
 // The same, if the word is of the first four groups.
 #[tactic(auto, unfolding(crate::specs::Reading::head_of))]
-fn head_word(line: &[u8]) -> Option<(Word, Tokens<'_>)>
-    ensures { MatchOption result (head_of (tokens_of line.now) ≡ None) (λ x. head_of (tokens_of line.now) ≡ Some (x.0, tokens_left x.1)) }
+fn head_word(line: Line<'_>) -> Option<(Word, Tokens<'_>)>
+    ensures { MatchOption result (head_of (tokens_of (line_bytes line.entry)) ≡ None) (λ x. head_of (tokens_of (line_bytes line.entry)) ≡ Some (x.0, tokens_left x.1)) }
 {
     match first_word(line) {
         Ok((word, tokens)) if word.is_head() => Some((word, tokens)),
@@ -57,10 +97,16 @@ fn is_policy_next(rest: &[u8]) -> bool
     if !rest.starts_with(b"policy".as_slice()) {
         return false;
     }
-    let (line, behind) = cut(rest, LINE_END);
-    if behind.is_none() || line.len() > MAX_LINE {
-        return false;
+    match Lines::new(rest).next_line() {
+        Ok((line, _)) => begins_policy(line),
+        Err(_) => false,
     }
+}
+
+// Whether a line begins with `policy`.
+fn begins_policy(line: Line) -> bool
+    ensures { result ≡ begins_policy (word_of (tokens_of (line_bytes line.entry))) }
+{
     match first_word(line) {
         Ok((word, _)) => word.is_policy(),
         Err(_) => false,
@@ -70,11 +116,11 @@ fn is_policy_next(rest: &[u8]) -> bool
 // Takes a line of the other groups.
 #[tactic(auto, unfolding(crate::specs::Reading::take_line))]
 fn take_told<A: Allocator + Copy>(
-    line: &[u8],
+    line: Line,
     order: Order,
     race: &mut TimelineBuilder<A>,
 ) -> Result<(Word, Order), TextKind>
-    ensures { MatchResult result (λ x. take_line (tokens_of line.now) order race.old ≡ Ok (x.0, x.1, race.new)) (λ kind. Fails kind (take_line (tokens_of line.now) order race.old)) }
+    ensures { MatchResult result (λ x. take_line (tokens_of (line_bytes line.entry)) order race.old ≡ Ok (x.0, x.1, race.new)) (λ kind. Fails kind (take_line (tokens_of (line_bytes line.entry)) order race.old)) }
 {
     let (word, tokens) = first_word(line)?;
     let next = order.admit(word)?;
@@ -171,7 +217,8 @@ fn read_header(lines: &mut Lines) -> Result<(), TextKind>
     ensures shorter { length lines.new.rest.now ≤ length lines.old.rest.now }
 {
     let (line, rest) = lines.next_line()?;
-    if line != HEADER {
+    let header = line.bytes();
+    if header != HEADER {
         return Err(TextKind::Header);
     }
     lines.pass(rest);

@@ -79,7 +79,7 @@ fn write_rows<A: Allocator + Copy>(rows: &[Row], out: &mut Vec<u8, A>) -> Result
 fn write_source<A: Allocator + Copy>(source: Source, out: &mut Vec<u8, A>) -> Result<(), Memory>
     ensures { AppendsText result out.old.items out.new.items (host_source_text source) }
 {
-    let address = Token::Source(source.ip, source.plen);
+    let address = Token::Source(&source);
     let interface = Token::Number(u64::from(source.interface));
     let deprecated = Token::Word(b"deprecated");
     let temporary = Token::Word(b"temporary");
@@ -198,7 +198,7 @@ fn write_outcome<A: Allocator + Copy>(
         Outcome::Fail(_) => b"fail".as_slice(),
     };
     let tokens = [
-        Token::Address(told.0),
+        Token::Address(&told.0),
         Token::Word(mark),
         Token::Number(told.1.duration()),
     ];

@@ -21,7 +21,7 @@ fn write_attempt<A: Allocator + Copy>(line: Line, out: &mut Vec<u8, A>) -> Resul
     let tokens = [
         Token::Number(line.place as u64),
         Token::Number(line.tick),
-        Token::Address(line.ip),
+        Token::Address(&line.ip),
         Token::Word(mark),
         Token::Number(end),
     ];

@@ -7,16 +7,17 @@ ghost use Rattle.he_text.specs.Written.{written_line};
 
 use crate::parts::{LINE_END, TOKEN_END};
 use he_addr::{Ip, Memory, Prefix, write_ip, write_number, write_prefix, write_source};
+use he_select::Source;
 use std::alloc::Allocator;
 
-// A token of a line.
+// A token of a line. What takes more room than two words is borrowed: a line is a list of tokens.
 #[derive(Clone, Copy)]
 pub(crate) enum Token<'t> {
     Word(&'t [u8]),
     Number(u64),
-    Address(Ip),
+    Address(&'t Ip),
     // The address of a source, and the length of its prefix.
-    Source(Ip, u8),
+    Source(&'t Source),
     // A prefix in IPv6 form.
     Prefix(&'t Prefix),
     // A prefix, in IPv4 form where it holds IPv4 addresses.
@@ -47,8 +48,8 @@ fn write_token<A: Allocator + Copy>(token: Token, out: &mut Vec<u8, A>) -> Resul
     match token {
         Token::Word(text) => write_bytes(text, out),
         Token::Number(number) => write_number(number, out),
-        Token::Address(ip) => write_ip(ip, out),
-        Token::Source(ip, len) => write_source(ip, len, out),
+        Token::Address(ip) => write_ip(*ip, out),
+        Token::Source(source) => write_source(source.ip, source.plen, out),
         Token::Prefix(prefix) => write_prefix(*prefix, false, out),
         Token::Dotted(prefix) => write_prefix(*prefix, true, out),
     }
@@ -79,7 +80,7 @@ fn write_addresses<A: Allocator + Copy>(ips: &[Ip], out: &mut Vec<u8, A>) -> Res
     ensures { AppendsText result out.old.items out.new.items (spaced (map printed ips.now)) }
 {
     for ip in ips {
-        write_spaced(Token::Address(*ip), out)?;
+        write_spaced(Token::Address(ip), out)?;
     }
     Ok(())
 }

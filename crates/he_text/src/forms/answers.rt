@@ -11,7 +11,7 @@ ghost use Rattle.he_text.specs.Left.{tokens_left};
 use super::number;
 use crate::fault::TextKind;
 use crate::parts::Tokens;
-use he_addr::{Family, Ip, read_ip};
+use he_addr::{Family, Ip, read_ip, read_ip_of};
 use he_plan::limits::{MAX_ADDRESSES, MAX_DURATION, MAX_TICK, MIN_DURATION};
 use he_plan::{Outcome, TimelineBuilder};
 use std::alloc::Allocator;
@@ -64,17 +64,12 @@ impl<const ROOM: usize> IpList<ROOM> {
 }
 
 // An address of the family.
-#[tactic(auto, unfolding(crate::specs::Forms::address_in))]
 fn address(family: Family, token: &[u8]) -> Result<Ip, TextKind>
     ensures { result ≡ address_in family token.now }
 {
-    let Some(ip) = read_ip(token) else {
-        return Err(TextKind::Address);
-    };
-    if ip.family() == family {
-        Ok(ip)
-    } else {
-        Err(TextKind::Address)
+    match read_ip_of(family, token) {
+        Some(ip) => Ok(ip),
+        None => Err(TextKind::Address),
     }
 }
 

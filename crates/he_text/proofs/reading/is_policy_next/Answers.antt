@@ -1,7 +1,9 @@
-use Rattle.std.proofs.Common.{ℕ, List, ◌==◌, ◌∙◌, ap, sym}
+use Rattle.std.proofs.Common.{ℕ, List, Bor, ◌==◌, ◌∙◌, ap, sym}
 use Rattle.std.specs.List.{starts_with}
+use Rattle.he_text.specs.Faults.{is_policy_next}
+use Rattle.he_text.specs.Left.{line_bytes, lines_left}
 use Rattle.he_text.specs.Parts.{lines_of}
-use Rattle.he_text.proofs.NextLines.{next_begins, none_begins}
+use Rattle.he_text.proofs.NextLines.{next_begins, none_begins, none_whole}
 use Rattle.he_text.proofs.reading.is_policy_next.Goals as goal
 
 pub returns-then-not-starts_with : goal.returns-then-not-starts_with
@@ -10,5 +12,11 @@ returns-then-not-starts_with c =
 
 pub returns-in-Ok : goal.returns-in-Ok
 returns-in-Ok c =
-    c.is_policy.ensures
-    ∙ sym (next_begins 10 (lines_of c.args.rest.now) c.cut.result.0.now c.cut.result.1 _ c.cut.ensures.parts c.if-is_none.ensures c.if-line-gt-MAX_LINE.false c.in-Ok.ensures)
+    c.begins_policy.ensures
+    ∙ sym (next_begins (lines_left c.new.result) (lines_of c.in-Ok.field-0-1.now) (line_bytes c.in-Ok.line) c.in-Ok.ensures.parts c.in-Ok.ensures.whole)
+    ∙ ap (λ (rest : Bor (List ℕ)). is_policy_next (lines_of rest.now)) c.new.ensures.rest
+
+pub returns-in-Err : goal.returns-in-Err
+returns-in-Err c =
+    sym (none_whole (lines_left c.new.result) c.in-Err.field-0 c.in-Err.ensures.whole)
+    ∙ ap (λ (rest : Bor (List ℕ)). is_policy_next (lines_of rest.now)) c.new.ensures.rest

@@ -1,4 +1,4 @@
-use Rattle.std.proofs.Common.{ℕ, ◌≡◌, ◌+◌, ◌<◌, ◌≤◌, ◌==◌, ◌∷◌, List, length, take, drop, position, sym, ◌∙◌, ap, arith}
+use Rattle.std.proofs.Common.{ℕ, ◌≡◌, ◌+◌, ◌-◌, ◌<◌, ◌≤◌, ◌==◌, ◌∷◌, List, length, take, drop, position, sym, ◌∙◌, ap, arith}
 use Rattle.std.proofs.lemmas.List.{take_all, take_rest, length-take}
 use Rattle.he_text.specs.declared.limits.TheConstants.{MAX_LINE}
 use Rattle.he_text.specs.Left.{lines_left}
@@ -12,7 +12,9 @@ returns-in-Some-clause-parts c =
     let text : List ℕ = c.args.self.now.rest.now in
     let at : ℕ = c.in-Some.at in
     let near = near_found 10 c.min-near.result text at (sym c.in-Some.ensures) in
-    parts_found 10 text at near.0 ∙ ap (λ (rest : List ℕ). take at text ∷ lines_of rest) (sym (take_rest text (at + 1)))
+    parts_found 10 text at near.0
+    ∙ ap (λ (rest : List ℕ). take at text ∷ lines_of rest) (sym (take_rest text (at + 1)))
+    ∙ ap (λ (line : List ℕ). line ∷ lines_of (take (length text - (at + 1)) (drop (at + 1) text))) (sym c.new.ensures)
 
 pub returns-in-Some-clause-whole : goal.returns-in-Some-clause-whole
 returns-in-Some-clause-whole c =
