@@ -1,10 +1,6 @@
 //! The limits of a replay.
 
-/// The fewest workers.
-pub const LEAST_WORKERS: u16 = 1;
-
-/// The most workers.
-pub const MOST_WORKERS: u16 = 64;
+pub use he_pool::limits::{LEAST_WORKERS, MOST_WORKERS};
 
 /// The most races of a text.
 pub const MOST_RACES: usize = 1_024;
