@@ -1,10 +1,5 @@
-pub mod Handing
-pub mod Joining
 pub mod Known
 pub mod Lines
 pub mod OneOutput
-pub mod Pooling
 pub mod Races
 pub mod Told
-pub mod Trying
-pub mod Winning

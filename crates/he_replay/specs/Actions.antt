@@ -4,7 +4,7 @@ use Rattle.he_replay.specs.Stream.{Replays, Orders}
 use Rattle.he_replay.specs.declared.actions.Action.{Action}
 use Rattle.he_replay.specs.declared.actions.Action.TheVariants.{Replay, Order}
 use Rattle.he_replay.specs.declared.fault.ReplayFault.{ReplayFault}
-use Rattle.he_replay.specs.declared.limits.TheConstants.{LEAST_WORKERS, MOST_WORKERS}
+use Rattle.he_pool.specs.declared.limits.TheConstants.{LEAST_WORKERS, MOST_WORKERS}
 
 -- the number of workers, where there are any, is in its range
 abbrev pub HasWorkers : Action → Type 0

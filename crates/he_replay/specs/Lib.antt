@@ -1,9 +1,7 @@
 pub mod Actions
-pub mod Batch
 pub mod Known
 pub mod Limits
 pub mod Output
 pub mod Steps
 pub mod Stream
 pub mod Telling
-pub mod Working

@@ -21,12 +21,12 @@ pub enum Content {
 }
 
 impl Content {
-    // Appends the text that the race has of it.
-    pub(crate) fn write<A: Allocator + Copy>(
+    // Appends the text that the race has of it. What is needed for that alone is taken from `alloc`.
+    pub(crate) fn write<A: Allocator + Copy, T: Allocator + Copy>(
         self,
         alloc: A,
         timeline: &Timeline<A>,
-        text: &mut Vec<u8, A>,
+        text: &mut Vec<u8, T>,
     ) -> Result<(), AllocError>
         ensures { OnOk result (WritesRace (IsTextOf self) timeline.now text.old.items text.new.items) }
     {
@@ -37,10 +37,10 @@ impl Content {
     }
 }
 
-fn append_transcript<A: Allocator + Copy>(
+fn append_transcript<A: Allocator + Copy, T: Allocator + Copy>(
     alloc: A,
     timeline: &Timeline<A>,
-    text: &mut Vec<u8, A>,
+    text: &mut Vec<u8, T>,
 ) -> Result<(), AllocError>
     ensures { OnOk result (WritesRace IsTranscriptText timeline.now text.old.items text.new.items) }
 {
@@ -48,23 +48,25 @@ fn append_transcript<A: Allocator + Copy>(
     append_text(&transcript, text)
 }
 
-fn append_text<A: Allocator + Copy>(
+fn append_text<A: Allocator, T: Allocator + Copy>(
     transcript: &Transcript<A>,
-    text: &mut Vec<u8, A>,
+    text: &mut Vec<u8, T>,
 ) -> Result<(), AllocError>
     ensures { OnOk result (text.new.items ≡ text.old.items ++ transcript_text transcript.now) }
 {
     write_transcript(transcript, text).map_err(|_| AllocError)
 }
 
-fn append_order<A: Allocator + Copy>(
+fn append_order<A: Allocator + Copy, T: Allocator + Copy>(
     alloc: A,
     timeline: &Timeline<A>,
-    text: &mut Vec<u8, A>,
+    text: &mut Vec<u8, T>,
 ) -> Result<(), AllocError>
     ensures { OnOk result (WritesRace IsOrderText timeline.now text.old.items text.new.items) }
 {
-    write_order(alloc, timeline, text).map_err(|_| AllocError)
+    let mut order = Vec::new(alloc);
+    write_order(alloc, timeline, &mut order).map_err(|_| AllocError)?;
+    text.extend_from_slice(&order)
 }
 
 // The texts of the races, one after the other.

@@ -2,11 +2,13 @@
 ghost use Rattle.std.specs.Prelude.{◌≡◌, ℕ, Bool, List, Option, Some};
 ghost use Rattle.he_text.specs.declared.fault.TextFault.{TextFault};
 ghost use Rattle.he_replay.specs.declared.content.Content.{Content};
-ghost use Rattle.he_replay.specs.declared.limits.TheConstants.{LEAST_WORKERS, MOST_RACES, MOST_WORKERS};
+ghost use Rattle.he_pool.specs.declared.limits.TheConstants.{LEAST_WORKERS, MOST_WORKERS};
+ghost use Rattle.he_pool.specs.Limits.{least_workers, most_workers};
+ghost use Rattle.he_replay.specs.declared.limits.TheConstants.{MOST_RACES};
 ghost use Rattle.he_replay.specs.declared.output.InputFault.{InputFault};
 ghost use Rattle.he_replay.specs.declared.output.InputFault.TheVariants.{Text};
 ghost use Rattle.he_replay.specs.Known.{IsKnown};
-ghost use Rattle.he_replay.specs.Limits.{least_workers, most_races, most_workers};
+ghost use Rattle.he_replay.specs.Limits.{most_races};
 ghost use Rattle.he_replay.specs.Output.{IsOutput, IsTextOf};
 
 use he_plan::laws::one_transcript;

@@ -1,6 +1,6 @@
 //! What is written for an input: a text of each of its races.
 ghost use Rattle.std.specs.Prelude.{◌≤◌, IfOk};
-ghost use Rattle.he_replay.specs.declared.limits.TheConstants.{LEAST_WORKERS, MOST_WORKERS};
+ghost use Rattle.he_pool.specs.declared.limits.TheConstants.{LEAST_WORKERS, MOST_WORKERS};
 ghost use Rattle.he_replay.specs.Output.{IsOrderText, IsOutput, IsTranscriptText};
 
 use crate::content::Content;

@@ -1,16 +1,15 @@
 //! How many workers share the races of an input.
 ghost use Rattle.std.specs.Prelude.{◌≡◌, ◌≤◌, IfOk, length};
-ghost use Rattle.he_replay.specs.Batch.{batch_jobs};
-ghost use Rattle.he_replay.specs.declared.limits.TheConstants.{LEAST_WORKERS, MOST_RACES, MOST_WORKERS};
+ghost use Rattle.he_pool.specs.Batch.{batch_jobs};
+ghost use Rattle.he_pool.specs.declared.limits.TheConstants.{LEAST_WORKERS, MOST_WORKERS};
+ghost use Rattle.he_replay.specs.declared.limits.TheConstants.{MOST_RACES};
 ghost use Rattle.he_replay.specs.Output.{AreTexts, IsTranscriptText};
 
-use crate::batching::replay_batch;
 use crate::content::{Content, write_races, write_transcripts};
-use crate::gate::NoGate;
-use crate::jobs::batch_jobs;
 use crate::limits::{JOBS_OF_A_WORKER, LEAST_WORKERS, MOST_RACES, MOST_WORKERS};
 use he_board::Board;
 use he_plan::Timeline;
+use he_pool::{NoGate, batch_jobs, replay_batch};
 use std::alloc::{AllocError, Allocator};
 use std::thread::Threads;
 
