@@ -18,6 +18,8 @@ mod FormReads
 mod GivenLaws
 mod HeadLaws
 mod HostLaws
+mod InputLines
+mod InputRaces
 mod LineLaws
 mod LineReads
 mod LoopLaws

@@ -4,6 +4,8 @@ pub mod Faults
 pub mod FirstFault
 pub mod Forms
 pub mod InRange
+pub mod InputReading
+pub mod Inputs
 pub mod Left
 pub mod Orders
 pub mod Parts

@@ -17,6 +17,7 @@ mod draft;
 pub mod fault;
 mod forms;
 mod head;
+pub mod inputs;
 pub mod laws;
 pub mod limits;
 mod lines;
@@ -30,6 +31,7 @@ mod words;
 mod writing;
 
 pub use fault::{TextFault, TextKind};
+pub use inputs::{InputFault, NotOneRace, read_one_race};
 pub use orders::write_order;
 pub use reading::read_race;
 pub use timelines::write_timeline;

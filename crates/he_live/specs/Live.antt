@@ -1,0 +1,71 @@
+-- What a race on real sockets gives, and what is written for one.
+use Rattle.std.specs.Prelude.{ℕ, ⊤, ◌≡◌, ◌⊎◌, ◌++◌, Bool, List, [], ◌∷◌, None, Result, Ok, Err}
+use Rattle.he_plan.specs.Agreement.{AreAlike}
+use Rattle.he_plan.specs.Race.{Race}
+use Rattle.he_plan.specs.Transcript.{IsTranscript, Report}
+use Rattle.he_text.specs.Inputs.{HasRaces, IsNotOne}
+use Rattle.he_text.specs.Written.{timeline_text, transcript_text}
+use Rattle.he_text.specs.declared.inputs.InputFault.TheVariants as inputs
+use Rattle.he_text.specs.declared.inputs.NotOneRace.{NotOneRace}
+use Rattle.he_text.specs.declared.inputs.NotOneRace.TheVariants as ones
+use Rattle.he_live.specs.declared.fault.LiveFault.{LiveFault}
+use Rattle.he_live.specs.declared.fault.LiveFault.TheVariants as faults
+
+-- what may go wrong with a race itself: its runtime, or memory
+abbrev pub IsRunFault : LiveFault → Type 0
+IsRunFault fault = (fault ≡ faults.Runtime) ⊎ (fault ≡ faults.Memory)
+
+-- the text of a race that was run: a transcript and then a record, which has the race's settings, policy, host and answers
+-- and replays to this transcript
+pub record IsLiveText (race : Race) (text : List ℕ) : Type 0 where
+  pub recorded : Race
+  pub report : Report
+  pub alike : AreAlike race recorded
+  pub transcript : IsTranscript recorded report
+  pub told : text ≡ transcript_text report ++ timeline_text recorded
+
+-- what is wrong with the input, as the fault tells it
+abbrev pub fault_of_input : NotOneRace → LiveFault
+fault_of_input (ones.Fault (inputs.Text fault)) = faults.Text fault
+fault_of_input (ones.Fault inputs.Read) = faults.Read
+fault_of_input ones.Count = faults.OneRace
+fault_of_input ones.Memory = faults.Memory
+
+-- the input was given, and is this one race
+pub record GivesOne (Given : List ℕ → Bool → Type 0) (race : Race) : Type 0 where
+  pub input : List ℕ
+  pub is_broken : Bool
+  pub given : Given input is_broken
+  pub one : HasRaces input is_broken (race ∷ []) None
+
+-- the input was given, and is not one race, for this reason
+pub record GivesNone (Given : List ℕ → Bool → Type 0) (why : NotOneRace) : Type 0 where
+  pub input : List ℕ
+  pub is_broken : Bool
+  pub given : Given input is_broken
+  pub none : IsNotOne input is_broken why
+
+-- the input is one race, and this is the text of a run of it
+pub record GivesText (Given : List ℕ → Bool → Type 0) (text : List ℕ) : Type 0 where
+  pub race : Race
+  pub given : GivesOne Given race
+  pub run : IsLiveText race text
+
+-- what comes of the reading of an input
+abbrev pub ReadsOne : (List ℕ → Bool → Type 0) → Result Race NotOneRace → Type 0
+ReadsOne Given (Ok race) = GivesOne Given race
+ReadsOne Given (Err (ones.Fault fault)) = GivesNone Given (ones.Fault fault)
+ReadsOne Given (Err ones.Count) = GivesNone Given ones.Count
+ReadsOne Given (Err ones.Memory) = ⊤
+
+-- Given: what the input gave, and whether it broke off after that; Whole and Part: the text of which all was put into the
+-- output and then flushed, or a first part until that failed; Kept: nothing was put into the output.
+-- A run's text is written whole; a fault of the input, of the event loop or of memory comes before anything is written.
+abbrev pub Lives : (List ℕ → Bool → Type 0) → (List ℕ → Type 0) → (List ℕ → Type 0) → Type 0 → Result (Unit {0}) LiveFault → Type 0
+Lives Given Whole Part Kept (Ok done) = (text : List ℕ) × GivesText Given text × Whole text
+Lives Given Whole Part Kept (Err (faults.Text fault)) = GivesNone Given (ones.Fault (inputs.Text fault)) × Kept
+Lives Given Whole Part Kept (Err faults.OneRace) = GivesNone Given ones.Count × Kept
+Lives Given Whole Part Kept (Err faults.Read) = GivesNone Given (ones.Fault inputs.Read) × Kept
+Lives Given Whole Part Kept (Err faults.Write) = (text : List ℕ) × GivesText Given text × Part text
+Lives Given Whole Part Kept (Err faults.Runtime) = (race : Race) × GivesOne Given race × Kept
+Lives Given Whole Part Kept (Err faults.Memory) = Kept

@@ -1,0 +1,81 @@
+//! Why a live race gave nothing.
+ghost use Rattle.std.specs.Prelude.{◌≡◌};
+ghost use Rattle.he_live.specs.declared.fault.LiveFault.TheVariants.{Memory, Write};
+ghost use Rattle.he_live.specs.Live.{IsRunFault, fault_of_input};
+
+use he_stream::WriteFault;
+use he_text::{InputFault, NotOneRace, TextFault};
+use std::alloc::AllocError;
+use std::io;
+use thiserror::Error;
+
+/// Why a live race gave nothing.
+#[derive(Clone, Copy, Debug, PartialEq, Eq, Error)]
+pub enum LiveFault {
+    /// The input is no timeline text.
+    #[error(transparent)]
+    Text(TextFault),
+    /// The input has no race, or more than one.
+    #[error("live needs one race")]
+    OneRace,
+    /// A step of the input failed, or the bound of steps was reached.
+    #[error("cannot read the input")]
+    Read,
+    /// A step of the output failed or took no byte, the flush failed, or the bound of steps was reached.
+    #[error("cannot write the output")]
+    Write,
+    /// The sockets' event loop could not be made or failed, or the clock did.
+    #[error("cannot run the sockets")]
+    Runtime,
+    /// An allocation was refused.
+    #[error("out of memory")]
+    Memory,
+}
+
+impl From<AllocError> for LiveFault {
+    ghost from_gives = { λ _ fault. fault ≡ Memory };
+
+    fn from(_refused: AllocError) -> LiveFault {
+        LiveFault::Memory
+    }
+}
+
+impl From<he_addr::Memory> for LiveFault {
+    ghost from_gives = { λ _ fault. fault ≡ Memory };
+
+    fn from(_refused: he_addr::Memory) -> LiveFault {
+        LiveFault::Memory
+    }
+}
+
+impl From<io::Error> for LiveFault {
+    ghost from_gives = { λ _ fault. IsRunFault fault };
+
+    fn from(error: io::Error) -> LiveFault {
+        match error.kind() {
+            io::ErrorKind::OutOfMemory => LiveFault::Memory,
+            _ => LiveFault::Runtime,
+        }
+    }
+}
+
+impl From<WriteFault> for LiveFault {
+    ghost from_gives = { λ _ fault. fault ≡ Write };
+
+    fn from(_fault: WriteFault) -> LiveFault {
+        LiveFault::Write
+    }
+}
+
+impl From<NotOneRace> for LiveFault {
+    ghost from_gives = { λ input fault. fault ≡ fault_of_input input };
+
+    fn from(input: NotOneRace) -> LiveFault {
+        match input {
+            NotOneRace::Fault(InputFault::Text(fault)) => LiveFault::Text(fault),
+            NotOneRace::Fault(InputFault::Read) => LiveFault::Read,
+            NotOneRace::Count => LiveFault::OneRace,
+            NotOneRace::Memory => LiveFault::Memory,
+        }
+    }
+}

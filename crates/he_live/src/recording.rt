@@ -1,0 +1,120 @@
+//! A race of an input, run on real sockets and recorded.
+ghost use Rattle.std.specs.Prelude.{◌≡◌, ◌++◌, IfErr, IfOk};
+ghost use Rattle.he_stream.specs.Input.{Gives};
+ghost use Rattle.he_stream.specs.Output.{PutsPart, PutsWhole};
+ghost use Rattle.he_text.specs.Written.{timeline_text, transcript_text};
+ghost use Rattle.he_live.specs.Live.{IsLiveText, IsRunFault, Lives, ReadsOne};
+
+use crate::fault::LiveFault;
+use crate::racing::live_race;
+use he_plan::Timeline;
+use he_race::Raced;
+use he_stream::{InputStream, OutputStream, ReadFault, read_input, write_whole};
+use he_text::{NotOneRace, read_one_race, write_timeline, write_transcript};
+use std::alloc::{AllocError, AllocGlobal, Global};
+use std::mem::drop;
+use std::net::Net;
+use std::random::RandomSource;
+use std::sync::Wait;
+use std::time::Clock;
+use tokio::net::TcpStream;
+
+/// Reads one race to the end of the input, runs it on real sockets at the port ([`live_race`]), and writes its transcript
+/// and then its record, a timeline that replays to this transcript.
+///
+/// Of the input's race the settings, policy, host and answers are looked at alone. The whole output is made before the
+/// first byte of it is written: after `Write` a first part was written, after any other fault nothing. It is flushed at
+/// the end.
+///
+/// # Errors
+///
+/// - `Text` where the input is no timeline text, of whatever race.
+/// - `Read` where a step of the input failed before a fault of the text was found, or the bound of 4,294,967,296 steps
+///   was reached.
+/// - `OneRace` where nothing is wrong with the input, but it has no race, or more than one.
+/// - `Runtime` and `Memory` as `live_race`, and `Memory` where an allocation was refused.
+/// - `Write` where a step of the output failed or took no byte, the flush failed, or the bound of 4,294,967,296 steps was
+///   reached.
+pub fn live<R, I, O>(
+    rt: &R,
+    alloc: Global,
+    input: &mut I,
+    output: &mut O,
+    port: u16,
+) -> Result<(), LiveFault>
+where
+    R: Wait + Clock + RandomSource + AllocGlobal + Net,
+    I: InputStream,
+    O: OutputStream,
+    ensures { Lives (Gives I.remaining I.takes input.old input.new)
+        (PutsWhole O.contents O.puts O.flushes output.old output.new)
+        (PutsPart O.contents O.puts O.flushes output.old output.new) (output.new ≡ output.old) result }
+{
+    let timeline = take_race(alloc, input)?;
+    let text = race_text(rt, alloc, &timeline, port);
+    drop(timeline);
+    Ok(write_whole(output, text?.as_slice())?)
+}
+
+// Reads the race of an input to its end.
+fn take_race<I: InputStream>(alloc: Global, input: &mut I) -> Result<Timeline, NotOneRace>
+    ensures { ReadsOne (Gives I.remaining I.takes input.old input.new) result }
+{
+    match take_input(alloc, input) {
+        Ok(given) => read_one_race(alloc, &given.bytes, given.is_broken),
+        Err(_) => Err(NotOneRace::Memory),
+    }
+}
+
+// What an input gave, and whether it broke off after that.
+#[derive(Drop)]
+struct Given {
+    bytes: Vec<u8>,
+    is_broken: bool,
+}
+
+// Reads all that the input gives. It fails for want of memory alone.
+fn take_input<I: InputStream>(alloc: Global, input: &mut I) -> Result<Given, AllocError>
+    ensures { IfOk result (λ given. Gives I.remaining I.takes input.old input.new given.bytes.items given.is_broken) }
+{
+    let mut bytes = Vec::new(alloc);
+    match read_input(input, &mut bytes) {
+        Ok(()) => Ok(Given {
+            bytes,
+            is_broken: false,
+        }),
+        Err(ReadFault::Failed) => Ok(Given {
+            bytes,
+            is_broken: true,
+        }),
+        Err(ReadFault::Bound) => Ok(Given {
+            bytes,
+            is_broken: true,
+        }),
+        Err(ReadFault::Memory) => Err(AllocError),
+    }
+}
+
+// Runs the race, and answers what is written of it.
+fn race_text<R>(rt: &R, alloc: Global, timeline: &Timeline, port: u16) -> Result<Vec<u8>, LiveFault>
+where
+    R: Wait + Clock + RandomSource + AllocGlobal + Net,
+    ensures text { IfOk result (λ text. IsLiveText timeline.now text.items) }
+    ensures fault { IfErr result IsRunFault }
+{
+    let raced = live_race(rt, alloc, timeline, port)?;
+    let text = raced_text(alloc, &raced);
+    drop(raced);
+    text
+}
+
+// The transcript and then the record.
+fn raced_text(alloc: Global, raced: &Raced<TcpStream>) -> Result<Vec<u8>, LiveFault>
+    ensures text { IfOk result (λ text. text.items ≡ transcript_text raced.now.transcript ++ timeline_text raced.now.recorded) }
+    ensures fault { IfErr result IsRunFault }
+{
+    let mut text = Vec::new(alloc);
+    write_transcript(&raced.transcript, &mut text)?;
+    write_timeline(&raced.recorded, &mut text)?;
+    Ok(text)
+}
