@@ -38,7 +38,7 @@ pub(crate) fn course_of<A: Allocator + Copy, B: Allocator>(
     let mut queue = Queue::new(alloc);
     let mut sorted = Vec::new(alloc);
     while let Some(tick) = unbeaten_tick(timeline, &attempts, &queue, winner) {
-        queue = advance(alloc, timeline, &attempts, tick, queue, &mut sorted)?;
+        advance(alloc, timeline, &attempts, tick, &mut queue, &mut sorted)?;
         let attempt = Attempt {
             place: attempts.len(),
             tick,

@@ -68,10 +68,10 @@ impl<A: Allocator + Copy> Planner<A> {
     {
         let Planner {
             mut attempts,
-            queue,
+            mut queue,
         } = self;
         let mut sorted = Vec::new(alloc);
-        let mut queue = advance(alloc, timeline, &attempts, tick, queue, &mut sorted)?;
+        advance(alloc, timeline, &attempts, tick, &mut queue, &mut sorted)?;
         let attempt = Attempt {
             place: attempts.len(),
             tick,

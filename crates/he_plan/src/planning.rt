@@ -9,7 +9,7 @@ use crate::attempts::{Attempt, Plan};
 use crate::listing::interlaced_list;
 use crate::queue::Queue;
 use crate::starts::{is_tried, next_tick};
-use crate::timeline::Timeline;
+use crate::timeline::{Timeline, put};
 use he_addr::{Family, Ip, Memory};
 use std::alloc::Allocator;
 
@@ -24,7 +24,7 @@ pub fn plan<A: Allocator + Copy, B: Allocator>(
     let mut queue = Queue::new(alloc);
     let mut sorted = Vec::new(alloc);
     while let Some(tick) = next_tick(timeline, &attempts, &queue) {
-        queue = advance(alloc, timeline, &attempts, tick, queue, &mut sorted)?;
+        advance(alloc, timeline, &attempts, tick, &mut queue, &mut sorted)?;
         let attempt = Attempt {
             place: attempts.len(),
             tick,
@@ -36,36 +36,40 @@ pub fn plan<A: Allocator + Copy, B: Allocator>(
     Ok(Plan::new(attempts))
 }
 
-// The queue for a start at the tick, at the address that is tried then. What was received stays received, so the queue
-// is made anew at most twice in a race, and its addresses are sorted once: `sorted` keeps them.
+// Brings the queue to a start at the tick, at the address that is tried then. What was received stays received, so it is
+// made anew at most twice in a race, and its addresses are sorted once: `sorted` keeps them.
 pub(crate) fn advance<A: Allocator + Copy, B: Allocator>(
     alloc: A,
     timeline: &Timeline<B>,
     done: &[Attempt],
     tick: u64,
-    queue: Queue<A>,
+    queue: &mut Queue<A>,
     sorted: &mut Vec<Ip, A>,
-) -> Result<Queue<A>, Memory>
+) -> Result<(), Memory>
     requires may_start { MayStart timeline.now done.now tick }
     requires later { IsLater done.now tick }
-    requires queue { IsQueue timeline.now done.now queue.v6 queue.v4 queue.ips.items queue.next }
+    requires queue { IsQueue timeline.now done.now queue.old.v6 queue.old.v4 queue.old.ips.items queue.old.next }
     requires sorted { AreSorted timeline.now sorted.old.items }
-    ensures queue { IfOk result (λ q. IsAtNext timeline.now done.now tick q.v6 q.v4 q.ips.items q.next) }
+    ensures queue { OnOk result (IsAtNext timeline.now done.now tick queue.new.v6 queue.new.v4 queue.new.ips.items queue.new.next) }
     ensures sorted { OnOk result (AreSorted timeline.now sorted.new.items) }
 {
     let v6 = is_included(timeline, Family::V6, tick, queue.v6);
     let v4 = is_included(timeline, Family::V4, tick, queue.v4);
     if v6 == queue.v6 && v4 == queue.v4 {
-        return Ok(queue);
+        return Ok(());
     }
     let mut ips = interlaced_list(alloc, timeline, sorted, v6, v4)?;
     keep_untried(done, &mut ips);
-    Ok(Queue {
-        v6,
-        v4,
-        ips,
-        next: 0,
-    })
+    put(
+        queue,
+        Queue {
+            v6,
+            v4,
+            ips,
+            next: 0,
+        },
+    );
+    Ok(())
 }
 
 fn keep_untried<A: Allocator>(done: &[Attempt], ips: &mut Vec<Ip, A>)

@@ -255,7 +255,9 @@ impl<A: Allocator> Timeline<A> {
     }
 }
 
-// Written as a call, for which a proof looks at the parts of the value that stood there once and not on each path.
+// A proof looks at the parts of the value that stood there once, and not on each path of the caller. Inlined, since what
+// stood there is mostly known to be nothing.
+#[inline(always)]
 pub(crate) fn put<T: Drop>(place: &mut T, value: T)
     ensures { place.new ≡ value }
 {

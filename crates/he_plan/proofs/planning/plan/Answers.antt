@@ -29,15 +29,15 @@ pub loop-tick-preserved : goal.loop-tick-preserved
 loop-tick-preserved g c =
     let x : Attempt = record { place = c.len.result; tick = c.in-Some.tick; ip = c.index.result.now } in
     let items : c.push.new.self.items ≡ c.loop-tick.attempts.items ++ x ∷ [] = c.in_ok-push.ensures.items in
-    let at : IsAtNext c.args.timeline.now c.loop-tick.attempts.items c.in-Some.tick c.in_ok-queue.queue.v6 c.in_ok-queue.queue.v4 c.in_ok-queue.queue.ips.items c.in_ok-queue.queue.next = subst (λ (done : List Attempt). IsAtNext c.args.timeline.now done c.in-Some.tick c.in_ok-queue.queue.v6 c.in_ok-queue.queue.v4 c.in_ok-queue.queue.ips.items c.in_ok-queue.queue.next) c.deref-in-Some.ensures.value c.in_ok-queue.ensures.queue in
+    let at : IsAtNext c.args.timeline.now c.loop-tick.attempts.items c.in-Some.tick c.advance.new.queue.v6 c.advance.new.queue.v4 c.advance.new.queue.ips.items c.advance.new.queue.next = subst (λ (done : List Attempt). IsAtNext c.args.timeline.now done c.in-Some.tick c.advance.new.queue.v6 c.advance.new.queue.v4 c.advance.new.queue.ips.items c.advance.new.queue.next) c.deref-in-Some.ensures.value c.in_ok-advance.ensures.queue in
     let least : IsLeast (MayStart c.args.timeline.now c.loop-tick.attempts.items) c.in-Some.tick = subst (λ (done : List Attempt). IsLeast (MayStart c.args.timeline.now done) c.in-Some.tick) c.deref.ensures.value c.in-Some.ensures.some in
     let later : IsLater c.loop-tick.attempts.items c.in-Some.tick = subst (λ (done : List Attempt). IsLater done c.in-Some.tick) c.deref.ensures.value c.in-Some.ensures.later in
     let is : IsNext c.args.timeline.now c.loop-tick.attempts.items x = record { place = c.len.ensures ∙ sym c.deref.ensures.len ∙ ap length c.deref.ensures.value; tick = least; ip = at.first c.index.result.now ∙ ap Some (sym c.index.ensures) } in
     rw items (record {
       first = AreFirst-more c.args.timeline.now c.loop-tick.attempts.items x c.loop-tick.invariant.first is;
       in_range = last_in_range c.loop-tick.attempts.items x later;
-      queue = IsQueue-more c.args.timeline.now c.in-Some.ensures.race c.loop-tick.attempts.items x c.in_ok-queue.queue.v6 c.in_ok-queue.queue.v4 c.in_ok-queue.queue.ips.items c.in_ok-queue.queue.next c.index.result.now at c.index.ensures;
-      sorted = c.in_ok-queue.ensures.sorted;
+      queue = IsQueue-more c.args.timeline.now c.in-Some.ensures.race c.loop-tick.attempts.items x c.advance.new.queue.v6 c.advance.new.queue.v4 c.advance.new.queue.ips.items c.advance.new.queue.next c.index.result.now at c.index.ensures;
+      sorted = c.in_ok-advance.ensures.sorted;
     })
 
 pub returns : goal.returns

@@ -13,7 +13,7 @@ pub returns-clause-next : goal.returns-clause-next
 returns-clause-next g c =
     let x : Attempt = record { place = c.len.result; tick = c.args.tick; ip = c.index.result.now } in
     let items : c.push.new.self.items ≡ c.args.self.attempts.items ++ x ∷ [] = c.in_ok-push.ensures.items in
-    let at : IsAtNext c.args.timeline.now c.args.self.attempts.items c.args.tick c.in_ok-queue.queue.v6 c.in_ok-queue.queue.v4 c.in_ok-queue.queue.ips.items c.in_ok-queue.queue.next = subst (λ (done : List Attempt). IsAtNext c.args.timeline.now done c.args.tick c.in_ok-queue.queue.v6 c.in_ok-queue.queue.v4 c.in_ok-queue.queue.ips.items c.in_ok-queue.queue.next) c.deref.ensures.value c.in_ok-queue.ensures.queue in
+    let at : IsAtNext c.args.timeline.now c.args.self.attempts.items c.args.tick c.advance.new.queue.v6 c.advance.new.queue.v4 c.advance.new.queue.ips.items c.advance.new.queue.next = subst (λ (done : List Attempt). IsAtNext c.args.timeline.now done c.args.tick c.advance.new.queue.v6 c.advance.new.queue.v4 c.advance.new.queue.ips.items c.advance.new.queue.next) c.deref.ensures.value c.in_ok-advance.ensures.queue in
     record {
       next = x;
       more = items;
@@ -26,11 +26,11 @@ pub returns-clause-planned : goal.returns-clause-planned
 returns-clause-planned g c =
     let x : Attempt = record { place = c.len.result; tick = c.args.tick; ip = c.index.result.now } in
     let items : c.push.new.self.items ≡ c.args.self.attempts.items ++ x ∷ [] = c.in_ok-push.ensures.items in
-    let at : IsAtNext c.args.timeline.now c.args.self.attempts.items c.args.tick c.in_ok-queue.queue.v6 c.in_ok-queue.queue.v4 c.in_ok-queue.queue.ips.items c.in_ok-queue.queue.next = subst (λ (done : List Attempt). IsAtNext c.args.timeline.now done c.args.tick c.in_ok-queue.queue.v6 c.in_ok-queue.queue.v4 c.in_ok-queue.queue.ips.items c.in_ok-queue.queue.next) c.deref.ensures.value c.in_ok-queue.ensures.queue in
+    let at : IsAtNext c.args.timeline.now c.args.self.attempts.items c.args.tick c.advance.new.queue.v6 c.advance.new.queue.v4 c.advance.new.queue.ips.items c.advance.new.queue.next = subst (λ (done : List Attempt). IsAtNext c.args.timeline.now done c.args.tick c.advance.new.queue.v6 c.advance.new.queue.v4 c.advance.new.queue.ips.items c.advance.new.queue.next) c.deref.ensures.value c.in_ok-advance.ensures.queue in
     let later : IsLater c.args.self.attempts.items c.args.tick = start_later c.args.timeline.now c.requires.race c.args.self.attempts.items c.args.tick c.requires.may_start in
     rw items (record {
       in_range = last_in_range c.args.self.attempts.items x later;
-      queue = IsQueue-more c.args.timeline.now c.requires.race c.args.self.attempts.items x c.in_ok-queue.queue.v6 c.in_ok-queue.queue.v4 c.in_ok-queue.queue.ips.items c.in_ok-queue.queue.next c.index.result.now at c.index.ensures;
+      queue = IsQueue-more c.args.timeline.now c.requires.race c.args.self.attempts.items x c.advance.new.queue.v6 c.advance.new.queue.v4 c.advance.new.queue.ips.items c.advance.new.queue.next c.index.result.now at c.index.ensures;
     })
 
 pub advance-requires-clause-sorted : goal.advance-requires-clause-sorted
