@@ -20,6 +20,7 @@ mod HeadLaws
 mod HostLaws
 mod LineLaws
 mod LineReads
+mod LineTexts
 mod LoopLaws
 mod NextLines
 mod OrderLaws

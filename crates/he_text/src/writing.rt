@@ -25,7 +25,10 @@ pub(crate) enum Token<'t> {
 }
 
 #[inline(always)]
-fn write_bytes<A: Allocator + Copy>(bytes: &[u8], out: &mut Vec<u8, A>) -> Result<(), Memory>
+pub(crate) fn write_bytes<A: Allocator + Copy>(
+    bytes: &[u8],
+    out: &mut Vec<u8, A>,
+) -> Result<(), Memory>
     ensures ok { OnOk result (out.new.items ≡ out.old.items ++ bytes.now) }
     ensures err { OnErr result (out.new.items ≡ out.old.items) }
 {
@@ -33,11 +36,37 @@ fn write_bytes<A: Allocator + Copy>(bytes: &[u8], out: &mut Vec<u8, A>) -> Resul
 }
 
 #[inline(always)]
-fn write_byte<A: Allocator + Copy>(byte: u8, out: &mut Vec<u8, A>) -> Result<(), Memory>
+pub(crate) fn write_byte<A: Allocator + Copy>(byte: u8, out: &mut Vec<u8, A>) -> Result<(), Memory>
     ensures ok { OnOk result (out.new.items ≡ out.old.items ++ byte ∷ []) }
     ensures err { OnErr result (out.new.items ≡ out.old.items) }
 {
     out.push(byte).map_err(|_| Memory)
+}
+
+// Bytes, and a number behind them.
+#[inline(always)]
+pub(crate) fn write_labelled<A: Allocator + Copy>(
+    label: &[u8],
+    number: u64,
+    out: &mut Vec<u8, A>,
+) -> Result<(), Memory>
+    ensures { AppendsText result out.old.items out.new.items (label.now ++ decimal number) }
+{
+    write_bytes(label, out)?;
+    write_number(number, out)
+}
+
+// Bytes, and an address behind them.
+#[inline(always)]
+pub(crate) fn write_labelled_ip<A: Allocator + Copy>(
+    label: &[u8],
+    ip: Ip,
+    out: &mut Vec<u8, A>,
+) -> Result<(), Memory>
+    ensures { AppendsText result out.old.items out.new.items (label.now ++ printed ip) }
+{
+    write_bytes(label, out)?;
+    write_ip(ip, out)
 }
 
 #[inline(always)]
@@ -108,17 +137,6 @@ pub(crate) fn write_line<A: Allocator + Copy>(
     ensures { AppendsText result out.old.items out.new.items (written_line (word.now ∷ map token_text others.now)) }
 {
     write_joined(Token::Word(word), others, out)
-}
-
-// A line that begins with a number.
-pub(crate) fn write_numbered<A: Allocator + Copy>(
-    number: u64,
-    others: &[Token],
-    out: &mut Vec<u8, A>,
-) -> Result<(), Memory>
-    ensures { AppendsText result out.old.items out.new.items (written_line (decimal number ∷ map token_text others.now)) }
-{
-    write_joined(Token::Number(number), others, out)
 }
 
 // A line of a word, a number and addresses.
