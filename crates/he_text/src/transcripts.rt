@@ -10,7 +10,8 @@ use he_addr::Memory;
 use he_plan::{Line, Mark, Outcome3, Transcript};
 use std::alloc::Allocator;
 
-// The lines of attempts are most of what is written, so their parts are written one after the other, and not as a list of tokens.
+// The lines of attempts are most of what is written, so their parts are written one after the other, and not as a list of
+// tokens.
 
 // attempt PLACE START
 fn write_start<A: Allocator + Copy>(

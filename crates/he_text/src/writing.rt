@@ -114,21 +114,7 @@ fn write_addresses<A: Allocator + Copy>(ips: &[Ip], out: &mut Vec<u8, A>) -> Res
     Ok(())
 }
 
-// A line: its first token and the others.
-#[inline(always)]
-fn write_joined<A: Allocator + Copy>(
-    first: Token,
-    others: &[Token],
-    out: &mut Vec<u8, A>,
-) -> Result<(), Memory>
-    ensures { AppendsText result out.old.items out.new.items (written_line (token_text first.entry ∷ map token_text others.now)) }
-{
-    write_token(first, out)?;
-    write_tokens(others, out)?;
-    write_byte(LINE_END, out)
-}
-
-// A line that begins with a word.
+// A line: its word and the other tokens.
 pub(crate) fn write_line<A: Allocator + Copy>(
     word: &[u8],
     others: &[Token],
@@ -136,7 +122,9 @@ pub(crate) fn write_line<A: Allocator + Copy>(
 ) -> Result<(), Memory>
     ensures { AppendsText result out.old.items out.new.items (written_line (word.now ∷ map token_text others.now)) }
 {
-    write_joined(Token::Word(word), others, out)
+    write_bytes(word, out)?;
+    write_tokens(others, out)?;
+    write_byte(LINE_END, out)
 }
 
 // A line of a word, a number and addresses.
