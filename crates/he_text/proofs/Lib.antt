@@ -22,6 +22,7 @@ mod InputLines
 mod InputRaces
 mod LineLaws
 mod LineReads
+mod LineTexts
 mod LoopLaws
 mod NextLines
 mod OrderLaws

@@ -1,6 +1,6 @@
 // Orders of addresses written to texts.
 
-ghost use Rattle.std.specs.Prelude.{◌≡◌, ◌++◌, filter, map, IsTrue, IfOk, OnOk, OnErr};
+ghost use Rattle.std.specs.Prelude.{◌≡◌, ◌++◌, filter, map, Some, IsTrue, IfOk, OnOk, OnErr};
 ghost use Rattle.std.specs.List.{list_all};
 ghost use Rattle.he_addr.specs.Ip.{is_usable};
 ghost use Rattle.he_plan.specs.Attempts.{order};
@@ -8,10 +8,11 @@ ghost use Rattle.he_plan.specs.Race.{reply_of, addresses_of};
 ghost use Rattle.he_select.specs.Preference.{sourced_by};
 ghost use Rattle.he_select.specs.Selection.{selection_input};
 ghost use Rattle.he_text.specs.Orders.{order_text, usable_addresses};
-ghost use Rattle.he_text.specs.Writing.{AppendsText, sourced_line, sourced_lines};
+ghost use Rattle.he_text.specs.Writing.{AppendsText, sorted_text, origin_text, sourced_line, sourced_lines};
 
-use crate::writing::{Token, write_line, write_numbered};
-use he_addr::{Family, Ip, Memory};
+use crate::parts::LINE_END;
+use crate::writing::{write_byte, write_bytes, write_labelled_ip, write_line};
+use he_addr::{Family, Ip, Memory, write_number};
 use he_plan::Timeline;
 use he_select::{Sourced, order_with_sources};
 use std::alloc::{AllocError, Allocator};
@@ -54,6 +55,34 @@ fn usable_addresses<A: Allocator + Copy, B: Allocator>(
     Ok(ips)
 }
 
+// The lines of an order are written part by part, as those of attempts are.
+
+// N ADDRESS
+fn write_sorted<A: Allocator + Copy>(place: u64, ip: Ip, out: &mut Vec<u8, A>) -> Result<(), Memory>
+    ensures { AppendsText result out.old.items out.new.items (sorted_text place ip) }
+{
+    write_number(place, out)?;
+    write_labelled_ip(b" ", ip, out)
+}
+
+// from SOURCE, behind a space
+fn write_from<A: Allocator + Copy>(source: Ip, out: &mut Vec<u8, A>) -> Result<(), Memory>
+    ensures { AppendsText result out.old.items out.new.items (origin_text (Some source)) }
+{
+    write_labelled_ip(b" from ", source, out)?;
+    write_byte(LINE_END, out)
+}
+
+// from SOURCE or from none, behind a space
+fn write_origin<A: Allocator + Copy>(source: Option<Ip>, out: &mut Vec<u8, A>) -> Result<(), Memory>
+    ensures { AppendsText result out.old.items out.new.items (origin_text source) }
+{
+    match source {
+        Some(source) => write_from(source, out),
+        None => write_bytes(b" from none\n", out),
+    }
+}
+
 // N ADDRESS from SOURCE, or N ADDRESS from none
 fn write_place<A: Allocator + Copy>(
     place: usize,
@@ -62,12 +91,8 @@ fn write_place<A: Allocator + Copy>(
 ) -> Result<(), Memory>
     ensures { AppendsText result out.old.items out.new.items (sourced_line place sourced) }
 {
-    let source = match &sourced.source {
-        Some(source) => Token::Address(source),
-        None => Token::Word(b"none"),
-    };
-    let tokens = [Token::Address(&sourced.ip), Token::Word(b"from"), source];
-    write_numbered(place as u64, &tokens, out)
+    write_sorted(place as u64, sourced.ip, out)?;
+    write_origin(sourced.source, out)
 }
 
 fn write_places<A: Allocator + Copy>(sorted: &[Sourced], out: &mut Vec<u8, A>) -> Result<(), Memory>

@@ -17,8 +17,8 @@ pub(crate) const LINE_END: u8 = b'\n';
 /// The byte between two tokens of a line.
 pub(crate) const TOKEN_END: u8 = b' ';
 
-// The bytes of a vector. Most lines and nearly all tokens end among so many bytes, which are compared at once: a call of
-// `memchr` takes four times as long there, and a loop over the bytes longer still.
+// The bytes of a vector. Most lines and nearly all tokens end among so many bytes, which are compared at once: a call
+// of `memchr` takes four times as long there, and a loop over the bytes longer still.
 const LANES: usize = 32;
 
 // The place of the lowest bit that is set, or LANES.
@@ -43,7 +43,8 @@ fn bytes_before(text: &[u8], mark: u8) -> usize
     lowest_bit(marks.to_bitmask())
 }
 
-// The place of the first mark among the first `len` bytes. Those behind them are looked at too where that takes no longer.
+// The place of the first mark among the first `len` bytes. Those behind them are looked at too where that takes no
+// longer.
 #[inline(always)]
 pub(crate) fn find(text: &[u8], len: usize, mark: u8) -> Option<usize>
     requires { len ≤ length text.now }

@@ -22,8 +22,8 @@ use crate::words::{HEADER, Word};
 use he_plan::{Timeline, TimelineBuilder};
 use std::alloc::Allocator;
 
-// The word of a line, and the tokens behind it. All words but `end` have tokens behind them, so they are looked for with the
-// space that follows them first: that tells where the other tokens begin.
+// The word of a line, and the tokens behind it. All words but `end` have tokens behind them, so they are looked for with
+// the space that follows them first: that tells where the other tokens begin.
 #[inline(always)]
 fn first_word(line: Line<'_>) -> Result<(Word, Tokens<'_>), TextKind>
     ensures { MatchResult result (λ x. word_of (tokens_of (line_bytes line.entry)) ≡ Ok (x.0, tokens_left x.1)) (λ kind. word_of (tokens_of (line_bytes line.entry)) ≡ Err kind) }

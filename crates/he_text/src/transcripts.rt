@@ -1,31 +1,67 @@
 // Transcripts written to texts.
 
 ghost use Rattle.std.specs.Prelude.{◌≡◌, ◌++◌, ◌∷◌, [], OnOk, OnErr};
-ghost use Rattle.he_text.specs.Writing.{AppendsText};
+ghost use Rattle.he_text.specs.Writing.{AppendsText, start_text, try_text, last_text, mark_end};
 ghost use Rattle.he_text.specs.Written.{attempt_text, attempts_text, result_text, transcript_text};
 
-use crate::writing::{Token, write_line};
+use crate::parts::LINE_END;
+use crate::writing::{Token, write_byte, write_labelled, write_labelled_ip, write_line};
 use he_addr::Memory;
 use he_plan::{Line, Mark, Outcome3, Transcript};
 use std::alloc::Allocator;
+
+// The lines of attempts are most of what is written, so their parts are written one after the other, and not as a list of
+// tokens.
+
+// attempt PLACE START
+fn write_start<A: Allocator + Copy>(
+    place: u64,
+    tick: u64,
+    out: &mut Vec<u8, A>,
+) -> Result<(), Memory>
+    ensures { AppendsText result out.old.items out.new.items (start_text place tick) }
+{
+    write_labelled(b"attempt ", place, out)?;
+    write_labelled(b" ", tick, out)
+}
+
+// attempt PLACE START ADDRESS
+fn write_try<A: Allocator + Copy>(line: Line, out: &mut Vec<u8, A>) -> Result<(), Memory>
+    ensures { AppendsText result out.old.items out.new.items (try_text line) }
+{
+    write_start(line.place as u64, line.tick, out)?;
+    write_labelled_ip(b" ", line.ip, out)
+}
+
+// The last number of a line.
+fn write_last<A: Allocator + Copy>(
+    label: &[u8],
+    number: u64,
+    out: &mut Vec<u8, A>,
+) -> Result<(), Memory>
+    ensures { AppendsText result out.old.items out.new.items (last_text label.now number) }
+{
+    write_labelled(label, number, out)?;
+    write_byte(LINE_END, out)
+}
+
+// MARK TICK, behind a space.
+fn write_mark<A: Allocator + Copy>(mark: Mark, out: &mut Vec<u8, A>) -> Result<(), Memory>
+    ensures { AppendsText result out.old.items out.new.items (mark_end mark) }
+{
+    match mark {
+        Mark::Won(tick) => write_last(b" won ", tick, out),
+        Mark::Failed(tick) => write_last(b" failed ", tick, out),
+        Mark::Cancelled(tick) => write_last(b" cancelled ", tick, out),
+    }
+}
 
 // attempt PLACE START ADDRESS MARK TICK
 fn write_attempt<A: Allocator + Copy>(line: Line, out: &mut Vec<u8, A>) -> Result<(), Memory>
     ensures { AppendsText result out.old.items out.new.items (attempt_text line) }
 {
-    let (mark, end) = match line.mark {
-        Mark::Won(tick) => (b"won".as_slice(), tick),
-        Mark::Failed(tick) => (b"failed".as_slice(), tick),
-        Mark::Cancelled(tick) => (b"cancelled".as_slice(), tick),
-    };
-    let tokens = [
-        Token::Number(line.place as u64),
-        Token::Number(line.tick),
-        Token::Address(&line.ip),
-        Token::Word(mark),
-        Token::Number(end),
-    ];
-    write_line(b"attempt", &tokens, out)
+    write_try(line, out)?;
+    write_mark(line.mark, out)
 }
 
 // won PLACE TICK, exhausted TICK or limit TICK

@@ -25,7 +25,10 @@ pub(crate) enum Token<'t> {
 }
 
 #[inline(always)]
-fn write_bytes<A: Allocator + Copy>(bytes: &[u8], out: &mut Vec<u8, A>) -> Result<(), Memory>
+pub(crate) fn write_bytes<A: Allocator + Copy>(
+    bytes: &[u8],
+    out: &mut Vec<u8, A>,
+) -> Result<(), Memory>
     ensures ok { OnOk result (out.new.items ≡ out.old.items ++ bytes.now) }
     ensures err { OnErr result (out.new.items ≡ out.old.items) }
 {
@@ -33,11 +36,37 @@ fn write_bytes<A: Allocator + Copy>(bytes: &[u8], out: &mut Vec<u8, A>) -> Resul
 }
 
 #[inline(always)]
-fn write_byte<A: Allocator + Copy>(byte: u8, out: &mut Vec<u8, A>) -> Result<(), Memory>
+pub(crate) fn write_byte<A: Allocator + Copy>(byte: u8, out: &mut Vec<u8, A>) -> Result<(), Memory>
     ensures ok { OnOk result (out.new.items ≡ out.old.items ++ byte ∷ []) }
     ensures err { OnErr result (out.new.items ≡ out.old.items) }
 {
     out.push(byte).map_err(|_| Memory)
+}
+
+// Bytes, and a number behind them.
+#[inline(always)]
+pub(crate) fn write_labelled<A: Allocator + Copy>(
+    label: &[u8],
+    number: u64,
+    out: &mut Vec<u8, A>,
+) -> Result<(), Memory>
+    ensures { AppendsText result out.old.items out.new.items (label.now ++ decimal number) }
+{
+    write_bytes(label, out)?;
+    write_number(number, out)
+}
+
+// Bytes, and an address behind them.
+#[inline(always)]
+pub(crate) fn write_labelled_ip<A: Allocator + Copy>(
+    label: &[u8],
+    ip: Ip,
+    out: &mut Vec<u8, A>,
+) -> Result<(), Memory>
+    ensures { AppendsText result out.old.items out.new.items (label.now ++ printed ip) }
+{
+    write_bytes(label, out)?;
+    write_ip(ip, out)
 }
 
 #[inline(always)]
@@ -85,21 +114,7 @@ fn write_addresses<A: Allocator + Copy>(ips: &[Ip], out: &mut Vec<u8, A>) -> Res
     Ok(())
 }
 
-// A line: its first token and the others.
-#[inline(always)]
-fn write_joined<A: Allocator + Copy>(
-    first: Token,
-    others: &[Token],
-    out: &mut Vec<u8, A>,
-) -> Result<(), Memory>
-    ensures { AppendsText result out.old.items out.new.items (written_line (token_text first.entry ∷ map token_text others.now)) }
-{
-    write_token(first, out)?;
-    write_tokens(others, out)?;
-    write_byte(LINE_END, out)
-}
-
-// A line that begins with a word.
+// A line: its word and the other tokens.
 pub(crate) fn write_line<A: Allocator + Copy>(
     word: &[u8],
     others: &[Token],
@@ -107,18 +122,9 @@ pub(crate) fn write_line<A: Allocator + Copy>(
 ) -> Result<(), Memory>
     ensures { AppendsText result out.old.items out.new.items (written_line (word.now ∷ map token_text others.now)) }
 {
-    write_joined(Token::Word(word), others, out)
-}
-
-// A line that begins with a number.
-pub(crate) fn write_numbered<A: Allocator + Copy>(
-    number: u64,
-    others: &[Token],
-    out: &mut Vec<u8, A>,
-) -> Result<(), Memory>
-    ensures { AppendsText result out.old.items out.new.items (written_line (decimal number ∷ map token_text others.now)) }
-{
-    write_joined(Token::Number(number), others, out)
+    write_bytes(word, out)?;
+    write_tokens(others, out)?;
+    write_byte(LINE_END, out)
 }
 
 // A line of a word, a number and addresses.
