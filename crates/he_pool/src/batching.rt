@@ -22,14 +22,15 @@ use std::thread::Threads;
 
 /// The transcripts of the races, by so many workers that take their jobs from the board.
 ///
-/// A race has one job for each usable address of its answers; jobs are numbered by race, then by place. Each worker tries
-/// every job once. It tells the gate of a job that it has taken, makes the race's plan with the first one that it takes of
-/// a race, skips an attempt that starts at or after the tick of the best offer so far, and else offers its success.
+/// A race has one job for each usable address of its answers; jobs are numbered by race, then by place. Each worker
+/// tries every job once. It tells the gate of a job that it has taken, makes the race's plan with the first one that
+/// it takes of a race, skips an attempt that starts at or after the tick of the best offer so far, and else offers its
+/// success.
 ///
 /// The board is new, and has at least as many races and jobs as the batch. The pass is the one that came with it, and
-/// comes back with all its parts, after `Memory` too. Whatever the number of workers and the order of their steps: each
-/// offer that it has noted is a success of its race; and where the batch is done, it has taken each job of the batch,
-/// once, and the least offer of a race is its winner, or there is neither.
+/// comes back with all its parts, after `Memory` too. Whatever the number of workers and the order of their steps:
+/// each offer that it has noted is a success of its race; and where the batch is done, it has taken each job of the
+/// batch, once, and the least offer of a race is its winner, or there is neither.
 ///
 /// # Errors
 ///

@@ -26,8 +26,8 @@ pub(crate) struct Range {
     pub(crate) workers: usize,
 }
 
-// Runs these workers. One runs on the calling thread, and more by halves that run at once. The pass comes back with all its
-// parts, whatever is refused.
+// Runs these workers. One runs on the calling thread, and more by halves that run at once. The pass comes back with
+// all its parts, whatever is refused.
 #[cycle(workers)]
 pub(crate) fn run_range<R: Threads + Sync, A: Allocator + Copy + Send + Sync, G: Gate + Sync>(
     rt: &R,

@@ -47,8 +47,8 @@ pub(crate) fn jobs_of_race<A: Allocator, G>(batch: &Batch<A, G>, number: usize) 
     (first, batch.firsts[number + 1] - first)
 }
 
-// Takes the race's job of this place if nobody has, and runs it. Hands back the race's plan, which the first job that is
-// taken of a race needs to be made.
+// Takes the race's job of this place if nobody has, and runs it. Hands back the race's plan, which the first job that
+// is taken of a race needs to be made.
 fn try_job<A: Allocator + Copy, G: Gate>(
     batch: &Batch<A, G>,
     pass: &mut Pass,

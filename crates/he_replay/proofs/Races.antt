@@ -1,7 +1,7 @@
 -- One race more: what is read of an input, and what is written for it, grow together.
-use Rattle.std.proofs.Common.{ℕ, zero, suc, ◌≡◌, ◌+◌, ◌-◌, ◌<◌, ◌≤◌, ◌++◌, List, [], ◌∷◌, length, take, drop, Bool, Option, Some, sym, ◌∙◌, ap, subst, refl, arith, append_assoc, inr, length-append}
+use Rattle.std.proofs.Common.{ℕ, zero, suc, ◌≡◌, ◌+◌, ◌-◌, ◌<◌, ◌≤◌, ◌++◌, List, [], ◌∷◌, length, take, Bool, Some, sym, ◌∙◌, ap, subst, refl, arith, append_assoc, inr, length-append}
 use Rattle.std.specs.List.{AllZip, slice_get, slice_range}
-use Rattle.std.proofs.lemmas.List.{take-append-drop, append-nil}
+use Rattle.std.proofs.lemmas.List.{append-nil}
 use Rattle.std.proofs.lemmas.List.Sums.{sum_by-append}
 use Rattle.std.proofs.Math.Seq.{take-add}
 use Rattle.he_plan.specs.Race.{Race}
@@ -11,9 +11,8 @@ use Rattle.he_text.specs.Text.{IsRaceText}
 use Rattle.he_text.specs.Written.{transcript_text}
 use Rattle.he_text.specs.declared.fault.TextFault.{TextFault}
 use Rattle.he_replay.specs.Limits.{most_races}
-use Rattle.he_replay.specs.declared.output.InputFault.{InputFault}
 use Rattle.he_replay.specs.Output.{AreTexts, IsFault, IsTranscriptText, fault_behind, line_count}
-use Rattle.he_replay.specs.Steps.{IsRead, IsUnderWay, TakesRace, WritesRace, transcripts_text}
+use Rattle.he_replay.specs.Steps.{HasRead, IsUnderWay, ReadsOn, TakesRace, WritesRace, transcripts_text}
 
 pub AreTexts-snoc : (IsText : List ℕ → Race → Type 0) (races : List Race) (text : List ℕ) → AreTexts IsText races text
     → (race : Race) (last : List ℕ) → IsText last race → AreTexts IsText (races ++ race ∷ []) (text ++ last)
@@ -42,20 +41,29 @@ one_more input races new from count end way takes =
       counted = length-append races (takes.race ∷ []) ∙ ap (λ (n : ℕ). n + 1) way.counted;
     })
 
--- what is read ends here, with this fault of the rest behind so many lines
-pub ended : (input : List ℕ) (races : List Race) (is_broken : Bool) (from lines count : ℕ) (fault : Option InputFault) → IsUnderWay input races from count
-    → lines ≡ line_count (take from input) → count ≤ most_races → IsFault is_broken count lines (drop from input) fault → IsRead input is_broken races fault
-ended input races is_broken from lines count fault way lines_are few is = record {
-  before = take from input;
-  rest = drop from input;
-  parts = sym (take-append-drop from input);
-  whole = way.whole;
-  few = let same = way.counted in omega arith;
-  fault_is =
-      let P : ℕ → Type 0 = λ n. IsFault is_broken n (line_count (take from input)) (drop from input) fault in
-      let Q : ℕ → Type 0 = λ n. IsFault is_broken count n (drop from input) fault in
-      subst P (sym way.counted) (subst Q lines_are is);
+-- one race more is read
+pub reads_one : (input : List ℕ) (from : ℕ) (races new : List Race) (at count end : ℕ) → ReadsOn input from races at count → TakesRace input at races new end
+    → ReadsOn input from new end (count + 1)
+reads_one input from races new at count end way takes before past under =
+    let all : before ++ new ≡ (before ++ races) ++ takes.race ∷ [] = ap (λ (xs : List Race). before ++ xs) takes.appended ∙ sym (append_assoc before races (takes.race ∷ [])) in
+    let more = one_more input (before ++ races) (before ++ new) at (past + count) end (way before past under)
+    (record { race = takes.race; read = takes.read; past = takes.past; within = takes.within; appended = all }) in
+    let sum : past + count + 1 ≡ past + (count + 1) = omega arith in
+    subst (λ (n : ℕ). IsUnderWay input (before ++ new) end n) sum more
+
+pub one_more_read : (input : List ℕ) (from : ℕ) (races new : List Race) (at count end : ℕ) → HasRead input from races at count → TakesRace input at races new end
+    → HasRead input from new end (count + 1)
+one_more_read input from races new at count end has takes = record {
+  within = takes.within;
+  counted = ap length takes.appended ∙ (length-append races (takes.race ∷ []) ∙ ap (λ (n : ℕ). n + 1) has.counted);
+  on = reads_one input from races new at count end has.on takes;
 }
+
+pub AreTexts-append : (IsText : List ℕ → Race → Type 0) (races : List Race) (text : List ℕ) → AreTexts IsText races text
+    → (others : List Race) (more : List ℕ) → AreTexts IsText others more → AreTexts IsText (races ++ others) (text ++ more)
+AreTexts-append IsText [] text none others more are = subst (λ (t : List ℕ). AreTexts IsText others (t ++ more)) (sym none) are
+AreTexts-append IsText (first ∷ races) text are others more more_are =
+    (are.0, are.1 ++ more, ap (λ (before : List ℕ). before ++ more) are.2 ∙ append_assoc are.0 are.1 more, are.3, AreTexts-append IsText races are.1 are.4 others more more_are)
 
 take_next : {X : Type 0} (xs : List X) (i : ℕ) (x : X) → slice_get xs i ≡ Some x → take (suc i) xs ≡ take i xs ++ x ∷ []
 take_next [] i x at = cc

@@ -29,3 +29,8 @@ pub record IsTelling (IsText : List ℕ → Race → Type 0) (input text : List 
   pub whole : AreTexts IsRaceText races (take from input)
   pub counted : length races ≡ count
   pub told : AreTexts IsText races text
+
+-- from a place on some races are read and their texts appended, so many, up to an end
+abbrev pub TellsOn : (List ℕ → Race → Type 0) → List ℕ → ℕ → List ℕ → List ℕ → ℕ → ℕ → Type 0
+TellsOn IsText input from old new end count =
+    (past : ℕ) → IsTelling IsText input old from past → IsTelling IsText input new end (past + count)

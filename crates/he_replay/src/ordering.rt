@@ -11,18 +11,19 @@ use he_stream::{InputStream, OutputStream};
 use std::alloc::Allocator;
 
 /// Reads timelines to the end of the input and writes for each in which order its addresses are to be tried (RFC 6724
-/// section 6): its usable addresses, whatever the ticks of the answers, each with the source that the host uses for it.
+/// section 6): its usable addresses, whatever the ticks of the answers, each with the source that the host uses for
+/// it.
 ///
-/// After `Text` and `Read` all that the input before the fault asks for was written, after `Write` a first part of it, after
-/// `Memory` nothing. The output is flushed at the end, after `Text` and `Read` too.
+/// After `Text` and `Read` all that the input before the fault asks for was written, after `Write` a first part of it,
+/// after `Memory` nothing. The output is flushed at the end, after `Text` and `Read` too.
 ///
 /// # Errors
 ///
 /// - `Text` where the input is no timeline text.
 /// - `Read` where a step of the input failed before a fault of the text was found, or the bound of 4,294,967,296 steps
 ///   was reached.
-/// - `Write` where a step of the output failed or took no byte, the flush failed, or the bound of 4,294,967,296 steps was
-///   reached, whatever the input was.
+/// - `Write` where a step of the output failed or took no byte, the flush failed, or the bound of 4,294,967,296 steps
+///   was reached, whatever the input was.
 /// - `Memory` where an allocation was refused.
 pub fn orders<A: Allocator + Copy, I: InputStream, O: OutputStream>(
     alloc: A,

@@ -4,9 +4,8 @@ ghost use Rattle.he_pool.specs.declared.limits.TheConstants.{LEAST_WORKERS, MOST
 ghost use Rattle.he_replay.specs.Output.{IsOrderText, IsOutput, IsTranscriptText};
 
 use crate::content::Content;
-use crate::limits::{LEAST_WORKERS, MOST_WORKERS};
-use crate::reading::read_races;
-use crate::sharing::write_shared;
+use crate::limits::{LEAST_WORKERS, MOST_WORKERS, SHARED_BYTES};
+use crate::sharing::share_races;
 use crate::telling::tell_races;
 use he_text::TextFault;
 use std::alloc::{AllocError, Allocator};
@@ -28,8 +27,8 @@ pub struct Output<A: Allocator> {
     pub fault: Option<InputFault>,
 }
 
-/// The output of an input, of whose races the transcripts are asked for, by at most so many workers. `is_broken` tells that
-/// the input broke off after these bytes.
+/// The output of an input, of whose races the transcripts are asked for, by at most so many workers. `is_broken` tells
+/// that the input broke off after these bytes.
 ///
 /// # Errors
 ///
@@ -45,17 +44,14 @@ pub fn replay_output<R: Threads + Sync, A: Allocator + Copy + Send + Sync>(
     requires few { workers ≤ MOST_WORKERS }
     ensures { IfOk result (λ output. IsOutput IsTranscriptText input.now is_broken output.text.items output.fault) }
 {
-    if workers == LEAST_WORKERS {
+    if workers == LEAST_WORKERS || input.len() < SHARED_BYTES {
         return tell_races(alloc, input, is_broken, Content::Transcript);
     }
-    let mut timelines = Vec::new(alloc);
-    let fault = read_races(alloc, input, is_broken, &mut timelines)?;
-    let text = write_shared(rt, alloc, &timelines, workers)?;
-    Ok(Output { text, fault })
+    share_races(rt, alloc, input, is_broken, workers)
 }
 
-/// The output of an input, of whose races the orders are asked for. `is_broken` tells that the input broke off after these
-/// bytes.
+/// The output of an input, of whose races the orders are asked for. `is_broken` tells that the input broke off after
+/// these bytes.
 ///
 /// # Errors
 ///

@@ -1,38 +1,65 @@
 //! The races of an input, read one after the other.
 ghost use Rattle.std.specs.Prelude.{◌≡◌, ◌+◌, ◌^◌, ◌<◌, ◌≤◌, [], IfOk, length};
 ghost use Rattle.he_replay.specs.Output.{IsFault, fault_at_end, fault_behind, line_count};
-ghost use Rattle.he_replay.specs.Steps.{IsRead, IsStep};
+ghost use Rattle.he_replay.specs.Steps.{HasRead, IsStep, IsStop};
 
-use crate::limits::MOST_RACES;
+use crate::limits::{MOST_RACES, SHARED_RACES};
 use crate::output::InputFault;
 use he_plan::Timeline;
 use he_text::{TextFault, TextKind, read_race};
 use std::alloc::{AllocError, Allocator};
 
-// Reads the races of an input up to the first fault, and answers the fault. `is_broken` tells that the input broke off after
-// these bytes.
-pub(crate) fn read_races<A: Allocator + Copy>(
+// Where the reading of some races stopped.
+#[derive(Clone, Copy)]
+pub(crate) struct Stop {
+    // The place behind the last race that was read.
+    pub(crate) end: usize,
+    // How many races were read.
+    pub(crate) count: usize,
+    pub(crate) next: Next,
+}
+
+// What stands behind some races that were read.
+#[derive(Clone, Copy)]
+pub(crate) enum Next {
+    // More, which is not read yet.
+    More,
+    End,
+    Fault(TextFault),
+}
+
+// Reads the races from this place on, as many as workers share at a time.
+pub(crate) fn read_some<A: Allocator + Copy>(
     alloc: A,
     input: &[u8],
-    is_broken: bool,
+    from: usize,
     timelines: &mut Vec<Timeline<A>, A>,
-) -> Result<Option<InputFault>, AllocError>
-    requires { timelines.old.items ≡ [] }
-    ensures { IfOk result (IsRead input.now is_broken timelines.new.items) }
+) -> Result<Stop, AllocError>
+    requires place { from ≤ length input.now }
+    requires none { timelines.old.items ≡ [] }
+    ensures read { IfOk result (λ stop. HasRead input.now from timelines.new.items stop.end stop.count) }
+    ensures few { IfOk result (λ _. length timelines.new.items ≤ SHARED_RACES) }
+    ensures next { IfOk result (IsStop input.now) }
 {
-    let mut from = 0;
-    for _ in 0..MOST_RACES {
-        match take_race(alloc, input, from, timelines)? {
-            Step::Race(end) => from = end,
-            Step::End => return Ok(fault_at_end(is_broken)),
+    let mut end = from;
+    for count in 0..SHARED_RACES {
+        match take_race(alloc, input, end, timelines)? {
+            Step::Race(behind) => end = behind,
+            Step::End => {
+                let next = Next::End;
+                return Ok(Stop { end, count, next });
+            }
             Step::Fault(found) => {
-                let lines = line_count(&input[..from]);
-                return Ok(Some(fault_behind(is_broken, lines, found)));
+                let next = Next::Fault(found);
+                return Ok(Stop { end, count, next });
             }
         }
     }
-    let lines = line_count(&input[..from]);
-    Ok(fault_past_races(is_broken, lines, &input[from..]))
+    Ok(Stop {
+        end,
+        count: SHARED_RACES,
+        next: Next::More,
+    })
 }
 
 // What stands at a place of an input: a race that ends there, nothing, or a fault.

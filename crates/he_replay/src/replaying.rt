@@ -14,9 +14,11 @@ use std::thread::Threads;
 
 /// Reads timelines to the end of the input and writes their transcripts, by at most so many workers.
 ///
-/// What is written and answered does not depend on the number of workers, nor on the order of their steps. The races are
-/// read on the calling thread. Their attempts are shared by as many workers as there are jobs for
-/// (`limits::JOBS_OF_A_WORKER` each), in threads of their own; where one is enough, no thread is made.
+/// What is written and answered does not depend on the number of workers, nor on the order of their steps. The races
+/// are read on the calling thread. A short input, of less than `limits::SHARED_BYTES`, it follows to the end alone,
+/// race by race. Of a longer one the attempts of `limits::SHARED_RACES` races at a time are shared by as many workers
+/// as there are jobs for (`limits::JOBS_OF_A_WORKER` each), in threads of their own; where one is enough, no thread is
+/// made.
 ///
 /// After `Text` and `Read` all that the input before the fault asks for was written, after `Write` a
 /// first part of it, after `Memory` nothing. The output is flushed at the end, after `Text` and
@@ -27,8 +29,8 @@ use std::thread::Threads;
 /// - `Text` where the input is no timeline text.
 /// - `Read` where a step of the input failed before a fault of the text was found, or the bound of
 ///   4,294,967,296 steps was reached.
-/// - `Write` where a step of the output failed or took no byte, the flush failed, or the bound of 4,294,967,296 steps was
-///   reached, whatever the input was.
+/// - `Write` where a step of the output failed or took no byte, the flush failed, or the bound of 4,294,967,296 steps
+///   was reached, whatever the input was.
 /// - `Memory` where an allocation was refused.
 pub fn replay<
     R: Threads + Sync,

@@ -11,9 +11,9 @@ use bumpalo::Bump;
 use he_text::{TextKind, read_race};
 use std::alloc::{AllocError, Allocator};
 
-// The output of an input, of whose races this content is asked for, by the calling thread, which keeps no race when it goes on
-// to the next: a race stands in an arena, whose memory the next one takes again. `is_broken` tells that the input broke off
-// after these bytes.
+// The output of an input, of whose races this content is asked for, by the calling thread, which keeps no race when it
+// goes on to the next: a race stands in an arena, whose memory the next one takes again. `is_broken` tells that the
+// input broke off after these bytes.
 pub(crate) fn tell_races<A: Allocator + Copy>(
     alloc: A,
     input: &[u8],
@@ -46,7 +46,8 @@ pub(crate) fn tell_races<A: Allocator + Copy>(
     Ok(Output { text, fault })
 }
 
-// Reads the race at the place, and appends what is asked for of it. All that it needs for that alone stands in the arena.
+// Reads the race at the place, and appends what is asked for of it. All that it needs for that alone stands in the
+// arena.
 fn tell_race<A: Allocator + Copy>(
     arena: &Bump<A>,
     input: &[u8],

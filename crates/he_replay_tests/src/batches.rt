@@ -1,5 +1,5 @@
-// Batches of four races: which jobs the gate is told of, that workers run at the same time, what the pass tells at the end,
-// and what is answered where memory is refused.
+// Batches of four races: which jobs the gate is told of, that workers run at the same time, what the pass tells at the
+// end, and what is answered where memory is refused.
 ghost use Rattle.std.specs.Prelude.{◌≡◌};
 ghost use Rattle.he_board.specs.declared.limits.TheConstants.{PARTS};
 ghost use Rattle.he_board.specs.Passes.{IsPassOf, jobs_of, notes, races_of};
@@ -102,7 +102,8 @@ fn append_race<A: Allocator + Copy>(
     Some(end)
 }
 
-// How a batch ended: whether it was done, whether its transcripts are right, and what the pass and the board tell after it.
+// How a batch ended: whether it was done, whether its transcripts are right, and what the pass and the board tell
+// after it.
 #[derive(Clone, Copy, Debug, PartialEq, Eq)]
 struct Ended {
     is_done: bool,

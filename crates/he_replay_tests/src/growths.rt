@@ -4,16 +4,36 @@ use crate::hostile::{Call, TEXT};
 use he_replay::ReplayFault;
 use he_stream::{FromReader, ToWriter};
 use refusing::{Refusing, each_growth_refused};
-use std::alloc::Global;
+use std::alloc::{AllocError, Global};
+use std::test::Fail;
 use std::thread::Threads;
 use stream_fakes::{FakeReader, FakeWriter};
 
-// Whether a call whose allocator may refuse answers Memory and writes nothing only where it has refused, and writes all else.
-fn is_right<R: Threads + Sync>(rt: &R, heap: &Refusing<Global>, alloc: Global, call: Call) -> bool {
-    let mut input = FromReader::new(FakeReader::new(TEXT, 64));
+// How often the text stands in the input, so that what is held of the input and the output grows more than once.
+const TIMES: usize = 8;
+
+fn repeated(alloc: Global, text: &[u8]) -> Result<Vec<u8>, AllocError> {
+    let mut all = Vec::new(alloc);
+    for _ in 0..TIMES {
+        all.extend_from_slice(text)?;
+    }
+    Ok(all)
+}
+
+// Whether a call whose allocator may refuse answers Memory and writes nothing only where it has refused, and writes
+// all else.
+fn is_right<R: Threads + Sync>(
+    rt: &R,
+    heap: &Refusing<Global>,
+    alloc: Global,
+    call: Call,
+    text: &[u8],
+    wanted: &[u8],
+) -> bool {
+    let mut input = FromReader::new(FakeReader::new(text, 64));
     let mut output = ToWriter::new(FakeWriter::new(alloc));
     match call.run(rt, heap, &mut input, &mut output) {
-        Ok(()) => output.writer().held() == call.output(),
+        Ok(()) => output.writer().held() == wanted,
         Err(fault) => {
             heap.has_refused() && fault == ReplayFault::Memory && output.writer().calls() == 0
         }
@@ -21,12 +41,15 @@ fn is_right<R: Threads + Sync>(rt: &R, heap: &Refusing<Global>, alloc: Global, c
 }
 
 #[test]
-fn refused_growths_are_told(rt: HostRuntime) {
+fn refused_growths_are_told(rt: HostRuntime) -> Result<(), Fail> {
     let heap = Refusing::new(rt.alloc());
+    let text = repeated(rt.alloc(), TEXT)?;
     for call in [Call::Replay, Call::Orders] {
+        let wanted = repeated(rt.alloc(), call.output())?;
         let refused = each_growth_refused(&heap, || {
-            assert!(rt; is_right(&rt, &heap, rt.alloc(), call));
+            assert!(rt; is_right(&rt, &heap, rt.alloc(), call, &text, &wanted));
         });
         assert!(rt; refused > 3);
     }
+    Ok(())
 }

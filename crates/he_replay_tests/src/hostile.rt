@@ -74,8 +74,8 @@ fn fault(line: u64, kind: TextKind) -> Result<(), ReplayFault> {
     Err(ReplayFault::Text(TextFault { line, kind }))
 }
 
-// How many first parts of the text, the empty one and the whole left out, are unfinished where the input ends behind them, and
-// a failed read where it breaks there. Nothing is written of them.
+// How many first parts of the text, the empty one and the whole left out, are unfinished where the input ends behind
+// them, and a failed read where it breaks there. Nothing is written of them.
 fn right_cuts<R: Threads + Sync>(rt: &R, alloc: Global, call: Call) -> usize {
     let mut right: usize = 0;
     for count in 1..TEXT.len() {
@@ -188,7 +188,8 @@ fn right_breaks<R: Threads + Sync>(rt: &R, alloc: Global, call: Call) -> Result<
     Ok(right)
 }
 
-// A flush that fails, behind a whole output and behind the output before a fault; and a text in pieces, with interruptions.
+// A flush that fails, behind a whole output and behind the output before a fault; and a text in pieces, with
+// interruptions.
 fn right_ends<R: Threads + Sync>(rt: &R, alloc: Global, call: Call) -> bool {
     let wanted = call.output();
     let failing = FakeWriter::new(alloc).failing_flush();

@@ -1,5 +1,5 @@
-//! Tests of streams and replays over readers, writers and an allocator that fail, and of batches with a gate that holds
-//! workers.
+//! Tests of streams and replays over readers, writers and an allocator that fail, and of batches with a gate that
+//! holds workers.
 #![tactic(auto)]
 
 #[cfg(test)]
@@ -10,5 +10,7 @@ mod gates;
 mod growths;
 #[cfg(test)]
 mod hostile;
+#[cfg(test)]
+mod shared;
 #[cfg(test)]
 mod steps;
