@@ -1,5 +1,5 @@
 -- What the calls of the builder leave where they answer Ok.
-use Rattle.std.proofs.Common.{◌≡◌, ℕ, ◌&&◌, Bool, true, false, not, List, [], if◌then◌else◌, length, Option, Some, None, is_some, Result, Ok, Err, nat_le, nat_lt, refl}
+use Rattle.std.proofs.Common.{◌≡◌, ℕ, ◌&&◌, Bool, true, false, not, List, [], if◌then◌else◌, length, Option, Some, None, is_some, Result, Ok, Err, nat_le, nat_lt, refl, ap, ◌∙◌}
 use Rattle.he_addr.specs.declared.ip.Family.{Family}
 use Rattle.he_addr.specs.declared.ip.Family.TheVariants as families
 use Rattle.he_addr.specs.declared.ip.Ip.{Ip}
@@ -12,6 +12,7 @@ use Rattle.he_plan.specs.Settings.{SettingValues}
 use Rattle.he_plan.specs.Race.{Race, Reply, has_outcome, is_in_answer, reply_of}
 use Rattle.he_plan.specs.Timeline.{are_distinct, are_of, duration_of, is_duration}
 use Rattle.he_race.specs.Answered.{with_reply}
+use Rattle.he_race.specs.Recording.{unrecorded}
 use Rattle.he_select.specs.declared.policy.Row.{Row}
 use Rattle.he_select.specs.Hosts.{HostLists}
 
@@ -55,8 +56,13 @@ answered-is race new family tick ips h =
     let e = no_fault (not (are_distinct ips)) faults.Repeated made new d.1 in
     same_race _ _ e.1
 
-pub copied : (s : SettingValues) (p : List Row) (h : HostLists) (aaaa a : Option Reply) → with_reply (with_reply (empty_race s p h) families.V6 aaaa) families.V4 a ≡ record { settings = s; policy = p; host = h; aaaa = aaaa; a = a; outcomes = []; pauses = [] }
+copied : (s : SettingValues) (p : List Row) (h : HostLists) (aaaa a : Option Reply) → with_reply (with_reply (empty_race s p h) families.V6 aaaa) families.V4 a ≡ record { settings = s; policy = p; host = h; aaaa = aaaa; a = a; outcomes = []; pauses = [] }
 copied s p h None None = refl
 copied s p h None (Some y) = refl
 copied s p h (Some x) None = refl
 copied s p h (Some x) (Some y) = refl
+
+-- an empty race with the answers of a race is that race, of which nothing is recorded
+pub filled : (race empty new : Race) → empty ≡ empty_race race.settings race.policy race.host → new ≡ with_reply (with_reply empty families.V6 race.aaaa) families.V4 race.a → new ≡ unrecorded race
+filled race empty new e h =
+    h ∙ ap (λ (z : Race). with_reply (with_reply z families.V6 race.aaaa) families.V4 race.a) e ∙ copied race.settings race.policy race.host race.aaaa race.a

@@ -80,6 +80,12 @@ won_at race stop xs won e h =
     let same : h.duration ≡ stop - h.x.tick = omega (arith, at.1) in
     finish-succeeded race e.valid h.x stop (e.free at.0) (omega (arith, at.1)) e.early (h.success ∙ ap (λ (k : ℕ). Some (outcomes.Ok k)) same)
 
+-- the winner's finish is the stop
+pub winner-stop : (race : Race) (stop : ℕ) (xs : List Attempt) (won : Bool) → EndsRace race stop xs won → (winner : ℕ × ℕ) → IsWinner (map (fate_of race) xs) (Some winner) → winner.0 ≡ stop
+winner-stop race stop xs won e winner w =
+    let at : (won ≡ true) × (winner.0 ≡ stop) = success_at race stop winner.0 won xs (settled_all race stop xs won e) winner.1 w.0 in
+    at.1
+
 pub record Known (race : Race) (xs : List Attempt) (won : Bool) (winner : Option (ℕ × ℕ)) : Type 0 where
   pub known : AreKnown race xs (map (fate_of race) xs) winner
   pub same : is_some winner ≡ won

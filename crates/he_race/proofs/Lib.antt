@@ -1,11 +1,17 @@
+pub mod Awake
 pub mod Builds
+pub mod Driven
 pub mod DueTicks
 pub mod Ending
+pub mod Finished
+pub mod Onward
 pub mod Races
 pub mod Recorded
+pub mod Replayed
 pub mod Runs
 pub mod Scripts
 pub mod Sweeps
+pub mod Swept
 pub mod Turning
 pub mod Waits
 pub mod Wheels

@@ -34,11 +34,11 @@ use Rattle.he_plan.proofs.Starting.{IsSeen-seen}
 use Rattle.he_race.specs.Recording.{Begins, EndedBy, FailedBelow, HasSuccess, InTurn, Rests, ended_by, floor, unrecorded}
 use Rattle.he_race.proofs.DueTicks.{due_starts}
 
-own_ip : (ip : Ip) → same_ip ip ip ≡ true
+pub own_ip : (ip : Ip) → same_ip ip ip ≡ true
 own_ip (V4 n) = (Decides-eqb n n).1 refl
 own_ip (V6 n) = (Decides-eqb n n).1 refl
 
-same_ip-is : (x y : Ip) → same_ip x y ≡ true → x ≡ y
+pub same_ip-is : (x y : Ip) → same_ip x y ≡ true → x ≡ y
 same_ip-is (V4 m) (V4 n) e = ap V4 ((Decides-eqb m n).0 e)
 same_ip-is (V6 m) (V6 n) e = ap V6 ((Decides-eqb m n).0 e)
 same_ip-is (V4 m) (V6 n) e = cc
@@ -53,7 +53,7 @@ pub all_before : (tick : ℕ) (xs : List Attempt) → All (λ (x : Attempt). x.t
 all_before tick [] h = refl
 all_before tick (x ∷ xs) h = and_both _ _ (lt_test x.tick tick (All-head (λ (y : Attempt). y.tick < tick) x xs h)) (all_before tick xs (All-tail (λ (y : Attempt). y.tick < tick) x xs h))
 
-get_last : {X : Type 0} (xs : List X) (x : X) → slice_get (xs ++ x ∷ []) (length xs) ≡ Some x
+pub get_last : {X : Type 0} (xs : List X) (x : X) → slice_get (xs ++ x ∷ []) (length xs) ≡ Some x
 get_last [] x = refl
 get_last (y ∷ xs) x = get_last xs x
 

@@ -27,19 +27,19 @@ use Rattle.he_race.specs.Running.{IsScripted, fate_at, result_at, scripted_trial
 use Rattle.he_race.specs.Scripted.{answer_of, script, script_of, tick_of}
 use Rattle.he_race.proofs.Waits.{not_pending}
 
-le_of : (m n : ℕ) → nat_lt m n ≡ false → n ≤ m
+pub le_of : (m n : ℕ) → nat_lt m n ≡ false → n ≤ m
 le_of m n e = elim (cases_lt m n) [ inl h ↦ absurd (clash (nat_lt m n) (lt_test m n h) e) | inr k ↦ k ]
 
 abbrev Answer : Type 0
 Answer = Result (Unit {0}) ConnectFault
 
-seen_rises : (race : Race) → IsRace race → (x y : ℕ) → x ≤ y → seen race x ≤ seen race y
+pub seen_rises : (race : Race) → IsRace race → (x y : ℕ) → x ≤ y → seen race x ≤ seen race y
 seen_rises race r x y h =
     let sx : IsSeen race x (seen race x) = IsSeen-seen race r x in
     let sy : IsSeen race y (seen race y) = IsSeen-seen race r y in
     sx.least (seen race y) (omega (arith, sy.holds.0), sy.holds.1)
 
-seen_from : (race : Race) → IsRace race → (x : ℕ) → x ≤ seen race x
+pub seen_from : (race : Race) → IsRace race → (x : ℕ) → x ≤ seen race x
 seen_from race r x = let s : IsSeen race x (seen race x) = IsSeen-seen race r x in s.holds.0
 
 -- a tick that was seen from an earlier one on is the one that is seen
@@ -62,7 +62,7 @@ late_by race s tick (Some (outcomes.Fail d)) late by = let no : nat_le (finish_o
 abbrev IsFinish : Race → ℕ → Option Outcome → ℕ → Type 0
 IsFinish race s o now = IfSome o (λ out. s + duration_of out ≤ now → seen race (s + duration_of out) ≡ now)
 
-ready_is : (x y : Answer) → ◌≡◌ {A = Poll Answer} (Ready x) (Ready y) → x ≡ y
+pub ready_is : (x y : Answer) → ◌≡◌ {A = Poll Answer} (Ready x) (Ready y) → x ≡ y
 ready_is x y h = cc
 
 fate_ready : (race : Race) (s now : ℕ) (o : Option Outcome) (r : Answer) → now ≤ race.settings.limit → IsFinish race s o now
@@ -87,11 +87,11 @@ fate_ready race s now (Some (outcomes.Fail d)) r h fin e = by_tick (nat_lt now (
         let in_time : nat_le (finish_of race s d) race.settings.limit ≡ true = le_test _ _ (omega (arith, same)) in
         rw (in_time, same, ready_is r (Err Refused) e)
 
-at_false : (X Y : Type 0) (b : Bool) → b ≡ false → MatchBool b X Y → Y
+pub at_false : (X Y : Type 0) (b : Bool) → b ≡ false → MatchBool b X Y → Y
 at_false X Y false e y = y
 at_false X Y true e x = let P : Bool → Type 0 = λ b. MatchBool b X Y in subst P e x
 
-pending_over : (o : Option Outcome) (s now d : ℕ) → tick_of (script o s) ≡ Some d → d ≤ now → ◌≡◌ {A = Poll Answer} Pending (answer_of (script o s) now) → ⊥
+pub pending_over : (o : Option Outcome) (s now d : ℕ) → tick_of (script o s) ≡ Some d → d ≤ now → ◌≡◌ {A = Poll Answer} Pending (answer_of (script o s) now) → ⊥
 pending_over None s now d e over p = cc
 pending_over (Some (outcomes.Ok k)) s now d e over p =
     let due : s + k ≡ d = cc in

@@ -22,7 +22,7 @@ use Rattle.he_race.specs.declared.live.Unfinished.{Unfinished}
 use Rattle.he_race.specs.declared.trial.Trial.{Ghosts as TrialOf}
 use Rattle.he_race.specs.Answered.{earliest}
 use Rattle.he_race.specs.Attempt.{AttemptPolls, due_of}
-use Rattle.he_race.specs.Recording.{MakesOne, floor}
+use Rattle.he_race.specs.Recording.{EndsRace, MakesOne, floor}
 use Rattle.he_race.specs.Turns.{ArePolled, AsksInTime, BeginsFrom, BeginsOne, BeginsAt, EndsPolled, EndsWith, Goes, GoesOn, IsLive, LeftBy, PolledAt, PolledFrom, PollsAt, Replays, StartsOne, Sweep, Turned, TurnsFrom, asked_tick, begun, first_of, is_over, told, unpolled}
 use Rattle.he_race.proofs.Turning.{alike-later, drop-set, take-set}
 
@@ -120,7 +120,7 @@ module _ {C Conn Run : Type 0} (connector : ConnectorOf C Conn Run) (trial : Tri
   get-last (y ∷ xs) x = get-last xs x
 
   -- an attempt that was made is the one that begins
-  pub starts-one : (race : Race) (now : ℕ) (c c' : C) (xs all : List Attempt) (os new : List (Unfinished C Conn Run)) → MakesOne race xs all now → BeginsFrom connector trial c all (length xs) os c' new → StartsOne connector trial c xs all os c' new
+  pub starts-one : (race : Race) (now : ℕ) (c c' : C) (xs all : List Attempt) (os new : List (Unfinished C Conn Run)) → MakesOne race xs all now → BeginsFrom connector trial c all (length xs) os c' new → StartsOne connector trial c now xs all os c' new
   starts-one race now c c' xs all os new (inl same) h =
       let none : slice_get all (length xs) ≡ None = ap (λ (ys : List Attempt). slice_get ys (length xs)) same ∙ get-past xs in
       let k : (c' ≡ c) × (new ≡ os) = subst (λ (x : Option Attempt). BeginsOne connector trial c x os c' new) none h in
@@ -128,9 +128,9 @@ module _ {C Conn Run : Type 0} (connector : ConnectorOf C Conn Run) (trial : Tri
   starts-one race now c c' xs all os new (inr p) h =
       let some : slice_get all (length xs) ≡ Some p.next = ap (λ (ys : List Attempt). slice_get ys (length xs)) p.more ∙ get-last xs p.next in
       let k : (o : Unfinished C Conn Run) × BeginsAt connector trial c p.next c' o × (new ≡ os ++ o ∷ []) = subst (λ (x : Option Attempt). BeginsOne connector trial c x os c' new) some h in
-      inr (record { x = p.next; o = k.0; more = p.more; begins = k.1; next = k.2 })
+      inr (record { x = p.next; o = k.0; more = p.more; at = p.at; begins = k.1; next = k.2 })
 
-  asked-early : (due : ℕ) (os : List (Unfinished C Conn Run)) → asked_tick connector trial due os ≤ due
+  pub asked-early : (due : ℕ) (os : List (Unfinished C Conn Run)) → asked_tick connector trial due os ≤ due
   asked-early due [] = omega arith
   asked-early due (o ∷ os) =
       let least : asked_tick connector trial (earliest due (due_of connector trial o.future)) os ≤ earliest due (due_of connector trial o.future) = asked-early (earliest due (due_of connector trial o.future)) os in
@@ -148,13 +148,14 @@ module _ {C Conn Run : Type 0} (connector : ConnectorOf C Conn Run) (trial : Tri
       omega (arith, early, asked-early live.course.due live.unfinished.items, h.course.rests.valid.settings.limit_most)
 
   -- a turn that ends the race
-  pub ended-swept : {E : Type 0} (from : Sweep C Conn Run) (os : List (Unfinished C Conn Run)) (now : ℕ) (to : Sweep C Conn Run) (r : Result (Step C Conn Run) E) → ArePolled connector trial now from os to → is_over to.course now to.pending (is_some to.first) ≡ true → AreAlike from.course.recorded to.course.recorded → to.course.recorded.pauses ≡ from.course.recorded.pauses → IfOk r (EndsWith to.course.recorded to.first) → IfOk r (TurnsFrom connector trial from os now to.connector)
-  ended-swept from os now to (Err e) polled over alike pauses h = tt
-  ended-swept from os now to (Ok (steps.Waits new tick)) polled over alike pauses h = absurd h
-  ended-swept from os now to (Ok (steps.Ended raced)) polled over alike pauses h = record {
+  pub ended-swept : {E : Type 0} (from : Sweep C Conn Run) (os : List (Unfinished C Conn Run)) (now : ℕ) (to : Sweep C Conn Run) (r : Result (Step C Conn Run) E) → ArePolled connector trial now from os to → is_over to.course now to.pending (is_some to.first) ≡ true → EndsRace to.course.recorded now to.course.planner.attempts.items (is_some to.first) → AreAlike from.course.recorded to.course.recorded → to.course.recorded.pauses ≡ from.course.recorded.pauses → IfOk r (EndsWith to.course.recorded to.first) → IfOk r (TurnsFrom connector trial from os now to.connector)
+  ended-swept from os now to (Err e) polled over ended alike pauses h = tt
+  ended-swept from os now to (Ok (steps.Waits new tick)) polled over ended alike pauses h = absurd h
+  ended-swept from os now to (Ok (steps.Ended raced)) polled over ended alike pauses h = record {
     swept = to;
     polled = polled;
     over = over;
+    ended = ended;
     still = refl;
     recorded = h.1;
     winner = h.2;
@@ -184,13 +185,14 @@ module _ {C Conn Run : Type 0} (connector : ConnectorOf C Conn Run) (trial : Tri
   }
 
   -- a turn past the limit
-  pub turned-late : {E : Type 0} (c : C) (live : Live C Conn Run) (now : ℕ) (course : Course) (r : Result (Step C Conn Run) E) → course ≡ (begun c live now).course → course.recorded.settings.limit < now → IfOk r (EndsWith course.recorded None) → IfOk r (Turned connector trial c live now c)
-  turned-late c live now course (Err e) same late h = tt
-  turned-late c live now course (Ok (steps.Waits new tick)) same late h = absurd h
-  turned-late c live now course (Ok (steps.Ended raced)) same late h =
+  pub turned-late : {E : Type 0} (c : C) (live : Live C Conn Run) (now : ℕ) (course : Course) (r : Result (Step C Conn Run) E) → course ≡ (begun c live now).course → course.recorded.settings.limit < now → EndsRace course.recorded course.recorded.settings.limit course.planner.attempts.items false → IfOk r (EndsWith course.recorded None) → IfOk r (Turned connector trial c live now c)
+  turned-late c live now course (Err e) same late ended h = tt
+  turned-late c live now course (Ok (steps.Waits new tick)) same late ended h = absurd h
+  turned-late c live now course (Ok (steps.Ended raced)) same late ended h =
       let recorded : course.recorded ≡ (begun c live now).course.recorded = ap (λ (x : Course). x.recorded) same in
       inl (record {
         late = subst (λ (race : Race). race.settings.limit < now) recorded late;
+        ended = subst (λ (x : Course). EndsRace x.recorded x.recorded.settings.limit x.planner.attempts.items false) same ended;
         still = refl;
         recorded = h.1 ∙ recorded;
         winner = h.2;

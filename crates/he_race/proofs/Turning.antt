@@ -26,7 +26,7 @@ use Rattle.he_race.specs.declared.live.Live.{Live}
 use Rattle.he_race.specs.declared.live.Unfinished.{Unfinished}
 use Rattle.he_race.specs.declared.trial.Trial.{Ghosts as TrialOf}
 use Rattle.he_race.specs.Answered.{is_tried_out_by}
-use Rattle.he_race.specs.Recording.{Begins, EndedBy, FailedBelow, InTurn, IsEnded, MakesOne, ended_by, slept}
+use Rattle.he_race.specs.Recording.{Begins, EndedBy, EndsRace, FailedBelow, InTurn, IsEnded, MakesOne, ended_by, slept}
 use Rattle.he_race.specs.Turns.{Answers, IsUnfinished, Polled, Records, is_connection, is_over}
 use Rattle.he_race.proofs.Recorded.{finished, planned-told}
 
@@ -83,20 +83,17 @@ planned-still old new p h =
     subst (λ (x : Course). IsPlanned x.recorded x.planner.attempts.items x.planner.queue.v6 x.planner.queue.v4 x.planner.queue.ips.items x.planner.queue.next) (sym p.is) (p.planned h)
 
 -- past the limit the race ends at it
-pub ended-late : (race : Race) (now : ℕ) (xs : List Attempt) → Begins race now xs → now ≡ race.settings.limit + 1 → IsEnded race xs false
-ended-late race now xs b e = record {
-  stop = race.settings.limit;
-  ends = record {
-    valid = b.in_turn.valid;
-    in_turn = b.in_turn.made.in_turn;
-    past = All-weaker (λ (x : Attempt). x.tick < now) (λ (x : Attempt). x.tick ≤ race.settings.limit) (λ x h. omega (arith, h)) xs b.in_turn.past;
-    free = λ won. absurd (not_won won);
-    early = omega arith;
-    ended = All-weaker (λ (x : Attempt). IfSome (outcome_of race x.ip) (FailedBelow race now x)) (λ (x : Attempt). IfSome (outcome_of race x.ip) (EndedBy race race.settings.limit false x)) (λ x h. by_outcome x (outcome_of race x.ip) h) xs b.failed;
-    stops = λ t m. omega (arith, b.in_turn.stops t m);
-    success = λ won. absurd (not_won won);
-    over = λ lost t m. omega (arith, b.in_turn.stops t m, m.0);
-  };
+pub ends-late : (race : Race) (now : ℕ) (xs : List Attempt) → Begins race now xs → now ≡ race.settings.limit + 1 → EndsRace race race.settings.limit xs false
+ends-late race now xs b e = record {
+  valid = b.in_turn.valid;
+  in_turn = b.in_turn.made.in_turn;
+  past = All-weaker (λ (x : Attempt). x.tick < now) (λ (x : Attempt). x.tick ≤ race.settings.limit) (λ x h. omega (arith, h)) xs b.in_turn.past;
+  free = λ won. absurd (not_won won);
+  early = omega arith;
+  ended = All-weaker (λ (x : Attempt). IfSome (outcome_of race x.ip) (FailedBelow race now x)) (λ (x : Attempt). IfSome (outcome_of race x.ip) (EndedBy race race.settings.limit false x)) (λ x h. by_outcome x (outcome_of race x.ip) h) xs b.failed;
+  stops = λ t m. omega (arith, b.in_turn.stops t m);
+  success = λ won. absurd (not_won won);
+  over = λ lost t m. omega (arith, b.in_turn.stops t m, m.0);
 }
   where
     not_won : false ≡ true → ⊥
@@ -107,26 +104,26 @@ ended-late race now xs b e = record {
     by_outcome x (Some (outcomes.Ok d)) h = absurd h
     by_outcome x (Some (outcomes.Fail d)) h = (h.0, omega (arith, h.1))
 
+pub ended-late : (race : Race) (now : ℕ) (xs : List Attempt) → Begins race now xs → now ≡ race.settings.limit + 1 → IsEnded race xs false
+ended-late race now xs b e = record { stop = race.settings.limit; ends = ends-late race now xs b e }
+
 tried_out : (race : Race) (now : ℕ) (xs : List Attempt) (aaaa a : Option Reply) → race.aaaa ≡ aaaa → race.a ≡ a → is_tried_out_by now xs aaaa ≡ true → is_tried_out_by now xs a ≡ true → (t : ℕ) → ¬ MayStart race xs t
 tried_out race now xs None a six four h k = cc
 tried_out race now xs (Some s) None six four h k = cc
 tried_out race now xs (Some s) (Some r) six four h k = none_left-ends race xs s r six four (and_right _ _ h) (and_right _ _ k)
 
 -- a turn that is over ends the race
-pub ended-turn : {X : Type 0} (course : Course) (now : ℕ) (unfinished : List X) (won : Bool) → InTurn course.recorded now course.planner.attempts.items won → now ≤ course.recorded.settings.limit → is_over course now unfinished won ≡ true → IsEnded course.recorded course.planner.attempts.items won
-ended-turn course now unfinished won t early over = record {
-  stop = now;
-  ends = record {
-    valid = t.valid;
-    in_turn = t.made.in_turn;
-    past = All-weaker (λ (x : Attempt). x.tick < now) (λ (x : Attempt). x.tick ≤ now) (λ x h. omega (arith, h)) course.planner.attempts.items t.past;
-    free = λ yes. pauses-over course.recorded t.valid now t.over;
-    early = early;
-    ended = t.ended;
-    stops = t.stops;
-    success = t.success;
-    over = λ lost s m. none lost over s m;
-  };
+pub ends-turn : {X : Type 0} (course : Course) (now : ℕ) (unfinished : List X) (won : Bool) → InTurn course.recorded now course.planner.attempts.items won → now ≤ course.recorded.settings.limit → is_over course now unfinished won ≡ true → EndsRace course.recorded now course.planner.attempts.items won
+ends-turn course now unfinished won t early over = record {
+  valid = t.valid;
+  in_turn = t.made.in_turn;
+  past = All-weaker (λ (x : Attempt). x.tick < now) (λ (x : Attempt). x.tick ≤ now) (λ x h. omega (arith, h)) course.planner.attempts.items t.past;
+  free = λ yes. pauses-over course.recorded t.valid now t.over;
+  early = early;
+  ended = t.ended;
+  stops = t.stops;
+  success = t.success;
+  over = λ lost s m. none lost over s m;
 }
   where
     none : won ≡ false → is_over course now unfinished won ≡ true → (s : ℕ) → ¬ MayStart course.recorded course.planner.attempts.items s
@@ -141,6 +138,9 @@ ended-turn course now unfinished won t early over = record {
               let both : (six && four) ≡ true = and_right (length unfinished == 0) (six && four) out in
               tried_out course.recorded now course.planner.attempts.items course.recorded.aaaa course.recorded.a refl refl (and_left six four both) (and_right six four both) s m
         ]
+
+pub ended-turn : {X : Type 0} (course : Course) (now : ℕ) (unfinished : List X) (won : Bool) → InTurn course.recorded now course.planner.attempts.items won → now ≤ course.recorded.settings.limit → is_over course now unfinished won ≡ true → IsEnded course.recorded course.planner.attempts.items won
+ended-turn course now unfinished won t early over = record { stop = now; ends = ends-turn course now unfinished won t early over }
 
 -- a race that goes on is below its limit
 pub going-early : {X : Type 0} (course : Course) (now : ℕ) (unfinished : List X) (won : Bool) → is_over course now unfinished won ≡ false → now < course.recorded.settings.limit

@@ -1,5 +1,6 @@
 pub mod Answered
 pub mod Attempt
+pub mod Following
 pub mod Racing
 pub mod Recording
 pub mod Running

@@ -27,7 +27,7 @@ use Rattle.he_race.specs.declared.live.Step.TheVariants as steps
 use Rattle.he_race.specs.declared.trial.Trial.{Ghosts as TrialOf}
 use Rattle.he_race.specs.Answered.{earliest, is_tried_out_by}
 use Rattle.he_race.specs.Attempt.{AttemptPolls, CanPoll, due_of}
-use Rattle.he_race.specs.Recording.{IsCourse, ended_by, is_won, slept}
+use Rattle.he_race.specs.Recording.{EndsRace, IsCourse, ended_by, is_won, slept, unrecorded}
 
 -- an attempt's answer is a connection
 abbrev pub is_connection : {Conn : Type 0} → Result Conn ConnectFault → Bool
@@ -97,6 +97,13 @@ pub record Sweep (C Conn Run : Type 0) : Type 0 where
 abbrev pub unpolled : {C Conn Run : Type 0} → C → Course → Sweep C Conn Run
 unpolled c course = record { connector = c; course = course; pending = []; first = None }
 
+-- a race before its first turn: nothing is recorded, and no attempt was made
+pub record IsNew {C Conn Run : Type 0} (race : Race) (live : Live C Conn Run) : Type 0 where
+  pub recorded : live.course.recorded ≡ unrecorded race
+  pub turn : live.course.turn ≡ None
+  pub attempts : live.course.planner.attempts.items ≡ []
+  pub unfinished : live.unfinished.items ≡ []
+
 -- a turn begins: the client slept from the due tick on
 abbrev pub begun : {C Conn Run : Type 0} → C → Live C Conn Run → ℕ → Sweep C Conn Run
 begun c live now = unpolled c (record live.course { recorded = slept live.course.recorded live.course.due now })
@@ -155,11 +162,12 @@ module _ {C Conn Run : Type 0} (connector : ConnectorOf C Conn Run) (trial : Tri
     pub attempt : o.attempt ≡ x
     pub polls : AttemptPolls connector trial c (Sleeping x.place x.ip x.tick) x.tick Pending c' o.future
 
-  -- after the attempts before, one that was made begins, and stands after the others
-  pub record BeginsNext (c : C) (xs all : List Attempt) (os : List (Unfinished C Conn Run)) (c' : C) (new : List (Unfinished C Conn Run)) : Type 0 where
+  -- after the attempts before, one that was made begins at the tick of the turn, and stands after the others
+  pub record BeginsNext (c : C) (now : ℕ) (xs all : List Attempt) (os : List (Unfinished C Conn Run)) (c' : C) (new : List (Unfinished C Conn Run)) : Type 0 where
     pub x : Attempt
     pub o : Unfinished C Conn Run
     pub more : all ≡ xs ++ x ∷ []
+    pub at : x.tick ≡ now
     pub begins : BeginsAt c x c' o
     pub next : new ≡ os ++ o ∷ []
 
@@ -169,8 +177,8 @@ module _ {C Conn Run : Type 0} (connector : ConnectorOf C Conn Run) (trial : Tri
     pub still : c' ≡ c
     pub same : new ≡ os
 
-  abbrev pub StartsOne : C → List Attempt → List Attempt → List (Unfinished C Conn Run) → C → List (Unfinished C Conn Run) → Type 0
-  StartsOne c xs all os c' new = StaysAs c xs all os c' new ⊎ BeginsNext c xs all os c' new
+  abbrev pub StartsOne : C → ℕ → List Attempt → List Attempt → List (Unfinished C Conn Run) → C → List (Unfinished C Conn Run) → Type 0
+  StartsOne c now xs all os c' new = StaysAs c xs all os c' new ⊎ BeginsNext c now xs all os c' new
 
   abbrev pub BeginsOne : C → Option Attempt → List (Unfinished C Conn Run) → C → List (Unfinished C Conn Run) → Type 0
   BeginsOne c None os c' new = (c' ≡ c) × (new ≡ os)
@@ -183,7 +191,7 @@ module _ {C Conn Run : Type 0} (connector : ConnectorOf C Conn Run) (trial : Tri
   -- the end of a turn that goes on: the attempt that is due begins
   pub record Continues (c : C) (old : Live C Conn Run) (now : ℕ) (c' : C) (new : Live C Conn Run) (tick : ℕ) : Type 0 where
     pub recorded : new.course.recorded ≡ old.course.recorded
-    pub starts : StartsOne c old.course.planner.attempts.items new.course.planner.attempts.items old.unfinished.items c' new.unfinished.items
+    pub starts : StartsOne c now old.course.planner.attempts.items new.course.planner.attempts.items old.unfinished.items c' new.unfinished.items
     pub kept : IsLive new
     pub turn : new.course.turn ≡ Some now
     pub asked : tick ≡ asked_tick new.course.due new.unfinished.items
@@ -198,7 +206,7 @@ module _ {C Conn Run : Type 0} (connector : ConnectorOf C Conn Run) (trial : Tri
     pub polled : ArePolled now from os swept
     pub going : is_over swept.course now swept.pending (is_some swept.first) ≡ false
     pub recorded : new.course.recorded ≡ swept.course.recorded
-    pub starts : StartsOne swept.connector swept.course.planner.attempts.items new.course.planner.attempts.items swept.pending c' new.unfinished.items
+    pub starts : StartsOne swept.connector now swept.course.planner.attempts.items new.course.planner.attempts.items swept.pending c' new.unfinished.items
     pub kept : IsLive new
     pub alike : AreAlike from.course.recorded new.course.recorded
     pub pauses : new.course.recorded.pauses ≡ from.course.recorded.pauses
@@ -210,6 +218,7 @@ module _ {C Conn Run : Type 0} (connector : ConnectorOf C Conn Run) (trial : Tri
     pub swept : Sweep C Conn Run
     pub polled : ArePolled now from os swept
     pub over : is_over swept.course now swept.pending (is_some swept.first) ≡ true
+    pub ended : EndsRace swept.course.recorded now swept.course.planner.attempts.items (is_some swept.first)
     pub still : c' ≡ swept.connector
     pub recorded : raced.recorded ≡ swept.course.recorded
     pub winner : raced.winner ≡ swept.first
@@ -219,6 +228,7 @@ module _ {C Conn Run : Type 0} (connector : ConnectorOf C Conn Run) (trial : Tri
   -- past the limit the race ends, and nothing is polled
   pub record EndsLate (from : Sweep C Conn Run) (now : ℕ) (c' : C) (raced : Raced Conn) : Type 0 where
     pub late : from.course.recorded.settings.limit < now
+    pub ended : EndsRace from.course.recorded from.course.recorded.settings.limit from.course.planner.attempts.items false
     pub still : c' ≡ from.connector
     pub recorded : raced.recorded ≡ from.course.recorded
     pub winner : raced.winner ≡ None

@@ -4,9 +4,10 @@
 ghost use Rattle.std.specs.Prelude.{◌≡◌, ◌+◌, ◌-◌, ◌<◌, ◌≤◌, ◌&&◌, ◌||◌, not, Bool, [], Some, None, true, false, map, option_map, IfOk, IfSome, OnOk};
 ghost use Rattle.std.specs.List.{list_all};
 ghost use Rattle.he_addr.specs.Ip.{is_usable};
+ghost use Rattle.he_addr.specs.declared.ip.Family.TheVariants as families;
 ghost use Rattle.he_plan.specs.declared.limits.TheConstants.{MAX_LIMIT};
 ghost use Rattle.he_plan.specs.Attempts.{is_tried};
-ghost use Rattle.he_plan.specs.Building.{last_end, with_answer, with_outcome, with_pause};
+ghost use Rattle.he_plan.specs.Building.{empty_race, last_end, with_answer, with_outcome, with_pause};
 ghost use Rattle.he_plan.specs.Due.{IsAfterTurn, IsDueTick};
 ghost use Rattle.he_plan.specs.Finish.{fate_of};
 ghost use Rattle.he_plan.specs.Planning.{IsPlanned};
@@ -22,6 +23,7 @@ use he_plan::{
     winner,
 };
 use std::alloc::{Allocator, Global};
+use std::mem::drop;
 
 #[derive(Drop)]
 pub(crate) struct Course {
@@ -117,15 +119,22 @@ impl Course {
             turn: _,
             due: _,
         } = self;
-        let planner = start_due(alloc, recorded.timeline(), planner, now)?;
-        let due = due_tick(recorded.timeline(), &planner, Some(now));
-        Ok(Course {
-            alloc,
-            recorded,
-            planner,
-            turn: Some(now),
-            due,
-        })
+        match start_due(alloc, recorded.timeline(), planner, now) {
+            Err(fault) => {
+                drop(recorded);
+                Err(fault)
+            }
+            Ok(planner) => {
+                let due = due_tick(recorded.timeline(), &planner, Some(now));
+                Ok(Course {
+                    alloc,
+                    recorded,
+                    planner,
+                    turn: Some(now),
+                    due,
+                })
+            }
+        }
     }
 
     // The record of the race that ended.
@@ -164,12 +173,44 @@ fn without_record<A: Allocator>(
     ensures recorded { IfOk result (λ new. new ≡ unrecorded timeline.now) }
     ensures valid { IfOk result IsRace }
 {
+    let mut builder = without_answers(alloc, timeline)?;
+    match copy_answers(&mut builder, timeline) {
+        Ok(()) => Ok(builder),
+        Err(fault) => {
+            drop(builder);
+            Err(fault)
+        }
+    }
+}
+
+// The race of the timeline's settings, policy and host, without answers.
+fn without_answers<A: Allocator>(
+    alloc: Global,
+    timeline: &Timeline<A>,
+) -> Result<TimelineBuilder, Memory>
+    ensures empty { IfOk result (λ new. new ≡ empty_race timeline.now.settings timeline.now.policy timeline.now.host) }
+    ensures valid { IfOk result IsRace }
+{
     let policy = timeline.policy().copy(alloc)?;
-    let host = timeline.host().copy(alloc)?;
-    let mut builder = TimelineBuilder::new(alloc, timeline.settings(), policy, host);
-    copy_answer(&mut builder, timeline, Family::V6)?;
-    copy_answer(&mut builder, timeline, Family::V4)?;
-    Ok(builder)
+    match timeline.host().copy(alloc) {
+        Ok(host) => Ok(TimelineBuilder::new(alloc, timeline.settings(), policy, host)),
+        Err(fault) => {
+            drop(policy);
+            Err(fault)
+        }
+    }
+}
+
+fn copy_answers<A: Allocator>(
+    builder: &mut TimelineBuilder,
+    timeline: &Timeline<A>,
+) -> Result<(), Memory>
+    requires { IsRace builder.old }
+    ensures answers { OnOk result (builder.new ≡ with_reply (with_reply builder.old families.V6 timeline.now.aaaa) families.V4 timeline.now.a) }
+    ensures valid { OnOk result (IsRace builder.new) }
+{
+    copy_answer(builder, timeline, Family::V6)?;
+    copy_answer(builder, timeline, Family::V4)
 }
 
 fn copy_answer<A: Allocator>(

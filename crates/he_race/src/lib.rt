@@ -10,8 +10,8 @@
 //!   trial.
 //! - [`RaceFuture`] is a race of attempts over a connector and a ticker: a future that gives [`Raced`], the
 //!   transcript of the race, its record as a timeline, and the winner's connection.
-//! - [`Scripted`] and [`WheelTicker`] are the connector and the ticker of a recorded race, and [`run_attempt`]
-//!   drives one attempt over them to its fate.
+//! - [`Scripted`] and [`WheelTicker`] are the connector and the ticker of a recorded race, [`race_one`] runs a race
+//!   over them to its transcript, and [`run_attempt`] drives one attempt to its fate.
 //!
 //! No call takes a handle: nothing here waits, starts a thread or reads a clock. Whoever polls does.
 //!
@@ -51,8 +51,8 @@
 //! ```text
 //! let mut race = RaceFuture::new(alloc, &timeline, connector, ticker)?;
 //! match race.poll(&mut cx) {
-//!     Poll::Pending => ..,                        // the ticker was asked for a tick, and has registered in `cx` or yielded
-//!     Poll::Ready(Ok(raced)) => ..,               // the losers were dropped in this poll; `raced.winner` is the connection
+//!     Poll::Pending => ..,                        // the ticker was asked for a tick, and will wake the task
+//!     Poll::Ready(Ok(raced)) => ..,               // the losers were dropped in this poll; `raced.winner` connects
 //!     Poll::Ready(Err(RaceFault::Clock)) => ..,   // the ticker answered Lost
 //!     Poll::Ready(Err(_)) => ..,                  // memory was refused, or the race had given its result before
 //! }
@@ -92,6 +92,9 @@
 //!   on, and is pending before; a silent one always is.
 //! - `WheelTicker` starts at the first tick that no pause covers, goes on to the least tick asked for, moved by the
 //!   pauses, and a refused request leaves it as it was (`specs/Wheel.antt`).
+//! - `race_one` answers the transcript that `he_plan` defines (`Transcript`): a `RaceFuture` over `Scripted` and
+//!   `WheelTicker` ends with the transcript of the script, whatever pauses the script has, though its own record has
+//!   only those that it slept. Over these two its one fault is `Memory`.
 //! - `run_attempt` answers the fate that `he_plan` defines (`Finish`).
 //!
 //! Tested only: that calls succeed where memory is granted, that a race answers `Memory` for no other cause, and a
@@ -105,6 +108,7 @@ mod course;
 pub mod faults;
 pub mod limits;
 mod live;
+pub mod one;
 pub mod race;
 pub mod run;
 pub mod scripted;
@@ -116,6 +120,7 @@ pub use attempt::{AttemptFuture, Finish};
 pub use connector::Connector;
 pub use faults::{ConnectFault, RaceFault, TickFault};
 pub use live::Raced;
+pub use one::race_one;
 pub use race::RaceFuture;
 pub use run::run_attempt;
 pub use scripted::{Scripted, ScriptedTrial};

@@ -6,8 +6,8 @@ ghost use Rattle.he_plan.specs.Agreement.{AreAlike};
 ghost use Rattle.he_plan.specs.Planning.{IsPlanned};
 ghost use Rattle.he_race.specs.declared.limits.TheConstants.{MAX_POLL_TICK};
 ghost use Rattle.he_race.specs.Attempt.{CanPoll};
-ghost use Rattle.he_race.specs.Recording.{InTurn, IsEnded, floor, unrecorded};
-ghost use Rattle.he_race.specs.Turns.{Answers, ArePolled, AsksInTime, BeginsAt, BeginsFrom, EndsWith, GoesOn, IsLive, IsUnfinished, Polled, PolledAt, PollsAt, Turned, TurnsFrom, asked_tick, first_of, is_connection, is_over, unpolled};
+ghost use Rattle.he_race.specs.Recording.{InTurn, IsEnded, floor};
+ghost use Rattle.he_race.specs.Turns.{Answers, ArePolled, AsksInTime, BeginsAt, BeginsFrom, EndsWith, GoesOn, IsLive, IsNew, IsUnfinished, Polled, PolledAt, PollsAt, Turned, TurnsFrom, asked_tick, first_of, is_connection, is_over, unpolled};
 
 use crate::attempt::{AttemptFuture, Finish};
 use crate::connector::Connector;
@@ -56,7 +56,7 @@ impl<C: Connector> Live<C> {
         timeline: &Timeline<A>,
     ) -> Result<Live<C>, Memory>
         ensures live { IfOk result (IsLive C.Connector C.Run.Trial) }
-        ensures recorded { IfOk result (λ live. live.course.recorded ≡ unrecorded timeline.now) }
+        ensures first { IfOk result (IsNew timeline.now) }
     {
         Ok(Live {
             course: Course::new(alloc, timeline)?,
@@ -223,10 +223,24 @@ impl<C: Connector> Live<C> {
     {
         let Live { course, unfinished } = self;
         let made = course.planner.attempts().len();
-        let course = course.end_turn(now)?;
-        let unfinished = with_made(unfinished, course.planner.attempts(), made, connector, cx)?;
-        let tick = next_tick(course.due, &unfinished);
-        Ok(Step::Waits(Live { course, unfinished }, tick))
+        match course.end_turn(now) {
+            Err(fault) => {
+                drop(unfinished);
+                Err(fault)
+            }
+            Ok(course) => {
+                match with_made(unfinished, course.planner.attempts(), made, connector, cx) {
+                    Err(fault) => {
+                        drop(course);
+                        Err(fault)
+                    }
+                    Ok(unfinished) => {
+                        let tick = next_tick(course.due, &unfinished);
+                        Ok(Step::Waits(Live { course, unfinished }, tick))
+                    }
+                }
+            }
+        }
     }
 
     fn end(self, winner: Option<C::Conn>) -> Result<Step<C>, Memory>

@@ -4,10 +4,9 @@ ghost use Rattle.std.specs.Prelude.{◌≡◌, None, IfOk, IfSome, IsSomeAnd};
 ghost use Rattle.std.specs.Borrow.{Lends, sem};
 ghost use Rattle.futures.specs.Poll.{IfReady, OnPending};
 ghost use Rattle.futures.specs.Task.{Covers, Keeps};
-ghost use Rattle.he_race.specs.Recording.{unrecorded};
 ghost use Rattle.he_race.specs.contracts.race.RaceFuture.{the_row};
 ghost use Rattle.he_race.specs.Racing.{RacePolls, fault_of};
-ghost use Rattle.he_race.specs.Turns.{GivesOf, IsLive};
+ghost use Rattle.he_race.specs.Turns.{GivesOf, IsLive, IsNew};
 
 use crate::connector::Connector;
 use crate::faults::{RaceFault, TickFault};
@@ -25,7 +24,7 @@ use std::mem::drop;
 #[derive(Drop)]
 pub struct RaceFuture<C: Connector, T: Ticker> {
     connector: C,
-    ticker: T,
+    pub(crate) ticker: T,
     live: Option<Live<C>>,
 }
 
@@ -41,7 +40,7 @@ impl<C: Connector, T: Ticker> RaceFuture<C, T> {
         ensures connector { IfOk result (λ race. race.connector ≡ connector) }
         ensures ticker { IfOk result (λ race. race.ticker ≡ ticker) }
         ensures live { IfOk result (λ race. IsSomeAnd race.live (IsLive C.Connector C.Run.Trial)) }
-        ensures recorded { IfOk result (λ race. IsSomeAnd race.live (λ live. live.course.recorded ≡ unrecorded timeline.now)) }
+        ensures first { IfOk result (λ race. IsSomeAnd race.live (IsNew timeline.now)) }
     {
         let live = Live::new(alloc, timeline)?;
         Ok(RaceFuture {
@@ -111,7 +110,8 @@ fn fault_of(fault: TickFault) -> RaceFault
     }
 }
 
-// Puts the value into its place. What was there is dropped. Generic, so that no caller's proof looks into what is dropped.
+// Puts the value into its place. What was there is dropped. Generic, so that no caller's proof looks into what is
+// dropped.
 fn put<T: Drop>(place: &mut Option<T>, value: T)
     ensures { place.new ≡ Some value }
 {

@@ -11,21 +11,21 @@ use Rattle.he_race.proofs.live.Live.end_turn.Goals as goal
 
 pub with_made-requires-clause-unfinished : goal.with_made-requires-clause-unfinished
 with_made-requires-clause-unfinished g c =
-    rw c.attempts.ensures (unfinished-later g.C.Connector g.C.Run.Trial c.args.self.course.recorded c.args.self.course.planner.attempts.items c.in_ok-course.course.planner.attempts.items c.args.now c.args.self.unfinished.items c.in_ok-course.ensures.made c.requires.unfinished)
+    rw c.attempts.ensures (unfinished-later g.C.Connector g.C.Run.Trial c.args.self.course.recorded c.args.self.course.planner.attempts.items c.in-Ok.course.planner.attempts.items c.args.now c.args.self.unfinished.items c.in-Ok.ensures.made c.requires.unfinished)
 
 pub with_made-requires-clause-in_time : goal.with_made-requires-clause-in_time
 with_made-requires-clause-in_time g c =
-    let last : floor c.in_ok-course.course.turn ≡ c.args.now + 1 = ap floor c.in_ok-course.ensures.turn in
-    rw c.attempts.ensures (All-weaker (λ (x : Attempt). x.tick < floor c.in_ok-course.course.turn) (λ (x : Attempt). x.tick ≤ MAX_POLL_TICK) (λ x h. omega (arith, h, last, c.requires.early, c.requires.in_turn.valid.settings.limit_most)) c.in_ok-course.course.planner.attempts.items c.in_ok-course.ensures.course.rests.past)
+    let last : floor c.in-Ok.course.turn ≡ c.args.now + 1 = ap floor c.in-Ok.ensures.turn in
+    rw c.attempts.ensures (All-weaker (λ (x : Attempt). x.tick < floor c.in-Ok.course.turn) (λ (x : Attempt). x.tick ≤ MAX_POLL_TICK) (λ x h. omega (arith, h, last, c.requires.early, c.requires.in_turn.valid.settings.limit_most)) c.in-Ok.course.planner.attempts.items c.in-Ok.ensures.course.rests.past)
 
-pub returns-clause-on : goal.returns-clause-on
-returns-clause-on g c = record {
-  recorded = c.in_ok-course.ensures.recorded;
-  starts = starts-one g.C.Connector g.C.Run.Trial c.args.self.course.recorded c.args.now c.args.connector.now c.with_made.new.connector c.args.self.course.planner.attempts.items c.in_ok-course.course.planner.attempts.items c.args.self.unfinished.items c.in_ok-unfinished.unfinished.items c.in_ok-course.ensures.made (rw (c.attempts.ensures, c.attempts-made.ensures) at c.in_ok-unfinished.ensures.starts);
+pub returns-in-Ok-with_made-clause-on : goal.returns-in-Ok-with_made-clause-on
+returns-in-Ok-with_made-clause-on g c = record {
+  recorded = c.in-Ok.ensures.recorded;
+  starts = starts-one g.C.Connector g.C.Run.Trial c.args.self.course.recorded c.args.now c.args.connector.now c.with_made.new.connector c.args.self.course.planner.attempts.items c.in-Ok.course.planner.attempts.items c.args.self.unfinished.items c.in-Ok-with_made.unfinished.items c.in-Ok.ensures.made (rw (c.attempts.ensures, c.attempts-made.ensures) at c.in-Ok-with_made.ensures.starts);
   kept = record {
-    course = c.in_ok-course.ensures.course;
-    unfinished = subst (λ (xs : List Attempt). All (IsUnfinished g.C.Connector g.C.Run.Trial xs) c.in_ok-unfinished.unfinished.items) c.attempts.ensures c.in_ok-unfinished.ensures.unfinished;
+    course = c.in-Ok.ensures.course;
+    unfinished = subst (λ (xs : List Attempt). All (IsUnfinished g.C.Connector g.C.Run.Trial xs) c.in-Ok-with_made.unfinished.items) c.attempts.ensures c.in-Ok-with_made.ensures.unfinished;
   };
-  turn = c.in_ok-course.ensures.turn;
+  turn = c.in-Ok.ensures.turn;
   asked = rw c.deref.ensures.value at c.next_tick-tick.ensures;
 }

@@ -3,7 +3,7 @@ use Rattle.he_plan.proofs.Bools.{or_left_none}
 use Rattle.he_race.specs.Recording.{InTurn}
 use Rattle.he_race.specs.Turns.{is_over, unpolled}
 use Rattle.he_race.proofs.Sweeps.{ended-swept, gone-on}
-use Rattle.he_race.proofs.Turning.{ended-turn, going-early, planned-still, same_limit}
+use Rattle.he_race.proofs.Turning.{ended-turn, ends-turn, going-early, planned-still, same_limit}
 use Rattle.he_race.proofs.live.Live.run_turn.Goals as goal
 
 pub end-requires : goal.end-requires
@@ -14,7 +14,7 @@ end-requires g c =
 pub returns-then-is_over-clause-turned : goal.returns-then-is_over-clause-turned
 returns-then-is_over-clause-turned g c =
     let over : is_over c.poll_all.new.self.course c.args.now c.poll_all.new.self.unfinished.items (is_some c.in-Ok.winner) ≡ true = ap (is_over c.poll_all.new.self.course c.args.now c.poll_all.new.self.unfinished.items) (sym c.is_some.ensures) ∙ sym c.is_over.ensures ∙ c.if-is_over.true in
-    ended-swept g.C.Connector g.C.Run.Trial (unpolled c.args.connector.now c.args.self.course) c.args.self.unfinished.items c.args.now (record { connector = c.poll_all.new.connector; course = c.poll_all.new.self.course; pending = c.poll_all.new.self.unfinished.items; first = c.in-Ok.winner }) c.end.result c.in-Ok.ensures.each over c.in-Ok.ensures.course.alike c.in-Ok.ensures.course.pauses c.end.ensures
+    ended-swept g.C.Connector g.C.Run.Trial (unpolled c.args.connector.now c.args.self.course) c.args.self.unfinished.items c.args.now (record { connector = c.poll_all.new.connector; course = c.poll_all.new.self.course; pending = c.poll_all.new.self.unfinished.items; first = c.in-Ok.winner }) c.end.result c.in-Ok.ensures.each over (ends-turn c.poll_all.new.self.course c.args.now c.poll_all.new.self.unfinished.items (is_some c.in-Ok.winner) c.in-Ok.ensures.turn (omega (arith, c.requires.early, same_limit c.args.self.course.recorded c.poll_all.new.self.course.recorded c.in-Ok.ensures.course.alike)) over) c.in-Ok.ensures.course.alike c.in-Ok.ensures.course.pauses c.end.ensures
 
 pub end_turn-requires-clause-in_turn : goal.end_turn-requires-clause-in_turn
 end_turn-requires-clause-in_turn g c =

@@ -1,11 +1,11 @@
-use Rattle.std.proofs.Common.{◌≡◌, ap, sym, subst, arith}
+use Rattle.std.proofs.Common.{◌≡◌, ◌+◌, ap, sym, subst, arith}
 use Rattle.std.specs.List.{All}
 use Rattle.he_plan.specs.Agreement.{AreAlike}
 use Rattle.he_race.specs.declared.course.Course.{Course}
 use Rattle.he_race.specs.Recording.{slept}
 use Rattle.he_race.specs.Turns.{IsUnfinished}
 use Rattle.he_race.proofs.Sweeps.{turned-late, turned-run}
-use Rattle.he_race.proofs.Turning.{ended-late, same_limit, slept-alike}
+use Rattle.he_race.proofs.Turning.{ended-late, ends-late, same_limit, slept-alike}
 use Rattle.he_race.proofs.live.Live.take_turn.Goals as goal
 
 pub end-requires : goal.end-requires
@@ -18,7 +18,8 @@ pub returns-then-now-limit-clause-turned : goal.returns-then-now-limit-clause-tu
 returns-then-now-limit-clause-turned g c =
     let recorded : c.begin_turn.new.self.recorded ≡ slept c.args.self.course.recorded c.args.self.course.due c.args.now = ap (λ (x : Course). x.recorded) c.in-Ok.ensures.recorded in
     let alike : AreAlike c.args.self.course.recorded c.begin_turn.new.self.recorded = subst (AreAlike c.args.self.course.recorded) (sym recorded) (slept-alike c.args.self.course.recorded c.args.self.course.due c.args.now) in
-    turned-late g.C.Connector g.C.Run.Trial c.args.connector.now c.args.self c.args.now c.begin_turn.new.self c.end.result c.in-Ok.ensures.recorded (omega (arith, same_limit c.args.self.course.recorded c.begin_turn.new.self.recorded alike)) c.end.ensures
+    let after : c.args.now ≡ c.begin_turn.new.self.recorded.settings.limit + 1 = omega (arith, same_limit c.args.self.course.recorded c.begin_turn.new.self.recorded alike) in
+    turned-late g.C.Connector g.C.Run.Trial c.args.connector.now c.args.self c.args.now c.begin_turn.new.self c.end.result c.in-Ok.ensures.recorded (omega (arith, after)) (ends-late c.begin_turn.new.self.recorded c.args.now c.begin_turn.new.self.planner.attempts.items c.in-Ok.ensures.begins after) c.end.ensures
 
 pub run_turn-requires-clause-turn : goal.run_turn-requires-clause-turn
 run_turn-requires-clause-turn g c = c.in-Ok.ensures.begins.in_turn

@@ -1,0 +1,129 @@
+// A recorded race from its first turn to its end.
+
+ghost use Rattle.std.specs.Prelude.{◌≡◌, ◌+◌, ◌≤◌, ℕ, IfNone, IfOk, IfSome};
+ghost use Rattle.futures.specs.Poll.{OnPending};
+ghost use Rattle.he_plan.specs.declared.limits.TheConstants.{MAX_LIMIT};
+ghost use Rattle.he_plan.specs.Race.{Race};
+ghost use Rattle.he_plan.specs.Transcript.{IsTranscript};
+ghost use Rattle.he_race.specs.Following.{GivesScripts, IsUnderWay};
+ghost use Rattle.he_race.specs.Racing.{RacePolls};
+ghost use Rattle.he_race.specs.Turns.{IsLive};
+
+use crate::alone::Alone;
+use crate::connector::Connector;
+use crate::faults::RaceFault;
+use crate::live::Raced;
+use crate::race::RaceFuture;
+use crate::scripted::{Scripted, ScriptedTrial};
+use crate::ticker::Ticker;
+use crate::wheel::WheelTicker;
+use futures::Future;
+use futures::task::{Doorbell, Poll, Solo};
+use he_addr::Memory;
+use he_plan::timeline::are_addresses_in_range;
+use he_plan::{Timeline, Transcript};
+use std::alloc::{Allocator, Global};
+use std::mem::drop;
+
+/// The transcript of the timeline, by running its race (RFC 8305 sections 3 to 5): a `RaceFuture` over `Scripted` and
+/// `WheelTicker`, polled on the calling thread at each tick that it asks for, moved by the timeline's pauses. It takes
+/// at most one turn for each tick up to the limit. `Memory` where an allocation is refused.
+pub fn race_one<A: Allocator>(alloc: Global, timeline: &Timeline<A>) -> Result<Transcript, Memory>
+    ensures { IfOk result (IsTranscript timeline.now) }
+{
+    let solo = Solo::new(&Alone { alloc }, Doorbell::spinning()).map_err(|_| Memory)?;
+    let transcript = run_race(alloc, &solo, timeline);
+    drop(solo);
+    transcript
+}
+
+// The same, as the only task of this executor.
+fn run_race<A: Allocator>(
+    alloc: Global,
+    solo: &Solo,
+    timeline: &Timeline<A>,
+) -> Result<Transcript, Memory>
+    ensures { IfOk result (IsTranscript timeline.now) }
+{
+    are_addresses_in_range(timeline);
+    let limit = timeline.settings().limit();
+    let ticker = WheelTicker::new(alloc, timeline)?;
+    let mut race = RaceFuture::new(alloc, timeline, Scripted::new(timeline), ticker)?;
+    let given = drive(solo, limit, &mut race);
+    drop(race);
+    transcript_in(given)
+}
+
+// The transcript of what a race by a script has given.
+fn transcript_in(given: Result<Raced<()>, RaceFault>) -> Result<Transcript, Memory>
+    requires { (script : Race) × GivesScripts script given }
+    ensures { (script : Race) → GivesScripts script given → IfOk result (IsTranscript script) }
+{
+    match given {
+        Ok(
+            Raced {
+                transcript,
+                recorded,
+                winner: _,
+            },
+        ) => {
+            drop(recorded);
+            Ok(transcript)
+        }
+        Err(RaceFault::Memory) => Err(Memory),
+        Err(_) => unreachable!(),
+    }
+}
+
+// What the race gives, polled at each tick to which its ticker jumps.
+fn drive<C: Connector<Conn = (), Run = ScriptedTrial>, A: Allocator>(
+    solo: &Solo,
+    limit: u64,
+    race: &mut RaceFuture<C, WheelTicker<'_, Global, A>>,
+) -> Result<Raced<()>, RaceFault>
+    requires under_way { IsUnderWay C.Connector 0 race.old }
+    requires limit { limit ≡ race.old.ticker.race.settings.limit }
+    requires range { limit ≤ MAX_LIMIT }
+    ensures { GivesScripts race.old.ticker.race result }
+{
+    for _ in 0..limit + 1 {
+        if let Some(given) = advance(solo, race) {
+            return given;
+        }
+    }
+    unreachable!()
+}
+
+// What the race gives at a poll where its ticker stands. Where it is pending, the ticker goes on to the tick that it
+// was asked for.
+fn advance<C: Connector<Conn = (), Run = ScriptedTrial>, A: Allocator>(
+    solo: &Solo,
+    race: &mut RaceFuture<C, WheelTicker<'_, Global, A>>,
+) -> Option<Result<Raced<()>, RaceFault>>
+    requires { (turns : ℕ) × IsUnderWay C.Connector turns race.old }
+    ensures given { IfSome result (GivesScripts race.old.ticker.race) }
+    ensures script { IfNone result (race.new.ticker.race ≡ race.old.ticker.race) }
+    ensures further { IfNone result ((turns : ℕ) → IsUnderWay C.Connector turns race.old → IsUnderWay C.Connector (turns + 1) race.new) }
+{
+    match poll_once(solo, race) {
+        Poll::Ready(given) => Some(given),
+        Poll::Pending => {
+            drop(race.ticker.jump());
+            None
+        }
+    }
+}
+
+// One poll, as the only task of an executor.
+fn poll_once<C: Connector, T: Ticker>(
+    solo: &Solo,
+    race: &mut RaceFuture<C, T>,
+) -> Poll<Result<Raced<C::Conn>, RaceFault>>
+    requires { IfSome race.old.live (IsLive C.Connector C.Run.Trial) }
+    ensures { RacePolls C.Connector C.Run.Trial T.Ticker race.old result race.new }
+{
+    let mut cx = solo.begin();
+    let polled = race.poll(&mut cx);
+    cx.cancel();
+    polled
+}
