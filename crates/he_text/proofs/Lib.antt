@@ -24,6 +24,7 @@ mod LineLaws
 mod LineReads
 mod LoopLaws
 mod NextLines
+mod OneInput
 mod OrderLaws
 mod OrderTexts
 mod PartLaws
