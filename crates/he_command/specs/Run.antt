@@ -1,16 +1,20 @@
 -- What a run of the program has done, by its exit status.
-use Rattle.std.specs.Prelude.{◌≡◌, ◌≢◌, ◌⊎◌, ℕ, Bool, List, Result, Ok, Err}
+use Rattle.std.specs.Prelude.{◌≡◌, ◌≢◌, ◌≤◌, ◌⊎◌, ℕ, Bool, List, Result, Ok, Err}
 use Rattle.clap.specs.Values.{kind_of}
 use Rattle.clap.specs.declared.error.Error.{Error}
 use Rattle.clap.specs.declared.error.kind.ErrorKind.{ErrorKind}
 use Rattle.clap.specs.declared.error.kind.ErrorKind.TheVariants as kinds
-use Rattle.he_replay.specs.Actions.{RunsAction}
-use Rattle.he_replay.specs.declared.actions.Action.{Action}
+use Rattle.he_live.specs.declared.fault.LiveFault.{LiveFault}
+use Rattle.he_live.specs.Live.{Lives}
+use Rattle.he_replay.specs.Actions.{HasWorkers, RunsAction}
 use Rattle.he_replay.specs.declared.fault.ReplayFault.{ReplayFault}
+use Rattle.he_command.specs.declared.command.Request.{Request}
+use Rattle.he_command.specs.declared.command.Request.TheVariants.{Action, Live}
+use Rattle.he_command.specs.declared.limits.TheConstants.{LEAST_PORT}
 use Rattle.he_command.specs.declared.run.TheConstants.{DONE, FAULT, USAGE}
 
 -- the status that tells how a command ended
-abbrev pub status_of : Result (Unit {0}) ReplayFault → ℕ
+abbrev pub status_of : {Fault : Type 0} → Result (Unit {0}) Fault → ℕ
 status_of (Ok done) = DONE
 status_of (Err fault) = FAULT
 
@@ -34,8 +38,19 @@ pub record AnswersLine (kind : ErrorKind) (Whole Part : List ℕ → Type 0) (Ke
   pub help : IsHelp kind → Shows Whole Part Kept status
   pub usage : IsUsage kind → (status ≡ USAGE) × Kept
 
--- what comes of a line: its action was run, and the status tells how that ended; or there is none, and the input is Unread
-abbrev pub RunsLine : Result Action Error → (List ℕ → Bool → Type 0) → Type 0 → (List ℕ → Type 0) → (List ℕ → Type 0) → Type 0 → ℕ → Type 0
-RunsLine (Ok action) Given Unread Whole Part Kept status =
+-- the numbers of a request are in their ranges
+abbrev pub IsRequest : Request → Type 0
+IsRequest (Action action) = HasWorkers action
+IsRequest (Live port) = LEAST_PORT ≤ port
+
+-- what was asked for was done, and the status tells how that ended
+abbrev pub RunsRequest : Request → (List ℕ → Bool → Type 0) → (List ℕ → Type 0) → (List ℕ → Type 0) → Type 0 → ℕ → Type 0
+RunsRequest (Action action) Given Whole Part Kept status =
     (result : Result (Unit {0}) ReplayFault) × RunsAction action Given Whole Part Kept result × (status ≡ status_of result)
+RunsRequest (Live port) Given Whole Part Kept status =
+    (result : Result (Unit {0}) LiveFault) × Lives Given Whole Part Kept result × (status ≡ status_of result)
+
+-- what comes of a line: what it asks for was done; or it asks for nothing that is done, and the input is Unread
+abbrev pub RunsLine : Result Request Error → (List ℕ → Bool → Type 0) → Type 0 → (List ℕ → Type 0) → (List ℕ → Type 0) → Type 0 → ℕ → Type 0
+RunsLine (Ok request) Given Unread Whole Part Kept status = RunsRequest request Given Whole Part Kept status
 RunsLine (Err error) Given Unread Whole Part Kept status = Unread × AnswersLine (kind_of error) Whole Part Kept status

@@ -1,18 +1,32 @@
 //! The command line.
 ghost use Rattle.std.specs.Prelude.{◌≤◌, IfOk};
-ghost use Rattle.he_replay.specs.Actions.{HasWorkers};
+ghost use Rattle.he_command.specs.Run.{IsRequest};
 
-use crate::limits::{DEFAULT_WORKERS, DEFAULT_WORKERS_TEXT};
+use crate::limits::{DEFAULT_WORKERS, DEFAULT_WORKERS_TEXT, LEAST_PORT};
 use clap::{Arg, ArgMatches, Command, Error, value_parser};
 use he_replay::Action;
 use he_replay::limits::{LEAST_WORKERS, MOST_WORKERS};
 use std::alloc::{AllocError, Global};
 
-const ABOUT: &str = "Replays Happy Eyeballs races (RFC 8305) and orders their addresses (RFC 6724)";
+/// What a command line asks for.
+#[derive(Clone, Copy)]
+pub enum Request {
+    /// Something to do with the races of the input.
+    Action(Action),
+    /// To run the race of the input on real sockets, each address at this port, 1 to 65,535.
+    Live { port: u16 },
+}
+
+const ABOUT: &str =
+    "Replays Happy Eyeballs races (RFC 8305), runs them live, and orders their addresses (RFC 6724)";
 
 const REPLAY_ABOUT: &str = "Reads timelines of races and writes what happens in them";
 
 const ORDER_ABOUT: &str = "Reads timelines of races and writes the order of their addresses";
+
+const LIVE_ABOUT: &str = "Races real connections, and writes what happened and a record of it";
+
+const PORT_HELP: &str = "The TCP port at which each address is connected to, 1 to 65535";
 
 const WORKERS_HELP: &str =
     "The most workers that share the races, 1 to 64; the output is the same for each number";
@@ -71,6 +85,41 @@ Its output:
 Exit status: 0 when all is done; 1 after a fault, with one line on standard error;
 2 for a command line that is refused.";
 
+const LIVE_EXAMPLE: &str = "\
+Standard input is a timeline text with one race, as for `he replay`: the host's
+addresses and routes, and the addresses of a name, which count as known from the tick
+(millisecond) of their answer on; 0 is at once. Its outcomes and pauses are ignored.
+Each address is connected to by TCP when it is its turn, until one connection is made;
+that one and all others are then closed.
+
+Standard output has the transcript, and then the record: the same race with how each
+attempt ended and when this program itself was late. The record is a timeline text.
+Kept in a file, it can be replayed anywhere, and gives the same transcript.
+
+Example input, with a server that listens at port 8080 of 127.0.0.1:
+
+  race 1
+  source 127.0.0.1/8 1
+  route 127.0.0.0/8 1
+  aaaa 0 none
+  a 0 127.0.0.1
+  end
+
+Output of `he live --port 8080` begins so (ticks differ from run to run):
+
+  attempt 0 0 127.0.0.1 won 1
+  won 0 1
+  race 1
+  set resolution 50
+
+To keep the record, and to replay it:
+
+  he live --port 8080 < race.txt | sed -n '/^race 1$/,$p' > record.txt
+  he replay < record.txt
+
+Exit status: 0 when all is done, whether a connection was made or not; 1 after a
+fault, with one line on standard error; 2 for a command line that is refused.";
+
 // The whole command line of the program.
 fn command<'a>(alloc: Global) -> Result<Command<'a>, AllocError> {
     let workers = Arg::new(alloc, "workers")
@@ -86,6 +135,10 @@ fn command<'a>(alloc: Global) -> Result<Command<'a>, AllocError> {
     let order = Command::new(alloc, "order")
         .about(ORDER_ABOUT)
         .after_help(ORDER_EXAMPLE);
+    let live = Command::new(alloc, "live")
+        .about(LIVE_ABOUT)
+        .after_help(LIVE_EXAMPLE)
+        .arg(port(alloc))?;
     Command::new(alloc, "he")
         .bin_name("he")?
         .version("1.0.0")
@@ -93,7 +146,18 @@ fn command<'a>(alloc: Global) -> Result<Command<'a>, AllocError> {
         .after_help(EXIT_STATUS)
         .subcommand_required(true)
         .subcommand(replay)?
-        .subcommand(order)
+        .subcommand(order)?
+        .subcommand(live)
+}
+
+// The port of `he live`.
+fn port<'a>(alloc: Global) -> Arg<'a> {
+    Arg::new(alloc, "port")
+        .long("port")
+        .value_name("P")
+        .value_parser(value_parser!(u16).range(i64::from(LEAST_PORT)..=i64::from(u16::MAX)))
+        .required(true)
+        .help(PORT_HELP)
 }
 
 /// Reads the words of a command line, of which the first is the program's name.
@@ -101,19 +165,32 @@ fn command<'a>(alloc: Global) -> Result<Command<'a>, AllocError> {
 /// # Errors
 ///
 /// The crate clap's error: a refused line, a request for help or the version, or want of memory.
-pub fn read_words<'a>(alloc: Global, words: &'a [&'a str]) -> Result<Action, Error>
-    ensures { IfOk result HasWorkers }
+pub fn read_words<'a>(alloc: Global, words: &'a [&'a str]) -> Result<Request, Error>
+    ensures { IfOk result IsRequest }
 {
     let matches = command(alloc)?.try_get_matches_from(words)?;
     Ok(match matches.subcommand() {
-        Some(("order", _)) => Action::Order,
-        Some((_, replay)) => Action::Replay {
+        Some(("order", _)) => Request::Action(Action::Order),
+        Some(("live", live)) => Request::Live {
+            port: port_of(live),
+        },
+        Some((_, replay)) => Request::Action(Action::Replay {
             workers: workers_of(replay),
-        },
-        None => Action::Replay {
+        }),
+        None => Request::Action(Action::Replay {
             workers: DEFAULT_WORKERS,
-        },
+        }),
     })
+}
+
+// The port. clap has tested that it is there, and its range, but has no clause on a subcommand's arguments.
+fn port_of(matches: &ArgMatches<'_>) -> u16
+    ensures { LEAST_PORT ≤ result }
+{
+    matches
+        .get_one::<u16>("port")
+        .unwrap_or(LEAST_PORT)
+        .max(LEAST_PORT)
 }
 
 // The number of workers. clap has tested its range, but has no clause on a subcommand's arguments.

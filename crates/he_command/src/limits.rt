@@ -4,3 +4,6 @@
 pub const DEFAULT_WORKERS_TEXT: &str = "4";
 
 pub const DEFAULT_WORKERS: u16 = 4;
+
+/// The least port that a connection can be made to.
+pub const LEAST_PORT: u16 = 1;

@@ -3,17 +3,22 @@ ghost use Rattle.std.specs.Prelude.{◌≡◌, IfOk, Result};
 ghost use Rattle.clap.specs.Values.{kind_of};
 ghost use Rattle.he_stream.specs.Input.{Gives};
 ghost use Rattle.he_stream.specs.Output.{PutsPart, PutsWhole};
-ghost use Rattle.he_replay.specs.Actions.{HasWorkers};
-ghost use Rattle.he_command.specs.Run.{AnswersLine, RunsLine, Shows, status_of};
+ghost use Rattle.he_command.specs.Run.{AnswersLine, IsRequest, RunsLine, RunsRequest, Shows, status_of};
 
-use crate::command::read_words;
+use crate::command::{Request, read_words};
 use clap::Error;
 use clap::error::ErrorKind;
-use he_replay::{Action, ReplayFault, run_action};
+use he_live::live;
+use he_replay::{ReplayFault, run_action};
 use he_stream::{InputStream, OutputStream, write_whole};
-use std::alloc::Global;
+use std::alloc::{AllocGlobal, Global};
+use std::fmt::Display;
 use std::io::Write;
+use std::net::Net;
+use std::random::RandomSource;
+use std::sync::Wait;
 use std::thread::Threads;
+use std::time::Clock;
 
 /// The exit status when all was done.
 pub const DONE: u8 = 0;
@@ -27,7 +32,7 @@ pub const USAGE: u8 = 2;
 /// Runs the command line `words`, of which the first is the program's name, and answers the exit
 /// status. Output and help that was asked for go to `output`; what is wrong goes to `faults`. What
 /// cannot be written to `faults` leaves the status as it is.
-pub fn run_words<'a, R: Threads + Sync, I: InputStream, O: OutputStream, F: Write>(
+pub fn run_words<'a, R, I, O, F>(
     rt: &R,
     alloc: Global,
     words: &'a [&'a str],
@@ -35,7 +40,12 @@ pub fn run_words<'a, R: Threads + Sync, I: InputStream, O: OutputStream, F: Writ
     output: &mut O,
     faults: &mut F,
 ) -> u8
-    ensures { (line : Result Action Error) × IfOk line HasWorkers
+where
+    R: Threads + Wait + Clock + RandomSource + AllocGlobal + Net + Sync,
+    I: InputStream,
+    O: OutputStream,
+    F: Write,
+    ensures { (line : Result Request Error) × IfOk line IsRequest
         × RunsLine line (Gives I.remaining I.takes input.old input.new) (input.new ≡ input.old)
         (PutsWhole O.contents O.puts O.flushes output.old output.new)
         (PutsPart O.contents O.puts O.flushes output.old output.new) (output.new ≡ output.old) result }
@@ -44,22 +54,54 @@ pub fn run_words<'a, R: Threads + Sync, I: InputStream, O: OutputStream, F: Writ
 }
 
 /// Runs what a command line asks for, and answers the exit status.
-pub fn run_line<R: Threads + Sync, I: InputStream, O: OutputStream, F: Write>(
+pub fn run_line<R, I, O, F>(
     rt: &R,
     alloc: Global,
-    line: Result<Action, Error>,
+    line: Result<Request, Error>,
     input: &mut I,
     output: &mut O,
     faults: &mut F,
 ) -> u8
-    requires { IfOk line HasWorkers }
+where
+    R: Threads + Wait + Clock + RandomSource + AllocGlobal + Net + Sync,
+    I: InputStream,
+    O: OutputStream,
+    F: Write,
+    requires { IfOk line IsRequest }
     ensures { RunsLine line (Gives I.remaining I.takes input.old input.new) (input.new ≡ input.old)
         (PutsWhole O.contents O.puts O.flushes output.old output.new)
         (PutsPart O.contents O.puts O.flushes output.old output.new) (output.new ≡ output.old) result }
 {
     match line {
-        Ok(action) => report_end(run_action(rt, alloc, action, input, output), faults),
+        Ok(request) => run_request(rt, alloc, request, input, output, faults),
         Err(error) => answer_line(alloc, &error, output, faults),
+    }
+}
+
+// Does what was asked for.
+fn run_request<R, I, O, F>(
+    rt: &R,
+    alloc: Global,
+    request: Request,
+    input: &mut I,
+    output: &mut O,
+    faults: &mut F,
+) -> u8
+where
+    R: Threads + Wait + Clock + RandomSource + AllocGlobal + Net + Sync,
+    I: InputStream,
+    O: OutputStream,
+    F: Write,
+    requires { IsRequest request }
+    ensures { RunsRequest request (Gives I.remaining I.takes input.old input.new)
+        (PutsWhole O.contents O.puts O.flushes output.old output.new)
+        (PutsPart O.contents O.puts O.flushes output.old output.new) (output.new ≡ output.old) result }
+{
+    match request {
+        Request::Action(action) => {
+            report_end(run_action(rt, alloc, action, input, output), faults)
+        }
+        Request::Live { port } => report_end(live(rt, alloc, input, output, port), faults),
     }
 }
 
@@ -107,7 +149,7 @@ fn refuse<F: Write>(error: &Error, faults: &mut F) -> u8
 }
 
 // Says how a command ended, and answers the exit status.
-fn report_end<F: Write>(end: Result<(), ReplayFault>, faults: &mut F) -> u8
+fn report_end<E: Display + Drop, F: Write>(end: Result<(), E>, faults: &mut F) -> u8
     ensures { result ≡ status_of end }
 {
     match end {
@@ -117,7 +159,7 @@ fn report_end<F: Write>(end: Result<(), ReplayFault>, faults: &mut F) -> u8
 }
 
 /// Writes the line of a fault, and answers the exit status.
-pub fn report<F: Write>(fault: ReplayFault, faults: &mut F) -> u8
+pub fn report<E: Display + Drop, F: Write>(fault: E, faults: &mut F) -> u8
     ensures { result ≡ FAULT }
 {
     let _ = writeln!(faults, "he: {fault}");

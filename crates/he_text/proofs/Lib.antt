@@ -25,6 +25,7 @@ mod LineReads
 mod LineTexts
 mod LoopLaws
 mod NextLines
+mod OneInput
 mod OrderLaws
 mod OrderTexts
 mod PartLaws

@@ -1,10 +1,13 @@
 //! Inputs that are to have one race.
-ghost use Rattle.std.specs.Prelude.{◌≡◌, ◌+◌, ◌^◌, ◌<◌, ◌≤◌, [], ◌∷◌, None, false, IfOk, IfErr, length};
+ghost use Rattle.std.specs.Prelude.{ℕ, List, Bool, Option, ◌≡◌, ◌+◌, ◌^◌, ◌<◌, ◌≤◌, [], ◌∷◌, None, false, IfOk, IfErr, length};
+ghost use Rattle.he_plan.specs.Race.{Race};
+ghost use Rattle.he_text.specs.declared.inputs.InputFault.{InputFault};
 ghost use Rattle.he_text.specs.declared.inputs.TheConstants.{MOST_RACES};
 ghost use Rattle.he_text.specs.Inputs.{HasRaces, IsNotOne, fault_behind, line_count, most_races};
 ghost use Rattle.he_text.specs.InputReading.{EndsBehind, FailsPast, HasRead, IsStep};
 
 use crate::fault::{TextFault, TextKind};
+use crate::laws::{begins_where_no_fault, one_race_first};
 use crate::parts::LINE_END;
 use crate::reading::read_race;
 use he_plan::Timeline;
@@ -18,6 +21,14 @@ pub const MOST_RACES: usize = 1_024;
 pub fn limit_of_inputs()
     ensures { MOST_RACES ≡ most_races }
 {}
+
+/// An input, and whether it broke off, have one list of races and one fault. Runs nothing.
+pub fn one_input()
+    ensures { (input : List ℕ) (is_broken : Bool) (races others : List Race) (fault other_fault : Option InputFault) → HasRaces input is_broken races fault → HasRaces input is_broken others other_fault → (races ≡ others) × (fault ≡ other_fault) }
+{
+    one_race_first();
+    begins_where_no_fault();
+}
 
 /// What is wrong with an input behind its whole races.
 #[derive(Clone, Copy, Debug, PartialEq, Eq)]

@@ -1,4 +1,5 @@
-//! The program `he`: it reads timelines of races and writes what a Happy Eyeballs client does in them.
+//! The program `he`: it reads timelines of races and writes what a Happy Eyeballs client does in them, or runs one on
+//! real sockets.
 //!
 //! The crate `he_command` says what each command line does. Here are the program's words, its standard streams and its
 //! exit status.
@@ -7,19 +8,27 @@
 use he_command::{report, report_not_text, run_words};
 use he_replay::ReplayFault;
 use he_stream::{FromReader, ToWriter};
+use std::alloc::AllocGlobal;
+use std::net::Net;
 use std::process::ExitCode;
+use std::random::RandomSource;
+use std::sync::Wait;
 use std::thread::Threads;
+use std::time::Clock;
 use std::{env, io};
 
 fn main(rt: HostRuntime) -> ExitCode {
     ExitCode::from(run_program(&rt, &rt))
 }
 
-// Runs the command line that the program was started with, and answers the exit status. The runtime lends threads in `main`
-// alone, so `main` hands it on as what lends them too.
-fn run_program<R: Threads + Sync>(rt: &HostRuntime, threads: &R) -> u8 {
+// Runs the command line that the program was started with, and answers the exit status. The runtime lends threads, sockets
+// and waiting in `main` alone, so `main` hands it on as what lends them too.
+fn run_program<R>(rt: &HostRuntime, lender: &R) -> u8
+where
+    R: Threads + Wait + Clock + RandomSource + AllocGlobal + Net + Sync,
+{
     match words_of(rt) {
-        Ok(words) => run_texts(rt, threads, words.as_slice()),
+        Ok(words) => run_texts(rt, lender, words.as_slice()),
         Err(error) if error.kind() == io::ErrorKind::OutOfMemory => report(
             ReplayFault::Memory,
             &mut rt.stderr(),
@@ -33,14 +42,17 @@ fn words_of(rt: &HostRuntime) -> io::Result<Vec<String>> {
     Ok(env::args(rt)?.collect(rt.alloc())?)
 }
 
-fn run_texts<R: Threads + Sync>(rt: &HostRuntime, threads: &R, words: &[String]) -> u8 {
+fn run_texts<R>(rt: &HostRuntime, lender: &R, words: &[String]) -> u8
+where
+    R: Threads + Wait + Clock + RandomSource + AllocGlobal + Net + Sync,
+{
     let texts = words
         .iter()
         .map(|word| word.as_str())
         .collect::<Vec<&str>>(rt.alloc());
     match texts {
         Ok(texts) => run_words(
-            threads,
+            lender,
             rt.alloc(),
             texts.as_slice(),
             &mut FromReader::new(rt.stdin()),

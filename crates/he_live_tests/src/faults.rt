@@ -1,0 +1,164 @@
+// What each fault leaves, and what is written of a race that is read and run.
+
+use crate::homes::{Lender, ONE, REFUSED, race_on};
+use he_live::{LiveFault, live, live_race};
+use he_stream::{FromReader, ToWriter};
+use he_text::{TextFault, TextKind, read_one_race};
+use std::fs::File;
+use std::mem::drop;
+use std::net::Net;
+use std::test::Fail;
+use stream_fakes::{FakeReader, FakeWriter};
+use tokio::runtime::LocalRuntime;
+
+// A race that is over at once, without a socket.
+const EXHAUSTED: &[u8] = b"race 1
+aaaa 0 none
+a 0 none
+end
+";
+
+const TWO: &[u8] = b"race 1\nend\nrace 1\nend\n";
+
+const SECOND_IS_WRONG: &[u8] = b"race 1\nend\nrace 2\nend\n";
+
+const UNFINISHED: &[u8] = b"race 1\n";
+
+// As many files as are opened to use up the descriptors.
+const MOST_FILES: usize = 65_536;
+
+// How the streams of a run behave.
+#[derive(Clone, Copy)]
+enum Streams {
+    Whole,
+    // The input breaks behind its bytes.
+    BreaksOff,
+    // The output takes so many bytes.
+    Room(usize),
+    FailsToFlush,
+}
+
+// A text, how its streams behave, what comes of it, and what the output begins with and how long it is at most.
+type Row = (
+    &'static [u8],
+    Streams,
+    Result<(), LiveFault>,
+    &'static [u8],
+    usize,
+);
+
+fn wrong(line: u64, kind: TextKind) -> Result<(), LiveFault> {
+    Err(LiveFault::Text(TextFault { line, kind }))
+}
+
+fn rows() -> [Row; 10] {
+    [
+        (EXHAUSTED, Streams::Whole, Ok(()), b"exhausted ", usize::MAX),
+        (b"", Streams::Whole, Err(LiveFault::OneRace), b"", 0),
+        (TWO, Streams::Whole, Err(LiveFault::OneRace), b"", 0),
+        (
+            SECOND_IS_WRONG,
+            Streams::Whole,
+            wrong(3, TextKind::Header),
+            b"",
+            0,
+        ),
+        (
+            UNFINISHED,
+            Streams::Whole,
+            wrong(2, TextKind::Unfinished),
+            b"",
+            0,
+        ),
+        (UNFINISHED, Streams::BreaksOff, Err(LiveFault::Read), b"", 0),
+        (TWO, Streams::BreaksOff, Err(LiveFault::Read), b"", 0),
+        (
+            SECOND_IS_WRONG,
+            Streams::BreaksOff,
+            wrong(3, TextKind::Header),
+            b"",
+            0,
+        ),
+        (
+            EXHAUSTED,
+            Streams::Room(4),
+            Err(LiveFault::Write),
+            b"exha",
+            4,
+        ),
+        (
+            EXHAUSTED,
+            Streams::FailsToFlush,
+            Err(LiveFault::Write),
+            b"exhausted ",
+            usize::MAX,
+        ),
+    ]
+}
+
+fn is_right<R: Lender + Net>(rt: &R, row: &Row) -> bool {
+    let (text, streams, wanted, begins, most) = row;
+    let reader = FakeReader::new(text, 7);
+    let writer = FakeWriter::new(rt.alloc());
+    let (reader, writer) = match streams {
+        Streams::Whole => (reader, writer),
+        Streams::BreaksOff => (reader.broken(), writer),
+        Streams::Room(room) => (reader, writer.with_room(*room)),
+        Streams::FailsToFlush => (reader, writer.failing_flush()),
+    };
+    let mut input = FromReader::new(reader);
+    let mut output = ToWriter::new(writer);
+    let told = live(rt, rt.alloc(), &mut input, &mut output, 1);
+    let held = output.writer().held();
+    let is_written = held.starts_with(begins) && held.len() <= *most;
+    drop(input);
+    drop(output);
+    told == *wanted && is_written
+}
+
+#[test]
+fn faults_are_told(rt: HostRuntime) {
+    for row in &rows() {
+        assert!(rt; is_right(&rt, row));
+    }
+}
+
+// Opens files until no descriptor is left; none where so many are too few for that.
+fn used_up(rt: &HostRuntime) -> Result<Option<Vec<File>>, Fail> {
+    let mut files = Vec::new(rt.alloc());
+    for _ in 0..MOST_FILES {
+        match File::open(rt, "/dev/null") {
+            Ok(file) => files.push(file)?,
+            Err(_) => return Ok(Some(files)),
+        }
+    }
+    drop(files);
+    Ok(None)
+}
+
+fn cannot_run<R: Lender + Net>(rt: &R) -> Result<bool, Fail> {
+    let timeline = read_one_race(rt.alloc(), ONE, false)?;
+    let raced = live_race(rt, rt.alloc(), &timeline, 1);
+    drop(timeline);
+    let is_runtime = match &raced {
+        Ok(_) => false,
+        Err(fault) => *fault == LiveFault::Runtime,
+    };
+    drop(raced);
+    Ok(is_runtime)
+}
+
+#[test]
+fn without_descriptors_attempts_fail(rt: HostRuntime) -> Result<(), Fail> {
+    let mut runtime = LocalRuntime::new(&rt)?;
+    let Some(files) = used_up(&rt)? else {
+        println!(rt; "this process may open more descriptors than the test does: not run")?;
+        return Ok(());
+    };
+    let is_failed = race_on(&rt, &mut runtime, ONE, 1, &REFUSED)?;
+    let cannot_run = cannot_run(&rt)?;
+    drop(files);
+    assert!(rt; is_failed);
+    assert!(rt; cannot_run);
+    Ok(())
+}

@@ -1,0 +1,167 @@
+// Races on real sockets, and what is wanted of them.
+
+use he_live::{LiveFault, live_race, live_race_on};
+use he_plan::{Mark, Outcome3, Transcript};
+use he_race::Raced;
+use he_replay::replay;
+use he_stream::{FromReader, ToWriter};
+use he_text::{read_one_race, write_timeline, write_transcript};
+use std::alloc::AllocGlobal;
+use std::mem::drop;
+use std::net::Net;
+use std::random::RandomSource;
+use std::sync::Wait;
+use std::test::Fail;
+use std::thread::Threads;
+use std::time::Clock;
+use std::{fs, io};
+use stream_fakes::FakeReader;
+use tokio::net::TcpStream;
+use tokio::runtime::LocalRuntime;
+
+/// What races and their replays are lent, beside the network.
+pub trait Lender: Wait + Threads + Clock + RandomSource + AllocGlobal + Sync {}
+
+impl<R: Wait + Threads + Clock + RandomSource + AllocGlobal + Sync> Lender for R {}
+
+/// How an attempt ended.
+#[derive(Clone, Copy, PartialEq, Eq)]
+pub enum End {
+    Won,
+    Failed,
+    Cancelled,
+}
+
+/// How a race ended.
+#[derive(Clone, Copy, PartialEq, Eq)]
+pub enum Result3 {
+    Won(usize),
+    Exhausted,
+    Limit,
+}
+
+/// What must come of a race: for each attempt the least tick at which it may start, and its end; and the race's end, with
+/// its least tick.
+#[derive(Clone, Copy)]
+pub struct Wanted<'a> {
+    pub attempts: &'a [(u64, End)],
+    pub result: Result3,
+    pub least: u64,
+}
+
+fn end_of(mark: Mark) -> End {
+    match mark {
+        Mark::Won(_) => End::Won,
+        Mark::Failed(_) => End::Failed,
+        Mark::Cancelled(_) => End::Cancelled,
+    }
+}
+
+fn result_of(end: Outcome3) -> (Result3, u64) {
+    match end {
+        Outcome3::Won(place, tick) => (Result3::Won(place), tick),
+        Outcome3::Exhausted(tick) => (Result3::Exhausted, tick),
+        Outcome3::Limit(tick) => (Result3::Limit, tick),
+    }
+}
+
+fn is_wanted(transcript: &Transcript, wanted: &Wanted<'_>) -> bool {
+    let (result, tick) = result_of(transcript.result());
+    let attempts = transcript.attempts();
+    if result != wanted.result || tick < wanted.least || attempts.len() != wanted.attempts.len() {
+        return false;
+    }
+    let mut are_wanted = true;
+    for (line, (least, end)) in attempts.iter().zip(wanted.attempts) {
+        are_wanted = are_wanted && line.tick >= *least && end_of(line.mark) == *end;
+    }
+    are_wanted
+}
+
+/// Whether the record replays to the transcript, byte for byte.
+pub fn replays<R: Lender>(rt: &R, transcript: &[u8], record: &[u8]) -> Result<bool, Fail> {
+    let mut input = FromReader::new(FakeReader::new(record, usize::MAX));
+    let mut output = ToWriter::new(Vec::new(rt.alloc()));
+    let told = replay(rt, rt.alloc(), &mut input, &mut output, 1);
+    let is_same = output.writer().as_slice() == transcript;
+    drop(input);
+    drop(output);
+    told?;
+    Ok(is_same)
+}
+
+fn is_right<R: Lender>(
+    rt: &R,
+    raced: &Raced<TcpStream>,
+    wanted: &Wanted<'_>,
+) -> Result<bool, Fail> {
+    let mut transcript = Vec::new(rt.alloc());
+    let mut record = Vec::new(rt.alloc());
+    write_transcript(&raced.transcript, &mut transcript)?;
+    write_timeline(&raced.recorded, &mut record)?;
+    let is_replayed = replays(rt, &transcript, &record)?;
+    Ok(is_replayed && is_wanted(&raced.transcript, wanted))
+}
+
+fn is_right_of<R: Lender>(
+    rt: &R,
+    raced: Result<Raced<TcpStream>, LiveFault>,
+    wanted: &Wanted<'_>,
+) -> Result<bool, Fail> {
+    let raced = raced?;
+    let is_right = is_right(rt, &raced, wanted);
+    drop(raced);
+    is_right
+}
+
+/// Whether the race comes to what is wanted at the port, and its record replays.
+pub fn race<R: Lender + Net>(
+    rt: &R,
+    text: &[u8],
+    port: u16,
+    wanted: &Wanted<'_>,
+) -> Result<bool, Fail> {
+    let timeline = read_one_race(rt.alloc(), text, false)?;
+    let raced = live_race(rt, rt.alloc(), &timeline, port);
+    drop(timeline);
+    is_right_of(rt, raced, wanted)
+}
+
+/// The same over an event loop that was made before.
+pub fn race_on<R: Lender + Net>(
+    rt: &R,
+    runtime: &mut LocalRuntime,
+    text: &[u8],
+    port: u16,
+    wanted: &Wanted<'_>,
+) -> Result<bool, Fail> {
+    let timeline = read_one_race(rt.alloc(), text, false)?;
+    let raced = live_race_on(rt, rt.alloc(), runtime, &timeline, port);
+    drop(timeline);
+    is_right_of(rt, raced, wanted)
+}
+
+/// A host with a source and a route of loopback, and an address of it that is known at once.
+pub const ONE: &[u8] = b"race 1
+source 127.0.0.1/8 1
+route 127.0.0.0/8 1
+aaaa 0 none
+a 0 127.0.0.1
+end
+";
+
+pub const REFUSED: Wanted<'static> = Wanted {
+    attempts: &[(0, End::Failed)],
+    result: Result3::Exhausted,
+    least: 0,
+};
+
+/// How many descriptors the process has.
+pub fn descriptors(rt: &HostRuntime) -> io::Result<usize> {
+    let mut count: usize = 0;
+    for entry in fs::read_dir(rt, "/proc/self/fd")? {
+        drop(entry?);
+        count = count.saturating_add(1);
+    }
+    Ok(count)
+}

@@ -1,0 +1,10 @@
+//! Tests of `he_live` on real sockets, of loopback alone: what races come to with servers that listen, refuse or stay
+//! silent, that their records replay, that no socket of a race is left, and what each fault leaves.
+#![tactic(auto)]
+
+#[cfg(test)]
+mod faults;
+#[cfg(test)]
+mod homes;
+#[cfg(test)]
+mod races;

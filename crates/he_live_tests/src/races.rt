@@ -1,0 +1,244 @@
+// Races against servers on loopback.
+
+use crate::homes::{End, Lender, ONE, REFUSED, Result3, Wanted, descriptors, race, replays};
+use he_live::live;
+use he_stream::{FromReader, ToWriter};
+use std::io::Read;
+use std::mem::drop;
+use std::net::{IpAddr, Ipv4Addr, Ipv6Addr, Net, SocketAddr, TcpListener, TcpStream as StdStream};
+use std::test::Fail;
+use stream_fakes::FakeReader;
+use tokio::net::{ConnectFuture, TcpStream};
+use tokio::runtime::LocalRuntime;
+
+const BOTH: &[u8] = b"race 1
+set attempt 20
+source ::1/128 1
+source 127.0.0.1/8 1
+route ::1/128 1
+route 127.0.0.0/8 1
+aaaa 0 ::1
+a 0 127.0.0.1
+end
+";
+
+const SILENT_THEN_OPEN: &[u8] = b"race 1
+set attempt 100
+source 127.0.0.1/8 1
+route 127.0.0.0/8 1
+aaaa 0 none
+a 0 127.0.0.2 127.0.0.1
+end
+";
+
+const SILENT: &[u8] = b"race 1
+set limit 300
+source 127.0.0.1/8 1
+route 127.0.0.0/8 1
+a 0 127.0.0.2
+end
+";
+
+const NOTHING: &[u8] = b"race 1
+set limit 300
+end
+";
+
+const OPEN: Ipv4Addr = Ipv4Addr::LOCALHOST;
+
+// The first line of a record.
+const RECORD: &[u8] = b"race 1\n";
+
+// More connections than a listener's queue takes.
+const CROWD: usize = 200;
+
+const WON: Wanted<'static> = Wanted {
+    attempts: &[(0, End::Won)],
+    result: Result3::Won(0),
+    least: 0,
+};
+
+const SECOND_WON: Wanted<'static> = Wanted {
+    attempts: &[(0, End::Failed), (20, End::Won)],
+    result: Result3::Won(1),
+    least: 20,
+};
+
+const BOTH_REFUSED: Wanted<'static> = Wanted {
+    attempts: &[(0, End::Failed), (20, End::Failed)],
+    result: Result3::Exhausted,
+    least: 20,
+};
+
+const LEFT_BEHIND: Wanted<'static> = Wanted {
+    attempts: &[(0, End::Cancelled), (100, End::Won)],
+    result: Result3::Won(1),
+    least: 100,
+};
+
+const CUT_OFF: Wanted<'static> = Wanted {
+    attempts: &[(0, End::Cancelled)],
+    result: Result3::Limit,
+    least: 300,
+};
+
+const NOBODY: Wanted<'static> = Wanted {
+    attempts: &[],
+    result: Result3::Limit,
+    least: 300,
+};
+
+// The address of the server that is silent: its listener's queue is full.
+fn dead_ip() -> IpAddr {
+    IpAddr::V4(Ipv4Addr::new(127, 0, 0, 2))
+}
+
+// A listener at the address, at a free port where none is given, and its port.
+fn listen<R: Lender + Net<Listener = TcpListener, Stream = StdStream>>(
+    rt: &R,
+    ip: IpAddr,
+    port: u16,
+) -> Result<(TcpListener, u16), Fail> {
+    let listener = TcpListener::bind(rt, SocketAddr::new(ip, port))?;
+    let port = listener.local_addr()?.port();
+    Ok((listener, port))
+}
+
+// A port at which nobody listens.
+fn free_port<R: Lender + Net<Listener = TcpListener, Stream = StdStream>>(
+    rt: &R,
+) -> Result<u16, Fail> {
+    let (listener, port) = listen(rt, IpAddr::V4(OPEN), 0)?;
+    drop(listener);
+    Ok(port)
+}
+
+fn races_with_a_listener<R: Lender + Net<Listener = TcpListener, Stream = StdStream>>(
+    rt: &R,
+) -> Result<bool, Fail> {
+    let (listener, port) = listen(rt, IpAddr::V4(OPEN), 0)?;
+    let one = race(rt, ONE, port, &WON)?;
+    let both = race(rt, BOTH, port, &SECOND_WON)?;
+    drop(listener);
+    Ok(one && both)
+}
+
+fn races_with_nobody<R: Lender + Net<Listener = TcpListener, Stream = StdStream>>(
+    rt: &R,
+) -> Result<bool, Fail> {
+    let port = free_port(rt)?;
+    let one = race(rt, ONE, port, &REFUSED)?;
+    let both = race(rt, BOTH, port, &BOTH_REFUSED)?;
+    let nothing = race(rt, NOTHING, port, &NOBODY)?;
+    Ok(one && both && nothing)
+}
+
+#[test]
+fn servers_listen_or_refuse(rt: HostRuntime) -> Result<(), Fail> {
+    let before = descriptors(&rt)?;
+    if TcpListener::bind(&rt, SocketAddr::new(IpAddr::V6(Ipv6Addr::LOCALHOST), 0)).is_err() {
+        println!(rt; "no IPv6 loopback here: attempts at ::1 fail for that, and are not refused")?;
+    }
+    assert!(rt; races_with_a_listener(&rt)?);
+    assert!(rt; races_with_nobody(&rt)?);
+    assert_eq!(rt; descriptors(&rt)?, before);
+    Ok(())
+}
+
+// So many connections to the address, none of which is accepted.
+fn crowd<R: Lender + Net<Listener = TcpListener, Stream = StdStream>>(
+    rt: &R,
+    runtime: &LocalRuntime,
+    port: u16,
+) -> Result<Vec<ConnectFuture>, Fail> {
+    let mut waiting = Vec::new(rt.alloc());
+    let addr = SocketAddr::new(dead_ip(), port);
+    for _ in 0..CROWD {
+        waiting.push(TcpStream::connect(rt, addr, runtime.handle().reactor()))?;
+    }
+    Ok(waiting)
+}
+
+fn races_with_a_full_queue<R: Lender + Net<Listener = TcpListener, Stream = StdStream>>(
+    rt: &R,
+    port: u16,
+) -> Result<bool, Fail> {
+    let runtime = LocalRuntime::new(rt)?;
+    let (dead, _) = listen(rt, dead_ip(), port)?;
+    let waiting = crowd(rt, &runtime, port)?;
+    let left = race(rt, SILENT_THEN_OPEN, port, &LEFT_BEHIND)?;
+    let cut = race(rt, SILENT, port, &CUT_OFF)?;
+    drop(waiting);
+    drop(dead);
+    drop(runtime);
+    Ok(left && cut)
+}
+
+#[test]
+fn a_silent_server_is_left_behind(rt: HostRuntime) -> Result<(), Fail> {
+    let before = descriptors(&rt)?;
+    let (open, port) = listen(&rt, IpAddr::V4(OPEN), 0)?;
+    assert!(rt; races_with_a_full_queue(&rt, port)?);
+    drop(open);
+    assert_eq!(rt; descriptors(&rt)?, before);
+    Ok(())
+}
+
+// So many races one after the other, each of whose connections the server finds closed.
+fn right_races<R: Lender + Net<Listener = TcpListener, Stream = StdStream>>(
+    rt: &R,
+    listener: &TcpListener,
+    port: u16,
+) -> Result<usize, Fail> {
+    let mut right: usize = 0;
+    for _ in 0..100u8 {
+        let is_won = race(rt, ONE, port, &WON)?;
+        let (mut stream, _) = listener.accept()?;
+        if is_won && stream.read(&mut [0])? == 0 {
+            right = right.saturating_add(1);
+        }
+    }
+    Ok(right)
+}
+
+#[test]
+fn a_hundred_races_leave_no_socket(rt: HostRuntime) -> Result<(), Fail> {
+    let (listener, port) = listen(&rt, IpAddr::V4(OPEN), 0)?;
+    let before = descriptors(&rt)?;
+    assert_eq!(rt; right_races(&rt, &listener, port)?, 100);
+    assert_eq!(rt; descriptors(&rt)?, before);
+    Ok(())
+}
+
+// Whether what `live` writes is a transcript that begins so, and a record that replays to it.
+fn is_told<R: Lender + Net<Listener = TcpListener, Stream = StdStream>>(
+    rt: &R,
+    port: u16,
+    begins: &[u8],
+) -> Result<bool, Fail> {
+    let mut input = FromReader::new(FakeReader::new(ONE, 7));
+    let mut output = ToWriter::new(Vec::new(rt.alloc()));
+    let told = live(rt, rt.alloc(), &mut input, &mut output, port);
+    told?;
+    is_recorded(rt, output.writer(), begins)
+}
+
+fn is_recorded<R: Lender>(rt: &R, written: &[u8], begins: &[u8]) -> Result<bool, Fail> {
+    let Some(record) = written
+        .windows(RECORD.len())
+        .position(|part| part == RECORD)
+    else {
+        return Ok(false);
+    };
+    let (transcript, record) = written.split_at(record);
+    Ok(transcript.starts_with(begins) && replays(rt, transcript, record)?)
+}
+
+#[test]
+fn what_is_written_replays(rt: HostRuntime) -> Result<(), Fail> {
+    let (listener, port) = listen(&rt, IpAddr::V4(OPEN), 0)?;
+    assert!(rt; is_told(&rt, port, b"attempt 0 ")?);
+    drop(listener);
+    assert!(rt; is_told(&rt, port, b"attempt 0 ")?);
+    Ok(())
+}
