@@ -1,5 +1,5 @@
 -- What a poll of a race that follows a script comes to, over a ticker that then jumps.
-use Rattle.std.proofs.Common.{◌≡◌, ℕ, ◌+◌, ◌≤◌, ◌<◌, Bool, true, false, List, [], ◌∷◌, if◌then◌else◌, filter, max, min, MatchBool, nat_le, nat_lt, Option, Some, None, Result, Ok, Err, IfOk, IsOk, IsSomeAnd, refl, sym, ◌∙◌, ap, subst, arith, inl, inr}
+use Rattle.std.proofs.Common.{◌≡◌, ℕ, ◌+◌, ◌≤◌, ◌<◌, Bool, true, false, List, [], ◌∷◌, if◌then◌else◌, max, min, nat_le, Option, Some, None, Result, Ok, Err, IfOk, IsOk, IsSomeAnd, refl, sym, ◌∙◌, ap, subst, arith, inl, inr}
 use Rattle.std.specs.BTreeSet.{insert_key}
 use Rattle.std.specs.List.{All, list_all}
 use Rattle.std.specs.Ordering.{nat_cmp}
@@ -29,11 +29,11 @@ use Rattle.he_race.specs.declared.race.RaceFuture.{RaceFuture}
 use Rattle.he_race.specs.declared.scripted.ScriptedTrial.{ScriptedTrial}
 use Rattle.he_race.specs.declared.ticker.Ticker.{Ghosts as TickerOf}
 use Rattle.he_race.specs.Following.{Follows, GivesScripts, IsAsScripted, IsConnecting, IsScript, IsUnderWay, SeesAs, is_held}
-use Rattle.he_race.specs.Racing.{AsksFor, Ends, GoesOn, LivePolls, PollsFrom, RacePolls}
+use Rattle.he_race.specs.Racing.{AsksFor, GoesOn, LivePolls, PollsFrom, RacePolls}
 use Rattle.he_race.specs.Recording.{floor}
 use Rattle.he_race.specs.Running.{IsScripted, scripted_trial}
 use Rattle.he_race.specs.Turns.{Goes, IsLive, IsNew, PolledAt, PolledFrom, Turned, begun}
-use Rattle.he_race.specs.Wheel.{Asks, Jumps, JumpsFrom, Wheel, counted, last_tick, moved}
+use Rattle.he_race.specs.Wheel.{Asks, Jumps, Wheel, counted, last_tick, moved}
 use Rattle.he_race.proofs.Finished.{ended-late, ended-polled}
 use Rattle.he_race.proofs.Onward.{follows-on}
 use Rattle.he_race.proofs.Runs.{at_false, seen_from}

@@ -1,5 +1,5 @@
 -- What a race that follows a script gives at its end: the script's transcript.
-use Rattle.std.proofs.Common.{◌≡◌, ℕ, zero, suc, ◌+◌, ◌≤◌, ◌<◌, ◌==◌, ◌&&◌, ◌||◌, ◌++◌, Bool, true, false, List, [], ◌∷◌, if◌then◌else◌, length, get_or, Option, Some, None, IfSome, is_some, min, nat_le, refl, sym, ◌∙◌, ap, subst, arith, inl, inr}
+use Rattle.std.proofs.Common.{◌≡◌, ℕ, zero, suc, ◌+◌, ◌≤◌, ◌<◌, ◌==◌, ◌&&◌, ◌||◌, Bool, true, false, List, [], ◌∷◌, if◌then◌else◌, length, get_or, Option, Some, None, IfSome, is_some, min, nat_le, refl, sym, ap, subst, arith, inl, inr}
 use Rattle.std.specs.List.{All, Contains, list_all, list_any}
 use Rattle.std.proofs.lemmas.Bool.{cases_lt}
 use Rattle.std.proofs.lemmas.Bool.Decides.{Decides-eqb}
@@ -10,29 +10,26 @@ use Rattle.he_addr.specs.declared.ip.Ip.{Ip}
 use Rattle.he_plan.specs.declared.attempts.Attempt.{Attempt}
 use Rattle.he_plan.specs.declared.outcome.Outcome.{Outcome}
 use Rattle.he_plan.specs.Agreement.{AreAlike}
-use Rattle.he_plan.specs.Attempts.{AreNextInTurn, IsFree, IsSeen, is_paused, seen}
+use Rattle.he_plan.specs.Attempts.{AreNextInTurn, IsFree, seen}
 use Rattle.he_plan.specs.Due.{IsAnswerDue}
 use Rattle.he_plan.specs.Finish.{outcome_of}
 use Rattle.he_plan.specs.Race.{Race, Reply, has_outcome}
-use Rattle.he_plan.specs.Timeline.{IsRace, duration_of}
+use Rattle.he_plan.specs.Timeline.{duration_of}
 use Rattle.he_plan.specs.Transcript.{IsTranscript, Report}
 use Rattle.he_plan.proofs.Bools.{and_left, and_right, clash, le_from, or_one}
-use Rattle.he_plan.proofs.Ranges.{list_all-weaker}
-use Rattle.he_plan.proofs.Starting.{IsSeen-seen}
 use Rattle.he_race.specs.declared.connector.Connector.{Ghosts as ConnectorOf}
-use Rattle.he_race.specs.declared.course.Course.{Course}
 use Rattle.he_race.specs.declared.live.Live.{Live}
 use Rattle.he_race.specs.declared.live.Raced.{Raced}
 use Rattle.he_race.specs.declared.live.Unfinished.{Unfinished}
 use Rattle.he_race.specs.declared.scripted.ScriptedTrial.{ScriptedTrial}
 use Rattle.he_race.specs.Answered.{is_tried_out_by}
-use Rattle.he_race.specs.Following.{EndsFrom, Follows, IsAsScripted, IsConnecting, IsScript, SeesAs, is_held}
+use Rattle.he_race.specs.Following.{Follows, IsAsScripted, IsConnecting, IsScript, SeesAs, is_held}
 use Rattle.he_race.specs.Recording.{EndsRace, floor, slept}
 use Rattle.he_race.specs.Running.{IsScripted, scripted_trial}
 use Rattle.he_race.specs.Turns.{EndsLate, EndsPolled, IsLive, Sweep, begun, is_over}
-use Rattle.he_race.proofs.Awake.{NonePassed, SeesBy, free-slept, sees-by}
+use Rattle.he_race.proofs.Awake.{free-slept, sees-by}
 use Rattle.he_race.proofs.Onward.{above-turn, due-four, due-six, free-end, polled-at, sees-end, slept_outcomes}
-use Rattle.he_race.proofs.Replayed.{EndsAfter, KnowsScript, SeesAlike, none-told, replays-script, same-attempt}
+use Rattle.he_race.proofs.Replayed.{EndsAfter, SeesAlike, none-told, replays-script, same-attempt}
 use Rattle.he_race.proofs.Runs.{seen_from}
 use Rattle.he_race.proofs.Swept.{IsPending, Sweeps}
 use Rattle.he_race.proofs.Turning.{alike-later, same_limit, slept-alike}

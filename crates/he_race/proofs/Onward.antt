@@ -1,17 +1,16 @@
 -- What a turn leaves of a race that follows a script, and what its ticker is asked for.
-use Rattle.std.proofs.Common.{◌≡◌, ℕ, zero, suc, ◌+◌, ◌≤◌, ◌<◌, ◌&&◌, ◌||◌, ◌++◌, ◌⊎◌, Bool, true, false, List, [], ◌∷◌, if◌then◌else◌, length, get_or, take, find, Option, Some, None, Result, Ok, IfSome, is_some, max, min, nat_lt, refl, sym, ◌∙◌, ap, subst, arith, inl, inr, length-append}
-use Rattle.std.specs.List.{All, Contains, list_all, list_any, slice_get}
+use Rattle.std.proofs.Common.{◌≡◌, ℕ, zero, suc, ◌+◌, ◌≤◌, ◌<◌, ◌||◌, ◌++◌, ◌⊎◌, Bool, true, false, List, [], ◌∷◌, if◌then◌else◌, length, get_or, take, find, Option, Some, None, Result, Ok, IfSome, is_some, max, min, nat_lt, refl, sym, ◌∙◌, ap, subst, arith, inl, inr, length-append}
+use Rattle.std.specs.List.{All, Contains, list_all, list_any}
 use Rattle.std.proofs.lemmas.List.{append-nil, get_or_append_left}
 use Rattle.std.proofs.lemmas.List.Elements.{All-nil, All-push, All-weaker}
 use Rattle.std.proofs.lemmas.List.Folds.{list_all-append, list_any-append}
-use Rattle.futures.specs.declared.task.Poll.TheVariants.{Pending}
 use Rattle.he_addr.specs.Ip.{same_ip}
 use Rattle.he_addr.specs.declared.ip.Ip.{Ip}
 use Rattle.he_plan.specs.declared.attempts.Attempt.{Attempt}
 use Rattle.he_plan.specs.declared.outcome.Outcome.{Outcome}
 use Rattle.he_plan.specs.declared.outcome.Outcome.TheVariants as outcomes
 use Rattle.he_plan.specs.Agreement.{AreAlike}
-use Rattle.he_plan.specs.Attempts.{AreNextInTurn, IsFree, IsNext, IsSeen, MayStart, is_paused, is_untried, seen}
+use Rattle.he_plan.specs.Attempts.{AreNextInTurn, IsFree, IsNext, IsSeen, is_paused, is_untried, seen}
 use Rattle.he_plan.specs.Building.{with_pause}
 use Rattle.he_plan.specs.Due.{IsAnswerDue}
 use Rattle.he_plan.specs.Finish.{outcome_of}

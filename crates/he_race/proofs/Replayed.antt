@@ -1,9 +1,9 @@
 -- What the transcript of a race's record is, where the record is that of a script: the script's own.
 use Rattle.std.proofs.Common.{◌≡◌, ℕ, ◌+◌, ◌-◌, ◌≤◌, ◌<◌, ◌⊎◌, ◌&&◌, ◌||◌, ◌++◌, Bool, true, false, List, [], ◌∷◌, if◌then◌else◌, length, get_or, map, find, Option, Some, None, IfSome, is_some, nat_le, refl, sym, ◌∙◌, ap, subst, arith, inl, inr, append_assoc}
-use Rattle.std.specs.List.{All, Contains, list_all, list_any, slice_get}
+use Rattle.std.specs.List.{All, Contains, list_all, slice_get}
 use Rattle.std.specs.Option.{option_map, option_map_or}
 use Rattle.std.proofs.lemmas.List.{append-nil}
-use Rattle.std.proofs.lemmas.List.Elements.{All-contains, All-head, All-tail}
+use Rattle.std.proofs.lemmas.List.Elements.{All-head, All-tail}
 use Rattle.he_addr.specs.Ip.{InRange, same_ip}
 use Rattle.he_addr.specs.declared.ip.Ip.{Ip}
 use Rattle.he_plan.specs.declared.attempts.Attempt.{Attempt}
@@ -18,10 +18,10 @@ use Rattle.he_plan.specs.Attempts.{AreNextInTurn, IsFree, MayStart, seen}
 use Rattle.he_plan.specs.Finish.{IsWinner, fate_by, fate_of, known_at, known_by, outcome_in, outcome_of}
 use Rattle.he_plan.specs.Planning.{next_winner, told_lines}
 use Rattle.he_plan.specs.Race.{Race, Reply, addresses_of, has_outcome}
-use Rattle.he_plan.specs.Timeline.{IsRace, duration_of}
-use Rattle.he_plan.specs.Transcript.{AreKnown, IsTranscript, Report, failures, greatest, is_exhausted, is_failed, is_tried_out, result_of, stop_of, without_winner}
+use Rattle.he_plan.specs.Timeline.{duration_of}
+use Rattle.he_plan.specs.Transcript.{AreKnown, IsTranscript, Report, failures, greatest, is_failed, is_tried_out, result_of, stop_of, without_winner}
 use Rattle.he_plan.proofs.Agreeing.{starts-shared}
-use Rattle.he_plan.proofs.Bools.{and_left, and_right, clash, le_from, le_test, not_le, or_left_none, or_one, or_right_none}
+use Rattle.he_plan.proofs.Bools.{le_from, le_test, not_le}
 use Rattle.he_plan.proofs.Dueness.{finish-failed, finish-silent, finish-succeeded, starts-free}
 use Rattle.he_plan.proofs.Finishing.{IsWinner-more}
 use Rattle.he_plan.proofs.Lawful.{transcript-one}
@@ -29,7 +29,7 @@ use Rattle.he_plan.proofs.Stopping.{stopped-is}
 use Rattle.he_race.specs.Following.{EndsAs, IsAsScripted, IsScript}
 use Rattle.he_race.specs.Recording.{EndedBy, EndsRace}
 use Rattle.he_race.proofs.Ending.{Known, ended-known, winner-stop}
-use Rattle.he_race.proofs.Recorded.{one_attempt, same_ip-is}
+use Rattle.he_race.proofs.Recorded.{one_attempt}
 use Rattle.he_race.proofs.Turning.{contains-at, same_limit}
 
 -- attempts of a race have a winner, or none

@@ -1,5 +1,5 @@
 -- What the record of a race is after a turn in which its attempts were polled, where each connects as a script says.
-use Rattle.std.proofs.Common.{◌≡◌, ℕ, ◌+◌, ◌-◌, ◌≤◌, ◌<◌, ◌⊎◌, ◌&&◌, ◌||◌, ◌++◌, Bool, true, false, List, [], ◌∷◌, if◌then◌else◌, Option, Some, None, Result, Ok, Err, IfSome, MatchBool, nat_lt, refl, sym, ◌∙◌, ap, subst, arith, inl, inr}
+use Rattle.std.proofs.Common.{◌≡◌, ℕ, ◌+◌, ◌-◌, ◌≤◌, ◌<◌, ◌⊎◌, ◌&&◌, ◌||◌, ◌++◌, Bool, true, false, List, [], ◌∷◌, if◌then◌else◌, Option, Some, None, Result, Ok, Err, IfSome, nat_lt, refl, sym, ◌∙◌, ap, subst, arith, inl, inr}
 use Rattle.std.specs.List.{All, Contains, list_all, list_any}
 use Rattle.std.proofs.lemmas.Bool.{cases_lt}
 use Rattle.std.proofs.lemmas.List.Elements.{All-head, All-push, All-tail}
@@ -29,7 +29,7 @@ use Rattle.he_race.specs.declared.faults.ConnectFault.TheVariants.{Failed as Ref
 use Rattle.he_race.specs.declared.live.Unfinished.{Unfinished}
 use Rattle.he_race.specs.declared.scripted.ScriptedTrial.{ScriptedTrial}
 use Rattle.he_race.specs.Attempt.{AttemptPolls, RunAnswers}
-use Rattle.he_race.specs.Following.{EndsFrom, IsAsScripted, IsConnecting, is_held}
+use Rattle.he_race.specs.Following.{IsAsScripted, IsConnecting, is_held}
 use Rattle.he_race.specs.Recording.{ended_by}
 use Rattle.he_race.specs.Running.{scripted_trial}
 use Rattle.he_race.specs.Scripted.{answer_of, script, script_of}

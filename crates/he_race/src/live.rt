@@ -6,7 +6,7 @@ ghost use Rattle.he_plan.specs.Agreement.{AreAlike};
 ghost use Rattle.he_plan.specs.Planning.{IsPlanned};
 ghost use Rattle.he_race.specs.declared.limits.TheConstants.{MAX_POLL_TICK};
 ghost use Rattle.he_race.specs.Attempt.{CanPoll};
-ghost use Rattle.he_race.specs.Recording.{InTurn, IsEnded, floor};
+ghost use Rattle.he_race.specs.Recording.{InTurn, IsEnded, floor, unrecorded};
 ghost use Rattle.he_race.specs.Turns.{Answers, ArePolled, AsksInTime, BeginsAt, BeginsFrom, EndsWith, GoesOn, IsLive, IsNew, IsUnfinished, Polled, PolledAt, PollsAt, Turned, TurnsFrom, asked_tick, first_of, is_connection, is_over, unpolled};
 
 use crate::attempt::{AttemptFuture, Finish};
@@ -56,6 +56,7 @@ impl<C: Connector> Live<C> {
         timeline: &Timeline<A>,
     ) -> Result<Live<C>, Memory>
         ensures live { IfOk result (IsLive C.Connector C.Run.Trial) }
+        ensures recorded { IfOk result (λ live. live.course.recorded ≡ unrecorded timeline.now) }
         ensures first { IfOk result (IsNew timeline.now) }
     {
         Ok(Live {

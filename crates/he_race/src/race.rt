@@ -4,6 +4,7 @@ ghost use Rattle.std.specs.Prelude.{◌≡◌, None, IfOk, IfSome, IsSomeAnd};
 ghost use Rattle.std.specs.Borrow.{Lends, sem};
 ghost use Rattle.futures.specs.Poll.{IfReady, OnPending};
 ghost use Rattle.futures.specs.Task.{Covers, Keeps};
+ghost use Rattle.he_race.specs.Recording.{unrecorded};
 ghost use Rattle.he_race.specs.contracts.race.RaceFuture.{the_row};
 ghost use Rattle.he_race.specs.Racing.{RacePolls, fault_of};
 ghost use Rattle.he_race.specs.Turns.{GivesOf, IsLive, IsNew};
@@ -40,6 +41,7 @@ impl<C: Connector, T: Ticker> RaceFuture<C, T> {
         ensures connector { IfOk result (λ race. race.connector ≡ connector) }
         ensures ticker { IfOk result (λ race. race.ticker ≡ ticker) }
         ensures live { IfOk result (λ race. IsSomeAnd race.live (IsLive C.Connector C.Run.Trial)) }
+        ensures recorded { IfOk result (λ race. IsSomeAnd race.live (λ live. live.course.recorded ≡ unrecorded timeline.now)) }
         ensures first { IfOk result (λ race. IsSomeAnd race.live (IsNew timeline.now)) }
     {
         let live = Live::new(alloc, timeline)?;
