@@ -1,9 +1,9 @@
 // What each fault leaves, and what is written of a race that is read and run.
 
 use crate::homes::{Lender, ONE, REFUSED, race_on};
-use he_live::{LiveFault, live, live_race};
+use he_live::{LiveFault, live};
 use he_stream::{FromReader, ToWriter};
-use he_text::{TextFault, TextKind, read_one_race};
+use he_text::{TextFault, TextKind};
 use std::fs::File;
 use std::mem::drop;
 use std::net::Net;
@@ -136,17 +136,8 @@ fn used_up(rt: &HostRuntime) -> Result<Option<Vec<File>>, Fail> {
     Ok(None)
 }
 
-fn cannot_run<R: Lender + Net>(rt: &R) -> Result<bool, Fail> {
-    let timeline = read_one_race(rt.alloc(), ONE, false)?;
-    let raced = live_race(rt, rt.alloc(), &timeline, 1);
-    drop(timeline);
-    let is_runtime = match &raced {
-        Ok(_) => false,
-        Err(fault) => *fault == LiveFault::Runtime,
-    };
-    drop(raced);
-    Ok(is_runtime)
-}
+// Where no event loop can be made, `live` says so, and writes nothing.
+const NO_RUNTIME: Row = (EXHAUSTED, Streams::Whole, Err(LiveFault::Runtime), b"", 0);
 
 #[test]
 fn without_descriptors_attempts_fail(rt: HostRuntime) -> Result<(), Fail> {
@@ -156,9 +147,9 @@ fn without_descriptors_attempts_fail(rt: HostRuntime) -> Result<(), Fail> {
         return Ok(());
     };
     let is_failed = race_on(&rt, &mut runtime, ONE, 1, &REFUSED)?;
-    let cannot_run = cannot_run(&rt)?;
+    let is_told = is_right(&rt, &NO_RUNTIME);
     drop(files);
-    assert!(rt; is_failed);
-    assert!(rt; cannot_run);
+    drop(runtime);
+    assert!(rt; is_failed && is_told);
     Ok(())
 }

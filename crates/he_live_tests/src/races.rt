@@ -159,27 +159,37 @@ fn crowd<R: Lender + Net<Listener = TcpListener, Stream = StdStream>>(
     Ok(waiting)
 }
 
-fn races_with_a_full_queue<R: Lender + Net<Listener = TcpListener, Stream = StdStream>>(
-    rt: &R,
-    port: u16,
-) -> Result<bool, Fail> {
-    let runtime = LocalRuntime::new(rt)?;
-    let (dead, _) = listen(rt, dead_ip(), port)?;
-    let waiting = crowd(rt, &runtime, port)?;
+// A race in which the next address wins, and one that its limit ends.
+fn races_with_a_silent_server<R>(rt: &R, port: u16) -> Result<bool, Fail>
+where
+    R: Lender + Net,
+{
     let left = race(rt, SILENT_THEN_OPEN, port, &LEFT_BEHIND)?;
     let cut = race(rt, SILENT, port, &CUT_OFF)?;
+    Ok(left && cut)
+}
+
+fn races_with_a_full_queue<R>(rt: &R, runtime: &LocalRuntime, port: u16) -> Result<bool, Fail>
+where
+    R: Lender + Net<Listener = TcpListener, Stream = StdStream>,
+{
+    let (dead, _) = listen(rt, dead_ip(), port)?;
+    let waiting = crowd(rt, runtime, port)?;
+    let are_right = races_with_a_silent_server(rt, port);
     drop(waiting);
     drop(dead);
-    drop(runtime);
-    Ok(left && cut)
+    are_right
 }
 
 #[test]
 fn a_silent_server_is_left_behind(rt: HostRuntime) -> Result<(), Fail> {
     let before = descriptors(&rt)?;
+    let runtime = LocalRuntime::new(&rt)?;
     let (open, port) = listen(&rt, IpAddr::V4(OPEN), 0)?;
-    assert!(rt; races_with_a_full_queue(&rt, port)?);
+    let are_right = races_with_a_full_queue(&rt, &runtime, port)?;
     drop(open);
+    drop(runtime);
+    assert!(rt; are_right);
     assert_eq!(rt; descriptors(&rt)?, before);
     Ok(())
 }
