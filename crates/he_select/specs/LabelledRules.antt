@@ -1,6 +1,6 @@
 -- Mirrors the code: the source rules by what it keeps of a destination and of a source. A law in proofs/ ties them to those
 -- of `Selection`.
-use Rattle.std.specs.Prelude.{ℕ, ◌≡◌, ◌==◌, ◌&&◌, ◌||◌, Bool, not, List, [], ◌∷◌, IsTrue}
+use Rattle.std.specs.Prelude.{ℕ, ◌==◌, ◌&&◌, ◌||◌, Bool, not, List, [], ◌∷◌}
 use Rattle.std.specs.Bool.{beq}
 use Rattle.std.specs.Ordering.{is_lt}
 use Rattle.he_addr.specs.declared.ip.Ip.{Ip}
@@ -11,7 +11,6 @@ use Rattle.he_select.specs.declared.selection.Labelled.{Labelled}
 use Rattle.he_select.specs.declared.host.Route.{Route}
 use Rattle.he_select.specs.declared.host.Source.{Source}
 use Rattle.he_select.specs.declared.policy.Row.{Row}
-use Rattle.he_select.specs.HostFaults.{is_sound_source}
 use Rattle.he_select.specs.Rules.{Rule, first_of, higher_first, yes_first}
 use Rattle.he_select.specs.Selection.{by_appropriate_scope, link_scope}
 use Rattle.he_select.specs.Tables.{label_of}
@@ -47,10 +46,3 @@ labelled_rules destination =
 
 abbrev pub is_better_labelled : Destination → Labelled → Labelled → Bool
 is_better_labelled destination a b = is_lt (first_of (labelled_rules destination) a b)
-
--- what the code keeps of the best source so far: how the rules see it
-pub record IsRated (destination : Destination) (labelled : Labelled) (is_same is_outgoing is_like : Bool) : Type 0 where
-  pub sound : IsTrue (is_sound_source labelled.source)
-  pub same : is_same ≡ same_ip labelled.source.ip destination.ip
-  pub outgoing : is_outgoing ≡ (labelled.source.interface == destination.interface)
-  pub like : is_like ≡ (labelled.label == destination.label)

@@ -296,6 +296,6 @@ fn source_ip(rows: &[Row], sources: &[Source], routes: &[Route], ip: Ip) -> Opti
     ensures { result ≡ option_map (λ source. source.ip) (source_of (record { rows = rows.now; sources = sources.now; routes = routes.now }) ip) }
 {
     let route = find_route(routes, ip)?;
-    let destination = Destination::new(ip, ip.scope(), find_label(rows, ip), &route);
+    let destination = Destination::new(ip, find_label(rows, ip), &route);
     best_source(rows, sources, &destination).map(|best| best.source.ip)
 }

@@ -6,7 +6,7 @@ ghost use Rattle.std.specs.Option.{option_map_or};
 ghost use Rattle.std.specs.Cmp.{eq_by_cmp_equiv, partial_equiv_from_equiv, partial_order_from_total};
 ghost use Rattle.std.specs.Ordering.{as_partial_cmp, eq_by_cmp};
 ghost use Rattle.std.proofs.Common.{refl};
-ghost use Rattle.he_addr.specs.Ip.{InRange, scope_of};
+ghost use Rattle.he_addr.specs.Ip.{InRange};
 ghost use Rattle.he_addr.specs.Prefix.{common_of};
 ghost use Rattle.he_select.specs.KeyOrder.{key_order, key_order_total, late_key_cmp};
 ghost use Rattle.he_select.specs.Ranking.{attributes_of, chosen_by, key_by, ranked_from};
@@ -128,9 +128,7 @@ struct Attributes {
     route: Option<Route>,
 }
 
-/// The destination that stands at this place of the list, with its source and its key. In line, so that who wants the key
-/// alone pays for no more.
-#[inline(always)]
+/// The destination that stands at this place of the list, with its source and its key.
 pub(crate) fn rank(
     rows: &[Row],
     routes: &[Route],
@@ -171,13 +169,12 @@ impl Attributes {
 
     #[tactic(auto, unfolding(crate::specs::Ranking::chosen_by))]
     fn choose_source(&self, sources: &[Labelled]) -> Option<Labelled>
-        requires sources { IsTrue (list_all (λ labelled. is_sound_source labelled.source) sources.now) }
-        requires scope { self.now.scope ≡ scope_of self.now.ip }
+        requires { IsTrue (list_all (λ labelled. is_sound_source labelled.source) sources.now) }
         ensures chosen { result ≡ chosen_by self.now sources.now }
         ensures sound { IfSome result (λ labelled. IsTrue (is_sound_source labelled.source)) }
     {
         let route = self.route?;
-        Destination::new(self.ip, self.scope, self.label, &route).best_of(sources)
+        Destination::new(self.ip, self.label, &route).best_of(sources)
     }
 
     #[tactic(auto, unfolding(crate::specs::Ranking::key_by))]

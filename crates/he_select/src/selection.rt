@@ -3,10 +3,9 @@
 ghost use Rattle.std.specs.Prelude.{◌≡◌, None, map, option_map, IsTrue, IfSome};
 ghost use Rattle.std.specs.List.{list_all};
 ghost use Rattle.std.specs.Ordering.{is_lt};
-ghost use Rattle.he_addr.specs.Ip.{scope_of};
 ghost use Rattle.he_addr.specs.Prefix.{common_of};
 ghost use Rattle.he_select.specs.HostFaults.{is_sound_source};
-ghost use Rattle.he_select.specs.LabelledRules.{IsRated, admits, destination_of, is_better_labelled, labelled_of, late_rules};
+ghost use Rattle.he_select.specs.LabelledRules.{admits, destination_of, is_better_labelled, labelled_of, late_rules};
 ghost use Rattle.he_select.specs.Rules.{first_of};
 ghost use Rattle.he_select.specs.Selection.{by_appropriate_scope};
 ghost use Rattle.he_select.specs.Walking.{keep_fitting, walk_fitting};
@@ -36,15 +35,6 @@ pub(crate) struct Labelled {
     pub(crate) label: u16,
 }
 
-/// The best source so far, with what the rules ask of it each time that another one is compared with it.
-#[derive(Clone, Copy)]
-struct Best<'a> {
-    labelled: &'a Labelled,
-    is_same: bool,
-    is_outgoing: bool,
-    is_like: bool,
-}
-
 impl Labelled {
     pub(crate) fn new(rows: &[Row], source: &Source) -> Labelled
         ensures { result ≡ labelled_of rows.now source.now }
@@ -58,13 +48,12 @@ impl Labelled {
 }
 
 impl Destination {
-    pub(crate) fn new(ip: Ip, scope: u8, label: u16, route: &Route) -> Destination
-        requires { scope ≡ scope_of ip }
+    pub(crate) fn new(ip: Ip, label: u16, route: &Route) -> Destination
         ensures { result ≡ destination_of ip label route.now }
     {
         Destination {
             ip,
-            scope,
+            scope: ip.scope(),
             label,
             interface: route.interface,
         }
@@ -80,55 +69,38 @@ impl Destination {
         for labelled in sources {
             best = self.keep(best, labelled);
         }
-        best.map(|kept| *kept.labelled)
+        best.copied()
     }
 
     /// The better one of the best so far and a source, if that may be used at all.
     #[inline(always)]
-    fn keep<'a>(&self, best: Option<Best<'a>>, labelled: &'a Labelled) -> Option<Best<'a>>
+    pub(crate) fn keep<'a>(
+        &self,
+        best: Option<&'a Labelled>,
+        labelled: &'a Labelled,
+    ) -> Option<&'a Labelled>
         requires sound { IsTrue (is_sound_source labelled.now.source) }
-        requires best { IfSome best (λ kept. IsRated self.now kept.labelled.now kept.is_same kept.is_outgoing kept.is_like) }
-        ensures kept { option_map (λ kept. kept.labelled.now) result ≡ keep_fitting (admits self.now) (is_better_labelled self.now) (option_map (λ kept. kept.labelled.now) best.entry) labelled.now }
-        ensures rated { IfSome result (λ kept. IsRated self.now kept.labelled.now kept.is_same kept.is_outgoing kept.is_like) }
+        requires best { IfSome best (λ kept. IsTrue (is_sound_source kept.now.source)) }
+        ensures kept { option_map (λ kept. kept.now) result ≡ keep_fitting (admits self.now) (is_better_labelled self.now) (option_map (λ kept. kept.now) best.entry) labelled.now }
+        ensures sound { IfSome result (λ kept. IsTrue (is_sound_source kept.now.source)) }
     {
         if !self.admits(labelled) {
             return best;
         }
         match best {
-            Some(kept) if !self.is_better(labelled, &kept) => best,
-            _ => Some(self.rate(labelled)),
+            Some(kept) if !self.is_better(labelled, kept) => best,
+            _ => Some(labelled),
         }
     }
 
-    /// The source with what the rules ask of it as the best one.
-    #[inline(always)]
-    fn rate<'a>(&self, labelled: &'a Labelled) -> Best<'a>
-        requires { IsTrue (is_sound_source labelled.now.source) }
-        ensures labelled { result.labelled.now ≡ labelled.now }
-        ensures rated { IsRated self.now result.labelled.now result.is_same result.is_outgoing result.is_like }
-    {
-        Best {
-            labelled,
-            is_same: labelled.source.ip == self.ip,
-            is_outgoing: labelled.source.interface == self.interface,
-            is_like: labelled.label == self.label,
-        }
-    }
-
-    /// The better one of the best so far and a source that is at hand only for now.
+    /// The same of a source that is at hand only for now.
     fn keep_copy(&self, best: Option<Labelled>, labelled: Labelled) -> Option<Labelled>
         requires sound { IsTrue (is_sound_source labelled.source) }
         requires best { IfSome best (λ kept. IsTrue (is_sound_source kept.source)) }
         ensures kept { result ≡ keep_fitting (admits self.now) (is_better_labelled self.now) best labelled }
         ensures sound { IfSome result (λ kept. IsTrue (is_sound_source kept.source)) }
     {
-        if !self.admits(&labelled) {
-            return best;
-        }
-        match best {
-            Some(kept) if !self.is_better(&labelled, &self.rate(&kept)) => best,
-            _ => Some(labelled),
-        }
+        self.keep(best.as_ref(), &labelled).copied()
     }
 
     /// Whether the source may be used: one of the destination's family, for a destination of link scope only one on the
@@ -145,51 +117,51 @@ impl Destination {
     /// since most pairs are told apart early.
     #[inline(always)]
     #[tactic(auto, unfolding(crate::specs::LabelledRules::labelled_rules))]
-    fn is_better(&self, this: &Labelled, best: &Best) -> bool
+    fn is_better(&self, this: &Labelled, other: &Labelled) -> bool
         requires this { IsTrue (is_sound_source this.now.source) }
-        requires best { IsRated self.now best.now.labelled.now best.now.is_same best.now.is_outgoing best.now.is_like }
-        ensures { result ≡ is_better_labelled self.now this.now best.now.labelled.now }
+        requires other { IsTrue (is_sound_source other.now.source) }
+        ensures { result ≡ is_better_labelled self.now this.now other.now }
     {
         // Rule 1: prefer same address.
         let is_same = this.source.ip == self.ip;
-        if is_same != best.is_same {
+        if is_same != (other.source.ip == self.ip) {
             return is_same;
         }
         // Rule 2: prefer appropriate scope.
-        if this.scope != best.labelled.scope {
-            return self.prefers_scope(this.scope, best.labelled.scope);
+        if this.scope != other.scope {
+            return self.prefers_scope(this.scope, other.scope);
         }
         // Rule 3: avoid deprecated addresses. Rule 4 is left out: there are no home addresses here.
-        if this.source.deprecated != best.labelled.source.deprecated {
-            return best.labelled.source.deprecated;
+        if this.source.deprecated != other.source.deprecated {
+            return other.source.deprecated;
         }
-        self.is_better_late(this, best)
+        self.is_better_late(this, other)
     }
 
     /// The same by the rules from 5 on.
     #[inline(always)]
     #[tactic(auto, unfolding(crate::specs::LabelledRules::late_rules))]
-    fn is_better_late(&self, this: &Labelled, best: &Best) -> bool
+    fn is_better_late(&self, this: &Labelled, other: &Labelled) -> bool
         requires this { IsTrue (is_sound_source this.now.source) }
-        requires best { IsRated self.now best.now.labelled.now best.now.is_same best.now.is_outgoing best.now.is_like }
-        ensures { result ≡ is_lt (first_of (late_rules self.now) this.now best.now.labelled.now) }
+        requires other { IsTrue (is_sound_source other.now.source) }
+        ensures { result ≡ is_lt (first_of (late_rules self.now) this.now other.now) }
     {
         // Rule 5: prefer outgoing interface. Rule 5.5 is left out: no host tells the next hop's prefixes.
         let is_outgoing = this.source.interface == self.interface;
-        if is_outgoing != best.is_outgoing {
+        if is_outgoing != (other.source.interface == self.interface) {
             return is_outgoing;
         }
         // Rule 6: prefer matching label.
         let is_like = this.label == self.label;
-        if is_like != best.is_like {
+        if is_like != (other.label == self.label) {
             return is_like;
         }
         // Rule 7: prefer temporary addresses.
-        if this.source.temporary != best.labelled.source.temporary {
+        if this.source.temporary != other.source.temporary {
             return this.source.temporary;
         }
         // Rule 8: use longest matching prefix.
-        self.common(this) > self.common(best.labelled)
+        self.common(this) > self.common(other)
     }
 
     /// Of two scopes the smaller one, unless it is smaller than the destination's; then the larger.
