@@ -3,10 +3,14 @@
 use crate::example::Counts;
 use he_command::run_words;
 use he_stream::{FromReader, ToWriter};
-use std::alloc::Global;
+use std::alloc::{AllocGlobal, Global};
 use std::io;
 use std::mem::drop;
+use std::net::Net;
+use std::random::RandomSource;
+use std::sync::Wait;
 use std::thread::Threads;
+use std::time::Clock;
 use stream_fakes::{FakeReader, FakeWriter};
 
 const TEXT: &[u8] = b"race 1
@@ -25,6 +29,15 @@ const TRANSCRIPT: &[u8] = b"attempt 0 20 2001:db8:1::1 won 55\nwon 0 55\n";
 const ORDER: &[u8] = b"0 2001:db8:1::1 from 2001:db8::2\n1 198.51.100.1 from 192.0.2.2\nend\n";
 
 const WRONG_TEXT: &[u8] = b"race 1\nend";
+
+// A race that is over at once, without a socket.
+const NO_ADDRESS: &[u8] = b"race 1
+aaaa 0 none
+a 0 none
+end
+";
+
+const TWO_RACES: &[u8] = b"race 1\nend\nrace 1\nend\n";
 
 const READ_LINE: &[u8] = b"he: cannot read the input\n";
 
@@ -53,7 +66,7 @@ type Row = (
     &'static [u8],
 );
 
-static ROWS: [Row; 24] = [
+static ROWS: [Row; 38] = [
     (&["he", "replay"], TEXT, Streams::Whole, 0, TRANSCRIPT, b""),
     (
         &["he", "replay", "--workers", "1"],
@@ -218,6 +231,111 @@ static ROWS: [Row; 24] = [
         b"",
         WRITE_LINE,
     ),
+    (&["he", "live"], TEXT, Streams::Whole, 2, b"", b"error: "),
+    (
+        &["he", "live", "--port"],
+        TEXT,
+        Streams::Whole,
+        2,
+        b"",
+        b"error: ",
+    ),
+    (
+        &["he", "live", "--port", "0"],
+        TEXT,
+        Streams::Whole,
+        2,
+        b"",
+        b"error: ",
+    ),
+    (
+        &["he", "live", "--port", "65536"],
+        TEXT,
+        Streams::Whole,
+        2,
+        b"",
+        b"error: ",
+    ),
+    (
+        &["he", "live", "--port", "http"],
+        TEXT,
+        Streams::Whole,
+        2,
+        b"",
+        b"error: ",
+    ),
+    (
+        &["he", "live", "--port", "1", "more"],
+        TEXT,
+        Streams::Whole,
+        2,
+        b"",
+        b"error: ",
+    ),
+    (
+        &["he", "live", "--help"],
+        TEXT,
+        Streams::Whole,
+        0,
+        b"Races real connections",
+        b"",
+    ),
+    (
+        &["he", "live", "--port", "1"],
+        NO_ADDRESS,
+        Streams::Whole,
+        0,
+        b"exhausted ",
+        b"",
+    ),
+    (
+        &["he", "live", "--port=65535"],
+        NO_ADDRESS,
+        Streams::Whole,
+        0,
+        b"exhausted ",
+        b"",
+    ),
+    (
+        &["he", "live", "--port", "1"],
+        TWO_RACES,
+        Streams::Whole,
+        1,
+        b"",
+        b"he: live needs one race\n",
+    ),
+    (
+        &["he", "live", "--port", "1"],
+        WRONG_TEXT,
+        Streams::Whole,
+        1,
+        b"",
+        b"he: line 2: unfinished\n",
+    ),
+    (
+        &["he", "live", "--port", "1"],
+        TWO_RACES,
+        Streams::BreaksOff,
+        1,
+        b"",
+        READ_LINE,
+    ),
+    (
+        &["he", "live", "--port", "1"],
+        NO_ADDRESS,
+        Streams::Room(9),
+        1,
+        b"exhausted",
+        WRITE_LINE,
+    ),
+    (
+        &["he", "live", "--port", "1"],
+        NO_ADDRESS,
+        Streams::FailsToFlush,
+        1,
+        b"exhausted",
+        WRITE_LINE,
+    ),
 ];
 
 // A reader of the text that breaks behind it where the streams do.
@@ -239,18 +357,16 @@ fn writer_of(alloc: Global, streams: Streams) -> FakeWriter {
 }
 
 // Whether the line of this row ends as it must, with a writer of faults that takes so many bytes.
-fn is_right<R: Threads + Sync>(
-    rt: &HostRuntime,
-    threads: &R,
-    row: &Row,
-    faults_room: usize,
-) -> bool {
+fn is_right<R>(rt: &HostRuntime, lender: &R, row: &Row, faults_room: usize) -> bool
+where
+    R: Threads + Wait + Clock + RandomSource + AllocGlobal + Net + Sync,
+{
     let (words, text, streams, status, output, fault) = row;
     let mut input = FromReader::new(reader_of(text, *streams));
     let mut written = ToWriter::new(writer_of(rt.alloc(), *streams));
     let mut faults = FakeWriter::new(rt.alloc()).with_room(faults_room);
     let got = run_words(
-        threads,
+        lender,
         rt.alloc(),
         words,
         &mut input,
@@ -272,12 +388,15 @@ fn is_right<R: Threads + Sync>(
 /// # Errors
 ///
 /// A line that cannot be written.
-pub fn run_command_lines<R: Threads + Sync>(rt: &HostRuntime, threads: &R) -> io::Result<Counts> {
+pub fn run_command_lines<R>(rt: &HostRuntime, lender: &R) -> io::Result<Counts>
+where
+    R: Threads + Wait + Clock + RandomSource + AllocGlobal + Net + Sync,
+{
     let mut counts = Counts { ran: 0, differ: 0 };
     for (at, row) in ROWS.iter().enumerate() {
         let name = format!(in rt.alloc(); "command line {at}")?;
         for faults_room in [usize::MAX, 0] {
-            let is_same = is_right(rt, threads, row, faults_room);
+            let is_same = is_right(rt, lender, row, faults_room);
             counts.count(rt, name.as_str(), "it ends otherwise", is_same)?;
         }
     }

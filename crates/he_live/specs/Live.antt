@@ -1,5 +1,5 @@
 -- What a race on real sockets gives, and what is written for one.
-use Rattle.std.specs.Prelude.{ℕ, ⊤, ◌≡◌, ◌⊎◌, ◌++◌, Bool, List, [], ◌∷◌, None, Result, Ok, Err}
+use Rattle.std.specs.Prelude.{ℕ, ◌≡◌, ◌⊎◌, ◌++◌, Bool, List, [], ◌∷◌, None, Result, Ok, Err}
 use Rattle.he_plan.specs.Agreement.{AreAlike}
 use Rattle.he_plan.specs.Race.{Race}
 use Rattle.he_plan.specs.Transcript.{IsTranscript, Report}
@@ -15,8 +15,8 @@ use Rattle.he_live.specs.declared.fault.LiveFault.TheVariants as faults
 abbrev pub IsRunFault : LiveFault → Type 0
 IsRunFault fault = (fault ≡ faults.Runtime) ⊎ (fault ≡ faults.Memory)
 
--- the text of a race that was run: a transcript and then a record, which has the race's settings, policy, host and answers
--- and replays to this transcript
+-- the text of a race that was run: a transcript and then a record, which has the race's settings, policy, host and
+-- answers and replays to this transcript
 pub record IsLiveText (race : Race) (text : List ℕ) : Type 0 where
   pub recorded : Race
   pub report : Report
@@ -51,16 +51,9 @@ pub record GivesText (Given : List ℕ → Bool → Type 0) (text : List ℕ) : 
   pub given : GivesOne Given race
   pub run : IsLiveText race text
 
--- what comes of the reading of an input
-abbrev pub ReadsOne : (List ℕ → Bool → Type 0) → Result Race NotOneRace → Type 0
-ReadsOne Given (Ok race) = GivesOne Given race
-ReadsOne Given (Err (ones.Fault fault)) = GivesNone Given (ones.Fault fault)
-ReadsOne Given (Err ones.Count) = GivesNone Given ones.Count
-ReadsOne Given (Err ones.Memory) = ⊤
-
--- Given: what the input gave, and whether it broke off after that; Whole and Part: the text of which all was put into the
--- output and then flushed, or a first part until that failed; Kept: nothing was put into the output.
--- A run's text is written whole; a fault of the input, of the event loop or of memory comes before anything is written.
+-- Given: what the input gave, and whether it broke off after that; Whole and Part: the text of which all was put into
+-- the output and then flushed, or a first part until that failed; Kept: nothing was put into the output.
+-- A run's text is written whole; a fault of the input, of the event loop or of memory comes before any of it is.
 abbrev pub Lives : (List ℕ → Bool → Type 0) → (List ℕ → Type 0) → (List ℕ → Type 0) → Type 0 → Result (Unit {0}) LiveFault → Type 0
 Lives Given Whole Part Kept (Ok done) = (text : List ℕ) × GivesText Given text × Whole text
 Lives Given Whole Part Kept (Err (faults.Text fault)) = GivesNone Given (ones.Fault (inputs.Text fault)) × Kept

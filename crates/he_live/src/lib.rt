@@ -1,11 +1,11 @@
-//! Races of a Happy Eyeballs client on real sockets (RFC 8305): connections to the addresses of a name, staggered by the
-//! rules of a race, of which the first that is made is kept, with a record that replays to the same transcript.
+//! Races of a Happy Eyeballs client on real sockets (RFC 8305): connections to the addresses of a name, staggered by
+//! the rules of a race, of which the first that is made is kept, with a record that replays to the same transcript.
 //!
 //! # A connection of your own
 //!
-//! A timeline says what the client knows: the host's sources and routes (by which addresses are ordered, RFC 6724), and the
-//! addresses that the name has, each answer with the tick from which on it counts as known; 0 is at once. `he_text` reads
-//! one from a text, and `TimelineBuilder` of `he_plan` makes one.
+//! A timeline says what the client knows: the host's sources and routes (by which addresses are ordered, RFC 6724), and
+//! the addresses that the name has, each answer with the tick from which on it counts as known; 0 is at once. `he_text`
+//! reads one from a text, and `TimelineBuilder` of `he_plan` makes one.
 //!
 //! ```text
 //! fn connect<R>(rt: &R, runtime: &mut LocalRuntime, text: &[u8], port: u16) -> Result<Option<TcpStream>, LiveFault>
@@ -18,21 +18,21 @@
 //! }
 //! ```
 //!
-//! The stream is one of the crate `tokio`: futures read and write it under the same `runtime`. [`live_race`] makes and ends
-//! an event loop of its own, for a program that reads and writes the stream without waiting (`try_read`, `try_write`), or
-//! wants the record alone. `raced.transcript` says what happened, and `raced.recorded` is the record, of which
-//! `write_timeline` (`he_text`) makes a text that `he replay` reads.
+//! The stream is one of the crate `tokio`: futures read and write it under the same `runtime`. [`live_race`] makes and
+//! ends an event loop of its own, for a program that reads and writes the stream without waiting (`try_read`,
+//! `try_write`), or wants the record alone. `raced.transcript` says what happened, and `raced.recorded` is the record,
+//! of which `write_timeline` (`he_text`) makes a text that `he replay` reads.
 //!
 //! [`live`] does all of it over an input and an output: `he live` is this call.
 //!
 //! # What is proved
 //!
-//! - What [`live_race`] gives replays, whatever the sockets and the clock did: its transcript is the one that the rules of
-//!   a race make of its record; the record has the given settings, policy, host and answers; and there is a winner's
+//! - What [`live_race`] gives replays, whatever the sockets and the clock did: its transcript is the one that the rules
+//!   of a race make of its record; the record has the given settings, policy, host and answers; and there is a winner's
 //!   stream exactly where the race was won (`Replays` of `he_race`). Its faults are `Runtime` and `Memory` alone.
-//! - [`live`] writes the transcript's text and then the record's, of the input's one race; it makes all of it before it
-//!   writes the first byte, and after any fault but `Write` nothing was written. `Text`, `Read` and `OneRace` come only
-//!   where the input has this fault (`specs/Live`).
+//! - [`live`] writes the transcript's text and then the record's, of the input's one race; it makes all of it before
+//!   it writes the first byte, and after any fault but `Write` nothing was written. `Text`, `Read` and `OneRace` come
+//!   only where the input has this fault (`specs/Live`).
 //!
 //! Both promise this if they return: they wait for the system.
 //!

@@ -24,8 +24,8 @@ use tokio::runtime::LocalRuntime;
 /// client was late, is what the record says. Replayed, the record gives the transcript.
 ///
 /// The losers are closed before the call returns. The winner's stream belongs to an event loop that has ended: it is
-/// non-blocking, and its calls of `try_read`, `try_write`, `peer_addr` and such serve. A program that wants to wait for
-/// it keeps an event loop of its own, and calls [`live_race_on`].
+/// non-blocking, and its calls of `try_read`, `try_write`, `peer_addr` and such serve. A program that wants to wait
+/// for it keeps an event loop of its own, and calls [`live_race_on`].
 ///
 /// # Errors
 ///

@@ -3,7 +3,8 @@ ghost use Rattle.std.specs.Prelude.{◌≡◌, ◌++◌, IfErr, IfOk};
 ghost use Rattle.he_stream.specs.Input.{Gives};
 ghost use Rattle.he_stream.specs.Output.{PutsPart, PutsWhole};
 ghost use Rattle.he_text.specs.Written.{timeline_text, transcript_text};
-ghost use Rattle.he_live.specs.Live.{IsLiveText, IsRunFault, Lives, ReadsOne};
+ghost use Rattle.he_live.specs.Live.{IsLiveText, IsRunFault, Lives};
+ghost use Rattle.he_live.specs.Reading.{ReadsOne};
 
 use crate::fault::LiveFault;
 use crate::racing::live_race;
@@ -19,12 +20,12 @@ use std::sync::Wait;
 use std::time::Clock;
 use tokio::net::TcpStream;
 
-/// Reads one race to the end of the input, runs it on real sockets at the port ([`live_race`]), and writes its transcript
-/// and then its record, a timeline that replays to this transcript.
+/// Reads one race to the end of the input, runs it on real sockets at the port ([`live_race`]), and writes its
+/// transcript and then its record, a timeline that replays to this transcript.
 ///
 /// Of the input's race the settings, policy, host and answers are looked at alone. The whole output is made before the
-/// first byte of it is written: after `Write` a first part was written, after any other fault nothing. It is flushed at
-/// the end.
+/// first byte of it is written: after `Write` a first part was written, after any other fault nothing. It is flushed
+/// at the end.
 ///
 /// # Errors
 ///
@@ -33,8 +34,8 @@ use tokio::net::TcpStream;
 ///   was reached.
 /// - `OneRace` where nothing is wrong with the input, but it has no race, or more than one.
 /// - `Runtime` and `Memory` as `live_race`, and `Memory` where an allocation was refused.
-/// - `Write` where a step of the output failed or took no byte, the flush failed, or the bound of 4,294,967,296 steps was
-///   reached.
+/// - `Write` where a step of the output failed or took no byte, the flush failed, or the bound of 4,294,967,296 steps
+///   was reached.
 pub fn live<R, I, O>(
     rt: &R,
     alloc: Global,

@@ -40,8 +40,8 @@ pub enum Result3 {
     Limit,
 }
 
-/// What must come of a race: for each attempt the least tick at which it may start, and its end; and the race's end, with
-/// its least tick.
+/// What must come of a race: for each attempt the least tick at which it may start, and its end; and the race's end,
+/// with its least tick.
 #[derive(Clone, Copy)]
 pub struct Wanted<'a> {
     pub attempts: &'a [(u64, End)],

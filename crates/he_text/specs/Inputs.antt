@@ -30,13 +30,14 @@ abbrev pub fault_at_end : Bool → Option InputFault
 fault_at_end true = Some Read
 fault_at_end false = None
 
--- a fault of the text behind so many lines; where the input broke off, a text that ends inside a race is no fault of its own
+-- a fault of the text behind so many lines; where the input broke off, a text that ends inside a race is no fault of
+-- its own
 abbrev pub fault_behind : Bool → ℕ → ℕ × TextKind → InputFault
 fault_behind true lines (line, kinds.Unfinished) = Read
 fault_behind is_broken lines (line, kind) = Text (record { line = lines + line; kind = kind })
 
--- the fault of what stands behind so many races and lines: nothing may follow the last race that an input may have, and
--- what follows other races is no race
+-- the fault of what stands behind so many races and lines: nothing may follow the last race that an input may have,
+-- and what follows other races is no race
 abbrev pub IsFaultBehind : Bool → ℕ → ℕ → List ℕ → Option InputFault → Type 0
 IsFaultBehind is_broken races lines [] fault = fault ≡ fault_at_end is_broken
 IsFaultBehind is_broken races lines (byte ∷ rest) fault =
@@ -44,7 +45,7 @@ IsFaultBehind is_broken races lines (byte ∷ rest) fault =
     ⊎ ((races + 1 ≤ most_races)
     × (found : ℕ × TextKind) × (fault_of (byte ∷ rest) ≡ Some found) × (fault ≡ Some (fault_behind is_broken lines found)))
 
--- the input has these races up to its first fault, and this fault. The input broke off behind its bytes where `is_broken`.
+-- the input has these races up to its first fault, and this fault. It broke off behind its bytes where `is_broken`.
 pub record HasRaces (input : List ℕ) (is_broken : Bool) (races : List Race) (fault : Option InputFault) : Type 0 where
   pub before : List ℕ
   pub rest : List ℕ

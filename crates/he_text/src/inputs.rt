@@ -50,13 +50,14 @@ pub enum NotOneRace {
     Memory,
 }
 
-/// The race of an input that has one race and nothing else. `is_broken` tells that the input broke off after these bytes.
+/// The race of an input that has one race and nothing else. `is_broken` tells that the input broke off after these
+/// bytes.
 ///
 /// # Errors
 ///
 /// - `Fault` with the first thing that is wrong with the input, whatever the number of races before it: a fault of its
-///   text, of which a race above the 1,024th is one (`TooMany` at its first line), or `Read` where the input broke off and
-///   its text has no fault before that.
+///   text, of which a race above the 1,024th is one (`TooMany` at its first line), or `Read` where the input broke off
+///   and its text has no fault before that.
 /// - `Count` where nothing is wrong, but the input has no race, or more than one.
 /// - `Memory` where an allocation was refused.
 pub fn read_one_race<A: Allocator + Copy>(

@@ -21,8 +21,8 @@ fn main(rt: HostRuntime) -> ExitCode {
     ExitCode::from(run_program(&rt, &rt))
 }
 
-// Runs the command line that the program was started with, and answers the exit status. The runtime lends threads, sockets
-// and waiting in `main` alone, so `main` hands it on as what lends them too.
+// Runs the command line that the program was started with, and answers the exit status. The runtime lends threads,
+// sockets and waiting in `main` alone, so `main` hands it on as what lends them too.
 fn run_program<R>(rt: &HostRuntime, lender: &R) -> u8
 where
     R: Threads + Wait + Clock + RandomSource + AllocGlobal + Net + Sync,
