@@ -1,5 +1,6 @@
 //! One example.
 
+use crate::turns::run_turns;
 use he_replay::{ReplayFault, orders, replay};
 use he_stream::{FromReader, ToWriter};
 use std::alloc::AllocError;
@@ -70,6 +71,8 @@ fn run_both<R: Threads + Sync>(
     let ran = counts.ran;
     if let Some(transcript) = read_beside(rt, name, "transcript")? {
         run_replay(rt, threads, name, text, &transcript, fault, counts)?;
+        let is_same = run_turns(rt.alloc(), text)?.as_slice() == transcript.as_slice();
+        counts.count(rt, name, "the transcript by turns differs", is_same)?;
     }
     if let Some(order) = read_beside(rt, name, "order")? {
         run_orders(rt, name, text, &order, fault, counts)?;

@@ -3,13 +3,15 @@
 //! An example is a text of timelines, `NAME.timeline`. Beside it stand what `replay` writes for it,
 //! `NAME.transcript`, what `orders` writes, `NAME.order`, or both. `NAME.fault` is there where the text is faulty:
 //! the line that the program prints after either of the two. Each example is run in pieces of 1 byte, of 7 bytes and
-//! whole, and `replay` with 1, 2, 7 and 64 workers. Command lines are run beside them, over streams that may fail
+//! whole, and `replay` with 1, 2, 7 and 64 workers; each of its races is run as a future too, to the same transcript
+//! (`turns.rt`). Command lines are run beside them, over streams that may fail
 //! (`command_lines.rt`). A line names each run that differs, and the last two say how many there were. Nothing is
 //! proved of this program but that it is safe and ends.
 #![tactic(auto)]
 
 mod command_lines;
 mod example;
+mod turns;
 
 use command_lines::run_command_lines;
 use example::{Counts, run_example};
