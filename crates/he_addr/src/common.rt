@@ -31,8 +31,8 @@ fn common_v6(a: u128, b: u128) -> u8
     (a ^ b).leading_zeros() as u8
 }
 
-/// The law behind [`common_len`]: what its definition calls the greatest number that qualifies is at most the bound, does
-/// qualify, and no greater one within the bound does. Runs nothing.
+/// The law behind [`common_len`]: what its definition calls the greatest number that qualifies is at most the bound,
+/// does qualify, and no greater one within the bound does. Runs nothing.
 pub fn greatest_is_greatest()
     ensures { GreatestIsGreatest }
 {}

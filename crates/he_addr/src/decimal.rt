@@ -42,8 +42,8 @@ pub(crate) fn read_numeral(text: &[u8], most: usize) -> Option<u64>
     read_digits(text, most)
 }
 
-/// The number that a text of one to ten decimal digits without leading zeros writes (`0` itself is one). None for every
-/// other text.
+/// The number that a text of one to ten decimal digits without leading zeros writes (`0` itself is one). None for
+/// every other text.
 #[tactic(auto, unfolding(crate::specs::Reading::number_in))]
 pub fn read_number(text: &[u8]) -> Option<u64>
     ensures value { result ≡ number_in text.now }
@@ -53,8 +53,8 @@ pub fn read_number(text: &[u8]) -> Option<u64>
     read_numeral(text, NUMBER_DIGITS)
 }
 
-/// Appends the number in decimal. After [`Memory`] the text is as it was. A number below 10 to the tenth is read again by
-/// [`read_number`].
+/// Appends the number in decimal. After [`Memory`] the text is as it was. A number below 10 to the tenth is read
+/// again by [`read_number`].
 pub fn write_number<A: Allocator + Copy>(number: u64, out: &mut Vec<u8, A>) -> Result<(), Memory>
     ensures ok { OnOk result (out.new.items ≡ out.old.items ++ decimal number) }
     ensures err { OnErr result (out.new.items ≡ out.old.items) }

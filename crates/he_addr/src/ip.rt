@@ -63,8 +63,8 @@ impl Ip {
         }
     }
 
-    /// The scope (RFC 6724 section 3): 2 for `fe80::/10`, `::1`, `169.254.0.0/16` and `127.0.0.0/8`, 5 for `fec0::/10`,
-    /// 14 for every other address.
+    /// The scope (RFC 6724 section 3): 2 for `fe80::/10`, `::1`, `169.254.0.0/16` and `127.0.0.0/8`, 5 for
+    /// `fec0::/10`, 14 for every other address.
     pub fn scope(self) -> u8
         ensures { result ≡ scope_of self }
     {
@@ -76,8 +76,8 @@ impl Ip {
         }
     }
 
-    /// Whether the address can be connected to: not the unspecified address of either family, not multicast (`224.0.0.0/4`,
-    /// `ff00::/8`) and not an IPv6 address in `::ffff:0:0/96`.
+    /// Whether the address can be connected to: not the unspecified address of either family, not multicast
+    /// (`224.0.0.0/4`, `ff00::/8`) and not an IPv6 address in `::ffff:0:0/96`.
     pub fn is_usable(self) -> bool
         ensures usable { result ≡ is_usable self }
         ensures range { InRange self }

@@ -25,8 +25,8 @@ pub fn one_text()
     ensures prefix { PrintsOnePrefix }
 {}
 
-/// What is written of a number below 10 to the tenth, an address, a source and a prefix spells it, and is read as it. Runs
-/// nothing.
+/// What is written of a number below 10 to the tenth, an address, a source and a prefix spells it, and is read as it.
+/// Runs nothing.
 pub fn reads_back()
     ensures number { NumbersReadBack }
     ensures address { AddressesReadBack }

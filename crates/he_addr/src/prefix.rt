@@ -20,8 +20,8 @@ pub(crate) const MAPPED: u128 = 0xffff;
 /// The length of `::ffff:0:0/96`, the prefix of the mapped IPv4 addresses.
 pub const MAPPED_LEN: u8 = V6_BITS - V4_BITS;
 
-/// An address prefix: its first `len` bits over IPv6 numbers, the bits past them zero. An IPv4 prefix of length n is the
-/// mapped prefix of length 96 + n, so `0.0.0.0/0` and `::ffff:0:0/96` are one prefix.
+/// An address prefix: its first `len` bits over IPv6 numbers, the bits past them zero. An IPv4 prefix of length n is
+/// the mapped prefix of length 96 + n, so `0.0.0.0/0` and `::ffff:0:0/96` are one prefix.
 #[derive(Clone, Copy)]
 #[derive_where(Debug, PartialEq, Eq)]
 pub struct Prefix {
@@ -99,8 +99,8 @@ impl Prefix {
         self.begins(ip.mapped())
     }
 
-    /// Whether the number, of an address as [`Ip::mapped`] gives it, begins with this prefix. Who asks many prefixes about one
-    /// address makes its number once.
+    /// Whether the number, of an address as [`Ip::mapped`] gives it, begins with this prefix. Who asks many prefixes
+    /// about one address makes its number once.
     #[tactic(auto, using(crate::proofs::Between::before_first))]
     pub fn begins(self, number: u128) -> bool
         ensures { result ≡ agrees 128 number self.bits self.len }

@@ -16,8 +16,8 @@ use std::net::{IpAddr, Ipv4Addr, Ipv6Addr};
 /// The most digits of a prefix length in the texts.
 pub const LENGTH_DIGITS: usize = 3;
 
-/// The address that a text spells; None for every other text. An IPv4 text is four decimal numbers up to 255 without leading
-/// zeros, joined by dots; an IPv6 text is one of RFC 4291 section 2.2, without a zone index.
+/// The address that a text spells; None for every other text. An IPv4 text is four decimal numbers up to 255 without
+/// leading zeros, joined by dots; an IPv6 text is one of RFC 4291 section 2.2, without a zone index.
 #[tactic(auto, using(crate::proofs::NetTexts::ip_in_text, crate::proofs::NetTexts::ip_in_no_text))]
 pub fn read_ip(text: &[u8]) -> Option<Ip>
     ensures value { result ≡ ip_in text.now }
@@ -43,8 +43,8 @@ fn parse_ip_of(family: Family, text: &[u8]) -> Option<Ip>
     }
 }
 
-/// The address of this family that a text spells, as [`read_ip`] reads it; None for every other text. Only the reader of
-/// the family looks at the text.
+/// The address of this family that a text spells, as [`read_ip`] reads it; None for every other text. Only the reader
+/// of the family looks at the text.
 pub fn read_ip_of(family: Family, text: &[u8]) -> Option<Ip>
     ensures value { result ≡ ip_of_in family text.now }
     ensures found { IfSome result (λ ip. Spells text.now ip × (family_of ip ≡ family)) }
@@ -100,8 +100,9 @@ fn parse_source(text: &[u8]) -> Option<(Ip, u8)>
     Some((ip, len as u8))
 }
 
-/// The address and the prefix length that a source text spells: an address, `/`, and a length of one to three digits without
-/// leading zeros, at most 32 for IPv4 and 128 for IPv6. Bits past the length are free. None for every other text.
+/// The address and the prefix length that a source text spells: an address, `/`, and a length of one to three digits
+/// without leading zeros, at most 32 for IPv4 and 128 for IPv6. Bits past the length are free. None for every other
+/// text.
 pub fn read_source(text: &[u8]) -> Option<(Ip, u8)>
     ensures value { result ≡ source_in text.now }
     ensures found { IfSome result (λ source. SpellsSource text.now source.0 source.1) }
@@ -122,8 +123,8 @@ fn parse_prefix(text: &[u8]) -> Option<Prefix>
     }
 }
 
-/// The prefix that a text spells: a source text with no bit set past the length. An IPv4 prefix of length n is the mapped
-/// prefix of length 96 + n. None for every other text.
+/// The prefix that a text spells: a source text with no bit set past the length. An IPv4 prefix of length n is the
+/// mapped prefix of length 96 + n. None for every other text.
 pub fn read_prefix(text: &[u8]) -> Option<Prefix>
     ensures value { result ≡ prefix_in text.now }
     ensures found { IfSome result (λ prefix. SpellsPrefix text.now prefix) }

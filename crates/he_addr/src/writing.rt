@@ -12,8 +12,8 @@ use crate::printing::{push_ip, push_source};
 use arrayvec::ArrayVec;
 use std::alloc::Allocator;
 
-/// Appends the text of the address (RFC 5952 section 4): for IPv6 lower case, no leading zeros in a group, `::` for the first
-/// of the longest runs of at least two zero groups, no dotted part. After [`Memory`] the text is as it was.
+/// Appends the text of the address (RFC 5952 section 4): for IPv6 lower case, no leading zeros in a group, `::` for
+/// the first of the longest runs of at least two zero groups, no dotted part. After [`Memory`] the text is as it was.
 pub fn write_ip<A: Allocator + Copy>(ip: Ip, out: &mut Vec<u8, A>) -> Result<(), Memory>
     ensures ok { OnOk result (out.new.items ≡ out.old.items ++ printed ip) }
     ensures text { IsPrinted ip (printed ip) }
@@ -41,8 +41,8 @@ pub fn write_source<A: Allocator + Copy>(
     Ok(())
 }
 
-/// Appends the text of the prefix, its bits, `/` and its length: with `dotted` a prefix of IPv4 addresses in IPv4 form, and
-/// every other one in IPv6 form. After [`Memory`] the text is as it was.
+/// Appends the text of the prefix, its bits, `/` and its length: with `dotted` a prefix of IPv4 addresses in IPv4
+/// form, and every other one in IPv6 form. After [`Memory`] the text is as it was.
 pub fn write_prefix<A: Allocator + Copy>(
     prefix: Prefix,
     dotted: bool,

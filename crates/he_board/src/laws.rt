@@ -7,7 +7,8 @@ ghost use Rattle.he_board.specs.declared.limits.TheConstants.{JOBS, LAST_TICK, N
 ghost use Rattle.he_board.specs.declared.view.View.{View};
 
 /// The rule of a board's table, by sums and minima, holds exactly of the lawful states. The table keeps its rule from
-/// the moment at which the board is made, through each step of each pass in every order, so the board is always lawful.
+/// the moment at which the board is made, through each step of each pass in every order, so the board is always
+/// lawful.
 pub fn board_is_lawful()
     ensures { (jobs races : ℕ) (words : List ℕ) (views : List View) → (Balanced jobs races words views ↔ Lawful jobs races words views) }
 {}

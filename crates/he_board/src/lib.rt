@@ -1,9 +1,9 @@
 //! The board of a pool of workers: words in memory that threads share with no lock, by which they take jobs from one
 //! another and learn of the best offer that any of them has made so far.
 //!
-//! A board has jobs and races, each by a number from 0 on. A job is taken once. A race has a winner word, the least key
-//! that was offered to it, and a key is a tick (milliseconds) and a place: of two offers the one at the lower tick
-//! wins, and at one tick the one at the lower place. The limits of all numbers stand in `limits.rt`, and
+//! A board has jobs and races, each by a number from 0 on. A job is taken once. A race has a winner word, the least
+//! key that was offered to it, and a key is a tick (milliseconds) and a place: of two offers the one at the lower
+//! tick wins, and at one tick the one at the lower place. The limits of all numbers stand in `limits.rt`, and
 //! `limits_as_numbers` says which they are.
 //!
 //! Who steps on the board holds a `Pass`. A pass has no lifetime and can move to another thread. It has parts of the

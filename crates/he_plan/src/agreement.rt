@@ -26,8 +26,8 @@ pub fn starts_at_a_shared_tick()
     ensures order { (x y : Race) → IsRace x → IsRace y → AreAlike x y → (t : ℕ) → IsFree x t → IsFree y t → order_at x t ≡ order_at y t }
 {}
 
-/// What happens below a tick stays in a race that agrees with this one below it: starts, the attempts that were made, ticks
-/// that are seen, and of an attempt whose address has the same outcome what is known of it.
+/// What happens below a tick stays in a race that agrees with this one below it: starts, the attempts that were made,
+/// ticks that are seen, and of an attempt whose address has the same outcome what is known of it.
 pub fn agreement_below_a_tick()
     ensures starts { (tick : ℕ) (x y : Race) → IsRace x → IsRace y → AgreeBelow tick x y → (done : List Attempt) (t : ℕ) → t < tick → MayStart x done t ↔ MayStart y done t }
     ensures attempts { (tick : ℕ) (x y : Race) → IsRace x → IsRace y → AgreeBelow tick x y → (attempts : List Attempt) → IsTrue (list_all (λ z. nat_lt z.tick tick) attempts) → AreNextInTurn x attempts → AreNextInTurn y attempts }

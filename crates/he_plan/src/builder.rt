@@ -25,8 +25,8 @@ pub enum BuildFault {
     /// The family has an answer already.
     #[error("the family has an answer")]
     Answered,
-    /// An answer's tick above 3,600,000, a duration out of 1 to 3,600,000, or a pause that ends where it begins or before,
-    /// that ends after 3,600,001 or that begins before the end of the last one.
+    /// An answer's tick above 3,600,000, a duration out of 1 to 3,600,000, or a pause that ends where it begins or
+    /// before, that ends after 3,600,001 or that begins before the end of the last one.
     #[error("out of range")]
     Range,
     /// More than 64 addresses, or a pause after 136.

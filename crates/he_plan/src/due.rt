@@ -10,8 +10,8 @@ ghost use Rattle.he_plan.specs.Finish.{fate_of, outcome_of};
 ghost use Rattle.he_plan.specs.Race.{Race};
 ghost use Rattle.he_plan.specs.Timeline.{IsRace};
 
-/// After a turn no attempt may start before the due tick is seen: one starts there, or later in a further turn, and none
-/// where that is not below the limit. There is one due tick.
+/// After a turn no attempt may start before the due tick is seen: one starts there, or later in a further turn, and
+/// none where that is not below the limit. There is one due tick.
 pub fn starts_when_due()
     ensures no_sooner { (race : Race) → IsRace race → (turn : Option ℕ) (done : List Attempt) (w : ℕ) → IsAfterTurn race turn done → IsDueTick race turn done w → (t : ℕ) → MayStart race done t → seen race w ≤ t }
     ensures at { (race : Race) → IsRace race → (turn : Option ℕ) (done : List Attempt) (w : ℕ) → IsAfterTurn race turn done → IsDueTick race turn done w → MayStart race done (seen race w) → IsLeast (MayStart race done) (seen race w) }
@@ -19,8 +19,8 @@ pub fn starts_when_due()
     ensures one { (race : Race) (turn : Option ℕ) (done : List Attempt) (v w : ℕ) → IsDueTick race turn done v → IsDueTick race turn done w → v ≡ w }
 {}
 
-/// An attempt that may start at a tick may start at each later free one below the limit, and starts at least the Connection
-/// Attempt Delay after the last one; at a free tick that is seen from own ticks alone.
+/// An attempt that may start at a tick may start at each later free one below the limit, and starts at least the
+/// Connection Attempt Delay after the last one; at a free tick that is seen from own ticks alone.
 pub fn starts_at_free_ticks()
     ensures free { (race : Race) → IsRace race → (done : List Attempt) (t : ℕ) → MayStart race done t → IsFree race t }
     ensures stay { (race : Race) → IsRace race → (done : List Attempt) (t later : ℕ) → MayStart race done t → t ≤ later → IsFree race later → later < race.settings.limit → MayStart race done later }
@@ -34,7 +34,8 @@ pub fn seen_is_least()
     ensures { (race : Race) → IsRace race → (x : ℕ) → IsSeen race x (seen race x) }
 {}
 
-/// An attempt whose outcome ends it at a free tick by the limit finishes there, and one of a silent address still runs.
+/// An attempt whose outcome ends it at a free tick by the limit finishes there, and one of a silent address still
+/// runs.
 pub fn finishes_at_free_ticks()
     ensures succeeded { (race : Race) → IsRace race → (x : Attempt) (t : ℕ) → IsFree race t → x.tick ≤ t → t ≤ race.settings.limit → outcome_of race x.ip ≡ Some (outcomes.Ok (t - x.tick)) → fate_of race x ≡ Succeeded t }
     ensures failed { (race : Race) → IsRace race → (x : Attempt) (t : ℕ) → IsFree race t → x.tick ≤ t → t ≤ race.settings.limit → outcome_of race x.ip ≡ Some (outcomes.Fail (t - x.tick)) → fate_of race x ≡ Failed t }

@@ -10,8 +10,8 @@ use crate::outcome::Outcome;
 use crate::timeline::Timeline;
 use std::alloc::Allocator;
 
-/// What becomes of an attempt: it succeeds or fails at a tick that is at most the limit, it still runs at the limit, or it
-/// was not looked at, since it starts at or after a success.
+/// What becomes of an attempt: it succeeds or fails at a tick that is at most the limit, it still runs at the limit,
+/// or it was not looked at, since it starts at or after a success.
 #[derive(Clone, Copy, Debug, PartialEq, Eq)]
 pub enum Fate {
     Succeeded(u64),

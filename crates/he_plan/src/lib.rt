@@ -1,10 +1,10 @@
 //! The rules of a race (RFC 8305 sections 3 to 5 and 8), and the crate that computes them.
 //!
-//! A `TimelineBuilder` collects a race's input: settings, the policy table and the host by which addresses are ordered, the
-//! answers of both families, what each address does when it is tried, and the pauses of the client. `plan` answers the
-//! attempts that the race makes while each still runs, `Timeline::fate` what becomes of each, `winner` which one wins, and
-//! `transcript_of_fates` the transcript; `transcript_of` is all of these in one call, and looks at no outcome of an attempt
-//! that starts at or after an earlier one's success. A tick is a millisecond.
+//! A `TimelineBuilder` collects a race's input: settings, the policy table and the host by which addresses are
+//! ordered, the answers of both families, what each address does when it is tried, and the pauses of the client.
+//! `plan` answers the attempts that the race makes while each still runs, `Timeline::fate` what becomes of each,
+//! `winner` which one wins, and `transcript_of_fates` the transcript; `transcript_of` is all of these in one call,
+//! and looks at no outcome of an attempt that starts at or after an earlier one's success. A tick is a millisecond.
 //!
 //! ```text
 //! let settings = Settings::new(50, 250, 1, 30_000)?;
@@ -16,14 +16,14 @@
 //! let transcript = transcript_of(alloc, &builder.finish())?;
 //! ```
 //!
-//! Proved, against the definitions of `specs/`: each call of the builder answers the new race or the first fault, and a
-//! refused one leaves it as it was; `plan` answers the one list of attempts (`Attempts`), whatever the pauses;
+//! Proved, against the definitions of `specs/`: each call of the builder answers the new race or the first fault, and
+//! a refused one leaves it as it was; `plan` answers the one list of attempts (`Attempts`), whatever the pauses;
 //! `Timeline::seen` the least tick that no pause covers; `interlace` the interlaced list (`Interlacing`); and the
-//! transcript is the race's (`Transcript`), also where attempts that start after a success are told as skipped, and where
-//! no more is known of the attempts than what became of them by the race's end. `laws` has what follows from the
-//! definitions alone, as that a race has one transcript; `due` what a race that is being run may start, and when;
-//! `agreement` what stays when a race grows. Addresses are tried in the order of RFC 6724 section 6, which `he_select`
-//! defines and computes, interlaced.
+//! transcript is the race's (`Transcript`), also where attempts that start after a success are told as skipped, and
+//! where no more is known of the attempts than what became of them by the race's end. `laws` has what follows from
+//! the definitions alone, as that a race has one transcript; `due` what a race that is being run may start, and when;
+//! `agreement` what stays when a race grows. Addresses are tried in the order of RFC 6724 section 6, which
+//! `he_select` defines and computes, interlaced.
 //!
 //! Tested only: that a call succeeds where memory is granted.
 #![tactic(auto)]

@@ -13,8 +13,8 @@ use crate::timeline::Timeline;
 use he_addr::Memory;
 use std::alloc::{Allocator, Global};
 
-/// The attempts that a race has made so far, and what is left to try. It keeps the untried addresses in order, so that the
-/// next attempt costs no look at those that were made.
+/// The attempts that a race has made so far, and what is left to try. It keeps the untried addresses in order, so
+/// that the next attempt costs no look at those that were made.
 #[derive(Drop)]
 pub struct Planner<A: Allocator = Global> {
     pub(crate) attempts: Vec<Attempt, A>,

@@ -36,8 +36,8 @@ pub fn plan<A: Allocator + Copy, B: Allocator>(
     Ok(Plan::new(attempts))
 }
 
-// Brings the queue to a start at the tick, at the address that is tried then. What was received stays received, so it is
-// made anew at most twice in a race, and its addresses are sorted once: `sorted` keeps them.
+// Brings the queue to a start at the tick, at the address that is tried then. What was received stays received, so it
+// is made anew at most twice in a race, and its addresses are sorted once: `sorted` keeps them.
 pub(crate) fn advance<A: Allocator + Copy, B: Allocator>(
     alloc: A,
     timeline: &Timeline<B>,

@@ -22,8 +22,9 @@ pub enum Range {
     Limit,
 }
 
-/// The settings of a race, in ticks of one millisecond: Resolution Delay 0 to 1,000, Connection Attempt Delay 10 to 2,000,
-/// First Address Family Count 1 to 8, limit 1 to 3,600,000 (RFC 8305 section 8; the limit is this project's own).
+/// The settings of a race, in ticks of one millisecond: Resolution Delay 0 to 1,000, Connection Attempt Delay 10 to
+/// 2,000, First Address Family Count 1 to 8, limit 1 to 3,600,000 (RFC 8305 section 8; the limit is this project's
+/// own).
 #[derive(Clone, Copy, Debug, PartialEq, Eq)]
 pub struct Settings {
     resolution: u64,

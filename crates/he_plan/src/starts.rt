@@ -35,8 +35,8 @@ pub(crate) fn next_tick<A: Allocator, B: Allocator>(
     if tick < limit { Some(tick) } else { None }
 }
 
-// Where the queue has an address, it was received by the last start, so only the Connection Attempt Delay (RFC 8305 section
-// 5) is waited for; where it has none, only an answer that was not received then is.
+// Where the queue has an address, it was received by the last start, so only the Connection Attempt Delay (RFC 8305
+// section 5) is waited for; where it has none, only an answer that was not received then is.
 fn start_tick<A: Allocator, B: Allocator>(
     timeline: &Timeline<A>,
     done: &[Attempt],

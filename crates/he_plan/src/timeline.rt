@@ -37,8 +37,9 @@ impl<A: Allocator> Model for Answer<A> {
     ghost view = { λ answer. record { tick = answer.tick; addresses = answer.addresses.items } };
 }
 
-/// A race's whole input: its settings, the policy table and the host by which addresses are ordered, the answers of both
-/// families, what each address does when it is tried, and the pauses of the client. A `TimelineBuilder` makes it.
+/// A race's whole input: its settings, the policy table and the host by which addresses are ordered, the answers of
+/// both families, what each address does when it is tried, and the pauses of the client. A `TimelineBuilder` makes
+/// it.
 #[derive(Drop)]
 pub struct Timeline<A: Allocator = Global> {
     settings: Settings,
@@ -255,8 +256,8 @@ impl<A: Allocator> Timeline<A> {
     }
 }
 
-// A proof looks at the parts of the value that stood there once, and not on each path of the caller. Inlined, since what
-// stood there is mostly known to be nothing.
+// A proof looks at the parts of the value that stood there once, and not on each path of the caller. Inlined, since
+// what stood there is mostly known to be nothing.
 #[inline(always)]
 pub(crate) fn put<T: Drop>(place: &mut T, value: T)
     ensures { place.new ≡ value }

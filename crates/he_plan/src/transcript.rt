@@ -17,7 +17,8 @@ use he_addr::{Family, Ip, Memory};
 use std::alloc::{Allocator, Global};
 use std::marker::Model;
 
-/// What became of an attempt, with the tick: it won, it failed at or before the race's end, or it was cancelled at the end.
+/// What became of an attempt, with the tick: it won, it failed at or before the race's end, or it was cancelled at
+/// the end.
 #[derive(Clone, Copy, Debug, PartialEq, Eq)]
 pub enum Mark {
     Won(u64),
@@ -34,8 +35,8 @@ pub struct Line {
     pub mark: Mark,
 }
 
-/// How a race ended: won by the attempt of this place at this tick, exhausted at a tick, since every attempt failed, or at
-/// the limit.
+/// How a race ended: won by the attempt of this place at this tick, exhausted at a tick, since every attempt failed,
+/// or at the limit.
 #[derive(Clone, Copy, Debug, PartialEq, Eq)]
 pub enum Outcome3 {
     Won(usize, u64),
@@ -85,8 +86,9 @@ impl<A: Allocator> Transcript<A> {
     }
 }
 
-/// The transcript of the timeline's race, from its plan, one fate of each attempt and the winner of these fates: the least
-/// finish and place of a success. An attempt that starts at or after some success's finish may be told as Skipped.
+/// The transcript of the timeline's race, from its plan, one fate of each attempt and the winner of these fates: the
+/// least finish and place of a success. An attempt that starts at or after some success's finish may be told as
+/// Skipped.
 pub fn transcript_of_fates<A: Allocator, B: Allocator, C: Allocator>(
     alloc: A,
     timeline: &Timeline<B>,
@@ -104,9 +106,9 @@ pub fn transcript_of_fates<A: Allocator, B: Allocator, C: Allocator>(
     Ok(Transcript::new(lines, ending))
 }
 
-/// The transcript of the timeline's race, from the attempts that it makes up to its stop, by place, what is known of each of
-/// them there, and the winner of these fates. The stop is the winner's finish, or the limit; an attempt that has not
-/// finished by then is known as Running.
+/// The transcript of the timeline's race, from the attempts that it makes up to its stop, by place, what is known of
+/// each of them there, and the winner of these fates. The stop is the winner's finish, or the limit; an attempt that
+/// has not finished by then is known as Running.
 pub fn transcript_at_stop<A: Allocator, B: Allocator>(
     alloc: A,
     timeline: &Timeline<B>,
@@ -279,8 +281,8 @@ fn is_failed(fate: Fate) -> bool
     matches!(fate, Fate::Failed(_))
 }
 
-// Whether each usable address of both answers, which are a tick and addresses, was tried. Where there is room for one more
-// attempt, an address that is left would have been tried in it, so they need not be looked at.
+// Whether each usable address of both answers, which are a tick and addresses, was tried. Where there is room for one
+// more attempt, an address that is left would have been tried in it, so they need not be looked at.
 fn are_tried_out<A: Allocator>(
     timeline: &Timeline<A>,
     attempts: &[Attempt],

@@ -1,5 +1,5 @@
-//! Tests of `he_plan` that no file of races can hold: want of memory, and a second, plain computation of plans. What each
-//! call of a builder answers is in its clause, and the cases that are files have each of its faults.
+//! Tests of `he_plan` that no file of races can hold: want of memory, and a second, plain computation of plans. What
+//! each call of a builder answers is in its clause, and the cases that are files have each of its faults.
 #![tactic(auto)]
 
 #[cfg(test)]

@@ -1,5 +1,6 @@
-// A second opinion on plans: each tick is asked whether an attempt may start on it, as the definitions say, and all addresses,
-// attempts and pauses are looked at again each time. Its answers are those of `plan` on timelines that are drawn.
+// A second opinion on plans: each tick is asked whether an attempt may start on it, as the definitions say, and all
+// addresses, attempts and pauses are looked at again each time. Its answers are those of `plan` on timelines that are
+// drawn.
 
 ghost use Rattle.std.specs.Prelude.{◌≡◌, ◌<◌, max};
 ghost use Rattle.std.specs.List.{list_all};
@@ -34,7 +35,8 @@ fn plain_plan<'h>(
     Ok(done)
 }
 
-// Whether the client may act at the tick and is to start the first attempt or, if it has an address to try, another one.
+// Whether the client may act at the tick and is to start the first attempt or, if it has an address to try, another
+// one.
 fn may_start(timeline: &Timeline<&Refusing>, done: &[Attempt], tick: u64) -> bool {
     if seen(timeline.pauses(), tick) != tick {
         return false;

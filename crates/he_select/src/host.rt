@@ -136,7 +136,8 @@ impl Distinct for Route {
 }
 
 impl HostFault {
-    /// Why the lists are no host, the first cause in the order of the variants; `None` for a host's lists. Never `Memory`.
+    /// Why the lists are no host, the first cause in the order of the variants; `None` for a host's lists. Never
+    /// `Memory`.
     #[tactic(auto, unfolding(crate::specs::HostFaults::host_fault))]
     pub fn find(sources: &[Source], routes: &[Route]) -> Option<HostFault>
         ensures { result ≡ host_fault sources.now routes.now }
@@ -180,8 +181,8 @@ fn first_unsound_route(routes: &[Route]) -> Option<usize>
     None
 }
 
-/// A host: at most [`SOURCES`] sources, no address twice, and at most [`ROUTES`] routes, no prefix twice. Contracts see it as
-/// its two lists.
+/// A host: at most [`SOURCES`] sources, no address twice, and at most [`ROUTES`] routes, no prefix twice. Contracts
+/// see it as its two lists.
 #[derive(Drop)]
 pub struct Host<A: Allocator = Global> {
     sources: Vec<Source, A>,
@@ -272,8 +273,8 @@ impl<A: Allocator> Host<A> {
         self.routes.as_slice()
     }
 
-    /// The source that the host uses for a destination (RFC 6724 section 5): of the candidates the best by the source rules;
-    /// `None` where the destination has no route or no candidate.
+    /// The source that the host uses for a destination (RFC 6724 section 5): of the candidates the best by the source
+    /// rules; `None` where the destination has no route or no candidate.
     #[tactic(auto, using(crate::proofs::Hosted::all_sound))]
     pub fn source<B: Allocator>(&self, policy: &Policy<B>, ip: Ip) -> Option<Ip>
         ensures { result ≡ option_map (λ source. source.ip) (source_of (selection_input policy.now self.now) ip) }

@@ -82,8 +82,8 @@ pub enum PolicyFault {
 }
 
 impl PolicyFault {
-    /// Why the rows are no policy table, the first cause in the order of the variants; `None` for an admitted table. Never
-    /// `Memory`.
+    /// Why the rows are no policy table, the first cause in the order of the variants; `None` for an admitted table.
+    /// Never `Memory`.
     #[tactic(auto, unfolding(crate::specs::TableFaults::table_fault))]
     pub fn find(rows: &[Row]) -> Option<PolicyFault>
         ensures { result ≡ table_fault rows.now }
@@ -179,8 +179,8 @@ fn standard_row(bits: u128, len: u8, precedence: u16, label: u16) -> Row
     }
 }
 
-/// A policy table: 1 to [`ROWS`] rows, no prefix twice, with `::/0` and `::ffff:0:0/96`, and no precedence both inside and
-/// outside `::ffff:0:0/96`. Contracts see it as its rows.
+/// A policy table: 1 to [`ROWS`] rows, no prefix twice, with `::/0` and `::ffff:0:0/96`, and no precedence both
+/// inside and outside `::ffff:0:0/96`. Contracts see it as its rows.
 #[derive(Drop)]
 pub struct Policy<A: Allocator = Global> {
     rows: Vec<Row, A>,

@@ -34,8 +34,8 @@ pub(crate) struct Key {
     pub(crate) place: usize,
 }
 
-// Most keys that are compared differ in one of the last rules. To ask whether two fields differ costs less than to tell
-// their order, so the derived order, which tells it of each field, would take twice as long.
+// Most keys that are compared differ in one of the last rules. To ask whether two fields differ costs less than to
+// tell their order, so the derived order, which tells it of each field, would take twice as long.
 impl Ord for Key {
     ghost cmp = { key_order };
 
@@ -197,7 +197,8 @@ impl Attributes {
             tunnel: self.route.map_or(false, |route| route.tunnel),
             // Rule 8: prefer smaller scope.
             scope: self.scope,
-            // Rule 9: use longest matching prefix. Needs no test of the family: an admitted table's precedences part the families.
+            // Rule 9: use longest matching prefix. Needs no test of the family: an admitted table's precedences part
+            // the families.
             common: Reverse(self.common(source)),
             // Rule 10: otherwise, leave the order unchanged.
             place,

@@ -103,8 +103,8 @@ impl Destination {
         self.keep(best.as_ref(), &labelled).copied()
     }
 
-    /// Whether the source may be used: one of the destination's family, for a destination of link scope only one on the
-    /// route's interface.
+    /// Whether the source may be used: one of the destination's family, for a destination of link scope only one on
+    /// the route's interface.
     #[inline(always)]
     fn admits(&self, labelled: &Labelled) -> bool
         ensures { result ≡ admits self.now labelled.now }
@@ -113,8 +113,8 @@ impl Destination {
             && (self.scope != LINK_LOCAL_SCOPE || labelled.source.interface == self.interface)
     }
 
-    /// Whether the first rule that tells the two sources apart prefers this one to the other. The rules are asked one by one,
-    /// since most pairs are told apart early.
+    /// Whether the first rule that tells the two sources apart prefers this one to the other. The rules are asked one
+    /// by one, since most pairs are told apart early.
     #[inline(always)]
     #[tactic(auto, unfolding(crate::specs::LabelledRules::labelled_rules))]
     fn is_better(&self, this: &Labelled, other: &Labelled) -> bool

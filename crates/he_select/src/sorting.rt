@@ -28,8 +28,8 @@ pub struct Sourced {
     pub source: Option<Ip>,
 }
 
-/// The addresses in the order in which they are to be tried (RFC 6724 section 6): each stands at the place that equals the
-/// number of addresses preferred to it. Each address is usable.
+/// The addresses in the order in which they are to be tried (RFC 6724 section 6): each stands at the place that
+/// equals the number of addresses preferred to it. Each address is usable.
 pub fn order<A: Allocator + Copy, P: Allocator, H: Allocator>(
     alloc: A,
     policy: &Policy<P>,
@@ -50,8 +50,8 @@ pub fn order<A: Allocator + Copy, P: Allocator, H: Allocator>(
     Ok(sorted)
 }
 
-/// The addresses in the order of [`order`], each with the source that it has from [`Host::source`]: the order rests on the
-/// sources, so that they are known when it is. Each address is usable.
+/// The addresses in the order of [`order`], each with the source that it has from [`Host::source`]: the order rests
+/// on the sources, so that they are known when it is. Each address is usable.
 pub fn order_with_sources<A: Allocator + Copy, P: Allocator, H: Allocator>(
     alloc: A,
     policy: &Policy<P>,
@@ -71,8 +71,8 @@ pub fn order_with_sources<A: Allocator + Copy, P: Allocator, H: Allocator>(
     Ok(sorted)
 }
 
-/// What the rules look at is computed once for each source and for each address. What is sorted is keys alone, small as they
-/// are: each names the place of its address.
+/// What the rules look at is computed once for each source and for each address. What is sorted is keys alone, small
+/// as they are: each names the place of its address.
 fn sort_addresses<A: Allocator + Copy>(
     alloc: A,
     rows: &[Row],

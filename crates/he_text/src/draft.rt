@@ -17,8 +17,8 @@ use he_plan::limits::{
 use he_plan::{BuildFault, Settings, TimelineBuilder};
 use std::alloc::Allocator;
 
-// The order of the lines: the group of the last one, and how many lines of that group there are, if there may be only so
-// many.
+// The order of the lines: the group of the last one, and how many lines of that group there are, if there may be only
+// so many.
 #[derive(Clone, Copy)]
 pub(crate) struct Order {
     group: u8,

@@ -9,21 +9,22 @@ use he_select::{HostFault, PolicyFault};
 use std::alloc::{AllocError, AllocFailed};
 use thiserror::Error;
 
-/// What the first wrong thing of a text is. The lines are counted from 1, and the least line decides; on one line the first
-/// of the checks that a line undergoes.
+/// What the first wrong thing of a text is. The lines are counted from 1, and the least line decides; on one line the
+/// first of the checks that a line undergoes.
 #[derive(Clone, Copy, Debug, PartialEq, Eq, Error)]
 pub enum TextKind {
     /// The first line of a race isn't `race 1`.
     #[error("header")]
     Header,
-    /// A line begins with no word of its group or a later one, has too few or too many tokens, or a token is none of the
-    /// keywords that may stand there.
+    /// A line begins with no word of its group or a later one, has too few or too many tokens, or a token is none of
+    /// the keywords that may stand there.
     #[error("word")]
     Word,
     /// A number isn't one to ten decimal digits without leading zeros.
     #[error("number")]
     Number,
-    /// An address isn't one, is of the wrong family for its answer, stands in no answer, or is a source's and not usable.
+    /// An address isn't one, is of the wrong family for its answer, stands in no answer, or is a source's and not
+    /// usable.
     #[error("address")]
     Address,
     /// A prefix or a source isn't one.

@@ -1,5 +1,5 @@
-// The forms of the lines, behind the word that begins a line: how many tokens there are, then each of them from left to
-// right; the first that is wrong decides.
+// The forms of the lines, behind the word that begins a line: how many tokens there are, then each of them from left
+// to right; the first that is wrong decides.
 
 ghost use Rattle.std.specs.Prelude.{◌≡◌, ◌≤◌, IfOk};
 ghost use Rattle.he_text.specs.Forms.{number_from, setting_in, pause_in, end_in, least_value, most_value};

@@ -38,27 +38,27 @@ pub fn begins_where_no_fault()
     ensures { (text : List ℕ) → BeginsWithRace text ↔ (fault_of text ≡ None) }
 {}
 
-/// The race with which a text begins is one, and so is its end: what is found in a first part of a text is what the whole text
-/// begins with. Runs nothing.
+/// The race with which a text begins is one, and so is its end: what is found in a first part of a text is what the
+/// whole text begins with. Runs nothing.
 pub fn one_race_first()
     ensures { (front rest other_front other_rest : List ℕ) (race other : Race) → IsRaceText front race → IsRaceText other_front other → front ++ rest ≡ other_front ++ other_rest → (front ≡ other_front) × (race ≡ other) }
 {}
 
-/// A fault of a text is the fault of every text that begins with its bytes, unless the text ends inside a race, or with the
-/// last row of a policy table that more rows may mend. Runs nothing.
+/// A fault of a text is the fault of every text that begins with its bytes, unless the text ends inside a race, or
+/// with the last row of a policy table that more rows may mend. Runs nothing.
 pub fn faults_stand()
     ensures { (text : List ℕ) (line : ℕ) (kind : TextKind) → fault_of text ≡ Some (line, kind) → MayChange text line kind ⊎ FaultStands text line kind }
 {}
 
-/// What the form of a line, its tokens checked from left to right, makes of it is what the line says, where it doesn't end the
-/// race. Runs nothing.
+/// What the form of a line, its tokens checked from left to right, makes of it is what the line says, where it
+/// doesn't end the race. Runs nothing.
 pub fn lines_say()
     ensures says { (known : Ip → Bool) (line : List ℕ) (said : Said) → said_in known line ≡ Ok said → (said ≡ Ended → ⊥) → Says line said × IsAllowed known said }
     ensures read { (known : Ip → Bool) (line : List ℕ) (said : Said) → Says line said → IsAllowed known said → said_in known line ≡ Ok said }
 {}
 
-/// The fault of a text is that of the first check that fails on the first faulty line, where no race ends before: on none of
-/// the lines above it a check fails. Runs nothing.
+/// The fault of a text is that of the first check that fails on the first faulty line, where no race ends before: on
+/// none of the lines above it a check fails. Runs nothing.
 pub fn first_faults()
     ensures { (text : List ℕ) (line : ℕ) (kind : TextKind) → (fault_of text ≡ Some (line, kind)) ↔ IsFirstFaultOf text line kind }
 {}
@@ -68,7 +68,8 @@ pub fn faults_come_no_earlier()
     ensures { (text more : List ℕ) (line : ℕ) (kind : TextKind) → fault_of text ≡ Some (line, kind) → MatchOption (fault_of (text ++ more)) (Unit {0}) (λ fault. line ≤ fault.0) }
 {}
 
-/// What `read_race` tells of a first part of a text it may tell of the whole, unless what follows may change it. Runs nothing.
+/// What `read_race` tells of a first part of a text it may tell of the whole, unless what follows may change it. Runs
+/// nothing.
 pub fn told_faults_stand()
     ensures { (text more : List ℕ) (line : ℕ) (kind : TextKind) → TellsFault line kind (fault_of text) → MayChange text line kind ⊎ TellsFault line kind (fault_of (text ++ more)) }
 {}
@@ -86,8 +87,8 @@ pub fn written_reads_back()
     ensures { (race : Race) → IsRace race → RaceInRange race → IsRaceText (timeline_text race) race }
 {}
 
-/// The same of a timeline: what `write_timeline` appends is read back by `read_race` as an equal timeline, whatever follows
-/// it. Looks at the timeline's parts and changes nothing.
+/// The same of a timeline: what `write_timeline` appends is read back by `read_race` as an equal timeline, whatever
+/// follows it. Looks at the timeline's parts and changes nothing.
 pub fn timeline_reads_back<A: Allocator + Copy>(timeline: &Timeline<A>)
     ensures { IsRaceText (timeline_text timeline.now) timeline.now }
 {

@@ -127,10 +127,10 @@ fn write_whole<A: Allocator + Copy, B: Allocator>(
     write_line(b"end", &[], out)
 }
 
-/// Appends the text of the order in which the race's addresses would be tried if all of them were there (RFC 6724 section 6):
-/// the usable addresses of both answers, whatever their ticks, sorted and not interlaced, each as `N ADDRESS from SOURCE`
-/// with N from 0, or `N ADDRESS from none` where the host can't reach it, and then `end`. After `Memory` the vector holds what
-/// it held.
+/// Appends the text of the order in which the race's addresses would be tried if all of them were there (RFC 6724
+/// section 6): the usable addresses of both answers, whatever their ticks, sorted and not interlaced, each as `N
+/// ADDRESS from SOURCE` with N from 0, or `N ADDRESS from none` where the host can't reach it, and then `end`. After
+/// `Memory` the vector holds what it held.
 pub fn write_order<A: Allocator + Copy, B: Allocator>(
     alloc: A,
     timeline: &Timeline<B>,

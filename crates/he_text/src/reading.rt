@@ -22,8 +22,8 @@ use crate::words::{HEADER, Word};
 use he_plan::{Timeline, TimelineBuilder};
 use std::alloc::Allocator;
 
-// The word of a line, and the tokens behind it. All words but `end` have tokens behind them, so they are looked for with
-// the space that follows them first: that tells where the other tokens begin.
+// The word of a line, and the tokens behind it. All words but `end` have tokens behind them, so they are looked for
+// with the space that follows them first: that tells where the other tokens begin.
 #[inline(always)]
 fn first_word(line: Line<'_>) -> Result<(Word, Tokens<'_>), TextKind>
     ensures { MatchResult result (λ x. word_of (tokens_of (line_bytes line.entry)) ≡ Ok (x.0, tokens_left x.1)) (λ kind. word_of (tokens_of (line_bytes line.entry)) ≡ Err kind) }
@@ -89,8 +89,8 @@ fn head_word(line: Line<'_>) -> Option<(Word, Tokens<'_>)>
     }
 }
 
-// Whether the next line is a whole one that begins with `policy`, right or not. Its first bytes are looked at first, so that
-// the line behind the table isn't searched for its end once more.
+// Whether the next line is a whole one that begins with `policy`, right or not. Its first bytes are looked at first,
+// so that the line behind the table isn't searched for its end once more.
 fn is_policy_next(rest: &[u8]) -> bool
     ensures { result ≡ is_policy_next (lines_of rest.now) }
 {
@@ -292,10 +292,10 @@ fn read_first<A: Allocator + Copy>(alloc: A, text: &[u8]) -> Result<(Timeline<A>
     }
 }
 
-/// The race that begins at `from`, and the place behind it; None exactly where the text ends at `from`. A race is `race 1`,
-/// then lines in the order of their groups, and `end`, each with a line end. Where the text from there on begins with no
-/// race, the fault is that of its least faulty line, counted from 1 at `from`, and on it of the first check that fails;
-/// `Memory` may come before that fault, with a line that is right, as are those before it.
+/// The race that begins at `from`, and the place behind it; None exactly where the text ends at `from`. A race is
+/// `race 1`, then lines in the order of their groups, and `end`, each with a line end. Where the text from there on
+/// begins with no race, the fault is that of its least faulty line, counted from 1 at `from`, and on it of the first
+/// check that fails; `Memory` may come before that fault, with a line that is right, as are those before it.
 pub fn read_race<A: Allocator + Copy>(
     alloc: A,
     text: &[u8],

@@ -290,9 +290,9 @@ fn write_whole<A: Allocator + Copy, B: Allocator>(
     write_line(b"end", &[], out)
 }
 
-/// Appends the text of a timeline: `race 1`, its four settings, all rows of its policy table with prefixes in IPv6 form, the
-/// host's sources and its routes, those for IPv4 in IPv4 form, the answers that there are, the outcomes and the pauses in the
-/// order in which they were given, and `end`. After `Memory` the vector holds what it held.
+/// Appends the text of a timeline: `race 1`, its four settings, all rows of its policy table with prefixes in IPv6
+/// form, the host's sources and its routes, those for IPv4 in IPv4 form, the answers that there are, the outcomes and
+/// the pauses in the order in which they were given, and `end`. After `Memory` the vector holds what it held.
 pub fn write_timeline<A: Allocator + Copy, B: Allocator>(
     timeline: &Timeline<B>,
     out: &mut Vec<u8, A>,

@@ -10,8 +10,8 @@ use he_addr::Memory;
 use he_plan::{Line, Mark, Outcome3, Transcript};
 use std::alloc::Allocator;
 
-// The lines of attempts are most of what is written, so their parts are written one after the other, and not as a list of
-// tokens.
+// The lines of attempts are most of what is written, so their parts are written one after the other, and not as a
+// list of tokens.
 
 // attempt PLACE START
 fn write_start<A: Allocator + Copy>(
@@ -98,9 +98,9 @@ fn write_whole<A: Allocator + Copy, B: Allocator>(
     write_result(transcript.result(), out)
 }
 
-/// Appends the text of a transcript: for each attempt, by place, `attempt PLACE START ADDRESS MARK TICK`, where MARK is `won`,
-/// `failed` or `cancelled`, and then `won PLACE TICK`, `exhausted TICK` or `limit TICK`, each with a line end. After `Memory`
-/// the vector holds what it held.
+/// Appends the text of a transcript: for each attempt, by place, `attempt PLACE START ADDRESS MARK TICK`, where MARK
+/// is `won`, `failed` or `cancelled`, and then `won PLACE TICK`, `exhausted TICK` or `limit TICK`, each with a line
+/// end. After `Memory` the vector holds what it held.
 pub fn write_transcript<A: Allocator + Copy, B: Allocator>(
     transcript: &Transcript<B>,
     out: &mut Vec<u8, A>,

@@ -26,7 +26,8 @@ pub(crate) enum Word {
     End,
 }
 
-// The last group of the lines that say where a race runs: all that a timeline is made with. What happens in it follows.
+// The last group of the lines that say where a race runs: all that a timeline is made with. What happens in it
+// follows.
 const LAST_HEAD_GROUP: u8 = 4;
 
 impl Word {

@@ -25,8 +25,8 @@ impl<B: Allocator> Refusing<B> {
         }
     }
 
-    /// From now on the `nth` growth is refused, counted from 1, and those before and after it are granted. At 0 none is
-    /// refused. What an earlier call asked is forgotten.
+    /// From now on the `nth` growth is refused, counted from 1, and those before and after it are granted. At 0 none
+    /// is refused. What an earlier call asked is forgotten.
     pub fn refuse(&self, nth: u64) {
         self.countdown.start(nth);
     }

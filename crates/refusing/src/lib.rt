@@ -33,12 +33,12 @@
 //! ```
 //!
 //! A `&Refusing<Global>` is `Allocator + Copy + Send + Sync`, so threads may share it: of all their growths one is
-//! refused. A call of code over `A: Allocator + Send` asks that any thread may give a block back, which the check finds
-//! by itself, from `proofs/heap/RefusingAllocator/TheSendSync`.
+//! refused. A call of code over `A: Allocator + Send` asks that any thread may give a block back, which the check
+//! finds by itself, from `proofs/heap/RefusingAllocator/TheSendSync`.
 //!
-//! Proved: what `Allocator` asks, so that a granted block is the inner allocator's, and each block goes back to it; and
-//! that `each_growth_refused` runs the closure more often than it says. Which growth is refused stands in an atomic
-//! word, of which no contract can speak, so that is tested only, in the crate `he_board_tests`.
+//! Proved: what `Allocator` asks, so that a granted block is the inner allocator's, and each block goes back to it;
+//! and that `each_growth_refused` runs the closure more often than it says. Which growth is refused stands in an
+//! atomic word, of which no contract can speak, so that is tested only, in the crate `he_board_tests`.
 #![tactic(auto)]
 
 mod countdown;
