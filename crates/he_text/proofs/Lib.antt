@@ -25,6 +25,7 @@ mod LineReads
 mod LineTexts
 mod LoopLaws
 mod NextLines
+mod NextRaces
 mod OneInput
 mod OrderLaws
 mod OrderTexts

@@ -7,6 +7,7 @@ pub mod InRange
 pub mod InputReading
 pub mod Inputs
 pub mod Left
+pub mod Next
 pub mod Orders
 pub mod Parts
 pub mod Ranges

@@ -158,7 +158,8 @@ fn fault_behind(is_broken: bool, lines: u64, found: TextFault) -> InputFault
     }
 }
 
-fn line_count(text: &[u8]) -> u64
+// How many lines end in the text.
+pub(crate) fn line_count(text: &[u8]) -> u64
     ensures { result ≡ line_count text.now }
 {
     text.iter().filter(|byte| **byte == LINE_END).count() as u64

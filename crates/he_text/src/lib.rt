@@ -21,6 +21,7 @@ pub mod inputs;
 pub mod laws;
 pub mod limits;
 mod lines;
+pub mod next;
 pub mod orders;
 mod parts;
 mod ranges;
@@ -32,6 +33,7 @@ mod writing;
 
 pub use fault::{TextFault, TextKind};
 pub use inputs::{InputFault, NotOneRace, read_one_race};
+pub use next::{Next, next_race};
 pub use orders::write_order;
 pub use reading::read_race;
 pub use timelines::write_timeline;

@@ -1,0 +1,77 @@
+//! Races of a text of which only a first part may be there.
+
+ghost use Rattle.std.specs.Prelude.{◌≡◌, ◌↔◌, ◌<◌, ◌≤◌, ℕ, IfErr, IfOk, IsTrue, MatchResult, drop, length, slice_range};
+ghost use Rattle.he_plan.specs.Race.{Race};
+ghost use Rattle.he_text.specs.declared.fault.TextKind.TheVariants as kinds;
+ghost use Rattle.he_text.specs.declared.next.Next.TheVariants as nexts;
+ghost use Rattle.he_text.specs.Beginnings.{MayChange};
+ghost use Rattle.he_text.specs.Next.{IsNext, TellsFor};
+ghost use Rattle.he_text.specs.Text.{IsLineOf, IsRaceText};
+
+use crate::fault::{TextFault, TextKind};
+use crate::inputs::line_count;
+use crate::laws::told_faults_stand;
+use crate::reading::read_race;
+use he_plan::Timeline;
+use std::alloc::Allocator;
+
+/// What stands at a place of a text of which more may follow.
+#[derive(Drop)]
+pub enum Next<A: Allocator> {
+    /// A race, and the place behind it.
+    Race(Timeline<A>, usize),
+    /// A first part of a race, or nothing: what it is depends on what follows.
+    More,
+    /// The end of the text.
+    End,
+}
+
+/// The race that begins at `from` in a text that ends with these bytes, where `is_last`, or else may go on.
+///
+/// Where the text ends with these bytes it answers as [`read_race`], with `End` in place of None. Else it answers a race or
+/// a fault only where every text that begins with these bytes has it, and `More` where that depends on what follows: at the
+/// end, within a race, and behind a row of a policy table that is not admitted yet, since more rows may mend it.
+///
+/// # Errors
+///
+/// The fault that [`read_race`] tells: of the least faulty line, counted from 1 at `from`, or `Memory`.
+pub fn next_race<A: Allocator + Copy>(
+    alloc: A,
+    text: &[u8],
+    from: usize,
+    is_last: bool,
+) -> Result<Next<A>, TextFault>
+    requires { from ≤ length text.now }
+
+    // A race's text stands from the place on; or nothing does and the text ends; or what stands there may change.
+    ensures next { IfOk result (IsNext text.now from is_last) }
+
+    // A race's text that stands at `from` is found, with its value and its end, unless memory is refused.
+    ensures complete { (end : ℕ) (race : Race) → end ≤ length text.now → IsRaceText (slice_range text.now from end) race → MatchResult result (λ found. found ≡ nexts.Race race end) (λ fault. fault.kind ≡ kinds.Memory) }
+
+    // A fault is that of the text, and of each longer one where the text may go on; or memory was refused at a line up
+    // to which nothing is wrong.
+    ensures within { IfErr result (λ fault. from < length text.now) }
+    ensures fault { IfErr result (λ fault. TellsFor is_last (drop from text.now) fault.line fault.kind) }
+    ensures line { IfErr result (λ fault. IsLineOf (drop from text.now) fault.line) }
+{
+    told_faults_stand();
+    match read_race(alloc, text, from) {
+        Ok(Some((race, end))) => Ok(Next::Race(race, end)),
+        Ok(None) if is_last => Ok(Next::End),
+        Ok(None) => Ok(Next::More),
+        Err(fault) if !is_last && may_change(&text[from..], fault) => Ok(Next::More),
+        Err(fault) => Err(fault),
+    }
+}
+
+// Whether what follows the text may mend its fault.
+fn may_change(text: &[u8], fault: TextFault) -> bool
+    ensures { IsTrue result ↔ MayChange text.now fault.line fault.kind }
+{
+    match fault.kind {
+        TextKind::Unfinished => true,
+        TextKind::Policy(_) => line_count(text) == fault.line,
+        _ => false,
+    }
+}
