@@ -219,7 +219,8 @@ class Host:
 
     @cache
     def row(self, address):
-        return max((row for row in self.rows if covers(row.prefix, mapped(address))), key=lambda row: row.prefix.length)
+        matching = [row for row in self.rows if covers(row.prefix, mapped(address))]
+        return max(matching, key=lambda row: row.prefix.length)
 
     @cache
     def route(self, destination):
