@@ -570,7 +570,7 @@ class Reader:
         self.race.outcomes[address] = (kind, duration)
 
     def pause(self, tokens):
-        start, end = number(tokens[1], 0, MOST_PAUSE_END), number(tokens[2], 0, MOST_PAUSE_END)
+        start, end = number(tokens[1], 0, MOST_TICK), number(tokens[2], 1, MOST_PAUSE_END)
         if start >= end or self.race.pauses and start < self.race.pauses[-1][1]:
             raise Fault("range")
         self.race.pauses.append((start, end))
