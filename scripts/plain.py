@@ -11,7 +11,7 @@ usage: scripts/plain.py replay < TEXT
 import re
 import sys
 from collections import namedtuple
-from functools import cache
+from functools import lru_cache
 
 MOST_RACES = 1024
 MOST_LINE_BYTES = 4096
@@ -23,6 +23,9 @@ MOST_WORD = 65_535
 MAPPED = 0xFFFF << 32
 # A race with a limit up to this one is followed tick by tick.
 PLAIN_LIMIT = 3_000
+
+# Keeps the latest answers of a function, since a plain reading asks the same again and again.
+kept = lru_cache(maxsize=1 << 16)
 
 Address = namedtuple("Address", "family number")
 # The first number that it contains (as an IPv6 number), and its length (of 128).
@@ -97,7 +100,7 @@ def read_v6(text):
     return number
 
 
-@cache
+@kept
 def read_address(text):
     number = read_v4(text)
     if number is not None:
@@ -136,7 +139,7 @@ def covers(prefix, number):
     return number >> (128 - prefix.length) == prefix.number >> (128 - prefix.length)
 
 
-@cache
+@kept
 def is_in(text, address):
     """Whether the address lies in the block that the text spells."""
     block, length = text.split("/")
@@ -145,20 +148,20 @@ def is_in(text, address):
     return address.family == first.family and address.number >> shift == first.number >> shift
 
 
-@cache
+@kept
 def is_usable(address):
     unusable = ["224.0.0.0/4", "0.0.0.0/32", "ff00::/8", "::/128", "::ffff:0:0/96"]
     return not any(is_in(block, address) for block in unusable)
 
 
-@cache
+@kept
 def scope(address):
     if any(is_in(block, address) for block in ["fe80::/10", "::1/128", "169.254.0.0/16", "127.0.0.0/8"]):
         return 2
     return 5 if is_in("fec0::/10", address) else 14
 
 
-@cache
+@kept
 def common(source, destination):
     """RFC 6724 section 2.2: the length of the common prefix, at most the source's prefix length."""
     bits = bits_of(destination.family)
@@ -206,7 +209,7 @@ STANDARD_ROWS = [
 STANDARD = [Row(read_prefix(text), precedence, label) for text, precedence, label in STANDARD_ROWS]
 
 
-@cache
+@kept
 def is_v4_prefix(prefix):
     return prefix.length >= 96 and covers(MAPPED_BLOCK, prefix.number)
 
@@ -216,13 +219,13 @@ class Host:
 
     def __init__(self, rows, sources, routes):
         self.rows, self.sources, self.routes = rows or STANDARD, sources, routes
+        # Kept for this host alone, so that nothing outlives it.
+        self.row, self.route = kept(self.row), kept(self.route)
 
-    @cache
     def row(self, address):
         matching = [row for row in self.rows if covers(row.prefix, mapped(address))]
         return max(matching, key=lambda row: row.prefix.length)
 
-    @cache
     def route(self, destination):
         matching = [
             route
