@@ -46,6 +46,7 @@ hosts:
 	scripts/hosts $(HE)
 
 fuzz:
+	scripts/fuzz $(HE) --large --seed $(SEED)
 	scripts/fuzz $(HE) --seconds $(SECONDS) --seed $(SEED)
 
 manual:
