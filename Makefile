@@ -1,19 +1,25 @@
 # What a newcomer needs. The README says what each does and how long it takes.
-.PHONY: help race test edits install examples hostile hosts
+.PHONY: help race test edits install examples hostile hosts fuzz manual
 
 PREFIX ?= /usr/local
 RACE ?= crates/cases/data/ipv6-late-but-within-delay-leads.timeline
 HE ?= crates/he_tool/out/he_tool
+SECONDS ?= 60
+SEED ?= 1
 
 help:
 	@echo 'make race                  replays an example race, with the program unproved: the fastest way to see a transcript'
 	@echo 'make race RACE=FILE        replays the races of a file the same way'
 	@echo 'make test                  the gate: proves every crate, tries the wrong edits, runs the tests and the program'
 	@echo 'make edits                 tries the wrong edits that the gate leaves out: each must be refused'
-	@echo 'make install PREFIX=DIR    proves and builds the program, and puts it at DIR/bin/he'
+	@echo 'make install PREFIX=DIR    proves and builds the program, and puts it at DIR/bin/he, its manual page and its'
+	@echo '                           completion below DIR/share'
 	@echo 'make examples HE=FILE      runs a built program over all examples'
 	@echo 'make hostile HE=FILE       runs a built program over streams that fail and with too little memory'
 	@echo 'make hosts HE=FILE         tries tools/host-lines on recorded hosts, and has a built program read its lines'
+	@echo 'make fuzz SECONDS=60 SEED=1 HE=FILE'
+	@echo '                           compares a built program with a plain reading of the rules, on texts that are drawn'
+	@echo 'make manual HE=FILE        compares the help of a built program with its manual page and its completion'
 
 race:
 	@cd crates/he_tool && rt try -- replay < $(abspath $(RACE))
@@ -27,6 +33,8 @@ edits:
 install:
 	cd crates/he_tool && rt run -- --version
 	install -D -m 755 crates/he_tool/out/he_tool $(PREFIX)/bin/he
+	install -D -m 644 docs/he.1 $(PREFIX)/share/man/man1/he.1
+	install -D -m 644 completions/he.bash $(PREFIX)/share/bash-completion/completions/he
 
 examples:
 	scripts/examples $(HE)
@@ -36,3 +44,10 @@ hostile:
 
 hosts:
 	scripts/hosts $(HE)
+
+fuzz:
+	scripts/fuzz $(HE) --large --seed $(SEED)
+	scripts/fuzz $(HE) --seconds $(SECONDS) --seed $(SEED)
+
+manual:
+	scripts/manual $(HE)

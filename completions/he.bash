@@ -1,0 +1,20 @@
+# Completion of the command line of he in bash. Installed as PREFIX/share/bash-completion/completions/he, or read by
+# hand: . completions/he.bash
+_he() {
+    local word=${COMP_WORDS[COMP_CWORD]} before=${COMP_WORDS[COMP_CWORD - 1]} command=
+    local commands='replay order check live help' options=
+    [ "$COMP_CWORD" -gt 1 ] && command=${COMP_WORDS[1]}
+    case $before in
+        --workers | --port) COMPREPLY=(); return ;;
+    esac
+    case $command in
+        '') options="$commands --help --version -h -V" ;;
+        replay) options='--workers --help -h' ;;
+        order) options='--help -h' ;;
+        check) options='--help -h' ;;
+        live) options='--port --help -h' ;;
+        help) options=$commands ;;
+    esac
+    mapfile -t COMPREPLY < <(compgen -W "$options" -- "$word")
+}
+complete -o default -F _he he

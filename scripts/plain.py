@@ -1,0 +1,636 @@
+#!/usr/bin/env python3
+"""A plain reading of the rules in docs/DEFINITIONS.md, RFC 8305 and RFC 6724, apart from the program.
+
+It says what `he replay` and `he order` write for a text: the output, and the line of a fault. It is as slow and plain
+as it can be, and shares nothing with the program: who compares both (scripts/fuzz) finds where they differ.
+
+needs: python3, its standard library alone
+usage: scripts/plain.py replay < TEXT
+       scripts/plain.py order < TEXT
+"""
+import re
+import sys
+from collections import namedtuple
+from functools import lru_cache
+
+MOST_RACES = 1024
+MOST_LINE_BYTES = 4096
+MOST_LISTED = 64
+MOST_PAUSES = 136
+MOST_TICK = 3_600_000
+MOST_PAUSE_END = 3_600_001
+MOST_WORD = 65_535
+MAPPED = 0xFFFF << 32
+# A race with a limit up to this one is followed tick by tick.
+PLAIN_LIMIT = 3_000
+
+# Keeps the latest answers of a function, since a plain reading asks the same again and again.
+kept = lru_cache(maxsize=1 << 16)
+
+Address = namedtuple("Address", "family number")
+# The first number that it contains (as an IPv6 number), and its length (of 128).
+Prefix = namedtuple("Prefix", "number length")
+Row = namedtuple("Row", "prefix precedence label")
+Source = namedtuple("Source", "address length interface deprecated temporary")
+Route = namedtuple("Route", "prefix interface tunnel")
+Answer = namedtuple("Answer", "tick addresses")
+
+MAPPED_BLOCK = Prefix(MAPPED, 96)
+ALL = Prefix(0, 0)
+SETTINGS = {
+    "resolution": (0, 1000, 50),
+    "attempt": (10, 2000, 250),
+    "count": (1, 8, 1),
+    "limit": (1, MOST_TICK, 30_000),
+}
+GROUPS = ["set", "policy", "source", "route", "aaaa", "a", "connect", "pause", "end"]
+
+
+class Fault(Exception):
+    """What is wrong with a line."""
+
+
+# Addresses and their texts: RFC 4291 section 2.2, RFC 5952 section 4
+
+
+def read_v4(text):
+    parts = text.split(".")
+    if len(parts) != 4:
+        return None
+    number = 0
+    for part in parts:
+        if not re.fullmatch("0|[1-9][0-9]{0,2}", part) or int(part) > 255:
+            return None
+        number = number * 256 + int(part)
+    return number
+
+
+def read_groups(text, dotted_end):
+    """The groups between single colons, as a list of numbers; the last two may be an IPv4 text."""
+    groups = []
+    if text == "":
+        return groups
+    parts = text.split(":")
+    for place, part in enumerate(parts):
+        if re.fullmatch("[0-9a-fA-F]{1,4}", part):
+            groups.append(int(part, 16))
+        elif dotted_end and place == len(parts) - 1 and read_v4(part) is not None:
+            groups += [read_v4(part) >> 16, read_v4(part) & 0xFFFF]
+        else:
+            return None
+    return groups
+
+
+def read_v6(text):
+    halves = text.split("::")
+    if len(halves) == 1:
+        groups = read_groups(text, True)
+        if groups is None or len(groups) != 8:
+            return None
+    elif len(halves) == 2:
+        left, right = read_groups(halves[0], False), read_groups(halves[1], True)
+        if left is None or right is None or len(left) + len(right) > 7:
+            return None
+        groups = left + [0] * (8 - len(left) - len(right)) + right
+    else:
+        return None
+    number = 0
+    for group in groups:
+        number = number * 65536 + group
+    return number
+
+
+@kept
+def read_address(text):
+    number = read_v4(text)
+    if number is not None:
+        return Address(4, number)
+    number = read_v6(text)
+    return None if number is None else Address(6, number)
+
+
+def print_address(address):
+    if address.family == 4:
+        return ".".join(str(address.number >> shift & 255) for shift in (24, 16, 8, 0))
+    groups = [address.number >> shift & 0xFFFF for shift in range(112, -1, -16)]
+    best, best_start = 1, None
+    for start in range(8):
+        length = 0
+        while start + length < 8 and groups[start + length] == 0:
+            length += 1
+        if length > best:
+            best, best_start = length, start
+    words = [format(group, "x") for group in groups]
+    if best_start is None:
+        return ":".join(words)
+    return ":".join(words[:best_start]) + "::" + ":".join(words[best_start + best:])
+
+
+def mapped(address):
+    return address.number + MAPPED if address.family == 4 else address.number
+
+
+def bits_of(family):
+    return 32 if family == 4 else 128
+
+
+def covers(prefix, number):
+    """Whether the IPv6 number begins with the prefix's bits."""
+    return number >> (128 - prefix.length) == prefix.number >> (128 - prefix.length)
+
+
+@kept
+def is_in(text, address):
+    """Whether the address lies in the block that the text spells."""
+    block, length = text.split("/")
+    first = read_address(block)
+    shift = bits_of(first.family) - int(length)
+    return address.family == first.family and address.number >> shift == first.number >> shift
+
+
+@kept
+def is_usable(address):
+    unusable = ["224.0.0.0/4", "0.0.0.0/32", "ff00::/8", "::/128", "::ffff:0:0/96"]
+    return not any(is_in(block, address) for block in unusable)
+
+
+@kept
+def scope(address):
+    if any(is_in(block, address) for block in ["fe80::/10", "::1/128", "169.254.0.0/16", "127.0.0.0/8"]):
+        return 2
+    return 5 if is_in("fec0::/10", address) else 14
+
+
+@kept
+def common(source, destination):
+    """RFC 6724 section 2.2: the length of the common prefix, at most the source's prefix length."""
+    bits = bits_of(destination.family)
+    length = 0
+    while length < source.length and (
+        source.address.number >> (bits - length - 1) == destination.number >> (bits - length - 1)
+    ):
+        length += 1
+    return length
+
+
+def read_parts(text):
+    """An address and a length, as a source has them."""
+    match = re.fullmatch("(.*)/(0|[1-9][0-9]{0,2})", text)
+    address = read_address(match[1]) if match else None
+    if address is None or int(match[2]) > bits_of(address.family):
+        return None
+    return address, int(match[2])
+
+
+def read_prefix(text):
+    parts = read_parts(text)
+    if parts is None:
+        return None
+    address, length = parts
+    if address.number & ((1 << (bits_of(address.family) - length)) - 1):
+        return None
+    return Prefix(mapped(address), length + 128 - bits_of(address.family))
+
+
+# The rules of RFC 6724
+
+
+STANDARD_ROWS = [
+    ("::1/128", 50, 0),
+    ("::/0", 40, 1),
+    ("::ffff:0:0/96", 35, 4),
+    ("2002::/16", 30, 2),
+    ("2001::/32", 5, 5),
+    ("fc00::/7", 3, 13),
+    ("::/96", 1, 3),
+    ("fec0::/10", 1, 11),
+    ("3ffe::/16", 1, 12),
+]
+STANDARD = [Row(read_prefix(text), precedence, label) for text, precedence, label in STANDARD_ROWS]
+
+
+@kept
+def is_v4_prefix(prefix):
+    return prefix.length >= 96 and covers(MAPPED_BLOCK, prefix.number)
+
+
+class Host:
+    """The policy table, the sources and the routes of a race."""
+
+    def __init__(self, rows, sources, routes):
+        self.rows, self.sources, self.routes = rows or STANDARD, sources, routes
+        # Kept for this host alone, so that nothing outlives it.
+        self.row, self.route = kept(self.row), kept(self.route)
+
+    def row(self, address):
+        matching = [row for row in self.rows if covers(row.prefix, mapped(address))]
+        return max(matching, key=lambda row: row.prefix.length)
+
+    def route(self, destination):
+        matching = [
+            route
+            for route in self.routes
+            if covers(route.prefix, mapped(destination)) and is_v4_prefix(route.prefix) == (destination.family == 4)
+        ]
+        return max(matching, key=lambda route: route.prefix.length, default=None)
+
+    def candidates(self, destination):
+        route = self.route(destination)
+        if route is None:
+            return []
+        sources = [source for source in self.sources if source.address.family == destination.family]
+        if scope(destination) == 2:
+            sources = [source for source in sources if source.interface == route.interface]
+        return sources
+
+    def is_better_source(self, one, two, destination):
+        """RFC 6724 section 5: whether one goes before two."""
+        if (one.address == destination) != (two.address == destination):
+            return one.address == destination
+        if scope(one.address) != scope(two.address):
+            if scope(one.address) < scope(two.address):
+                return scope(one.address) >= scope(destination)
+            return scope(two.address) < scope(destination)
+        if one.deprecated != two.deprecated:
+            return two.deprecated
+        out = self.route(destination).interface
+        if (one.interface == out) != (two.interface == out):
+            return one.interface == out
+        label = self.row(destination).label
+        matches = [self.row(source.address).label == label for source in (one, two)]
+        if matches[0] != matches[1]:
+            return matches[0]
+        if one.temporary != two.temporary:
+            return one.temporary
+        return common(one, destination) > common(two, destination)
+
+    def source(self, destination):
+        candidates = self.candidates(destination)
+        for source in candidates:
+            if not any(self.is_better_source(other, source, destination) for other in candidates):
+                return source
+        return None
+
+    def facts(self, address):
+        """What the destination rules ask of an address."""
+        source, route = self.source(address), self.route(address)
+        return {
+            "address": address,
+            "source": source,
+            "scope": scope(address),
+            "scopes": source is not None and scope(source.address) == scope(address),
+            "labels": source is not None and self.row(source.address).label == self.row(address).label,
+            "precedence": self.row(address).precedence,
+            "native": route is None or not route.tunnel,
+        }
+
+    def order(self, addresses):
+        """RFC 6724 section 6: pairs of address and source, each at the place that counts those preferred to it."""
+        facts = [self.facts(address) for address in addresses]
+        places = {}
+        for mine, fact in enumerate(facts):
+            place = sum(is_preferred(other, fact, at < mine) for at, other in enumerate(facts) if at != mine)
+            assert place not in places
+            places[place] = (fact["address"], fact["source"])
+        return [places[place] for place in range(len(facts))]
+
+
+def is_preferred(one, two, stands_first):
+    """RFC 6724 section 6: whether one goes before two."""
+    reached = [one["source"] is not None, two["source"] is not None]
+    if reached[0] != reached[1]:
+        return reached[0]
+    if all(reached):
+        if one["scopes"] != two["scopes"]:
+            return one["scopes"]
+        if one["source"].deprecated != two["source"].deprecated:
+            return two["source"].deprecated
+        if one["labels"] != two["labels"]:
+            return one["labels"]
+    if one["precedence"] != two["precedence"]:
+        return one["precedence"] > two["precedence"]
+    if one["native"] != two["native"]:
+        return one["native"]
+    if one["scope"] != two["scope"]:
+        return one["scope"] < two["scope"]
+    if all(reached) and one["address"].family == two["address"].family:
+        lengths = [common(fact["source"], fact["address"]) for fact in (one, two)]
+        if lengths[0] != lengths[1]:
+            return lengths[0] > lengths[1]
+    return stands_first
+
+
+# The course of a race: RFC 8305 sections 3 to 5
+
+
+def interlace(addresses, count):
+    """RFC 8305 section 4, by the keys of the definition."""
+    seen, keyed = {4: 0, 6: 0}, []
+    for place, address in enumerate(addresses):
+        member = seen[address.family]
+        seen[address.family] += 1
+        leads = address.family == addresses[0].family
+        keyed.append((2 * max(0, member - count + 1) if leads else 2 * member + 1, place))
+    return [addresses[place] for _, place in sorted(keyed)]
+
+
+class Race:
+    def __init__(self):
+        self.settings, self.rows, self.sources, self.routes = {}, [], [], []
+        self.answers, self.outcomes, self.pauses = {}, {}, []
+
+    def setting(self, name):
+        return self.settings.get(name, SETTINGS[name][2])
+
+    def host(self):
+        return Host(self.rows, self.sources, self.routes)
+
+    def usable(self, name):
+        answer = self.answers.get(name)
+        return [] if answer is None else [address for address in answer.addresses if is_usable(address)]
+
+    def seen(self, tick):
+        for start, end in self.pauses:
+            if start <= tick < end:
+                tick = end
+        return tick
+
+    def is_seen(self, name, tick):
+        return name in self.answers and self.seen(self.answers[name].tick) <= tick
+
+    def received(self, tick):
+        return [address for name in ("aaaa", "a") if self.is_seen(name, tick) for address in self.usable(name)]
+
+    def may_begin(self, tick):
+        if self.is_seen("aaaa", tick) and self.usable("aaaa"):
+            return True
+        if not (self.is_seen("a", tick) and self.usable("a")):
+            return False
+        return self.is_seen("aaaa", tick) or self.seen(self.answers["a"].tick + self.setting("resolution")) <= tick
+
+    def ticks_from(self, least):
+        """The ticks from the least one on at which something may change: all, where the race is short."""
+        limit = self.setting("limit")
+        if limit <= PLAIN_LIMIT:
+            return range(least, limit)
+        ticks = {least, self.seen(least)}
+        for answer in self.answers.values():
+            ticks |= {self.seen(answer.tick), self.seen(answer.tick + self.setting("resolution"))}
+        return [tick for tick in sorted(ticks) if least <= tick < limit]
+
+    def attempts(self):
+        """Pairs of start and address."""
+        host, tried, made, lists = self.host(), [], [], {}
+        while True:
+            least = made[-1][0] + self.setting("attempt") if made else 0
+            for tick in self.ticks_from(least):
+                if self.seen(tick) != tick or not (made or self.may_begin(tick)):
+                    continue
+                received = self.received(tick)
+                if all(address in tried for address in received):
+                    continue
+                # Only kept so as not to sort the same list again.
+                if len(received) not in lists:
+                    ordered = [address for address, _ in host.order(received)]
+                    lists[len(received)] = interlace(ordered, self.setting("count"))
+                address = next(address for address in lists[len(received)] if address not in tried)
+                tried.append(address)
+                made.append((tick, address))
+                break
+            else:
+                return made
+
+    def transcript(self):
+        limit, attempts, finishes = self.setting("limit"), self.attempts(), []
+        for start, address in attempts:
+            outcome = self.outcomes.get(address)
+            tick = None if outcome is None else self.seen(start + outcome[1])
+            finishes.append(None if tick is None or tick > limit else (outcome[0], tick))
+        successes = [(end[1], place) for place, end in enumerate(finishes) if end and end[0] == "ok"]
+        stop, winner = min(successes, default=(limit, None))
+        lines = []
+        for place, ((start, address), end) in enumerate(zip(attempts, finishes)):
+            if start >= stop:
+                continue
+            if place == winner:
+                fate = f"won {stop}"
+            elif end and end[0] == "fail" and end[1] <= stop:
+                fate = f"failed {end[1]}"
+            else:
+                fate = f"cancelled {stop}"
+            lines.append(f"attempt {place} {start} {print_address(address)} {fate}\n")
+        return "".join(lines) + self.result(attempts, finishes, stop, winner) + "\n"
+
+    def result(self, attempts, finishes, stop, winner):
+        limit = self.setting("limit")
+        if winner is not None:
+            return f"won {winner} {stop}"
+        answered = self.is_seen("aaaa", limit) and self.is_seen("a", limit)
+        all_tried = len(attempts) == len(self.usable("aaaa")) + len(self.usable("a"))
+        if answered and all_tried and all(finishes):
+            ticks = [self.seen(answer.tick) for answer in self.answers.values()] + [end[1] for end in finishes]
+            return f"exhausted {max(ticks)}"
+        return f"limit {limit}"
+
+    def order(self):
+        lines = []
+        for place, (address, source) in enumerate(self.host().order(self.usable("aaaa") + self.usable("a"))):
+            name = "none" if source is None else print_address(source.address)
+            lines.append(f"{place} {print_address(address)} from {name}\n")
+        return "".join(lines) + "end\n"
+
+
+# Texts of timelines and their faults, check by check
+
+
+def number(token, least, most):
+    if not re.fullmatch("0|[1-9][0-9]{0,9}", token):
+        raise Fault("number")
+    if not least <= int(token) <= most:
+        raise Fault("range")
+    return int(token)
+
+
+def keyword(token, words):
+    if token not in words:
+        raise Fault("word")
+    return token
+
+
+def once(value, values):
+    if value in values:
+        raise Fault("repeated")
+
+
+def prefix_of(token):
+    prefix = read_prefix(token)
+    if prefix is None:
+        raise Fault("prefix")
+    return prefix
+
+
+class Reader:
+    """Reads one race from the lines of a text; a line is its bytes without the line feed, as Latin-1."""
+
+    def __init__(self):
+        self.race, self.group, self.counts = Race(), -1, {}
+
+    def line(self, line, next_line):
+        """Reads a line; true for the last one. The next line is None where no whole one of fit length follows."""
+        tokens = line.split(" ")
+        word = tokens[0]
+        if word not in GROUPS or GROUPS.index(word) < self.group:
+            raise Fault("word")
+        self.group = GROUPS.index(word)
+        self.counts[word] = self.counts.get(word, 0) + 1
+        if word in ("aaaa", "a") and self.counts[word] > 1:
+            raise Fault("repeated")
+        if word in ("policy", "source", "route") and self.counts[word] > MOST_LISTED:
+            raise Fault("too many")
+        if word == "pause" and self.counts[word] > MOST_PAUSES:
+            raise Fault("too many")
+        self.check_length(word, len(tokens))
+        if word == "end":
+            return True
+        getattr(self, "answer" if word in ("aaaa", "a") else word)(tokens)
+        if word == "policy" and (next_line is None or next_line.split(" ")[0] != "policy"):
+            self.check_table()
+        return False
+
+    def check_length(self, word, length):
+        least = {"set": 3, "policy": 4, "source": 3, "route": 3, "aaaa": 3, "a": 3, "connect": 4, "pause": 3, "end": 1}
+        most = {"set": 3, "policy": 4, "source": 5, "route": 4, "connect": 4, "pause": 3, "end": 1}
+        if length < least[word] or length > most.get(word, length):
+            raise Fault("word")
+        if word in ("aaaa", "a") and length - 2 > MOST_LISTED:
+            raise Fault("too many")
+
+    def set(self, tokens):
+        name = keyword(tokens[1], SETTINGS)
+        value = number(tokens[2], *SETTINGS[name][:2])
+        once(name, self.race.settings)
+        self.race.settings[name] = value
+
+    def policy(self, tokens):
+        prefix = prefix_of(tokens[1])
+        row = Row(prefix, number(tokens[2], 0, MOST_WORD), number(tokens[3], 0, MOST_WORD))
+        once(prefix, [other.prefix for other in self.race.rows])
+        self.race.rows.append(row)
+
+    def check_table(self):
+        rows = self.race.rows
+        if ALL not in [row.prefix for row in rows]:
+            raise Fault("policy has no ::/0")
+        if MAPPED_BLOCK not in [row.prefix for row in rows]:
+            raise Fault("policy has no ::ffff:0:0/96")
+        for one, first in enumerate(rows):
+            for two, second in enumerate(rows):
+                same = first.precedence == second.precedence
+                if one < two and same and is_v4_prefix(first.prefix) != is_v4_prefix(second.prefix):
+                    raise Fault(f"policy rows {one} and {two} share a precedence")
+
+    def source(self, tokens):
+        parts = read_parts(tokens[1])
+        if parts is None:
+            raise Fault("prefix")
+        address, length = parts
+        if not is_usable(address):
+            raise Fault("address")
+        interface = number(tokens[2], 1, MOST_WORD)
+        marks = tokens[3:]
+        if len(marks) == 1:
+            keyword(marks[0], ["deprecated", "temporary"])
+        elif len(marks) == 2 and marks != ["deprecated", "temporary"]:
+            raise Fault("word")
+        once(address, [source.address for source in self.race.sources])
+        self.race.sources.append(Source(address, length, interface, "deprecated" in marks, "temporary" in marks))
+
+    def route(self, tokens):
+        prefix = prefix_of(tokens[1])
+        interface = number(tokens[2], 1, MOST_WORD)
+        if len(tokens) == 4:
+            keyword(tokens[3], ["tunnel"])
+        once(prefix, [route.prefix for route in self.race.routes])
+        self.race.routes.append(Route(prefix, interface, len(tokens) == 4))
+
+    def answer(self, tokens):
+        family = 6 if tokens[0] == "aaaa" else 4
+        tick = number(tokens[1], 0, MOST_TICK)
+        addresses = [] if tokens[2:] == ["none"] else [read_address(token) for token in tokens[2:]]
+        if any(address is None or address.family != family for address in addresses):
+            raise Fault("address")
+        if len(set(addresses)) < len(addresses):
+            raise Fault("repeated")
+        self.race.answers[tokens[0]] = Answer(tick, addresses)
+
+    def connect(self, tokens):
+        address = read_address(tokens[1])
+        if address is None or not any(address in answer.addresses for answer in self.race.answers.values()):
+            raise Fault("address")
+        kind = keyword(tokens[2], ["ok", "fail"])
+        duration = number(tokens[3], 1, MOST_TICK)
+        once(address, self.race.outcomes)
+        self.race.outcomes[address] = (kind, duration)
+
+    def pause(self, tokens):
+        start, end = number(tokens[1], 0, MOST_TICK), number(tokens[2], 1, MOST_PAUSE_END)
+        if start >= end or self.race.pauses and start < self.race.pauses[-1][1]:
+            raise Fault("range")
+        self.race.pauses.append((start, end))
+
+
+def whole_lines(text):
+    """The lines of a text as pairs of line and whether it is whole; the last one may be the empty rest."""
+    parts = text.split("\n")
+    return [(part, True) for part in parts[:-1]] + [(parts[-1], False)]
+
+
+def read_text(text):
+    """The races of a text up to its first fault, and the fault: its line, counted from 1, and what is wrong."""
+    lines, races, reader = whole_lines(text), [], None
+    for place, (line, is_whole) in enumerate(lines):
+        if reader is None and not is_whole and line == "":
+            return races, None
+        try:
+            if reader is None and len(races) == MOST_RACES:
+                raise Fault("too many")
+            if len(line) > MOST_LINE_BYTES:
+                raise Fault("too many")
+            if not is_whole:
+                raise Fault("unfinished")
+            if reader is None:
+                if line != "race 1":
+                    raise Fault("header")
+                reader = Reader()
+                continue
+            follows = lines[place + 1]
+            next_line = follows[0] if follows[1] and len(follows[0]) <= MOST_LINE_BYTES else None
+            if reader.line(line, next_line):
+                races.append(reader.race)
+                reader = None
+        except Fault as fault:
+            return races, (place + 1, str(fault))
+    raise AssertionError("the last line is never whole")
+
+
+def said(text):
+    """What the program writes for the text (bytes): of `replay`, of `order`, and of the fault."""
+    races, fault = read_text(text.decode("latin-1"))
+    replayed = "".join(race.transcript() for race in races)
+    ordered = "".join(race.order() for race in races)
+    line = "" if fault is None else f"he: line {fault[0]}: {fault[1]}\n"
+    return replayed.encode(), ordered.encode(), line.encode()
+
+
+def main():
+    if sys.argv[1:] not in (["replay"], ["order"]):
+        sys.exit("usage: scripts/plain.py replay|order < TEXT")
+    replayed, ordered, fault = said(sys.stdin.buffer.read())
+    sys.stdout.buffer.write(replayed if sys.argv[1] == "replay" else ordered)
+    sys.stdout.buffer.flush()
+    sys.stderr.buffer.write(fault)
+    sys.exit(1 if fault else 0)
+
+
+if __name__ == "__main__":
+    main()
