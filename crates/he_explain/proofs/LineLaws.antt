@@ -1,5 +1,5 @@
 -- The lines that are written are those of the definition.
-use Rattle.std.proofs.Common.{◌≡◌, ◌≢◌, ℕ, ◌+◌, ◌-◌, ◌<◌, ◌≤◌, List, [], ◌∷◌, ◌++◌, codes, decimal, drop, get_or, length, map, refl, sym, ◌∙◌, ap, subst, append_assoc}
+use Rattle.std.proofs.Common.{◌≡◌, ◌≢◌, ℕ, ◌+◌, ◌-◌, ◌<◌, ◌≤◌, List, [], ◌∷◌, ◌++◌, codes, decimal, drop, get_or, length, map, refl, sym, ◌∙◌, ap, append_assoc}
 use Rattle.std.specs.Prelude.{Option, None, Some, option_map, AllPairs}
 use Rattle.std.specs.Option.{option_map_or}
 use Rattle.std.proofs.lemmas.List.{append-nil, at_drop_all, at_drop_more}
@@ -22,8 +22,8 @@ use Rattle.he_explain.specs.declared.traits.SourceTraits.{SourceTraits}
 use Rattle.he_explain.specs.declared.traits.Traits.{Traits}
 use Rattle.he_explain.specs.Deciding.{deciding_rule}
 use Rattle.he_explain.specs.Reasons.{after_text, behind_text, compared_text, order_reasons_text, place_text, reason_line, reason_lines, reason_text, rule_text, values_text, with_source_text}
-use Rattle.he_explain.specs.Traits.{rule_between, source_traits_of, traits_by, traits_of}
-use Rattle.he_explain.specs.Writing.{behind_by, compared_by, line_by, lines_by, place_by, placed_by, reason_by, rule_by, source_by}
+use Rattle.he_explain.specs.Traits.{source_traits_of, traits_by, traits_of}
+use Rattle.he_explain.specs.Writing.{behind_by, compared_by, line_by, lines_by, placed_by, reason_by, source_by}
 use Rattle.he_explain.proofs.DecidingLaws.{rule_is}
 use Rattle.he_explain.proofs.SourceLaws.{traits_agree}
 

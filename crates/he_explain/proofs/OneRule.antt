@@ -1,5 +1,5 @@
 -- Between two members at different places just one rule decides.
-use Rattle.std.proofs.Common.{◌≡◌, ◌≢◌, ℕ, zero, suc, ◌+◌, ◌<◌, ◌≤◌, Bool, true, false, cond, List, [], ◌∷◌, length, refl, sym, ◌∙◌, ap, subst, arith, inl, inr, slice_get}
+use Rattle.std.proofs.Common.{◌≡◌, ℕ, zero, suc, ◌<◌, Bool, true, false, cond, List, [], ◌∷◌, length, refl, sym, ◌∙◌, ap, arith, inl, inr, slice_get}
 use Rattle.std.specs.Prelude.{Some, ◌⊎◌}
 use Rattle.std.specs.List.{slice_index_or}
 use Rattle.std.specs.declared.cmp.Ordering.{Ordering}
@@ -13,8 +13,8 @@ use Rattle.he_select.specs.Selection.{SelectionInput}
 use Rattle.he_select.proofs.Orders.{tied_numbers}
 use Rattle.he_explain.specs.declared.deciding.DestinationRule.{DestinationRule}
 use Rattle.he_explain.specs.declared.deciding.DestinationRule.TheVariants as rules
-use Rattle.he_explain.specs.Deciding.{DecidesAt, deciding_rule, first_deciding, rules_in_order}
-use Rattle.he_explain.specs.Laws.{IsOneRule, OneRuleDecides}
+use Rattle.he_explain.specs.Deciding.{deciding_rule, first_deciding, rules_in_order}
+use Rattle.he_explain.specs.Laws.{OneRuleDecides}
 
 abbrev Ties : Member → Member → Rule Member → Type 0
 Ties a b rule = rule a b ≡ Equal
@@ -56,10 +56,13 @@ find_first a b (rule ∷ more) (name ∷ names) same =
       | inr decides ↦ inr (0, here a b rule more name names decides.0 decides.1)
       | inl tied ↦ elim (find_first a b more names (omega (arith, same))) [
         | inl all ↦ inl (tied, all)
-        | inr found ↦ inr (suc found.0, record {
+        | inr found ↦ inr (
+          suc found.0,
+          record {
             decides = earlier_later a b rule more found.0 tied found.1.decides;
             named = found.1.named ∙ ap (λ (o : Ordering). Some (cond (is_eq o) (first_deciding more names a b) name)) (sym tied);
-          })
+          },
+        )
       ]
     ]
 
@@ -95,9 +98,12 @@ pub one_rule : OneRuleDecides
 one_rule input a b other =
     elim (find_first a b (destination_rules input) rules_in_order (rules_counted input)) [
       | inl all ↦ absurd (other (not_all input a b all))
-      | inr found ↦ (found.0, record {
+      | inr found ↦ (
+        found.0,
+        record {
           decides = found.1.decides;
           only = λ n first. only_one a b (destination_rules input) n found.0 first found.1.decides;
           named = found.1.named ∙ ap Some (same_name input a b);
-        })
+        },
+      )
     ]

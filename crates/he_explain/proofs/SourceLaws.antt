@@ -1,5 +1,5 @@
 -- The source that has the address that a host's source has is that source.
-use Rattle.std.proofs.Common.{◌≡◌, ◌≢◌, ℕ, zero, suc, ◌+◌, ◌<◌, ◌==◌, Bool, true, false, IsTrue, ◌&&◌, cond, List, [], ◌∷◌, length, filter, refl, sym, ◌∙◌, ap, subst, arith, inl, inr}
+use Rattle.std.proofs.Common.{◌≡◌, ◌≢◌, ℕ, zero, suc, ◌<◌, Bool, true, false, IsTrue, cond, List, [], ◌∷◌, length, filter, refl, sym, ◌∙◌, ap, subst, arith, inl, inr}
 use Rattle.std.specs.Prelude.{Option, None, Some, IfSome, find, option_map, AllPairs, ◌⊎◌}
 use Rattle.std.specs.List.{list_all, slice_index_or}
 use Rattle.std.specs.Option.{option_map_or}
@@ -9,10 +9,8 @@ use Rattle.he_addr.specs.declared.ip.Ip.TheVariants.{V4, V6}
 use Rattle.he_addr.specs.Ip.{same_ip}
 use Rattle.he_select.specs.declared.host.Route.{Route}
 use Rattle.he_select.specs.declared.host.Source.{Source}
-use Rattle.he_select.specs.Hosts.{HostLists, IsHost}
 use Rattle.he_select.specs.Preference.{sourced_by}
-use Rattle.he_select.specs.Rules.{best_by}
-use Rattle.he_select.specs.Selection.{SelectionInput, candidates, is_better, is_candidate, route_of, source_of}
+use Rattle.he_select.specs.Selection.{SelectionInput, candidates, is_candidate, route_of, source_of}
 use Rattle.he_select.proofs.Families.{Among}
 use Rattle.he_explain.specs.Traits.{found_source, traits_by, traits_of, traits_with}
 
@@ -30,10 +28,10 @@ module _ {X : Type 0} where
   kept_among p (y ∷ ys) x h =
       elim (cases_Bool (p y)) [
         | inl here ↦ let split : (x ≡ y) ⊎ Among x (filter p ys) = rw here at h in
-          elim split [
-            | inl same ↦ inl same
-            | inr later ↦ inr (kept_among p ys x later)
-          ]
+            elim split [
+              | inl same ↦ inl same
+              | inr later ↦ inr (kept_among p ys x later)
+            ]
         | inr gone ↦ inr (kept_among p ys x (rw gone at h))
       ]
 

@@ -40,8 +40,8 @@ after_text later earlier = values_text (codes ": ") later (codes " after ") earl
 abbrev pub of_source : SelectionInput → (Source → ℕ) → Ip → ℕ
 of_source input number ip = option_map_or number (source_of input ip) 0
 
--- the values that a rule compares. Rules 2 and 5 compare those of the later address with those of its source; rules 1, 3, 7
--- and 10 compare none
+-- the values that a rule compares. Rules 2 and 5 compare those of the later address with those of its source; rules
+-- 1, 3, 7 and 10 compare none
 abbrev pub compared_text : SelectionInput → Ip → Ip → DestinationRule → List ℕ
 compared_text input earlier later rules.AvoidUnusable = []
 compared_text input earlier later rules.MatchingScope =
@@ -83,7 +83,7 @@ abbrev pub reason_lines : SelectionInput → ℕ → Option Ip → List Ip → L
 reason_lines input place earlier [] = []
 reason_lines input place earlier (ip ∷ ips) = reason_line input place earlier ip ++ reason_lines input (place + 1) (Some ip) ips
 
--- the usable addresses of both answers in sorted order, not interlaced, each with its source and with what puts it behind the
--- one before
+-- the usable addresses of both answers in sorted order, not interlaced, each with its source and with what puts it
+-- behind the one before
 abbrev pub order_reasons_text : Race → List ℕ
 order_reasons_text race = reason_lines (selection_input race.policy race.host) 0 None (order race (usable_addresses race))

@@ -56,11 +56,23 @@ fn write_compared<A: Allocator + Copy>(
     match rule {
         DestinationRule::MatchingScope => {
             let of_source = source_scope(later) as u64;
-            write_values(b": scope ", later.scope as u64, b" but source scope ", of_source, out)
+            write_values(
+                b": scope ",
+                later.scope as u64,
+                b" but source scope ",
+                of_source,
+                out,
+            )
         }
         DestinationRule::MatchingLabel => {
             let of_source = source_label(later) as u64;
-            write_values(b": label ", later.label as u64, b" but source label ", of_source, out)
+            write_values(
+                b": label ",
+                later.label as u64,
+                b" but source label ",
+                of_source,
+                out,
+            )
         }
         DestinationRule::HigherPrecedence => {
             write_after(later.precedence as u64, earlier.precedence as u64, out)
@@ -77,7 +89,10 @@ fn write_compared<A: Allocator + Copy>(
 }
 
 // by rule NUMBER, NAME, behind a space
-fn write_name<A: Allocator + Copy>(rule: DestinationRule, out: &mut Vec<u8, A>) -> Result<(), Memory>
+fn write_name<A: Allocator + Copy>(
+    rule: DestinationRule,
+    out: &mut Vec<u8, A>,
+) -> Result<(), Memory>
     ensures { AppendsText result out.old.items out.new.items (codes " by rule " ++ rule_text rule) }
 {
     write_bytes(b" by rule ", out)?;
@@ -210,14 +225,14 @@ fn write_whole<A: Allocator + Copy, B: Allocator>(
     write_lines(timeline.policy(), timeline.host(), &sorted, out)
 }
 
-/// Appends the order in which the race's addresses would be tried if all of them were there, with its reasons (RFC 6724
-/// section 6): the usable addresses of both answers, whatever their ticks, sorted and not interlaced. Each has the line
-/// `order N ADDRESS source SOURCE` with N from 0, or `order N ADDRESS without source` where the host can't reach it, and from
-/// the second on this line ends with `, behind M by rule NUMBER, NAME`: M is the place before, and the rule the first one of
-/// that section that tells the two addresses apart. Where the rule compares values, they follow: `: 35 after 40`, that of the
-/// later address first, for precedences (rule 6), scopes (8) and common prefix lengths in bits (9); `: scope 14 but source
-/// scope 2` and `: label 1 but source label 5` of the later address for rules 2 and 5. After `Memory` the vector holds what it
-/// held.
+/// Appends the order in which the race's addresses would be tried if all of them were there, with its reasons (RFC
+/// 6724 section 6): the usable addresses of both answers, whatever their ticks, sorted and not interlaced. Each has
+/// the line `order N ADDRESS source SOURCE` with N from 0, or `order N ADDRESS without source` where the host can't
+/// reach it, and from the second on this line ends with `, behind M by rule NUMBER, NAME`: M is the place before, and
+/// the rule the first one of that section that tells the two addresses apart. Where the rule compares values, they
+/// follow: `: 35 after 40`, that of the later address first, for precedences (rule 6), scopes (8) and common prefix
+/// lengths in bits (9); `: scope 14 but source scope 2` and `: label 1 but source label 5` of the later address for
+/// rules 2 and 5. After `Memory` the vector holds what it held.
 pub fn write_order_reasons<A: Allocator + Copy, B: Allocator>(
     alloc: A,
     timeline: &Timeline<B>,
