@@ -1,0 +1,6 @@
+mod DecidingLaws
+mod LineLaws
+mod OneRule
+mod SourceLaws
+mod UsableLaws
+mod WritingLaws

@@ -1,0 +1,12 @@
+use Rattle.std.proofs.Common.{◌++◌, ◌∷◌, []}
+use Rattle.he_text.specs.Ranges.{line_end}
+use Rattle.he_explain.specs.Writing.{place_by, reason_by}
+use Rattle.he_explain.proofs.WritingLaws.{writes_then}
+use Rattle.he_explain.proofs.reasons.write_line.Goals as goal
+
+pub returns : goal.returns
+returns g c =
+    writes_then c.args.out.now.items c.write_place.new.out.items c.write_end.new.out.items
+    (place_by c.args.place c.args.traits.now)
+    (reason_by c.args.place c.args.earlier c.args.traits.now ++ line_end ∷ [])
+    c.write_end.result c.in_ok-write_place.ensures c.write_end.ensures

@@ -1,0 +1,64 @@
+// The addresses of a race in the order of RFC 6724 section 6.
+
+ghost use Rattle.std.specs.Prelude.{◌≡◌, ◌++◌, filter, map, IsTrue, IfOk, OnOk};
+ghost use Rattle.std.specs.List.{list_all};
+ghost use Rattle.he_addr.specs.Ip.{is_usable};
+ghost use Rattle.he_plan.specs.Attempts.{order};
+ghost use Rattle.he_plan.specs.Race.{reply_of, addresses_of};
+ghost use Rattle.he_select.specs.Preference.{sourced_by};
+ghost use Rattle.he_select.specs.Selection.{selection_input};
+ghost use Rattle.he_text.specs.Orders.{usable_addresses};
+
+use he_addr::{Family, Ip, Memory};
+use he_plan::Timeline;
+use he_select::{Sourced, order_with_sources};
+use std::alloc::{AllocError, Allocator};
+
+fn push_usable<A: Allocator>(ips: &mut Vec<Ip, A>, addresses: &[Ip]) -> Result<(), AllocError>
+    ensures { OnOk result (ips.new.items ≡ ips.old.items ++ filter is_usable addresses.now) }
+{
+    for ip in addresses {
+        if ip.is_usable() {
+            ips.push(*ip)?;
+        }
+    }
+    Ok(())
+}
+
+// The addresses of a family's answer that can be connected to, whatever its tick.
+fn push_answer<A: Allocator, B: Allocator>(
+    ips: &mut Vec<Ip, A>,
+    timeline: &Timeline<B>,
+    family: Family,
+) -> Result<(), AllocError>
+    ensures { OnOk result (ips.new.items ≡ ips.old.items ++ filter is_usable (addresses_of (reply_of timeline.now family))) }
+{
+    match timeline.answer(family) {
+        Some((_, addresses)) => push_usable(ips, addresses),
+        None => Ok(()),
+    }
+}
+
+fn usable_addresses<A: Allocator + Copy, B: Allocator>(
+    alloc: A,
+    timeline: &Timeline<B>,
+) -> Result<Vec<Ip, A>, AllocError>
+    ensures addresses { IfOk result (λ ips. ips.items ≡ usable_addresses timeline.now) }
+    ensures usable { IfOk result (λ ips. IsTrue (list_all is_usable ips.items)) }
+{
+    let mut ips = Vec::new(alloc);
+    push_answer(&mut ips, timeline, Family::V6)?;
+    push_answer(&mut ips, timeline, Family::V4)?;
+    Ok(ips)
+}
+
+// The usable addresses in sorted order, each with the source that the host uses for it.
+pub(crate) fn sorted_addresses<A: Allocator + Copy, B: Allocator>(
+    alloc: A,
+    timeline: &Timeline<B>,
+) -> Result<Vec<Sourced, A>, Memory>
+    ensures { IfOk result (λ sorted. sorted.items ≡ map (sourced_by (selection_input timeline.now.policy timeline.now.host)) (order timeline.now (usable_addresses timeline.now))) }
+{
+    let usable = usable_addresses(alloc, timeline)?;
+    order_with_sources(alloc, timeline.policy(), timeline.host(), &usable)
+}
