@@ -1,5 +1,5 @@
 # What a newcomer needs. The README says what each does and how long it takes.
-.PHONY: help race test edits install examples hostile hosts
+.PHONY: help race test edits install examples hostile hosts refused
 
 PREFIX ?= /usr/local
 RACE ?= crates/cases/data/ipv6-late-but-within-delay-leads.timeline
@@ -13,6 +13,7 @@ help:
 	@echo 'make install PREFIX=DIR    proves and builds the program, and puts it at DIR/bin/he'
 	@echo 'make examples HE=FILE      runs a built program over all examples'
 	@echo 'make hostile HE=FILE       runs a built program over streams that fail and with too little memory'
+	@echo 'make refused HE=FILE       refuses each allocation of a built program in turn, also of a live race'
 	@echo 'make hosts HE=FILE         tries tools/host-lines on recorded hosts, and has a built program read its lines'
 
 race:
@@ -36,3 +37,6 @@ hostile:
 
 hosts:
 	scripts/hosts $(HE)
+
+refused:
+	scripts/refused $(HE)
