@@ -1,5 +1,5 @@
 # What a newcomer needs. The README says what each does and how long it takes.
-.PHONY: help race test edits install examples hostile hosts fuzz manual
+.PHONY: help race test edits install examples hostile refused hosts fuzz manual
 
 PREFIX ?= /usr/local
 RACE ?= crates/cases/data/ipv6-late-but-within-delay-leads.timeline
@@ -16,6 +16,7 @@ help:
 	@echo '                           completion below DIR/share'
 	@echo 'make examples HE=FILE      runs a built program over all examples'
 	@echo 'make hostile HE=FILE       runs a built program over streams that fail and with too little memory'
+	@echo 'make refused HE=FILE       refuses each allocation of a built program in turn, also of a live race'
 	@echo 'make hosts HE=FILE         tries tools/host-lines on recorded hosts, and has a built program read its lines'
 	@echo 'make fuzz SECONDS=60 SEED=1 HE=FILE'
 	@echo '                           compares a built program with a plain reading of the rules, on texts that are drawn'
@@ -51,3 +52,6 @@ fuzz:
 
 manual:
 	scripts/manual $(HE)
+
+refused:
+	scripts/refused $(HE)

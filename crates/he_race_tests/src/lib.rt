@@ -1,5 +1,5 @@
-//! Tests of `he_race`: recorded races from their first turn to their end, what one attempt comes to, a ticker that
-//! jumps, a race over tickers that misbehave, and a connector of a user's own.
+//! Tests of `he_race`: what one attempt comes to, a ticker that jumps, a race over tickers that misbehave, and a
+//! connector of a user's own. Recorded races from their first turn to their end are run by the crate `cases`.
 #![tactic(auto)]
 
 #[cfg(test)]
@@ -10,7 +10,5 @@ mod homes;
 mod own;
 #[cfg(test)]
 mod races;
-#[cfg(test)]
-mod recorded;
 #[cfg(test)]
 mod wheel;
