@@ -1,9 +1,11 @@
 //! One example.
 
 use crate::turns::run_turns;
-use he_replay::{ReplayFault, orders, replay};
+use he_check::check;
+use he_replay::{orders, replay};
 use he_stream::{FromReader, ToWriter};
 use std::alloc::AllocError;
+use std::fmt::Display;
 use std::mem::drop;
 use std::thread::Threads;
 use std::{fs, io};
@@ -56,6 +58,7 @@ pub fn run_example<R: Threads + Sync>(
 ) -> io::Result<()> {
     let text = read_beside(rt, name, "timeline")?.unwrap_or(Vec::new(rt.alloc()));
     let fault = read_beside(rt, name, "fault")?.unwrap_or(Vec::new(rt.alloc()));
+    run_check(rt, name, &text, &fault, counts)?;
     run_both(rt, threads, name, &text, &fault, counts)
 }
 
@@ -133,6 +136,42 @@ fn run_orders(
     Ok(())
 }
 
+// Runs the text through `check`, which tells the same fault and writes nothing to the output then. What it says of the
+// fault is what stands beside the example, if that does.
+fn run_check(
+    rt: &HostRuntime,
+    name: &str,
+    text: &[u8],
+    fault: &[u8],
+    counts: &mut Counts,
+) -> io::Result<()> {
+    let told = read_beside(rt, name, "check")?;
+    for step in STEPS {
+        let mut input = FromReader::new(FakeReader::new(text, step));
+        let mut output = ToWriter::new(FakeWriter::new(rt.alloc()));
+        let mut explanation = Vec::new(rt.alloc());
+        let ended = check(rt.alloc(), &mut input, &mut output, &mut explanation);
+        let is_written = (output.writer().calls() == 0) == ended.is_err();
+        drop(input);
+        drop(output);
+        let is_same = tells(rt, ended, fault)? && is_written;
+        counts.count(rt, name, "the check differs", is_same)?;
+        let is_explained = explains(&explanation, fault, told.as_ref());
+        drop(explanation);
+        counts.count(rt, name, "the explanation differs", is_explained)?;
+    }
+    Ok(())
+}
+
+// Whether this is said of a fault behind its line: what stands in the file, or, where there is none, something just
+// where there is a fault.
+fn explains(explanation: &[u8], fault: &[u8], told: Option<&Vec<u8>>) -> bool {
+    match told {
+        Some(told) => told.strip_prefix(fault) == Some(explanation),
+        None => explanation.is_empty() == fault.is_empty(),
+    }
+}
+
 // The bytes of a file beside the example, where it is there.
 fn read_beside(rt: &HostRuntime, name: &str, ending: &str) -> io::Result<Option<Vec<u8>>> {
     let path = format!(in rt.alloc(); "{name}.{ending}")?;
@@ -144,9 +183,9 @@ fn read_beside(rt: &HostRuntime, name: &str, ending: &str) -> io::Result<Option<
 }
 
 // Whether this line is printed for how a run ended; no line for one that ended well.
-fn tells(
+fn tells<E: Display + Drop>(
     rt: &HostRuntime,
-    ended: Result<(), ReplayFault>,
+    ended: Result<(), E>,
     line: &[u8],
 ) -> Result<bool, AllocError> {
     let told = match ended {

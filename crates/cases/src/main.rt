@@ -2,7 +2,8 @@
 //!
 //! An example is a text of timelines, `NAME.timeline`. Beside it stand what `replay` writes for it,
 //! `NAME.transcript`, what `orders` writes, `NAME.order`, or both. `NAME.fault` is there where the text is faulty:
-//! the line that the program prints after either of the two. Each example is run in pieces of 1 byte, of 7 bytes and
+//! the line that the program prints after either of the two; `check` tells the same fault, and `NAME.check` is all
+//! that the program prints of it then, with the explanation. Each example is run in pieces of 1 byte, of 7 bytes and
 //! whole, and `replay` with 1, 2, 7 and 64 workers; each of its races is run as a future too, to the same transcript
 //! (`turns.rt`). Command lines are run beside them, over streams that may fail
 //! (`command_lines.rt`). A line names each run that differs, and the last two say how many there were. Nothing is

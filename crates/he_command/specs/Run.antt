@@ -4,12 +4,14 @@ use Rattle.clap.specs.Values.{kind_of}
 use Rattle.clap.specs.declared.error.Error.{Error}
 use Rattle.clap.specs.declared.error.kind.ErrorKind.{ErrorKind}
 use Rattle.clap.specs.declared.error.kind.ErrorKind.TheVariants as kinds
+use Rattle.he_check.specs.declared.fault.CheckFault.{CheckFault}
+use Rattle.he_check.specs.Stream.{Checks}
 use Rattle.he_live.specs.declared.fault.LiveFault.{LiveFault}
 use Rattle.he_live.specs.Live.{Lives}
 use Rattle.he_replay.specs.Actions.{HasWorkers, RunsAction}
 use Rattle.he_replay.specs.declared.fault.ReplayFault.{ReplayFault}
 use Rattle.he_command.specs.declared.command.Request.{Request}
-use Rattle.he_command.specs.declared.command.Request.TheVariants.{Action, Live}
+use Rattle.he_command.specs.declared.command.Request.TheVariants.{Action, Check, Live}
 use Rattle.he_command.specs.declared.limits.TheConstants.{LEAST_PORT}
 use Rattle.he_command.specs.declared.run.TheConstants.{DONE, FAULT, USAGE}
 
@@ -41,12 +43,15 @@ pub record AnswersLine (kind : ErrorKind) (Whole Part : List ℕ → Type 0) (Ke
 -- the numbers of a request are in their ranges
 abbrev pub IsRequest : Request → Type 0
 IsRequest (Action action) = HasWorkers action
+IsRequest Check = Unit {0}
 IsRequest (Live port) = LEAST_PORT ≤ port
 
 -- what was asked for was done, and the status tells how that ended
 abbrev pub RunsRequest : Request → (List ℕ → Bool → Type 0) → (List ℕ → Type 0) → (List ℕ → Type 0) → Type 0 → ℕ → Type 0
 RunsRequest (Action action) Given Whole Part Kept status =
     (result : Result (Unit {0}) ReplayFault) × RunsAction action Given Whole Part Kept result × (status ≡ status_of result)
+RunsRequest Check Given Whole Part Kept status =
+    (result : Result (Unit {0}) CheckFault) × Checks Given Whole Part Kept result × (status ≡ status_of result)
 RunsRequest (Live port) Given Whole Part Kept status =
     (result : Result (Unit {0}) LiveFault) × Lives Given Whole Part Kept result × (status ≡ status_of result)
 

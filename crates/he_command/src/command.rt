@@ -13,6 +13,8 @@ use std::alloc::{AllocError, Global};
 pub enum Request {
     /// Something to do with the races of the input.
     Action(Action),
+    /// To check the input, and to explain its first fault.
+    Check,
     /// To run the race of the input on real sockets, each address at this port, 1 to 65,535.
     Live { port: u16 },
 }
@@ -23,6 +25,8 @@ const ABOUT: &str =
 const REPLAY_ABOUT: &str = "Reads timelines of races and writes what happens in them";
 
 const ORDER_ABOUT: &str = "Reads timelines of races and writes the order of their addresses";
+
+const CHECK_ABOUT: &str = "Checks timelines of races, and explains the first fault";
 
 const LIVE_ABOUT: &str = "Races real connections, and writes what happened and a record of it";
 
@@ -85,6 +89,31 @@ Its output:
 Exit status: 0 when all is done; 1 after a fault, with one line on standard error;
 2 for a command line that is refused.";
 
+const CHECK_EXAMPLE: &str = "\
+Standard input is a timeline text, as for `he replay`. Where nothing is wrong with it,
+standard output has one line, as
+
+  3 races, 27 lines
+
+Else standard output has nothing, and standard error the first fault: its line by number
+and by its text, a mark below what is wrong there, and what was expected.
+
+Example input:
+
+  race 1
+  set attempt 5
+  end
+
+Standard error for it:
+
+  he: line 2: range
+    set attempt 5
+                ^
+  the attempt delay is 10 to 2000 milliseconds
+
+Exit status: 0 when nothing is wrong; 1 after a fault; 2 for a command line that is
+refused.";
+
 const LIVE_EXAMPLE: &str = "\
 Standard input is a timeline text with one race, as for `he replay`: the host's
 addresses and routes, and the addresses of a name, which count as known from the tick
@@ -135,6 +164,9 @@ fn command<'a>(alloc: Global) -> Result<Command<'a>, AllocError> {
     let order = Command::new(alloc, "order")
         .about(ORDER_ABOUT)
         .after_help(ORDER_EXAMPLE);
+    let check = Command::new(alloc, "check")
+        .about(CHECK_ABOUT)
+        .after_help(CHECK_EXAMPLE);
     let live = Command::new(alloc, "live")
         .about(LIVE_ABOUT)
         .after_help(LIVE_EXAMPLE)
@@ -147,6 +179,7 @@ fn command<'a>(alloc: Global) -> Result<Command<'a>, AllocError> {
         .subcommand_required(true)
         .subcommand(replay)?
         .subcommand(order)?
+        .subcommand(check)?
         .subcommand(live)
 }
 
@@ -171,6 +204,7 @@ pub fn read_words<'a>(alloc: Global, words: &'a [&'a str]) -> Result<Request, Er
     let matches = command(alloc)?.try_get_matches_from(words)?;
     Ok(match matches.subcommand() {
         Some(("order", _)) => Request::Action(Action::Order),
+        Some(("check", _)) => Request::Check,
         Some(("live", live)) => Request::Live {
             port: port_of(live),
         },

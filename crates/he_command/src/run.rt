@@ -3,11 +3,13 @@ ghost use Rattle.std.specs.Prelude.{◌≡◌, IfOk, Result};
 ghost use Rattle.clap.specs.Values.{kind_of};
 ghost use Rattle.he_stream.specs.Input.{Gives};
 ghost use Rattle.he_stream.specs.Output.{PutsPart, PutsWhole};
+ghost use Rattle.he_command.specs.declared.command.Request.TheVariants.{Check};
 ghost use Rattle.he_command.specs.Run.{AnswersLine, IsRequest, RunsLine, RunsRequest, Shows, status_of};
 
 use crate::command::{Request, read_words};
 use clap::Error;
 use clap::error::ErrorKind;
+use he_check::check;
 use he_live::live;
 use he_replay::{ReplayFault, run_action};
 use he_stream::{InputStream, OutputStream, write_whole};
@@ -101,8 +103,27 @@ where
         Request::Action(action) => {
             report_end(run_action(rt, alloc, action, input, output), faults)
         }
+        Request::Check => run_check(alloc, input, output, faults),
         Request::Live { port } => report_end(live(rt, alloc, input, output, port), faults),
     }
+}
+
+// Checks the input, and explains its first fault behind the line that tells it.
+fn run_check<I: InputStream, O: OutputStream, F: Write>(
+    alloc: Global,
+    input: &mut I,
+    output: &mut O,
+    faults: &mut F,
+) -> u8
+    ensures { RunsRequest Check (Gives I.remaining I.takes input.old input.new)
+        (PutsWhole O.contents O.puts O.flushes output.old output.new)
+        (PutsPart O.contents O.puts O.flushes output.old output.new) (output.new ≡ output.old) result }
+{
+    let mut explanation = Vec::new(alloc);
+    let end = check(alloc, input, output, &mut explanation);
+    let status = report_end(end, faults);
+    let _ = faults.write_all(explanation.as_slice());
+    status
 }
 
 // Answers a line that asks for no action.

@@ -1,0 +1,43 @@
+-- What is taken from an input that is checked, and put into an output.
+use Rattle.std.specs.Prelude.{ℕ, ◌≡◌, ◌==◌, ⊤, Bool, List, [], ◌∷◌, ◌++◌, if◌then◌else◌, decimal, codes, Result, Ok, Err}
+use Rattle.he_check.specs.Checked.{IsRight, IsWrong}
+use Rattle.he_check.specs.declared.fault.CheckFault.{CheckFault}
+use Rattle.he_check.specs.declared.fault.CheckFault.TheVariants.{Text, Read, Write, Memory}
+use Rattle.he_check.specs.declared.input.Checked.{Checked}
+
+-- a number of things, by the words for one and for any other number
+abbrev pub counted : ℕ → List ℕ → List ℕ → List ℕ
+counted n one many = decimal n ++ (if n == 1 then one else many)
+
+-- N races, M lines
+abbrev pub report_text : Checked → List ℕ
+report_text checked =
+    counted checked.races (codes " race, ") (codes " races, ") ++ counted checked.lines (codes " line" ++ 10 ∷ []) (codes " lines" ++ 10 ∷ [])
+
+-- the input was given, whole or up to where it broke off, and nothing is wrong with it: it has so many races and lines
+pub record FindsRight (Given : List ℕ → Bool → Type 0) (checked : Checked) : Type 0 where
+  pub input : List ℕ
+  pub is_broken : Bool
+  pub given : Given input is_broken
+  pub right : IsRight input is_broken checked
+
+-- the input was given, whole or up to where it broke off, and this is its first fault
+pub record FindsWrong (Given : List ℕ → Bool → Type 0) (fault : CheckFault) : Type 0 where
+  pub input : List ℕ
+  pub is_broken : Bool
+  pub given : Given input is_broken
+  pub wrong : IsWrong input is_broken fault
+
+-- Given: what the input gave, and whether it broke off after that; Whole and Part: the text of which all was put into the
+-- output and then flushed, or a first part until that failed; Kept: nothing was put into the output
+abbrev pub Checks : (List ℕ → Bool → Type 0) → (List ℕ → Type 0) → (List ℕ → Type 0) → Type 0 → Result (Unit {0}) CheckFault → Type 0
+Checks Given Whole Part Kept (Ok done) = (checked : Checked) × FindsRight Given checked × Whole (report_text checked)
+Checks Given Whole Part Kept (Err (Text fault)) = FindsWrong Given (Text fault) × Kept
+Checks Given Whole Part Kept (Err Read) = FindsWrong Given Read × Kept
+Checks Given Whole Part Kept (Err Write) = (checked : Checked) × FindsRight Given checked × Part (report_text checked)
+Checks Given Whole Part Kept (Err Memory) = Kept
+
+-- where no fault of the text is told, nothing is explained
+abbrev pub ExplainsText : List ℕ → List ℕ → Result (Unit {0}) CheckFault → Type 0
+ExplainsText old new (Err (Text fault)) = ⊤
+ExplainsText old new _ = new ≡ old

@@ -1,0 +1,102 @@
+//! The check of an input, and what is written of it to an output.
+ghost use Rattle.std.specs.Prelude.{◌≡◌, ◌++◌, IfOk, OnOk};
+ghost use Rattle.std.specs.Io.{StartsWith};
+ghost use Rattle.he_stream.specs.Input.{Gives};
+ghost use Rattle.he_stream.specs.Output.{PutsPart, PutsWhole};
+ghost use Rattle.he_check.specs.Stream.{Checks, ExplainsText, counted, report_text};
+
+use crate::explaining::explain_fault;
+use crate::fault::CheckFault;
+use crate::input::{Checked, check_input};
+use he_addr::{Memory, write_number};
+use he_stream::{InputStream, OutputStream, ReadFault, read_input, write_whole};
+use std::alloc::{AllocError, Allocator};
+
+/// Reads an input of timelines to its end and checks it: where nothing is wrong it writes how many races and lines the
+/// input has, as `3 races, 27 lines`, and flushes the output.
+///
+/// # Errors
+///
+/// - `Text` with the first fault of the text.
+/// - `Read` where a step of the input failed before a fault of the text was found, or the bound of 4,294,967,296 steps
+///   was reached.
+/// - `Write` where a step of the output failed or took no byte, the flush failed, or the bound of 4,294,967,296 steps
+///   was reached.
+/// - `Memory` where an allocation was refused.
+///
+/// After `Text`, `Read` and `Memory` nothing was written to the output, after `Write` a first part of the text. After
+/// `Text` what [`explain_fault`] says of the fault stands behind what `explanation` held; else it is as it was.
+pub fn check<A: Allocator + Copy, I: InputStream, O: OutputStream>(
+    alloc: A,
+    input: &mut I,
+    output: &mut O,
+    explanation: &mut Vec<u8, A>,
+) -> Result<(), CheckFault>
+    ensures done { Checks (Gives I.remaining I.takes input.old input.new)
+        (PutsWhole O.contents O.puts O.flushes output.old output.new)
+        (PutsPart O.contents O.puts O.flushes output.old output.new) (output.new ≡ output.old) result }
+    ensures stays { StartsWith explanation.new.items explanation.old.items }
+    ensures quiet { ExplainsText explanation.old.items explanation.new.items result }
+{
+    let given = take_input(alloc, input)?;
+    match check_input(alloc, given.bytes.as_slice(), given.is_broken) {
+        Ok(checked) => {
+            let report = report_of(alloc, checked)?;
+            write_whole(output, report.as_slice())?;
+            Ok(())
+        }
+        Err(fault) => {
+            if let CheckFault::Text(found) = fault {
+                explain_fault(alloc, given.bytes.as_slice(), found, explanation)?;
+            }
+            Err(fault)
+        }
+    }
+}
+
+// What an input gave, and whether it broke off after that.
+#[derive(Drop)]
+struct Given<A: Allocator> {
+    bytes: Vec<u8, A>,
+    is_broken: bool,
+}
+
+// Reads all that the input gives. It fails for want of memory alone.
+fn take_input<A: Allocator, I: InputStream>(alloc: A, input: &mut I) -> Result<Given<A>, AllocError>
+    ensures { IfOk result (λ given. Gives I.remaining I.takes input.old input.new given.bytes.items given.is_broken) }
+{
+    let mut bytes = Vec::new(alloc);
+    match read_input(input, &mut bytes) {
+        Ok(()) => Ok(Given {
+            bytes,
+            is_broken: false,
+        }),
+        Err(ReadFault::Failed | ReadFault::Bound) => Ok(Given {
+            bytes,
+            is_broken: true,
+        }),
+        Err(ReadFault::Memory) => Err(AllocError),
+    }
+}
+
+fn report_of<A: Allocator + Copy>(alloc: A, checked: Checked) -> Result<Vec<u8, A>, Memory>
+    ensures { IfOk result (λ text. text.items ≡ report_text checked) }
+{
+    let mut text = Vec::new(alloc);
+    append_count(checked.races, b" race, ", b" races, ", &mut text)?;
+    append_count(checked.lines, b" line\n", b" lines\n", &mut text)?;
+    Ok(text)
+}
+
+fn append_count<A: Allocator + Copy>(
+    number: u64,
+    one: &[u8],
+    many: &[u8],
+    text: &mut Vec<u8, A>,
+) -> Result<(), Memory>
+    ensures { OnOk result (text.new.items ≡ text.old.items ++ counted number one.now many.now) }
+{
+    write_number(number, text)?;
+    text.extend_from_slice(if number == 1 { one } else { many })?;
+    Ok(())
+}

@@ -1,0 +1,45 @@
+//! What is said of a fault: the line, the mark below it, and what was expected there.
+ghost use Rattle.std.specs.Prelude.{◌≡◌, OnErr, OnOk};
+ghost use Rattle.std.specs.Io.{StartsWith};
+
+use crate::causes::find_cause;
+use crate::place::find_line;
+use crate::showing::show_line;
+use he_text::TextFault;
+use std::alloc::{AllocError, Allocator};
+
+/// Appends what is said of a fault of the text `input`: its line, printed behind two spaces with a mark `^` below the
+/// part that is wrong, and a sentence of what was expected there, each with a line end. Of a long line what stands
+/// around the mark is shown, with `..` for the rest. Tab, CR, `\` and bytes that cannot be printed are shown as `\t`,
+/// `\r`, `\\` and `\xNN`. An empty line is not shown. Of a fault that is not the first one of the text, what is said
+/// may be wrong.
+///
+/// # Errors
+///
+/// `AllocError` where an allocation was refused; the vector is then as it was.
+pub fn explain_fault<A: Allocator + Copy>(
+    alloc: A,
+    input: &[u8],
+    fault: TextFault,
+    explanation: &mut Vec<u8, A>,
+) -> Result<(), AllocError>
+    ensures ok { OnOk result (StartsWith explanation.new.items explanation.old.items) }
+    ensures err { OnErr result (explanation.new.items ≡ explanation.old.items) }
+{
+    let said = explanation_of(alloc, input, fault)?;
+    explanation.extend_from_slice(said.as_slice())
+}
+
+fn explanation_of<A: Allocator + Copy>(
+    alloc: A,
+    input: &[u8],
+    fault: TextFault,
+) -> Result<Vec<u8, A>, AllocError> {
+    let place = find_line(input, fault.line);
+    let (mark, cause) = find_cause(place, fault.kind);
+    let mut text = Vec::new(alloc);
+    show_line(place.line, mark.span(place.line), &mut text)?;
+    let sentence = format!(in alloc; "{cause}\n")?;
+    text.extend_from_slice(sentence.as_bytes())?;
+    Ok(text)
+}

@@ -1,0 +1,7 @@
+//! The limits of what is shown of a line.
+
+/// The most bytes of a line that are shown: of a longer one those around the mark.
+pub const MOST_SHOWN: usize = 72;
+
+/// How many bytes before the mark are shown of a line that is cut.
+pub const SHOWN_BEFORE: usize = 24;

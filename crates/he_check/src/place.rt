@@ -1,0 +1,97 @@
+// Where a fault stands: a line, and the lines of its race before it.
+
+// The byte behind each line.
+pub(crate) const LINE_END: u8 = b'\n';
+
+// The byte between two tokens of a line.
+pub(crate) const TOKEN_END: u8 = b' ';
+
+// The line with which a race ends.
+const LAST_LINE: &[u8] = b"end";
+
+// A part of a line: from one byte up to another.
+#[derive(Clone, Copy)]
+pub(crate) struct Span {
+    pub(crate) start: usize,
+    pub(crate) end: usize,
+}
+
+// A line, and the whole lines of its race before it, of which the first has this number.
+#[derive(Clone, Copy)]
+pub(crate) struct Place<'t> {
+    pub(crate) line: &'t [u8],
+    pub(crate) before: &'t [u8],
+    pub(crate) first: u64,
+}
+
+// The line with this number, counted from 1. The lines before it are to be right, so that a race ends with each of
+// them that is `end`.
+pub(crate) fn find_line(input: &[u8], number: u64) -> Place<'_> {
+    let mut rest = input;
+    let mut race = input;
+    let mut first = 1;
+    for current in 1..number {
+        if rest.is_empty() {
+            break;
+        }
+        let (line, behind) = cut_line(rest);
+        rest = behind;
+        if line == LAST_LINE {
+            race = behind;
+            first = current + 1;
+        }
+    }
+    let before = race.len().saturating_sub(rest.len());
+    Place {
+        line: cut_line(rest).0,
+        before: &race[..before],
+        first,
+    }
+}
+
+// The bytes up to the first line end, and those behind it.
+fn cut_line(text: &[u8]) -> (&[u8], &[u8]) {
+    match text.iter().position(|byte| *byte == LINE_END) {
+        Some(at) => (&text[..at], &text[at + 1..]),
+        None => (text, b"".as_slice()),
+    }
+}
+
+impl Place<'_> {
+    // The number of the line that stands so many lines behind the race's first one.
+    pub(crate) fn number(self, at: usize) -> u64 {
+        self.first.saturating_add(at as u64)
+    }
+}
+
+// The token at a place of the line, counted from 0; empty where there is none.
+pub(crate) fn token(line: &[u8], at: usize) -> &[u8] {
+    line.split(|byte| *byte == TOKEN_END)
+        .nth(at)
+        .unwrap_or(b"".as_slice())
+}
+
+// How many tokens a line has.
+pub(crate) fn token_count(line: &[u8]) -> usize {
+    line.iter().filter(|byte| **byte == TOKEN_END).count() + 1
+}
+
+// Where the token at a place of the line stands; the end of the line where there is none.
+pub(crate) fn token_span(line: &[u8], at: usize) -> Span {
+    let mut left = at;
+    let mut start = 0;
+    for (end, byte) in line.iter().enumerate() {
+        if *byte == TOKEN_END {
+            if left == 0 {
+                return Span { start, end };
+            }
+            left -= 1;
+            start = end + 1;
+        }
+    }
+    let end = line.len();
+    match left {
+        0 => Span { start, end },
+        _ => Span { start: end, end },
+    }
+}
