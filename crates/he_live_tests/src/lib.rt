@@ -1,7 +1,10 @@
 //! Tests of `he_live` on real sockets, of loopback alone: what races come to with servers that listen, refuse or stay
-//! silent, that their records replay, that no socket of a race is left, and what each fault leaves.
+//! silent, that their records replay, that no socket of a race is left, what each fault leaves, and what a clock that
+//! fails comes to.
 #![tactic(auto)]
 
+#[cfg(test)]
+mod clocks;
 #[cfg(test)]
 mod faults;
 #[cfg(test)]
