@@ -66,7 +66,7 @@ type Row = (
     &'static [u8],
 );
 
-static ROWS: [Row; 38] = [
+static ROWS: [Row; 47] = [
     (&["he", "replay"], TEXT, Streams::Whole, 0, TRANSCRIPT, b""),
     (
         &["he", "replay", "--workers", "1"],
@@ -335,6 +335,78 @@ static ROWS: [Row; 38] = [
         1,
         b"exhausted",
         WRITE_LINE,
+    ),
+    (
+        &["he", "check"],
+        TEXT,
+        Streams::Whole,
+        0,
+        b"1 race, 9 lines\n",
+        b"",
+    ),
+    (
+        &["he", "check"],
+        TWO_RACES,
+        Streams::Whole,
+        0,
+        b"2 races, 4 lines\n",
+        b"",
+    ),
+    (
+        &["he", "check"],
+        WRONG_TEXT,
+        Streams::Whole,
+        1,
+        b"",
+        b"he: line 2: unfinished\n  end\n     ^\n",
+    ),
+    (
+        &["he", "check"],
+        WRONG_TEXT,
+        Streams::BreaksOff,
+        1,
+        b"",
+        READ_LINE,
+    ),
+    (
+        &["he", "check"],
+        TEXT,
+        Streams::BreaksOff,
+        1,
+        b"",
+        READ_LINE,
+    ),
+    (
+        &["he", "check"],
+        TEXT,
+        Streams::Room(3),
+        1,
+        b"1 r",
+        WRITE_LINE,
+    ),
+    (
+        &["he", "check"],
+        TEXT,
+        Streams::FailsToFlush,
+        1,
+        b"1 race",
+        WRITE_LINE,
+    ),
+    (
+        &["he", "check", "more"],
+        TEXT,
+        Streams::Whole,
+        2,
+        b"",
+        b"error: ",
+    ),
+    (
+        &["he", "check", "--help"],
+        TEXT,
+        Streams::Whole,
+        0,
+        b"Checks timelines of races",
+        b"",
     ),
 ];
 

@@ -36,8 +36,8 @@ const WORKERS_HELP: &str =
     "The most workers that share the races, 1 to 64; the output is the same for each number";
 
 const EXIT_STATUS: &str = "\
-Exit status: 0 when all is done; 1 after a fault, with one line on standard error;
-2 for a command line that is refused.";
+Exit status: 0 when all is done; 1 after a fault, which standard error tells; 2 for a
+command line that is refused.";
 
 const REPLAY_EXAMPLE: &str = "\
 Standard input is a timeline text: for each race the host's addresses and routes, the
