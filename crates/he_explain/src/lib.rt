@@ -1,4 +1,4 @@
-//! Why the addresses of a race stand in their order: what `he explain` tells of it.
+//! Why the addresses of a race stand in their order. No command writes it yet.
 //!
 //! [`write_order_reasons`] writes the usable addresses of a race in the order of RFC 6724 section 6, each with its
 //! source, and from the second on the first rule of that section which puts it behind the one before, by its number
