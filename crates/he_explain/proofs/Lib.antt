@@ -1,4 +1,6 @@
+mod CauseLaws
 mod DecidingLaws
+mod EventLaws
 mod LineLaws
 mod OneRule
 mod SourceLaws

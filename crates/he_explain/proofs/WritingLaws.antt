@@ -1,7 +1,7 @@
 -- Texts that are written part by part.
 use Rattle.std.proofs.Common.{◌≡◌, ℕ, zero, suc, ◌≤◌, List, [], ◌∷◌, ◌++◌, length, take, refl, sym, ◌∙◌, ap, subst, arith, append_assoc, length-append}
-use Rattle.std.proofs.lemmas.List.{take_at}
-use Rattle.std.specs.Prelude.{Result, Ok, Err}
+use Rattle.std.proofs.lemmas.List.{append-nil, take_at}
+use Rattle.std.specs.Prelude.{Result, Ok, Err, OnOk, OnErr}
 use Rattle.he_text.specs.Writing.{Grows, AppendsText}
 
 pub grows_append : (a b : List ℕ) → Grows a (a ++ b)
@@ -26,3 +26,11 @@ grows_after a b s c is h = let P : List ℕ → Type 0 = λ t. Grows t c in grow
 pub writes_then : {E : Type 0} (old one new a b : List ℕ) (result : Result (Unit {0}) E) → one ≡ old ++ a → AppendsText result one new b → AppendsText result old new (a ++ b)
 writes_then old one new a b (Ok done) h w = w ∙ ap (λ t. t ++ b) h ∙ append_assoc old a b
 writes_then old one new a b (Err fault) h w = grows_after old a one new h w
+
+same_grows : (old new : List ℕ) → new ≡ old → Grows old new
+same_grows old new e = let P : List ℕ → Type 0 = λ t. Grows old t in subst P (append-nil old ∙ sym e) (grows_append old [])
+
+-- a text that is appended, or nothing
+pub appends : {E : Type 0} (old new text : List ℕ) (result : Result (Unit {0}) E) → OnOk result (new ≡ old ++ text) → OnErr result (new ≡ old) → AppendsText result old new text
+appends old new text (Ok done) ok err = ok
+appends old new text (Err fault) ok err = same_grows old new err

@@ -1,5 +1,9 @@
+pub mod Causes
+pub mod Course
 pub mod Deciding
+pub mod Events
 pub mod Laws
 pub mod Reasons
+pub mod Sorting
 pub mod Traits
 pub mod Writing

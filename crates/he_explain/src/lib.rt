@@ -9,12 +9,20 @@
 //! rule decides ([`laws`]).
 #![tactic(auto)]
 
+pub mod cause;
+pub mod course;
 pub mod deciding;
+pub mod events;
+pub mod explanation;
 pub mod laws;
 pub mod reasons;
 mod sorted;
 mod traits;
 mod writing;
 
+pub use cause::Cause;
+pub use course::write_course;
 pub use deciding::DestinationRule;
+pub use events::{Event, EventKind, Start};
+pub use explanation::write_explanation;
 pub use reasons::write_order_reasons;

@@ -1,11 +1,7 @@
-// Races in each of which one rule of RFC 6724 section 6 decides, with the reasons as the standard has them, and each
-// growth refused in turn: what is refused is told as want of memory, and what isn't writes the same as ever.
+// Races in each of which one rule of RFC 6724 section 6 decides, with the reasons as the standard has them.
 
-use he_addr::Memory;
-use he_explain::write_order_reasons;
-use he_plan::Timeline;
-use he_text::{TextKind, read_race};
-use refusing::{MOST_RUNS, Refusing};
+use crate::refused::{What, refused_in_turn};
+use refusing::Refusing;
 
 // The second IPv6 address has no route (rule 1). Of the others the IPv6 address has the precedence 40 of ::/0, the
 // IPv4 address the 35 of ::ffff:0:0/96 (rule 6).
@@ -149,54 +145,11 @@ static RACES: [(&str, &str); 9] = [
     NO_SOURCES,
 ];
 
-// Whether the reasons of this race are the wanted ones; none where memory was refused.
-fn is_written<'h>(heap: &'h Refusing, race: &Timeline<&'h Refusing>, wanted: &str) -> Option<bool> {
-    let mut out = Vec::new(heap);
-    match write_order_reasons(heap, race, &mut out) {
-        Ok(()) => Some(out.as_slice() == wanted.as_bytes()),
-        Err(Memory) => None,
-    }
-}
-
-// The same of the race with which the text begins.
-fn is_right(heap: &Refusing, text: &str, wanted: &str) -> Option<bool> {
-    match read_race(heap, text.as_bytes(), 0) {
-        Ok(Some(read)) => is_written(heap, &read.0, wanted),
-        Ok(None) => Some(false),
-        Err(fault) => {
-            if fault.kind == TextKind::Memory {
-                None
-            } else {
-                Some(false)
-            }
-        }
-    }
-}
-
-// How many growths were refused one after the other, up to the first run that is granted all; none if a run wrote
-// something else, or wrote nothing though all was granted.
-fn refused_in_turn(heap: &Refusing, text: &str, wanted: &str) -> u64 {
-    for nth in 1..=MOST_RUNS {
-        heap.refuse(nth);
-        let is_well = match is_right(heap, text, wanted) {
-            Some(is_right) => is_right,
-            None => heap.has_refused(),
-        };
-        if !is_well {
-            return 0;
-        }
-        if !heap.has_refused() {
-            return nth - 1;
-        }
-    }
-    0
-}
-
 #[test]
 fn reasons_of_each_rule(rt: HostRuntime) {
     let heap = Refusing::new(rt.alloc());
     for (text, wanted) in &RACES {
-        let refused = refused_in_turn(&heap, text, wanted);
+        let refused = refused_in_turn(What::OrderReasons, &heap, text, wanted);
         assert!(rt; refused > 0, "{text}");
     }
 }

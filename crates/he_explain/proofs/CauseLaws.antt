@@ -1,0 +1,166 @@
+-- An attempt's cause is what it waited for.
+use Rattle.std.proofs.Common.{◌≡◌, ℕ, ◌+◌, ◌<◌, ◌≤◌, ◌&&◌, ◌⊎◌, Bool, true, false, List, [], ◌∷◌, if◌then◌else◌, refl, sym, subst, arith, inl, inr, max, nat_le, nat_lt}
+use Rattle.std.specs.Prelude.{Option, None, Some, MatchOption, IsSomeAnd, IsTrue, IsFalse}
+use Rattle.std.specs.List.{list_any}
+use Rattle.std.proofs.lemmas.Bool.{cases_lt}
+use Rattle.he_addr.specs.Ip.{family_of, is_usable}
+use Rattle.he_plan.specs.declared.attempts.Attempt.{Attempt}
+use Rattle.he_plan.specs.Attempts.{IsAnswered, IsFree, IsLeast, IsPositive, IsSeen, MayBegin, MayFollow, MayStart, is_untried, last_of, received, seen, seen_past}
+use Rattle.he_plan.specs.Race.{Race, Reply}
+use Rattle.he_plan.specs.Timeline.{IsRace}
+use Rattle.he_plan.proofs.Bools.{and_right, clash, lt_from, lt_test, not_lt}
+use Rattle.he_plan.proofs.Starting.{IsSeen-seen}
+use Rattle.he_explain.specs.declared.cause.Cause.{Cause}
+use Rattle.he_explain.specs.declared.cause.Cause.TheVariants.{AaaaAnswer, BothAnswers, ResolutionDelay, AttemptDelay, LaterAnswer}
+use Rattle.he_explain.specs.Causes.{cause_of, first_cause_by, later_cause}
+use Rattle.he_explain.specs.Laws.{CausesStand, IsCausedBy, IsLaterBy}
+
+-- a tick is not seen before it
+pub not_sooner : (pauses : List (ℕ × ℕ)) (x : ℕ) → x ≤ seen_past pauses x
+not_sooner [] x = omega arith
+not_sooner (p ∷ pauses) x = past (nat_le p.0 x && nat_lt x p.1) refl (not_sooner pauses p.1) (not_sooner pauses x)
+  where
+    past : (b : Bool) → (nat_le p.0 x && nat_lt x p.1) ≡ b → p.1 ≤ seen_past pauses p.1 → x ≤ seen_past pauses x → x ≤ seen_past pauses (if b then p.1 else x)
+    past true e end here = omega (arith, lt_from x p.1 (and_right (nat_le p.0 x) (nat_lt x p.1) e), end)
+    past false e end here = here
+
+pub never_before : (race : Race) (x t : ℕ) → t ≤ x → nat_lt (seen race x) t ≡ false
+never_before race x t h = not_lt (seen race x) t (omega (arith, h, not_sooner race.pauses x))
+
+not_before : (m n : ℕ) → nat_lt m n ≡ false → n ≤ m
+not_before m n e = elim (cases_lt m n) [ inl less ↦ absurd (clash (nat_lt m n) (lt_test m n less) e) | inr more ↦ more ]
+
+-- the race may begin at t, where these are its answers
+abbrev BeginsAt : Race → Option Reply → Option Reply → ℕ → Type 0
+BeginsAt race aaaa a t =
+    IsFree race t
+    × (IsPositive race t aaaa ⊎ (IsPositive race t a × (IsAnswered race t aaaa ⊎ IsSomeAnd a (λ r. seen race (r.tick + race.settings.resolution) ≤ t))))
+
+-- the first attempt's cause, where these are the answers
+abbrev FirstBy : Race → Option Reply → Option Reply → ℕ → Cause → Type 0
+FirstBy race aaaa a t AaaaAnswer = IsSomeAnd aaaa (λ r. IsTrue (list_any is_usable r.addresses) × (seen race r.tick ≡ t))
+FirstBy race aaaa a t BothAnswers =
+    IsSomeAnd aaaa (λ six. IsFalse (list_any is_usable six.addresses)
+    × IsSomeAnd a (λ four. IsTrue (list_any is_usable four.addresses) × (max (seen race six.tick) (seen race four.tick) ≡ t)))
+FirstBy race aaaa a t ResolutionDelay =
+    ¬ IsAnswered race t aaaa
+    × IsSomeAnd a (λ r. IsTrue (list_any is_usable r.addresses) × (seen race (r.tick + race.settings.resolution) ≡ t))
+FirstBy race aaaa a t (AttemptDelay place delay) = ⊥
+FirstBy race aaaa a t (LaterAnswer family) = ⊥
+
+answered : (race : Race) (t : ℕ) (reply : Option Reply) → IsPositive race t reply → IsAnswered race t reply
+answered race t None p = absurd p
+answered race t (Some r) p = p.1
+
+-- the Resolution Delay begins the race
+delayed : (race : Race) → IsRace race → (aaaa a : Option Reply) (t : ℕ) → ((s : ℕ) → BeginsAt race aaaa a s → t ≤ s)
+    → ¬ IsAnswered race t aaaa → IsPositive race t a → IsSomeAnd a (λ r. seen race (r.tick + race.settings.resolution) ≤ t)
+    → FirstBy race aaaa a t ResolutionDelay
+delayed race r aaaa None t least none pa over = absurd pa
+delayed race r aaaa (Some four) t least none pa over =
+    let s : ℕ = seen race (four.tick + race.settings.resolution) in
+    let here : IsSeen race (four.tick + race.settings.resolution) s = IsSeen-seen race r (four.tick + race.settings.resolution) in
+    let own : IsSeen race four.tick (seen race four.tick) = IsSeen-seen race r four.tick in
+    let come : seen race four.tick ≤ s = own.least s (omega (arith, here.holds.0), here.holds.1) in
+    let last : t ≤ s = least s (here.holds.1, inr ((pa.0, come), inr (omega arith))) in
+    (none, (pa.0, omega (arith, last, over)))
+
+delayed_by : (race : Race) → IsRace race → (aaaa a : Option Reply) (t : ℕ) → BeginsAt race aaaa a t → ((s : ℕ) → BeginsAt race aaaa a s → t ≤ s)
+    → ¬ IsAnswered race t aaaa → FirstBy race aaaa a t ResolutionDelay
+delayed_by race r aaaa a t now least none =
+    elim now.1 [
+      | inl p ↦ absurd (none (answered race t aaaa p))
+      | inr q ↦ elim q.1 [
+        | inl is ↦ absurd (none is)
+        | inr over ↦ delayed race r aaaa a t least none q.0 over
+      ]
+    ]
+
+-- both answers begin it, the AAAA answer without a usable address
+both_by : (race : Race) → IsRace race → (six : Reply) (a : Option Reply) (t : ℕ) → BeginsAt race (Some six) a t
+    → ((s : ℕ) → BeginsAt race (Some six) a s → t ≤ s) → seen race six.tick ≤ t → list_any is_usable six.addresses ≡ false
+    → FirstBy race (Some six) a t BothAnswers
+both_by race r six a t now least come none =
+    elim now.1 [
+      | inl p ↦ absurd (clash (list_any is_usable six.addresses) p.0 none)
+      | inr q ↦ (none, from_a a q.0 least)
+    ]
+  where
+    from_a : (a : Option Reply) → IsPositive race t a → ((s : ℕ) → BeginsAt race (Some six) a s → t ≤ s)
+        → IsSomeAnd a (λ four. IsTrue (list_any is_usable four.addresses) × (max (seen race six.tick) (seen race four.tick) ≡ t))
+    from_a None p least = absurd p
+    from_a (Some four) p least =
+        let s6 : ℕ = seen race six.tick in
+        let s4 : ℕ = seen race four.tick in
+        let is6 : IsSeen race six.tick s6 = IsSeen-seen race r six.tick in
+        let is4 : IsSeen race four.tick s4 = IsSeen-seen race r four.tick in
+        elim (cases_lt s6 s4) [
+          | inl less ↦
+            let last : t ≤ s4 = least s4 (is4.holds.1, inr ((p.0, omega arith), inl (omega (arith, less)))) in
+            (p.0, omega (arith, less, last, p.1, come))
+          | inr more ↦
+            let last : t ≤ s6 = least s6 (is6.holds.1, inr ((p.0, more), inl (omega arith))) in
+            (p.0, omega (arith, more, last, p.1, come))
+        ]
+
+first_is : (race : Race) → IsRace race → (aaaa a : Option Reply) (t : ℕ) → BeginsAt race aaaa a t → ((s : ℕ) → BeginsAt race aaaa a s → t ≤ s)
+    → FirstBy race aaaa a t (first_cause_by race aaaa t)
+first_is race r None a t now least = delayed_by race r None a t now least (λ is. is)
+first_is race r (Some six) a t now least = by_seen (nat_lt t (seen race six.tick)) refl
+  where
+    by_usable : (b : Bool) → list_any is_usable six.addresses ≡ b → seen race six.tick ≤ t → FirstBy race (Some six) a t (if b then AaaaAnswer else BothAnswers)
+    by_usable true e come =
+        let is6 : IsSeen race six.tick (seen race six.tick) = IsSeen-seen race r six.tick in
+        let last : t ≤ seen race six.tick = least (seen race six.tick) (is6.holds.1, inl (e, omega arith)) in
+        (e, omega (arith, last, come))
+    by_usable false e come = both_by race r six a t now least come e
+    by_seen : (b : Bool) → nat_lt t (seen race six.tick) ≡ b
+        → FirstBy race (Some six) a t (if b then ResolutionDelay else (if list_any is_usable six.addresses then AaaaAnswer else BothAnswers))
+    by_seen true e = delayed_by race r (Some six) a t now least (λ come. absurd (omega (arith, come, lt_from t (seen race six.tick) e)))
+    by_seen false e = by_usable (list_any is_usable six.addresses) refl (not_before t (seen race six.tick) e)
+
+same_first : (race : Race) (t : ℕ) (cause : Cause) (done : List Attempt) (next : Attempt) → next.tick ≡ t → FirstBy race race.aaaa race.a t cause → IsCausedBy race done None next cause
+same_first race t AaaaAnswer done next e is = subst (λ t. FirstBy race race.aaaa race.a t AaaaAnswer) (sym e) is
+same_first race t BothAnswers done next e is = subst (λ t. FirstBy race race.aaaa race.a t BothAnswers) (sym e) is
+same_first race t ResolutionDelay done next e is = subst (λ t. FirstBy race race.aaaa race.a t ResolutionDelay) (sym e) is
+same_first race t (AttemptDelay place delay) done next e is = absurd is
+same_first race t (LaterAnswer family) done next e is = absurd is
+
+-- a later attempt
+later_is : (race : Race) → IsRace race → (done : List Attempt) (last next : Attempt) → MayFollow race done next.tick last
+    → ((s : ℕ) → s < next.tick → ¬ MayFollow race done s last) → IsLaterBy race done last next (later_cause race last next)
+later_is race r done last next now none = by_over (nat_lt (seen race (last.tick + race.settings.attempt)) next.tick) refl
+  where
+    untried_by : (t : ℕ) → IsFree race t → last.tick + race.settings.attempt ≤ t → t < next.tick → (b : Bool) → list_any (is_untried done) (received race t) ≡ b → b ≡ false
+    untried_by t free over before true e = absurd (none t before (record { free = free; delay = over; some = e }))
+    untried_by t free over before false e = refl
+    by_over : (b : Bool) → nat_lt (seen race (last.tick + race.settings.attempt)) next.tick ≡ b
+        → IsLaterBy race done last next (if b then LaterAnswer (family_of next.ip) else AttemptDelay last.place race.settings.attempt)
+    by_over true e = (refl, lt_from (seen race (last.tick + race.settings.attempt)) next.tick e, λ t free over before. untried_by t free over before (list_any (is_untried done) (received race t)) refl)
+    by_over false e =
+        let d : ℕ = last.tick + race.settings.attempt in
+        let is : IsSeen race d (seen race d) = IsSeen-seen race r d in
+        let early : seen race d ≤ next.tick = is.least next.tick (now.delay, now.free) in
+        (refl, refl, omega (arith, early, not_before (seen race d) next.tick e))
+
+-- the least tick at which one may start
+stands_by : (race : Race) → IsRace race → (done : List Attempt) (next : Attempt) (last : Option Attempt) → last_of done ≡ last
+    → IsLeast (MayStart race done) next.tick → IsCausedBy race done last next (cause_of race last next)
+stands_by race r done next None e least =
+    let At : ℕ → Option Attempt → Type 0 = λ s o. MatchOption o (MayBegin race s) (MayFollow race done s) in
+    let now : MayBegin race next.tick = subst (At next.tick) e least.holds.1 in
+    let first : (s : ℕ) → MayBegin race s → next.tick ≤ s =
+        λ s may. elim (cases_lt s next.tick) [
+          | inl before ↦ least.least s (omega (arith, before, least.holds.0), subst (At s) (sym e) may)
+          | inr after ↦ after
+        ]
+    in
+    same_first race next.tick (first_cause_by race race.aaaa next.tick) done next refl (first_is race r race.aaaa race.a next.tick now first)
+stands_by race r done next (Some last) e least =
+    let At : ℕ → Option Attempt → Type 0 = λ s o. MatchOption o (MayBegin race s) (MayFollow race done s) in
+    let now : MayFollow race done next.tick last = subst (At next.tick) e least.holds.1 in
+    later_is race r done last next now
+    (λ s before may. absurd (omega (arith, before, least.least s (omega (arith, before, least.holds.0), subst (At s) (sym e) may))))
+
+pub causes_stand : CausesStand
+causes_stand race r done next is = stands_by race r done next (last_of done) refl is.tick

@@ -1,0 +1,10 @@
+use Rattle.std.proofs.Common.{◌≡◌, ◌++◌, drop}
+use Rattle.std.specs.List.{flat_map}
+use Rattle.he_text.specs.Writing.{Grows}
+use Rattle.he_explain.specs.Course.{event_text}
+use Rattle.he_explain.proofs.course.write_events.Given as goal
+
+abbrev pub invariant-loop-event : goal.invariant-loop-event
+invariant-loop-event g l =
+    Grows l.fn.out.items l.out.items
+    × (l.out.items ++ flat_map event_text (drop l.event-index l.events) ≡ l.fn.out.items ++ flat_map event_text l.events)

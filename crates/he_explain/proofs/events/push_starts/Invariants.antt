@@ -1,0 +1,9 @@
+use Rattle.std.proofs.Common.{◌≡◌, ◌++◌, drop}
+use Rattle.std.specs.Prelude.{None}
+use Rattle.he_explain.specs.Events.{start_events}
+use Rattle.he_explain.proofs.events.push_starts.Given as goal
+
+abbrev pub invariant-loop-line : goal.invariant-loop-line
+invariant-loop-line g l =
+    l.events.items ++ start_events l.timeline l.last (drop l.line-index l.lines)
+    ≡ l.initial.events.items ++ start_events l.timeline None l.lines

@@ -1,0 +1,145 @@
+// The cause of an attempt's start.
+
+ghost use Rattle.std.specs.Prelude.{◌≡◌, ◌+◌, max, nat_lt};
+ghost use Rattle.std.specs.List.{list_any};
+ghost use Rattle.he_addr.specs.Ip.{is_usable};
+ghost use Rattle.he_plan.specs.Attempts.{seen};
+ghost use Rattle.he_plan.specs.Race.{reply_of};
+ghost use Rattle.he_explain.specs.Causes.{cause_of, first_cause_by, is_held, later_cause, start_of, tick_of};
+
+use he_addr::{Family, Ip};
+use he_plan::{Attempt, Timeline};
+use std::alloc::Allocator;
+
+/// What an attempt waited for before it started.
+#[derive(Clone, Copy, Debug, PartialEq, Eq)]
+pub enum Cause {
+    /// The AAAA answer, which has a usable address, began the race (RFC 8305 section 3).
+    AaaaAnswer,
+
+    /// The A answer began the race, and the AAAA answer had come without a usable address (section 3).
+    BothAnswers,
+
+    /// The A answer began the race, since the Resolution Delay after it was over without an AAAA answer (section 3).
+    ResolutionDelay,
+
+    /// The Connection Attempt Delay after the attempt of this place was over: so many milliseconds (section 5).
+    AttemptDelay(usize, u64),
+
+    /// That delay was over before, and the answer of this family came with an address (sections 3 and 5).
+    LaterAnswer(Family),
+}
+
+/// The cause of an attempt's start, where `last` is the attempt before it, or none where it is the race's first. Both
+/// are attempts of the race.
+pub fn cause_of<A: Allocator>(timeline: &Timeline<A>, last: Option<Attempt>, next: Attempt) -> Cause
+    ensures { result ≡ cause_of timeline.now last next }
+{
+    match last {
+        Some(last) => later_cause(timeline, last, next),
+        None => first_cause(timeline, next.tick),
+    }
+}
+
+/// Whether an attempt of this cause was due before `tick`, at which it starts, so that it was held back by a pause;
+/// `last` is the attempt before it, if there is one.
+pub fn is_held<A: Allocator>(
+    timeline: &Timeline<A>,
+    last: Option<Attempt>,
+    cause: Cause,
+    tick: u64,
+) -> bool
+    ensures { result ≡ is_held timeline.now last cause tick }
+{
+    match cause {
+        Cause::AaaaAnswer => answer_tick(timeline, Family::V6) < tick,
+        Cause::BothAnswers => last_answer_tick(timeline) < tick,
+        Cause::ResolutionDelay => {
+            let resolution = timeline.settings().resolution();
+            is_before(answer_tick(timeline, Family::V4), resolution, tick)
+        }
+        Cause::AttemptDelay(_, delay) => is_before(start(last), delay, tick),
+        Cause::LaterAnswer(family) => answer_tick(timeline, family) < tick,
+    }
+}
+
+fn later_cause<A: Allocator>(timeline: &Timeline<A>, last: Attempt, next: Attempt) -> Cause
+    ensures { result ≡ later_cause timeline.now last next }
+{
+    let delay = timeline.settings().attempt();
+    if is_seen_before(timeline, last.tick, delay, next.tick) {
+        Cause::LaterAnswer(next.ip.family())
+    } else {
+        Cause::AttemptDelay(last.place, delay)
+    }
+}
+
+fn first_cause<A: Allocator>(timeline: &Timeline<A>, tick: u64) -> Cause
+    ensures { result ≡ first_cause_by timeline.now timeline.now.aaaa tick }
+{
+    let Some((answer, ips)) = timeline.answer(Family::V6) else {
+        return Cause::ResolutionDelay;
+    };
+    if tick < timeline.seen(answer) {
+        Cause::ResolutionDelay
+    } else if has_usable(ips) {
+        Cause::AaaaAnswer
+    } else {
+        Cause::BothAnswers
+    }
+}
+
+pub(crate) fn has_usable(ips: &[Ip]) -> bool
+    ensures { result ≡ list_any is_usable ips.now }
+{
+    ips.iter().any(|ip| ip.is_usable())
+}
+
+// Whether a delay after a tick is seen to be over before another tick.
+fn is_seen_before<A: Allocator>(
+    timeline: &Timeline<A>,
+    from: u64,
+    delay: u64,
+    tick: u64,
+) -> bool
+    ensures { result ≡ nat_lt (seen timeline.now (from + delay)) tick }
+{
+    let Some(end) = from.checked_add(delay) else {
+        return false;
+    };
+    timeline.seen(end) < tick
+}
+
+// Whether a delay after a tick is over before another tick.
+fn is_before(from: u64, delay: u64, tick: u64) -> bool
+    ensures { result ≡ nat_lt (from + delay) tick }
+{
+    match from.checked_add(delay) {
+        Some(end) => end < tick,
+        None => false,
+    }
+}
+
+fn answer_tick<A: Allocator>(timeline: &Timeline<A>, family: Family) -> u64
+    ensures { result ≡ tick_of (reply_of timeline.now family) }
+{
+    match timeline.answer(family) {
+        Some((tick, _)) => tick,
+        None => 0,
+    }
+}
+
+fn last_answer_tick<A: Allocator>(timeline: &Timeline<A>) -> u64
+    ensures { result ≡ max (tick_of timeline.now.aaaa) (tick_of timeline.now.a) }
+{
+    answer_tick(timeline, Family::V6).max(answer_tick(timeline, Family::V4))
+}
+
+fn start(attempt: Option<Attempt>) -> u64
+    ensures { result ≡ start_of attempt }
+{
+    match attempt {
+        Some(attempt) => attempt.tick,
+        None => 0,
+    }
+}

@@ -1,0 +1,214 @@
+// The course of a race: its events in order, written to a text.
+
+ghost use Rattle.std.specs.Prelude.{◌≡◌, ◌++◌, [], ◌≤◌, codes, decimal, filter, length, nat_le, IfOk, OnOk, OnErr};
+ghost use Rattle.std.specs.List.{flat_map};
+ghost use Rattle.he_addr.specs.Printing.{printed};
+ghost use Rattle.he_text.specs.Writing.{AppendsText};
+ghost use Rattle.he_explain.specs.Course.{cause_text, course, course_text, event_text, held_text, kind_text, put_event, put_events, start_text};
+ghost use Rattle.he_explain.specs.Sorting.{event_place};
+
+use crate::cause::Cause;
+use crate::events::{Event, EventKind, Start, collect_events, end_tick};
+use crate::writing::{write_bytes, write_labelled, write_labelled_ip, write_values};
+use he_addr::{Family, Ip, Memory, write_number};
+use he_plan::{Timeline, Transcript};
+use std::alloc::{AllocError, Allocator};
+
+// The number of events before the first one that is later than the tick.
+fn event_place(events: &[Event], tick: u64) -> usize
+    ensures value { result ≡ event_place tick events.now }
+    ensures inside { result ≤ length events.now }
+{
+    for (place, event) in events.iter().enumerate() {
+        if tick < event.tick {
+            return place;
+        }
+    }
+    events.len()
+}
+
+fn put_event<A: Allocator>(events: &mut Vec<Event, A>, event: Event) -> Result<(), AllocError>
+    ensures { OnOk result (events.new.items ≡ put_event event events.old.items) }
+{
+    let place = event_place(events, event.tick);
+    events.insert(place, event)?;
+    Ok(())
+}
+
+// The events up to the end by tick, those of one tick in the order of the list.
+fn sort_events<A: Allocator>(
+    alloc: A,
+    events: &[Event],
+    end: u64,
+) -> Result<Vec<Event, A>, AllocError>
+    ensures { IfOk result (λ sorted. sorted.items ≡ put_events [] (filter (λ event. nat_le event.tick end) events.now)) }
+{
+    let mut sorted = Vec::new(alloc);
+    for event in events {
+        if event.tick <= end {
+            put_event(&mut sorted, *event)?;
+        }
+    }
+    Ok(sorted)
+}
+
+// The events of the race with this transcript in order.
+fn course<A: Allocator + Copy, B: Allocator, C: Allocator>(
+    alloc: A,
+    timeline: &Timeline<B>,
+    transcript: &Transcript<C>,
+) -> Result<Vec<Event, A>, AllocError>
+    ensures { IfOk result (λ events. events.items ≡ course timeline.now transcript.now) }
+{
+    let events = collect_events(alloc, timeline, transcript)?;
+    sort_events(alloc, &events, end_tick(transcript.result()))
+}
+
+fn write_cause<A: Allocator + Copy>(cause: Cause, out: &mut Vec<u8, A>) -> Result<(), Memory>
+    ensures { AppendsText result out.old.items out.new.items (cause_text cause) }
+{
+    match cause {
+        Cause::AaaaAnswer => write_bytes(b", on the AAAA answer", out),
+        Cause::BothAnswers => write_bytes(b", on both answers", out),
+        Cause::ResolutionDelay => write_bytes(b", at the end of the Resolution Delay", out),
+        Cause::AttemptDelay(place, delay) => {
+            write_values(b", ", delay, b" after attempt ", place as u64, out)
+        }
+        Cause::LaterAnswer(Family::V6) => write_bytes(b", on the later AAAA answer", out),
+        Cause::LaterAnswer(Family::V4) => write_bytes(b", on the later A answer", out),
+    }
+}
+
+fn write_held<A: Allocator + Copy>(held: bool, out: &mut Vec<u8, A>) -> Result<(), Memory>
+    ensures { AppendsText result out.old.items out.new.items (held_text held) }
+{
+    if held {
+        write_bytes(b", after a pause", out)
+    } else {
+        Ok(())
+    }
+}
+
+// CAUSE, and whether a pause held the attempt back
+fn write_why<A: Allocator + Copy>(
+    cause: Cause,
+    held: bool,
+    out: &mut Vec<u8, A>,
+) -> Result<(), Memory>
+    ensures { AppendsText result out.old.items out.new.items (cause_text cause ++ held_text held) }
+{
+    write_cause(cause, out)?;
+    write_held(held, out)
+}
+
+// attempt PLACE ADDRESS, behind a space
+fn write_attempt<A: Allocator + Copy>(
+    place: u64,
+    ip: Ip,
+    out: &mut Vec<u8, A>,
+) -> Result<(), Memory>
+    ensures { AppendsText result out.old.items out.new.items ((codes " attempt " ++ decimal place) ++ (codes " " ++ printed ip)) }
+{
+    write_labelled(b" attempt ", place, out)?;
+    write_labelled_ip(b" ", ip, out)
+}
+
+// attempt PLACE ADDRESS, CAUSE, behind a space
+fn write_start<A: Allocator + Copy>(start: Start, out: &mut Vec<u8, A>) -> Result<(), Memory>
+    ensures { AppendsText result out.old.items out.new.items (start_text start) }
+{
+    write_attempt(start.place as u64, start.ip, out)?;
+    write_why(start.cause, start.held, out)
+}
+
+fn write_kind<A: Allocator + Copy>(kind: EventKind, out: &mut Vec<u8, A>) -> Result<(), Memory>
+    ensures { AppendsText result out.old.items out.new.items (kind_text kind) }
+{
+    match kind {
+        EventKind::Paused(end) => write_labelled(b" pause until ", end, out),
+        EventKind::Answered(Family::V6, count) => {
+            write_labelled(b" answer aaaa usable ", count as u64, out)
+        }
+        EventKind::Answered(Family::V4, count) => {
+            write_labelled(b" answer a usable ", count as u64, out)
+        }
+        EventKind::Waits(end) => write_labelled(b" wait for aaaa until ", end, out),
+        EventKind::DelayOver => write_bytes(b" resolution delay over", out),
+        EventKind::Failed(place) => write_labelled(b" failed attempt ", place as u64, out),
+        EventKind::Started(start) => write_start(start, out),
+        EventKind::Won(place) => write_labelled(b" won attempt ", place as u64, out),
+        EventKind::Exhausted => write_bytes(b" exhausted", out),
+        EventKind::Limit => write_bytes(b" limit", out),
+        EventKind::Cancelled(place) => write_labelled(b" cancelled attempt ", place as u64, out),
+    }
+}
+
+// EVENT, behind a space, and the line's end
+fn write_rest<A: Allocator + Copy>(kind: EventKind, out: &mut Vec<u8, A>) -> Result<(), Memory>
+    ensures { AppendsText result out.old.items out.new.items (kind_text kind ++ codes "\n") }
+{
+    write_kind(kind, out)?;
+    write_bytes(b"\n", out)
+}
+
+// TICK EVENT
+fn write_event<A: Allocator + Copy>(event: Event, out: &mut Vec<u8, A>) -> Result<(), Memory>
+    ensures { AppendsText result out.old.items out.new.items (event_text event) }
+{
+    write_number(event.tick, out)?;
+    write_rest(event.kind, out)
+}
+
+fn write_events<A: Allocator + Copy>(events: &[Event], out: &mut Vec<u8, A>) -> Result<(), Memory>
+    ensures { AppendsText result out.old.items out.new.items (flat_map event_text events.now) }
+{
+    for event in events {
+        write_event(*event, out)?;
+    }
+    Ok(())
+}
+
+fn write_sorted<A: Allocator + Copy, B: Allocator, C: Allocator>(
+    alloc: A,
+    timeline: &Timeline<B>,
+    transcript: &Transcript<C>,
+    out: &mut Vec<u8, A>,
+) -> Result<(), Memory>
+    ensures { AppendsText result out.old.items out.new.items (course_text timeline.now transcript.now) }
+{
+    let events = course(alloc, timeline, transcript)?;
+    write_events(&events, out)
+}
+
+/// Appends the course of the race, whose transcript is given: what happened in it up to its end, an event a line,
+/// each behind its tick, in order of ticks (RFC 8305 sections 3 and 5). The events of one tick stand in this order:
+///
+/// - `pause until T`: the client slept from here to the tick before T;
+/// - `answer aaaa usable N`, `answer a usable N`: an answer was seen, with so many usable addresses;
+/// - `wait for aaaa until T`: the A answer came first, and the Resolution Delay after it ends at T;
+/// - `resolution delay over`: no AAAA answer was seen by its end;
+/// - `failed attempt PLACE`;
+/// - `attempt PLACE ADDRESS, CAUSE`, with `, after a pause` where it was due earlier and a pause held it back. The cause
+///   is `on the AAAA answer`, `on both answers` or `at the end of the Resolution Delay` for the first attempt; for a
+///   later one `N after attempt PLACE`, where N is the Connection Attempt Delay, or `on the later AAAA answer`, `on
+///   the later A answer` where that delay had been over and no address was left;
+/// - `won attempt PLACE`, `exhausted` or `limit`, the race's end, and for each attempt that it cancelled, by place,
+///   `cancelled attempt PLACE`.
+///
+/// After `Memory` the vector holds what it held.
+pub fn write_course<A: Allocator + Copy, B: Allocator, C: Allocator>(
+    alloc: A,
+    timeline: &Timeline<B>,
+    transcript: &Transcript<C>,
+    out: &mut Vec<u8, A>,
+) -> Result<(), Memory>
+    ensures ok { OnOk result (out.new.items ≡ out.old.items ++ course_text timeline.now transcript.now) }
+    ensures err { OnErr result (out.new.items ≡ out.old.items) }
+{
+    let kept = out.len();
+    let written = write_sorted(alloc, timeline, transcript, out);
+    if written.is_err() {
+        out.truncate(kept);
+    }
+    written
+}

@@ -1,0 +1,340 @@
+// What happens in a race, each event with its tick.
+
+ghost use Rattle.std.specs.Prelude.{◌≡◌, ◌++◌, ◌∷◌, [], None, count_by, IfOk, OnOk};
+ghost use Rattle.std.specs.List.{flat_map};
+ghost use Rattle.he_addr.specs.Ip.{is_usable};
+ghost use Rattle.he_addr.specs.declared.ip.Family.TheVariants as families;
+ghost use Rattle.he_plan.specs.Race.{reply_of};
+ghost use Rattle.he_explain.specs.Events.{answer_events, attempt_of, cancelled_by, end_event, event_at, events_of, failed_by, is_seen_by, met_events, over_events, pause_events, start_event, start_events, told_events, wait_events};
+
+use crate::cause::{Cause, cause_of, has_usable, is_held};
+use he_addr::{Family, Ip};
+use he_plan::{Attempt, Line, Mark, Outcome3, Timeline, Transcript};
+use std::alloc::{AllocError, Allocator};
+
+/// The start of an attempt.
+#[derive(Clone, Copy, Debug, PartialEq, Eq)]
+pub struct Start {
+    pub place: usize,
+    pub ip: Ip,
+
+    /// What the attempt waited for.
+    pub cause: Cause,
+
+    /// Whether it was due before it started, and so held back by a pause.
+    pub held: bool,
+}
+
+/// What happens at a tick of a race.
+#[derive(Clone, Copy, Debug, PartialEq, Eq)]
+pub enum EventKind {
+    /// The client begins to sleep, up to this tick.
+    Paused(u64),
+
+    /// The answer of this family is seen, with so many usable addresses.
+    Answered(Family, usize),
+
+    /// The client waits for the AAAA answer, up to this tick, at which the Resolution Delay ends.
+    Waits(u64),
+
+    /// The client sees that the Resolution Delay has ended without an AAAA answer.
+    DelayOver,
+
+    /// The attempt of this place failed.
+    Failed(usize),
+
+    /// An attempt starts.
+    Started(Start),
+
+    /// The attempt of this place won, and the race is over.
+    Won(usize),
+
+    /// Every attempt failed, and the race is over.
+    Exhausted,
+
+    /// The race is given up.
+    Limit,
+
+    /// The attempt of this place is cancelled, since the race is over.
+    Cancelled(usize),
+}
+
+/// What happens in a race, and when.
+#[derive(Clone, Copy, Debug, PartialEq, Eq)]
+pub struct Event {
+    pub tick: u64,
+    pub kind: EventKind,
+}
+
+// The events of the race with this transcript, by kind.
+pub(crate) fn collect_events<A: Allocator, B: Allocator, C: Allocator>(
+    alloc: A,
+    timeline: &Timeline<B>,
+    transcript: &Transcript<C>,
+) -> Result<Vec<Event, A>, AllocError>
+    ensures { IfOk result (λ events. events.items ≡ events_of timeline.now transcript.now) }
+{
+    let mut events = Vec::new(alloc);
+    push_met(&mut events, timeline)?;
+    push_told(&mut events, timeline, transcript)?;
+    Ok(events)
+}
+
+/// The tick at which the race ends.
+pub(crate) fn end_tick(ending: Outcome3) -> u64
+    ensures { result ≡ (end_event ending).tick }
+{
+    match ending {
+        Outcome3::Won(_, tick) => tick,
+        Outcome3::Exhausted(tick) => tick,
+        Outcome3::Limit(tick) => tick,
+    }
+}
+
+fn push<A: Allocator>(
+    events: &mut Vec<Event, A>,
+    tick: u64,
+    kind: EventKind,
+) -> Result<(), AllocError>
+    ensures { OnOk result (events.new.items ≡ events.old.items ++ event_at tick kind ∷ []) }
+{
+    events.push(Event { tick, kind })?;
+    Ok(())
+}
+
+fn push_met<A: Allocator, B: Allocator>(
+    events: &mut Vec<Event, A>,
+    timeline: &Timeline<B>,
+) -> Result<(), AllocError>
+    ensures { OnOk result (events.new.items ≡ events.old.items ++ met_events timeline.now) }
+{
+    push_pauses(events, timeline.pauses())?;
+    push_answers(events, timeline)?;
+    push_wait(events, timeline)
+}
+
+fn push_pauses<A: Allocator>(
+    events: &mut Vec<Event, A>,
+    pauses: &[(u64, u64)],
+) -> Result<(), AllocError>
+    ensures { OnOk result (events.new.items ≡ events.old.items ++ pause_events pauses.now) }
+{
+    for pause in pauses {
+        push(events, pause.0, EventKind::Paused(pause.1))?;
+    }
+    Ok(())
+}
+
+fn push_answers<A: Allocator, B: Allocator>(
+    events: &mut Vec<Event, A>,
+    timeline: &Timeline<B>,
+) -> Result<(), AllocError>
+    ensures { OnOk result (events.new.items ≡ events.old.items ++ (answer_events timeline.now families.V6 timeline.now.aaaa ++ answer_events timeline.now families.V4 timeline.now.a)) }
+{
+    push_answer(events, timeline, Family::V6)?;
+    push_answer(events, timeline, Family::V4)
+}
+
+fn push_answer<A: Allocator, B: Allocator>(
+    events: &mut Vec<Event, A>,
+    timeline: &Timeline<B>,
+    family: Family,
+) -> Result<(), AllocError>
+    ensures { OnOk result (events.new.items ≡ events.old.items ++ answer_events timeline.now family (reply_of timeline.now family)) }
+{
+    let Some((tick, ips)) = timeline.answer(family) else {
+        return Ok(());
+    };
+    let seen = timeline.seen(tick);
+    push(events, seen, EventKind::Answered(family, usable_count(ips)))
+}
+
+fn usable_count(ips: &[Ip]) -> usize
+    ensures { result ≡ count_by is_usable ips.now }
+{
+    ips.iter().filter(|ip| ip.is_usable()).count()
+}
+
+// The wait for the AAAA answer, from the A answer on, and the end of the Resolution Delay.
+fn push_wait<A: Allocator, B: Allocator>(
+    events: &mut Vec<Event, A>,
+    timeline: &Timeline<B>,
+) -> Result<(), AllocError>
+    ensures { OnOk result (events.new.items ≡ events.old.items ++ wait_events timeline.now timeline.now.a) }
+{
+    let Some((tick, ips)) = timeline.answer(Family::V4) else {
+        return Ok(());
+    };
+    let delay_end = tick + timeline.settings().resolution();
+    let seen = timeline.seen(tick);
+    if !has_usable(ips) || delay_end <= seen || is_aaaa_seen_by(timeline, seen) {
+        return Ok(());
+    }
+    push(events, seen, EventKind::Waits(delay_end))?;
+    push_delay_over(events, timeline, timeline.seen(delay_end))
+}
+
+// The Resolution Delay's end, where no AAAA answer was seen by then.
+fn push_delay_over<A: Allocator, B: Allocator>(
+    events: &mut Vec<Event, A>,
+    timeline: &Timeline<B>,
+    tick: u64,
+) -> Result<(), AllocError>
+    ensures { OnOk result (events.new.items ≡ events.old.items ++ over_events timeline.now tick) }
+{
+    if is_aaaa_seen_by(timeline, tick) {
+        return Ok(());
+    }
+    push(events, tick, EventKind::DelayOver)
+}
+
+fn is_aaaa_seen_by<A: Allocator>(timeline: &Timeline<A>, tick: u64) -> bool
+    ensures { result ≡ is_seen_by timeline.now tick timeline.now.aaaa }
+{
+    match timeline.answer(Family::V6) {
+        Some((answer, _)) => timeline.seen(answer) <= tick,
+        None => false,
+    }
+}
+
+fn push_told<A: Allocator, B: Allocator, C: Allocator>(
+    events: &mut Vec<Event, A>,
+    timeline: &Timeline<B>,
+    transcript: &Transcript<C>,
+) -> Result<(), AllocError>
+    ensures { OnOk result (events.new.items ≡ events.old.items ++ told_events timeline.now transcript.now) }
+{
+    push_attempts(events, timeline, transcript.attempts())?;
+    push_end(events, transcript.result(), transcript.attempts())
+}
+
+// The failures and the starts.
+fn push_attempts<A: Allocator, B: Allocator>(
+    events: &mut Vec<Event, A>,
+    timeline: &Timeline<B>,
+    lines: &[Line],
+) -> Result<(), AllocError>
+    ensures { OnOk result (events.new.items ≡ events.old.items ++ (flat_map (λ line. failed_by line.place line.mark) lines.now ++ start_events timeline.now None lines.now)) }
+{
+    push_failures(events, lines)?;
+    push_starts(events, timeline, lines)
+}
+
+// The end of the race, and what it cancelled.
+fn push_end<A: Allocator>(
+    events: &mut Vec<Event, A>,
+    ending: Outcome3,
+    lines: &[Line],
+) -> Result<(), AllocError>
+    ensures { OnOk result (events.new.items ≡ events.old.items ++ (end_event ending ∷ flat_map (λ line. cancelled_by line.place line.mark) lines.now)) }
+{
+    push_ending(events, ending)?;
+    push_cancelled(events, lines)
+}
+
+fn push_ending<A: Allocator>(
+    events: &mut Vec<Event, A>,
+    ending: Outcome3,
+) -> Result<(), AllocError>
+    ensures { OnOk result (events.new.items ≡ events.old.items ++ end_event ending ∷ []) }
+{
+    match ending {
+        Outcome3::Won(place, tick) => push(events, tick, EventKind::Won(place)),
+        Outcome3::Exhausted(tick) => push(events, tick, EventKind::Exhausted),
+        Outcome3::Limit(tick) => push(events, tick, EventKind::Limit),
+    }
+}
+
+fn push_failures<A: Allocator>(
+    events: &mut Vec<Event, A>,
+    lines: &[Line],
+) -> Result<(), AllocError>
+    ensures { OnOk result (events.new.items ≡ events.old.items ++ flat_map (λ line. failed_by line.place line.mark) lines.now) }
+{
+    for line in lines {
+        push_failure(events, line.place, line.mark)?;
+    }
+    Ok(())
+}
+
+fn push_failure<A: Allocator>(
+    events: &mut Vec<Event, A>,
+    place: usize,
+    mark: Mark,
+) -> Result<(), AllocError>
+    ensures { OnOk result (events.new.items ≡ events.old.items ++ failed_by place mark) }
+{
+    match mark {
+        Mark::Failed(tick) => push(events, tick, EventKind::Failed(place)),
+        Mark::Won(_) | Mark::Cancelled(_) => Ok(()),
+    }
+}
+
+fn push_cancelled<A: Allocator>(
+    events: &mut Vec<Event, A>,
+    lines: &[Line],
+) -> Result<(), AllocError>
+    ensures { OnOk result (events.new.items ≡ events.old.items ++ flat_map (λ line. cancelled_by line.place line.mark) lines.now) }
+{
+    for line in lines {
+        push_cancel(events, line.place, line.mark)?;
+    }
+    Ok(())
+}
+
+fn push_cancel<A: Allocator>(
+    events: &mut Vec<Event, A>,
+    place: usize,
+    mark: Mark,
+) -> Result<(), AllocError>
+    ensures { OnOk result (events.new.items ≡ events.old.items ++ cancelled_by place mark) }
+{
+    match mark {
+        Mark::Cancelled(tick) => push(events, tick, EventKind::Cancelled(place)),
+        Mark::Won(_) | Mark::Failed(_) => Ok(()),
+    }
+}
+
+fn attempt(line: &Line) -> Attempt
+    ensures { result ≡ attempt_of line.now }
+{
+    Attempt {
+        place: line.place,
+        tick: line.tick,
+        ip: line.ip,
+    }
+}
+
+fn push_starts<A: Allocator, B: Allocator>(
+    events: &mut Vec<Event, A>,
+    timeline: &Timeline<B>,
+    lines: &[Line],
+) -> Result<(), AllocError>
+    ensures { OnOk result (events.new.items ≡ events.old.items ++ start_events timeline.now None lines.now) }
+{
+    let mut last = None;
+    for line in lines {
+        let next = attempt(line);
+        push_start(events, timeline, last, next)?;
+        last = Some(next);
+    }
+    Ok(())
+}
+
+fn push_start<A: Allocator, B: Allocator>(
+    events: &mut Vec<Event, A>,
+    timeline: &Timeline<B>,
+    last: Option<Attempt>,
+    next: Attempt,
+) -> Result<(), AllocError>
+    ensures { OnOk result (events.new.items ≡ events.old.items ++ start_event timeline.now last next ∷ []) }
+{
+    let cause = cause_of(timeline, last, next);
+    let start = Start {
+        place: next.place,
+        ip: next.ip,
+        cause,
+        held: is_held(timeline, last, cause, next.tick),
+    };
+    push(events, next.tick, EventKind::Started(start))
+}

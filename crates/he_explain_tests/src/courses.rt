@@ -1,0 +1,264 @@
+// Races with their explanations, each worked out by hand from RFC 8305 sections 3 to 5: the order of the addresses, and
+// then the course. But for the host without a way to an address and the one with a tunnel, the host reaches both
+// families.
+
+use crate::refused::{What, refused_in_turn};
+use refusing::Refusing;
+
+// The A answer of tick 10 is held back for 50 ticks. The AAAA answer comes at 400, when the delay of 250 after the first
+// attempt, at 60 + 250 = 310, has been over and no address was left.
+const LATE_AAAA: (&str, &str) = (
+    "race 1
+source 2001:db8::2/64 1
+source 192.0.2.2/24 1
+route ::/0 1
+route 0.0.0.0/0 1
+aaaa 400 2001:db8:1::1
+a 10 198.51.100.1
+connect 2001:db8:1::1 ok 30
+end
+",
+    "order 0 2001:db8:1::1 source 2001:db8::2
+order 1 198.51.100.1 source 192.0.2.2, behind 0 by rule 6, prefer higher precedence: 35 after 40
+10 answer a usable 1
+10 wait for aaaa until 60
+60 resolution delay over
+60 attempt 0 198.51.100.1, at the end of the Resolution Delay
+400 answer aaaa usable 1
+400 attempt 1 2001:db8:1::1, on the later AAAA answer
+430 won attempt 1
+430 cancelled attempt 0
+end
+",
+);
+
+// The Resolution Delay ends at 10 + 50, and the AAAA answer comes at that tick: it is in time.
+const AAAA_AT_THE_END_OF_THE_DELAY: (&str, &str) = (
+    "race 1
+source 2001:db8::2/64 1
+source 192.0.2.2/24 1
+route ::/0 1
+route 0.0.0.0/0 1
+aaaa 60 2001:db8:1::1
+a 10 198.51.100.1
+connect 2001:db8:1::1 ok 20
+end
+",
+    "order 0 2001:db8:1::1 source 2001:db8::2
+order 1 198.51.100.1 source 192.0.2.2, behind 0 by rule 6, prefer higher precedence: 35 after 40
+10 answer a usable 1
+10 wait for aaaa until 60
+60 answer aaaa usable 1
+60 attempt 0 2001:db8:1::1, on the AAAA answer
+80 won attempt 0
+end
+",
+);
+
+// The client sleeps from 30 to 399. What it sees at 400 is the AAAA answer of tick 90.
+const PAUSE_OVER_THE_END_OF_THE_DELAY: (&str, &str) = (
+    "race 1
+source 2001:db8::2/64 1
+source 192.0.2.2/24 1
+route ::/0 1
+route 0.0.0.0/0 1
+aaaa 90 2001:db8:1::1
+a 10 198.51.100.1
+connect 2001:db8:1::1 ok 20
+pause 30 400
+end
+",
+    "order 0 2001:db8:1::1 source 2001:db8::2
+order 1 198.51.100.1 source 192.0.2.2, behind 0 by rule 6, prefer higher precedence: 35 after 40
+10 answer a usable 1
+10 wait for aaaa until 60
+30 pause until 400
+400 answer aaaa usable 1
+400 attempt 0 2001:db8:1::1, on the AAAA answer, after a pause
+420 won attempt 0
+end
+",
+);
+
+// The same without an AAAA answer: the delay was over at 60, which is seen at 400.
+const DELAY_OVER_IN_A_PAUSE: (&str, &str) = (
+    "race 1
+source 2001:db8::2/64 1
+source 192.0.2.2/24 1
+route ::/0 1
+route 0.0.0.0/0 1
+a 10 198.51.100.1
+connect 198.51.100.1 ok 20
+pause 30 400
+end
+",
+    "order 0 198.51.100.1 source 192.0.2.2
+10 answer a usable 1
+10 wait for aaaa until 60
+30 pause until 400
+400 resolution delay over
+400 attempt 0 198.51.100.1, at the end of the Resolution Delay, after a pause
+420 won attempt 0
+end
+",
+);
+
+// The AAAA answer without an address ends the wait. The second attempt is due at 40 + 250 = 290, in the pause.
+const NEGATIVE_AAAA: (&str, &str) = (
+    "race 1
+source 2001:db8::2/64 1
+source 192.0.2.2/24 1
+route ::/0 1
+route 0.0.0.0/0 1
+aaaa 40 none
+a 10 198.51.100.1 198.51.100.2
+connect 198.51.100.1 fail 200
+connect 198.51.100.2 ok 30
+pause 280 300
+end
+",
+    "order 0 198.51.100.1 source 192.0.2.2
+order 1 198.51.100.2 source 192.0.2.2, behind 0 by rule 10, otherwise leave the order unchanged
+10 answer a usable 2
+10 wait for aaaa until 60
+40 answer aaaa usable 0
+40 attempt 0 198.51.100.1, on both answers
+240 failed attempt 0
+280 pause until 300
+300 attempt 1 198.51.100.2, 250 after attempt 0, after a pause
+330 won attempt 1
+end
+",
+);
+
+// The A answer of tick 600 comes in a pause, and is seen at 610. Nobody waits for the AAAA answer, which is there. The
+// pause from 700 on comes after the race's end.
+const LATE_A_IN_A_PAUSE: (&str, &str) = (
+    "race 1
+source 2001:db8::2/64 1
+source 192.0.2.2/24 1
+route ::/0 1
+route 0.0.0.0/0 1
+aaaa 20 2001:db8:1::1
+a 600 198.51.100.1
+connect 198.51.100.1 ok 10
+pause 590 610
+pause 700 800
+end
+",
+    "order 0 2001:db8:1::1 source 2001:db8::2
+order 1 198.51.100.1 source 192.0.2.2, behind 0 by rule 6, prefer higher precedence: 35 after 40
+20 answer aaaa usable 1
+20 attempt 0 2001:db8:1::1, on the AAAA answer
+590 pause until 610
+610 answer a usable 1
+610 attempt 1 198.51.100.1, on the later A answer, after a pause
+620 won attempt 1
+620 cancelled attempt 0
+end
+",
+);
+
+const BOTH_FAMILIES_FAIL: (&str, &str) = (
+    "race 1
+source 2001:db8::2/64 1
+source 192.0.2.2/24 1
+route ::/0 1
+route 0.0.0.0/0 1
+aaaa 20 2001:db8:1::1
+a 20 198.51.100.1
+connect 2001:db8:1::1 fail 5
+connect 198.51.100.1 fail 5
+end
+",
+    "order 0 2001:db8:1::1 source 2001:db8::2
+order 1 198.51.100.1 source 192.0.2.2, behind 0 by rule 6, prefer higher precedence: 35 after 40
+20 answer aaaa usable 1
+20 answer a usable 1
+20 attempt 0 2001:db8:1::1, on the AAAA answer
+25 failed attempt 0
+270 attempt 1 198.51.100.1, 250 after attempt 0
+275 failed attempt 1
+275 exhausted
+end
+",
+);
+
+const UNREACHABLE_LAST: (&str, &str) = (
+    "race 1
+source 2001:db8::2/64 1
+source 192.0.2.2/24 1
+route 0.0.0.0/0 1
+aaaa 20 2001:db8:1::1
+a 20 198.51.100.1
+connect 2001:db8:1::1 ok 10
+end
+",
+    "order 0 198.51.100.1 source 192.0.2.2
+order 1 2001:db8:1::1 without source, behind 0 by rule 1, avoid unusable destinations
+20 answer aaaa usable 1
+20 answer a usable 1
+20 attempt 0 198.51.100.1, on the AAAA answer
+270 attempt 1 2001:db8:1::1, 250 after attempt 0
+280 won attempt 1
+280 cancelled attempt 0
+end
+",
+);
+
+// Both addresses are silent, and the race is given up at 30,000.
+const TUNNEL: (&str, &str) = (
+    "race 1
+source 2001:db8::2/64 1
+source 2001:db8:9::2/64 2
+route ::/0 1
+route 2001:db8:9::/48 2 tunnel
+aaaa 0 2001:db8:9::80 2001:db8:1::80
+end
+",
+    "order 0 2001:db8:1::80 source 2001:db8::2
+order 1 2001:db8:9::80 source 2001:db8:9::2, behind 0 by rule 7, prefer native transport
+0 answer aaaa usable 2
+0 attempt 0 2001:db8:1::80, on the AAAA answer
+250 attempt 1 2001:db8:9::80, 250 after attempt 0
+30000 limit
+30000 cancelled attempt 0
+30000 cancelled attempt 1
+end
+",
+);
+
+// Without an answer nothing happens up to the limit, but a pause that goes past it.
+const NO_ANSWER: (&str, &str) = (
+    "race 1
+set limit 100
+pause 90 200
+end
+",
+    "90 pause until 200
+100 limit
+end
+",
+);
+
+static RACES: [(&str, &str); 10] = [
+    LATE_AAAA,
+    AAAA_AT_THE_END_OF_THE_DELAY,
+    PAUSE_OVER_THE_END_OF_THE_DELAY,
+    DELAY_OVER_IN_A_PAUSE,
+    NEGATIVE_AAAA,
+    LATE_A_IN_A_PAUSE,
+    BOTH_FAMILIES_FAIL,
+    UNREACHABLE_LAST,
+    TUNNEL,
+    NO_ANSWER,
+];
+
+#[test]
+fn explanations(rt: HostRuntime) {
+    let heap = Refusing::new(rt.alloc());
+    for (text, wanted) in &RACES {
+        let refused = refused_in_turn(What::Explanation, &heap, text, wanted);
+        assert!(rt; refused > 0, "{text}");
+    }
+}
