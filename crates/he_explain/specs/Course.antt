@@ -12,6 +12,9 @@ use Rattle.he_explain.specs.declared.events.Event.{Event}
 use Rattle.he_explain.specs.declared.events.EventKind.{EventKind}
 use Rattle.he_explain.specs.declared.events.EventKind.TheVariants as kinds
 use Rattle.he_explain.specs.declared.events.Start.{Start}
+use Rattle.he_explain.specs.declared.listing.Listed.{Listed}
+use Rattle.he_explain.specs.declared.listing.Turn.{Turn}
+use Rattle.he_explain.specs.declared.listing.Turn.TheVariants as turns
 use Rattle.he_explain.specs.Events.{events_by_kind}
 use Rattle.he_explain.specs.Reasons.{order_reasons_text}
 
@@ -41,10 +44,20 @@ abbrev pub held_text : Bool → List ℕ
 held_text true = codes ", after a pause"
 held_text false = []
 
--- attempt PLACE ADDRESS, CAUSE
+abbrev pub turn_text : Turn → List ℕ
+turn_text turns.Leads = codes ", its family leads"
+turn_text turns.InTurn = codes ", its family's turn"
+turn_text turns.RunOut = codes ", the other family has run out"
+
+-- the place in the interlaced list, and whose turn it is there
+abbrev pub listed_text : Listed → List ℕ
+listed_text listed = ((codes ", listed at " ++ decimal listed.place) ++ (codes " of " ++ decimal listed.count)) ++ turn_text listed.turn
+
+-- attempt PLACE ADDRESS, CAUSE, LISTED
 abbrev pub start_text : Start → List ℕ
 start_text start =
-    ((codes " attempt " ++ decimal start.place) ++ (codes " " ++ printed start.ip)) ++ (cause_text start.cause ++ held_text start.held)
+    ((codes " attempt " ++ decimal start.place) ++ (codes " " ++ printed start.ip))
+    ++ ((cause_text start.cause ++ held_text start.held) ++ listed_text start.listed)
 
 abbrev pub kind_text : EventKind → List ℕ
 kind_text (kinds.Paused end) = codes " pause until " ++ decimal end

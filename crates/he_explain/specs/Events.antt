@@ -18,6 +18,7 @@ use Rattle.he_explain.specs.declared.events.Event.{Event}
 use Rattle.he_explain.specs.declared.events.EventKind.{EventKind}
 use Rattle.he_explain.specs.declared.events.EventKind.TheVariants.{Paused, Answered, Waits, DelayOver, Failed, Started, Won, Exhausted, Limit, Cancelled}
 use Rattle.he_explain.specs.Causes.{cause_of, is_held}
+use Rattle.he_explain.specs.Listing.{listed_at}
 
 abbrev pub event_at : ℕ → EventKind → Event
 event_at tick kind = record { tick = tick; kind = kind }
@@ -65,7 +66,7 @@ attempt_of line = record { place = line.place; tick = line.tick; ip = line.ip }
 abbrev pub start_event : Race → Option Attempt → Attempt → Event
 start_event race last next =
     let cause = cause_of race last next in
-    event_at next.tick (Started (record { place = next.place; ip = next.ip; cause = cause; held = is_held race last cause next.tick }))
+    event_at next.tick (Started (record { place = next.place; ip = next.ip; cause = cause; held = is_held race last cause next.tick; listed = listed_at race next.tick next.ip }))
 
 -- the starts of attempts one after the other
 abbrev pub start_events : Race → Option Attempt → List Line → List Event

@@ -3,6 +3,7 @@ pub mod Course
 pub mod Deciding
 pub mod Events
 pub mod Laws
+pub mod Listing
 pub mod Reasons
 pub mod Sorting
 pub mod Traits

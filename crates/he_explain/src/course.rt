@@ -4,11 +4,12 @@ ghost use Rattle.std.specs.Prelude.{◌≡◌, ◌++◌, [], ◌≤◌, codes, d
 ghost use Rattle.std.specs.List.{flat_map};
 ghost use Rattle.he_addr.specs.Printing.{printed};
 ghost use Rattle.he_text.specs.Writing.{AppendsText};
-ghost use Rattle.he_explain.specs.Course.{cause_text, course, course_text, event_text, held_text, kind_text, put_event, put_events, start_text};
+ghost use Rattle.he_explain.specs.Course.{cause_text, course, course_text, event_text, held_text, kind_text, listed_text, put_event, put_events, start_text, turn_text};
 ghost use Rattle.he_explain.specs.Sorting.{event_place};
 
 use crate::cause::Cause;
 use crate::events::{Event, EventKind, Start, collect_events, end_tick};
+use crate::listing::{Listed, Turn};
 use crate::writing::{write_bytes, write_labelled, write_labelled_ip, write_values};
 use he_addr::{Family, Ip, Memory, write_number};
 use he_plan::{Timeline, Transcript};
@@ -57,11 +58,15 @@ fn course<A: Allocator + Copy, B: Allocator, C: Allocator>(
     alloc: A,
     timeline: &Timeline<B>,
     transcript: &Transcript<C>,
-) -> Result<Vec<Event, A>, AllocError>
+) -> Result<Vec<Event, A>, Memory>
     ensures { IfOk result (λ events. events.items ≡ course timeline.now transcript.now) }
 {
     let events = collect_events(alloc, timeline, transcript)?;
-    sort_events(alloc, &events, end_tick(transcript.result()))
+    Ok(sort_events(
+        alloc,
+        &events,
+        end_tick(transcript.result()),
+    )?)
 }
 
 fn write_cause<A: Allocator + Copy>(cause: Cause, out: &mut Vec<u8, A>) -> Result<(), Memory>
@@ -101,6 +106,37 @@ fn write_why<A: Allocator + Copy>(
     write_held(held, out)
 }
 
+fn write_turn<A: Allocator + Copy>(turn: Turn, out: &mut Vec<u8, A>) -> Result<(), Memory>
+    ensures { AppendsText result out.old.items out.new.items (turn_text turn) }
+{
+    match turn {
+        Turn::Leads => write_bytes(b", its family leads", out),
+        Turn::InTurn => write_bytes(b", its family's turn", out),
+        Turn::RunOut => write_bytes(b", the other family has run out", out),
+    }
+}
+
+fn write_listed<A: Allocator + Copy>(listed: Listed, out: &mut Vec<u8, A>) -> Result<(), Memory>
+    ensures { AppendsText result out.old.items out.new.items (listed_text listed) }
+{
+    write_values(
+        b", listed at ",
+        listed.place as u64,
+        b" of ",
+        listed.count as u64,
+        out,
+    )?;
+    write_turn(listed.turn, out)
+}
+
+// CAUSE, LISTED, behind a comma
+fn write_reasons<A: Allocator + Copy>(start: Start, out: &mut Vec<u8, A>) -> Result<(), Memory>
+    ensures { AppendsText result out.old.items out.new.items ((cause_text start.cause ++ held_text start.held) ++ listed_text start.listed) }
+{
+    write_why(start.cause, start.held, out)?;
+    write_listed(start.listed, out)
+}
+
 // attempt PLACE ADDRESS, behind a space
 fn write_attempt<A: Allocator + Copy>(
     place: u64,
@@ -113,12 +149,12 @@ fn write_attempt<A: Allocator + Copy>(
     write_labelled_ip(b" ", ip, out)
 }
 
-// attempt PLACE ADDRESS, CAUSE, behind a space
+// attempt PLACE ADDRESS, CAUSE, LISTED, behind a space
 fn write_start<A: Allocator + Copy>(start: Start, out: &mut Vec<u8, A>) -> Result<(), Memory>
     ensures { AppendsText result out.old.items out.new.items (start_text start) }
 {
     write_attempt(start.place as u64, start.ip, out)?;
-    write_why(start.cause, start.held, out)
+    write_reasons(start, out)
 }
 
 fn write_kind<A: Allocator + Copy>(kind: EventKind, out: &mut Vec<u8, A>) -> Result<(), Memory>
@@ -188,10 +224,13 @@ fn write_sorted<A: Allocator + Copy, B: Allocator, C: Allocator>(
 /// - `wait for aaaa until T`: the A answer came first, and the Resolution Delay after it ends at T;
 /// - `resolution delay over`: no AAAA answer was seen by its end;
 /// - `failed attempt PLACE`;
-/// - `attempt PLACE ADDRESS, CAUSE`, with `, after a pause` where it was due earlier and a pause held it back. The cause
-///   is `on the AAAA answer`, `on both answers` or `at the end of the Resolution Delay` for the first attempt; for a
-///   later one `N after attempt PLACE`, where N is the Connection Attempt Delay, or `on the later AAAA answer`, `on
-///   the later A answer` where that delay had been over and no address was left;
+/// - `attempt PLACE ADDRESS, CAUSE`, with `, after a pause` where it was due earlier and a pause held it back. The
+///   cause is `on the AAAA answer`, `on both answers` or `at the end of the Resolution Delay` for the first attempt;
+///   for a later one `N after attempt PLACE`, where N is the Connection Attempt Delay, or `on the later AAAA answer`,
+///   `on the later A answer` where that delay had been over and no address was left. Then follows `, listed at K of
+///   N`, the place in the interlaced list of all that had been received, counted from 0, with `, its family leads` for
+///   the first addresses of the leading family, `, its family's turn` behind an address of the other family, or `, the
+///   other family has run out` (section 4);
 /// - `won attempt PLACE`, `exhausted` or `limit`, the race's end, and for each attempt that it cancelled, by place,
 ///   `cancelled attempt PLACE`.
 ///

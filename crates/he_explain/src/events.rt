@@ -8,7 +8,8 @@ ghost use Rattle.he_plan.specs.Race.{reply_of};
 ghost use Rattle.he_explain.specs.Events.{answer_events, attempt_of, cancelled_by, end_event, event_at, events_of, failed_by, is_seen_by, met_events, over_events, pause_events, start_event, start_events, told_events, wait_events};
 
 use crate::cause::{Cause, cause_of, has_usable, is_held};
-use he_addr::{Family, Ip};
+use crate::listing::{Listed, listed_at};
+use he_addr::{Family, Ip, Memory};
 use he_plan::{Attempt, Line, Mark, Outcome3, Timeline, Transcript};
 use std::alloc::{AllocError, Allocator};
 
@@ -23,6 +24,9 @@ pub struct Start {
 
     /// Whether it was due before it started, and so held back by a pause.
     pub held: bool,
+
+    /// Where its address stands in the list from which it is taken.
+    pub listed: Listed,
 }
 
 /// What happens at a tick of a race.
@@ -67,16 +71,16 @@ pub struct Event {
 }
 
 // The events of the race with this transcript, by kind.
-pub(crate) fn collect_events<A: Allocator, B: Allocator, C: Allocator>(
+pub(crate) fn collect_events<A: Allocator + Copy, B: Allocator, C: Allocator>(
     alloc: A,
     timeline: &Timeline<B>,
     transcript: &Transcript<C>,
-) -> Result<Vec<Event, A>, AllocError>
+) -> Result<Vec<Event, A>, Memory>
     ensures { IfOk result (λ events. events.items ≡ events_of timeline.now transcript.now) }
 {
     let mut events = Vec::new(alloc);
     push_met(&mut events, timeline)?;
-    push_told(&mut events, timeline, transcript)?;
+    push_told(alloc, &mut events, timeline, transcript)?;
     Ok(events)
 }
 
@@ -197,27 +201,30 @@ fn is_aaaa_seen_by<A: Allocator>(timeline: &Timeline<A>, tick: u64) -> bool
     }
 }
 
-fn push_told<A: Allocator, B: Allocator, C: Allocator>(
+fn push_told<A: Allocator + Copy, B: Allocator, C: Allocator>(
+    alloc: A,
     events: &mut Vec<Event, A>,
     timeline: &Timeline<B>,
     transcript: &Transcript<C>,
-) -> Result<(), AllocError>
+) -> Result<(), Memory>
     ensures { OnOk result (events.new.items ≡ events.old.items ++ told_events timeline.now transcript.now) }
 {
-    push_attempts(events, timeline, transcript.attempts())?;
-    push_end(events, transcript.result(), transcript.attempts())
+    push_attempts(alloc, events, timeline, transcript.attempts())?;
+    push_end(events, transcript.result(), transcript.attempts())?;
+    Ok(())
 }
 
 // The failures and the starts.
-fn push_attempts<A: Allocator, B: Allocator>(
+fn push_attempts<A: Allocator + Copy, B: Allocator>(
+    alloc: A,
     events: &mut Vec<Event, A>,
     timeline: &Timeline<B>,
     lines: &[Line],
-) -> Result<(), AllocError>
+) -> Result<(), Memory>
     ensures { OnOk result (events.new.items ≡ events.old.items ++ (flat_map (λ line. failed_by line.place line.mark) lines.now ++ start_events timeline.now None lines.now)) }
 {
     push_failures(events, lines)?;
-    push_starts(events, timeline, lines)
+    push_starts(alloc, events, timeline, lines)
 }
 
 // The end of the race, and what it cancelled.
@@ -305,36 +312,41 @@ fn attempt(line: &Line) -> Attempt
     }
 }
 
-fn push_starts<A: Allocator, B: Allocator>(
+fn push_starts<A: Allocator + Copy, B: Allocator>(
+    alloc: A,
     events: &mut Vec<Event, A>,
     timeline: &Timeline<B>,
     lines: &[Line],
-) -> Result<(), AllocError>
+) -> Result<(), Memory>
     ensures { OnOk result (events.new.items ≡ events.old.items ++ start_events timeline.now None lines.now) }
 {
     let mut last = None;
     for line in lines {
         let next = attempt(line);
-        push_start(events, timeline, last, next)?;
+        push_start(alloc, events, timeline, last, next)?;
         last = Some(next);
     }
     Ok(())
 }
 
-fn push_start<A: Allocator, B: Allocator>(
+fn push_start<A: Allocator + Copy, B: Allocator>(
+    alloc: A,
     events: &mut Vec<Event, A>,
     timeline: &Timeline<B>,
     last: Option<Attempt>,
     next: Attempt,
-) -> Result<(), AllocError>
+) -> Result<(), Memory>
     ensures { OnOk result (events.new.items ≡ events.old.items ++ start_event timeline.now last next ∷ []) }
 {
+    let listed = listed_at(alloc, timeline, next.tick, next.ip)?;
     let cause = cause_of(timeline, last, next);
     let start = Start {
         place: next.place,
         ip: next.ip,
         cause,
         held: is_held(timeline, last, cause, next.tick),
+        listed,
     };
-    push(events, next.tick, EventKind::Started(start))
+    push(events, next.tick, EventKind::Started(start))?;
+    Ok(())
 }

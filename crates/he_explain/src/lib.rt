@@ -1,12 +1,16 @@
-//! Why the addresses of a race stand in their order. No command writes it yet.
+//! Why a race went as it did. No command writes it yet.
 //!
-//! [`write_order_reasons`] writes the usable addresses of a race in the order of RFC 6724 section 6, each with its
-//! source, and from the second on the first rule of that section which puts it behind the one before, by its number
-//! and its name there.
+//! [`write_explanation`] writes the order of a race's addresses with its reasons, then the race's course, and `end`.
+//! Each of both is there by itself. [`write_order_reasons`] writes the usable addresses in the order of RFC 6724
+//! section 6, each with its source, and from the second on the first rule of that section which puts it behind the one
+//! before, by its number and its name there. [`write_course`] writes what happened at which tick (RFC 8305 sections 3
+//! to 5): the answers, the wait for the AAAA answer, each attempt with its cause and the place of its address in the
+//! interlaced list, failures, pauses, and how the race ended.
 //!
 //! Proved, for every race: what is appended is the text of `specs/Reasons`, whose rules are those of he_select
-//! (`specs/Deciding`), and the vector is as it was where memory is refused. Between two members of a list exactly one
-//! rule decides ([`laws`]).
+//! (`specs/Deciding`), and that of `specs/Course`, by the race's one transcript; and the vector is as it was where
+//! memory is refused. Between two members of a list exactly one rule decides, and the cause of an attempt
+//! (`specs/Causes`) is what came at its tick and not before ([`laws`]).
 #![tactic(auto)]
 
 pub mod cause;
@@ -15,6 +19,7 @@ pub mod deciding;
 pub mod events;
 pub mod explanation;
 pub mod laws;
+pub mod listing;
 pub mod reasons;
 mod sorted;
 mod traits;
@@ -25,4 +30,5 @@ pub use course::write_course;
 pub use deciding::DestinationRule;
 pub use events::{Event, EventKind, Start};
 pub use explanation::write_explanation;
+pub use listing::{Listed, Turn};
 pub use reasons::write_order_reasons;

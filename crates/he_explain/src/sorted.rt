@@ -14,7 +14,10 @@ use he_plan::Timeline;
 use he_select::{Sourced, order_with_sources};
 use std::alloc::{AllocError, Allocator};
 
-fn push_usable<A: Allocator>(ips: &mut Vec<Ip, A>, addresses: &[Ip]) -> Result<(), AllocError>
+pub(crate) fn push_usable<A: Allocator>(
+    ips: &mut Vec<Ip, A>,
+    addresses: &[Ip],
+) -> Result<(), AllocError>
     ensures { OnOk result (ips.new.items ≡ ips.old.items ++ filter is_usable addresses.now) }
 {
     for ip in addresses {

@@ -1,12 +1,12 @@
-// Races with their explanations, each worked out by hand from RFC 8305 sections 3 to 5: the order of the addresses, and
+// Races with their explanations, each worked out by hand from RFC 8305 sections 3 to 5: the order of the addresses,
 // then the course. But for the host without a way to an address and the one with a tunnel, the host reaches both
 // families.
 
 use crate::refused::{What, refused_in_turn};
 use refusing::Refusing;
 
-// The A answer of tick 10 is held back for 50 ticks. The AAAA answer comes at 400, when the delay of 250 after the first
-// attempt, at 60 + 250 = 310, has been over and no address was left.
+// The A answer of tick 10 is held back for 50 ticks. The AAAA answer comes at 400, when the delay of 250 after the
+// first attempt, at 60 + 250 = 310, has been over and no address was left.
 const LATE_AAAA: (&str, &str) = (
     "race 1
 source 2001:db8::2/64 1
@@ -23,9 +23,9 @@ order 1 198.51.100.1 source 192.0.2.2, behind 0 by rule 6, prefer higher precede
 10 answer a usable 1
 10 wait for aaaa until 60
 60 resolution delay over
-60 attempt 0 198.51.100.1, at the end of the Resolution Delay
+60 attempt 0 198.51.100.1, at the end of the Resolution Delay, listed at 0 of 1, its family leads
 400 answer aaaa usable 1
-400 attempt 1 2001:db8:1::1, on the later AAAA answer
+400 attempt 1 2001:db8:1::1, on the later AAAA answer, listed at 0 of 2, its family leads
 430 won attempt 1
 430 cancelled attempt 0
 end
@@ -49,7 +49,7 @@ order 1 198.51.100.1 source 192.0.2.2, behind 0 by rule 6, prefer higher precede
 10 answer a usable 1
 10 wait for aaaa until 60
 60 answer aaaa usable 1
-60 attempt 0 2001:db8:1::1, on the AAAA answer
+60 attempt 0 2001:db8:1::1, on the AAAA answer, listed at 0 of 2, its family leads
 80 won attempt 0
 end
 ",
@@ -74,7 +74,7 @@ order 1 198.51.100.1 source 192.0.2.2, behind 0 by rule 6, prefer higher precede
 10 wait for aaaa until 60
 30 pause until 400
 400 answer aaaa usable 1
-400 attempt 0 2001:db8:1::1, on the AAAA answer, after a pause
+400 attempt 0 2001:db8:1::1, on the AAAA answer, after a pause, listed at 0 of 2, its family leads
 420 won attempt 0
 end
 ",
@@ -97,7 +97,7 @@ end
 10 wait for aaaa until 60
 30 pause until 400
 400 resolution delay over
-400 attempt 0 198.51.100.1, at the end of the Resolution Delay, after a pause
+400 attempt 0 198.51.100.1, at the end of the Resolution Delay, after a pause, listed at 0 of 1, its family leads
 420 won attempt 0
 end
 ",
@@ -122,10 +122,10 @@ order 1 198.51.100.2 source 192.0.2.2, behind 0 by rule 10, otherwise leave the 
 10 answer a usable 2
 10 wait for aaaa until 60
 40 answer aaaa usable 0
-40 attempt 0 198.51.100.1, on both answers
+40 attempt 0 198.51.100.1, on both answers, listed at 0 of 2, its family leads
 240 failed attempt 0
 280 pause until 300
-300 attempt 1 198.51.100.2, 250 after attempt 0, after a pause
+300 attempt 1 198.51.100.2, 250 after attempt 0, after a pause, listed at 1 of 2, the other family has run out
 330 won attempt 1
 end
 ",
@@ -149,10 +149,10 @@ end
     "order 0 2001:db8:1::1 source 2001:db8::2
 order 1 198.51.100.1 source 192.0.2.2, behind 0 by rule 6, prefer higher precedence: 35 after 40
 20 answer aaaa usable 1
-20 attempt 0 2001:db8:1::1, on the AAAA answer
+20 attempt 0 2001:db8:1::1, on the AAAA answer, listed at 0 of 1, its family leads
 590 pause until 610
 610 answer a usable 1
-610 attempt 1 198.51.100.1, on the later A answer, after a pause
+610 attempt 1 198.51.100.1, on the later A answer, after a pause, listed at 1 of 2, its family's turn
 620 won attempt 1
 620 cancelled attempt 0
 end
@@ -175,9 +175,9 @@ end
 order 1 198.51.100.1 source 192.0.2.2, behind 0 by rule 6, prefer higher precedence: 35 after 40
 20 answer aaaa usable 1
 20 answer a usable 1
-20 attempt 0 2001:db8:1::1, on the AAAA answer
+20 attempt 0 2001:db8:1::1, on the AAAA answer, listed at 0 of 2, its family leads
 25 failed attempt 0
-270 attempt 1 198.51.100.1, 250 after attempt 0
+270 attempt 1 198.51.100.1, 250 after attempt 0, listed at 1 of 2, its family's turn
 275 failed attempt 1
 275 exhausted
 end
@@ -198,8 +198,8 @@ end
 order 1 2001:db8:1::1 without source, behind 0 by rule 1, avoid unusable destinations
 20 answer aaaa usable 1
 20 answer a usable 1
-20 attempt 0 198.51.100.1, on the AAAA answer
-270 attempt 1 2001:db8:1::1, 250 after attempt 0
+20 attempt 0 198.51.100.1, on the AAAA answer, listed at 0 of 2, its family leads
+270 attempt 1 2001:db8:1::1, 250 after attempt 0, listed at 1 of 2, its family's turn
 280 won attempt 1
 280 cancelled attempt 0
 end
@@ -219,11 +219,45 @@ end
     "order 0 2001:db8:1::80 source 2001:db8::2
 order 1 2001:db8:9::80 source 2001:db8:9::2, behind 0 by rule 7, prefer native transport
 0 answer aaaa usable 2
-0 attempt 0 2001:db8:1::80, on the AAAA answer
-250 attempt 1 2001:db8:9::80, 250 after attempt 0
+0 attempt 0 2001:db8:1::80, on the AAAA answer, listed at 0 of 2, its family leads
+250 attempt 1 2001:db8:9::80, 250 after attempt 0, listed at 1 of 2, the other family has run out
 30000 limit
 30000 cancelled attempt 0
 30000 cancelled attempt 1
+end
+",
+);
+
+// Two addresses of the leading family come first, then the families alternate. The IPv6 addresses have 44 bits in
+// common with their source each.
+const TWO_LEAD: (&str, &str) = (
+    "race 1
+set attempt 100
+set count 2
+set limit 1000
+source 2001:db8::2/64 1
+source 192.0.2.2/24 1
+route ::/0 1
+route 0.0.0.0/0 1
+aaaa 0 2001:db8:a::1 2001:db8:a::2 2001:db8:a::3
+a 0 198.51.100.1
+end
+",
+    "order 0 2001:db8:a::1 source 2001:db8::2
+order 1 2001:db8:a::2 source 2001:db8::2, behind 0 by rule 10, otherwise leave the order unchanged
+order 2 2001:db8:a::3 source 2001:db8::2, behind 1 by rule 10, otherwise leave the order unchanged
+order 3 198.51.100.1 source 192.0.2.2, behind 2 by rule 6, prefer higher precedence: 35 after 40
+0 answer aaaa usable 3
+0 answer a usable 1
+0 attempt 0 2001:db8:a::1, on the AAAA answer, listed at 0 of 4, its family leads
+100 attempt 1 2001:db8:a::2, 100 after attempt 0, listed at 1 of 4, its family leads
+200 attempt 2 198.51.100.1, 100 after attempt 1, listed at 2 of 4, its family's turn
+300 attempt 3 2001:db8:a::3, 100 after attempt 2, listed at 3 of 4, its family's turn
+1000 limit
+1000 cancelled attempt 0
+1000 cancelled attempt 1
+1000 cancelled attempt 2
+1000 cancelled attempt 3
 end
 ",
 );
@@ -241,7 +275,7 @@ end
 ",
 );
 
-static RACES: [(&str, &str); 10] = [
+static RACES: [(&str, &str); 11] = [
     LATE_AAAA,
     AAAA_AT_THE_END_OF_THE_DELAY,
     PAUSE_OVER_THE_END_OF_THE_DELAY,
@@ -251,6 +285,7 @@ static RACES: [(&str, &str); 10] = [
     BOTH_FAMILIES_FAIL,
     UNREACHABLE_LAST,
     TUNNEL,
+    TWO_LEAD,
     NO_ANSWER,
 ];
 
