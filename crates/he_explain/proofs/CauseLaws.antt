@@ -1,19 +1,20 @@
 -- An attempt's cause is what it waited for.
-use Rattle.std.proofs.Common.{◌≡◌, ℕ, ◌+◌, ◌<◌, ◌≤◌, ◌&&◌, ◌⊎◌, Bool, true, false, List, [], ◌∷◌, if◌then◌else◌, refl, sym, subst, arith, inl, inr, max, nat_le, nat_lt}
+use Rattle.std.proofs.Common.{◌≡◌, ℕ, ◌+◌, ◌<◌, ◌≤◌, ◌&&◌, ◌⊎◌, Bool, true, false, List, [], ◌∷◌, if◌then◌else◌, refl, sym, ◌∙◌, ap, subst, arith, inl, inr, max, nat_le, nat_lt}
 use Rattle.std.specs.Prelude.{Option, None, Some, MatchOption, IsSomeAnd, IsTrue, IsFalse}
 use Rattle.std.specs.List.{list_any}
 use Rattle.std.proofs.lemmas.Bool.{cases_lt}
 use Rattle.he_addr.specs.Ip.{family_of, is_usable}
 use Rattle.he_plan.specs.declared.attempts.Attempt.{Attempt}
 use Rattle.he_plan.specs.Attempts.{IsAnswered, IsFree, IsLeast, IsPositive, IsSeen, MayBegin, MayFollow, MayStart, is_untried, last_of, received, seen, seen_past}
-use Rattle.he_plan.specs.Race.{Race, Reply}
+use Rattle.he_plan.specs.Race.{Race, Reply, reply_of}
 use Rattle.he_plan.specs.Timeline.{IsRace}
 use Rattle.he_plan.proofs.Bools.{and_right, clash, lt_from, lt_test, not_lt}
 use Rattle.he_plan.proofs.Starting.{IsSeen-seen}
 use Rattle.he_explain.specs.declared.cause.Cause.{Cause}
 use Rattle.he_explain.specs.declared.cause.Cause.TheVariants.{AaaaAnswer, BothAnswers, ResolutionDelay, AttemptDelay, LaterAnswer}
-use Rattle.he_explain.specs.Causes.{cause_of, first_cause_by, later_cause}
-use Rattle.he_explain.specs.Laws.{CausesStand, IsCausedBy, IsLaterBy}
+use Rattle.he_explain.specs.Causes.{cause_of, due_of, first_cause_by, later_cause, tick_of}
+use Rattle.he_explain.specs.Laws.{CausesStand, DuesStand, IsCausedBy, IsLaterBy}
+use Rattle.he_explain.proofs.LaterLaws.{CameFrom, later_seen, own_answer}
 
 -- a tick is not seen before it
 pub not_sooner : (pauses : List (ℕ × ℕ)) (x : ℕ) → x ≤ seen_past pauses x
@@ -27,7 +28,7 @@ not_sooner (p ∷ pauses) x = past (nat_le p.0 x && nat_lt x p.1) refl (not_soon
 pub never_before : (race : Race) (x t : ℕ) → t ≤ x → nat_lt (seen race x) t ≡ false
 never_before race x t h = not_lt (seen race x) t (omega (arith, h, not_sooner race.pauses x))
 
-not_before : (m n : ℕ) → nat_lt m n ≡ false → n ≤ m
+pub not_before : (m n : ℕ) → nat_lt m n ≡ false → n ≤ m
 not_before m n e = elim (cases_lt m n) [ inl less ↦ absurd (clash (nat_lt m n) (lt_test m n less) e) | inr more ↦ more ]
 
 -- the race may begin at t, where these are its answers
@@ -96,11 +97,11 @@ both_by race r six a t now least come none =
         let is4 : IsSeen race four.tick s4 = IsSeen-seen race r four.tick in
         elim (cases_lt s6 s4) [
           | inl less ↦
-            let last : t ≤ s4 = least s4 (is4.holds.1, inr ((p.0, omega arith), inl (omega (arith, less)))) in
-            (p.0, omega (arith, less, last, p.1, come))
+              let last : t ≤ s4 = least s4 (is4.holds.1, inr ((p.0, omega arith), inl (omega (arith, less)))) in
+              (p.0, omega (arith, less, last, p.1, come))
           | inr more ↦
-            let last : t ≤ s6 = least s6 (is6.holds.1, inr ((p.0, more), inl (omega arith))) in
-            (p.0, omega (arith, more, last, p.1, come))
+              let last : t ≤ s6 = least s6 (is6.holds.1, inr ((p.0, more), inl (omega arith))) in
+              (p.0, omega (arith, more, last, p.1, come))
         ]
 
 first_is : (race : Race) → IsRace race → (aaaa a : Option Reply) (t : ℕ) → BeginsAt race aaaa a t → ((s : ℕ) → BeginsAt race aaaa a s → t ≤ s)
@@ -114,6 +115,7 @@ first_is race r (Some six) a t now least = by_seen (nat_lt t (seen race six.tick
         let last : t ≤ seen race six.tick = least (seen race six.tick) (is6.holds.1, inl (e, omega arith)) in
         (e, omega (arith, last, come))
     by_usable false e come = both_by race r six a t now least come e
+
     by_seen : (b : Bool) → nat_lt t (seen race six.tick) ≡ b
         → FirstBy race (Some six) a t (if b then ResolutionDelay else (if list_any is_usable six.addresses then AaaaAnswer else BothAnswers))
     by_seen true e = delayed_by race r (Some six) a t now least (λ come. absurd (omega (arith, come, lt_from t (seen race six.tick) e)))
@@ -128,15 +130,17 @@ same_first race t (LaterAnswer family) done next e is = absurd is
 
 -- a later attempt
 later_is : (race : Race) → IsRace race → (done : List Attempt) (last next : Attempt) → MayFollow race done next.tick last
-    → ((s : ℕ) → s < next.tick → ¬ MayFollow race done s last) → IsLaterBy race done last next (later_cause race last next)
-later_is race r done last next now none = by_over (nat_lt (seen race (last.tick + race.settings.attempt)) next.tick) refl
+    → ((s : ℕ) → s < next.tick → ¬ MayFollow race done s last) → CameFrom race done next.tick (reply_of race (family_of next.ip))
+    → IsLaterBy race done last next (later_cause race last next)
+later_is race r done last next now none from = by_over (nat_lt (seen race (last.tick + race.settings.attempt)) next.tick) refl
   where
     untried_by : (t : ℕ) → IsFree race t → last.tick + race.settings.attempt ≤ t → t < next.tick → (b : Bool) → list_any (is_untried done) (received race t) ≡ b → b ≡ false
     untried_by t free over before true e = absurd (none t before (record { free = free; delay = over; some = e }))
     untried_by t free over before false e = refl
+
     by_over : (b : Bool) → nat_lt (seen race (last.tick + race.settings.attempt)) next.tick ≡ b
         → IsLaterBy race done last next (if b then LaterAnswer (family_of next.ip) else AttemptDelay last.place race.settings.attempt)
-    by_over true e = (refl, lt_from (seen race (last.tick + race.settings.attempt)) next.tick e, λ t free over before. untried_by t free over before (list_any (is_untried done) (received race t)) refl)
+    by_over true e = let over : seen race (last.tick + race.settings.attempt) < next.tick = lt_from (seen race (last.tick + race.settings.attempt)) next.tick e in (refl, over, later_seen race r done last next.tick (family_of next.ip) over none from, λ t free over before. untried_by t free over before (list_any (is_untried done) (received race t)) refl)
     by_over false e =
         let d : ℕ = last.tick + race.settings.attempt in
         let is : IsSeen race d (seen race d) = IsSeen-seen race r d in
@@ -145,22 +149,74 @@ later_is race r done last next now none = by_over (nat_lt (seen race (last.tick 
 
 -- the least tick at which one may start
 stands_by : (race : Race) → IsRace race → (done : List Attempt) (next : Attempt) (last : Option Attempt) → last_of done ≡ last
-    → IsLeast (MayStart race done) next.tick → IsCausedBy race done last next (cause_of race last next)
-stands_by race r done next None e least =
+    → IsLeast (MayStart race done) next.tick → CameFrom race done next.tick (reply_of race (family_of next.ip)) → IsCausedBy race done last next (cause_of race last next)
+stands_by race r done next None e least from =
     let At : ℕ → Option Attempt → Type 0 = λ s o. MatchOption o (MayBegin race s) (MayFollow race done s) in
     let now : MayBegin race next.tick = subst (At next.tick) e least.holds.1 in
     let first : (s : ℕ) → MayBegin race s → next.tick ≤ s =
-        λ s may. elim (cases_lt s next.tick) [
-          | inl before ↦ least.least s (omega (arith, before, least.holds.0), subst (At s) (sym e) may)
-          | inr after ↦ after
-        ]
+    λ s may. elim (cases_lt s next.tick) [
+      | inl before ↦ least.least s (omega (arith, before, least.holds.0), subst (At s) (sym e) may)
+      | inr after ↦ after
+    ]
     in
     same_first race next.tick (first_cause_by race race.aaaa next.tick) done next refl (first_is race r race.aaaa race.a next.tick now first)
-stands_by race r done next (Some last) e least =
+stands_by race r done next (Some last) e least from =
     let At : ℕ → Option Attempt → Type 0 = λ s o. MatchOption o (MayBegin race s) (MayFollow race done s) in
     let now : MayFollow race done next.tick last = subst (At next.tick) e least.holds.1 in
     later_is race r done last next now
-    (λ s before may. absurd (omega (arith, before, least.least s (omega (arith, before, least.holds.0), subst (At s) (sym e) may))))
+    (λ s before may. absurd (omega (arith, before, least.least s (omega (arith, before, least.holds.0), subst (At s) (sym e) may)))) from
 
 pub causes_stand : CausesStand
-causes_stand race r done next is = stands_by race r done next (last_of done) refl is.tick
+causes_stand race r done next is = stands_by race r done next (last_of done) refl is.tick (own_answer race r done next is)
+
+-- the later of two ticks is seen when the later one of them is seen
+seen_max : (race : Race) → IsRace race → (x y : ℕ) → seen race (max x y) ≡ max (seen race x) (seen race y)
+seen_max race r x y =
+    let is-x : IsSeen race x (seen race x) = IsSeen-seen race r x in
+    let is-y : IsSeen race y (seen race y) = IsSeen-seen race r y in
+    elim (cases_lt x y) [
+      | inl less ↦
+          let up : max x y ≡ y = omega (arith, less) in
+          let no_sooner : seen race x ≤ seen race y = is-x.least (seen race y) (omega (arith, less, is-y.holds.0), is-y.holds.1) in
+          ap (seen race) up ∙ omega (arith, no_sooner)
+      | inr more ↦
+          let up : max x y ≡ x = omega (arith, more) in
+          let no_sooner : seen race y ≤ seen race x = is-y.least (seen race x) (omega (arith, more, is-x.holds.0), is-x.holds.1) in
+          ap (seen race) up ∙ omega (arith, no_sooner)
+    ]
+
+due_aaaa : (race : Race) (t : ℕ) (U : Reply → Type 0) (reply : Option Reply) → IsSomeAnd reply (λ r. U r × (seen race r.tick ≡ t)) → seen race (tick_of reply) ≡ t
+due_aaaa race t U None h = absurd h
+due_aaaa race t U (Some r) h = h.1
+
+due_both : (race : Race) → IsRace race → (t : ℕ) (U V : Reply → Type 0) (aaaa a : Option Reply)
+    → IsSomeAnd aaaa (λ six. U six × IsSomeAnd a (λ four. V four × (max (seen race six.tick) (seen race four.tick) ≡ t)))
+    → seen race (max (tick_of aaaa) (tick_of a)) ≡ t
+due_both race r t U V None a h = absurd h
+due_both race r t U V (Some six) None h = absurd h.1
+due_both race r t U V (Some six) (Some four) h = seen_max race r six.tick four.tick ∙ h.1.1
+
+due_delay : (race : Race) (t delay : ℕ) (U : Reply → Type 0) (reply : Option Reply) → IsSomeAnd reply (λ r. U r × (seen race (r.tick + delay) ≡ t)) → seen race (tick_of reply + delay) ≡ t
+due_delay race t delay U None h = absurd h
+due_delay race t delay U (Some r) h = h.1
+
+due_later : (race : Race) (t : ℕ) (reply : Option Reply) → IsSomeAnd reply (λ r. seen race r.tick ≡ t) → seen race (tick_of reply) ≡ t
+due_later race t None h = absurd h
+due_later race t (Some r) h = h
+
+due_by : (race : Race) → IsRace race → (done : List Attempt) (last : Option Attempt) (next : Attempt) (cause : Cause) → IsCausedBy race done last next cause
+    → seen race (due_of race last cause) ≡ next.tick
+due_by race r done None next AaaaAnswer is = due_aaaa race next.tick (λ r. IsTrue (list_any is_usable r.addresses)) race.aaaa is
+due_by race r done None next BothAnswers is =
+    due_both race r next.tick (λ six. IsFalse (list_any is_usable six.addresses)) (λ four. IsTrue (list_any is_usable four.addresses)) race.aaaa race.a is
+due_by race r done None next ResolutionDelay is = due_delay race next.tick race.settings.resolution (λ r. IsTrue (list_any is_usable r.addresses)) race.a is.1
+due_by race r done None next (AttemptDelay place delay) is = absurd is
+due_by race r done None next (LaterAnswer family) is = absurd is
+due_by race r done (Some last) next AaaaAnswer is = absurd is
+due_by race r done (Some last) next BothAnswers is = absurd is
+due_by race r done (Some last) next ResolutionDelay is = absurd is
+due_by race r done (Some last) next (AttemptDelay place delay) is = is.2
+due_by race r done (Some last) next (LaterAnswer family) is = due_later race next.tick (reply_of race family) is.2
+
+pub dues_stand : DuesStand
+dues_stand race r done next is = due_by race r done (last_of done) next (cause_of race (last_of done) next) (causes_stand race r done next is)

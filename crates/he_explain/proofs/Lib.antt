@@ -1,7 +1,10 @@
 mod CauseLaws
+mod CourseLaws
 mod DecidingLaws
 mod EventLaws
+mod LaterLaws
 mod LineLaws
+mod ListedLaws
 mod OneRule
 mod SourceLaws
 mod UsableLaws

@@ -37,10 +37,14 @@ tick_of reply = option_map_or (λ r. r.tick) reply 0
 abbrev pub start_of : Option Attempt → ℕ
 start_of attempt = option_map_or (λ x. x.tick) attempt 0
 
--- an attempt of this cause was due before its tick, so that it was held back by a pause
+-- the tick from which an attempt of this cause is due, pauses not looked at
+abbrev pub due_of : Race → Option Attempt → Cause → ℕ
+due_of race last AaaaAnswer = tick_of race.aaaa
+due_of race last BothAnswers = max (tick_of race.aaaa) (tick_of race.a)
+due_of race last ResolutionDelay = tick_of race.a + race.settings.resolution
+due_of race last (AttemptDelay place delay) = start_of last + delay
+due_of race last (LaterAnswer family) = tick_of (reply_of race family)
+
+-- it was due before its tick t, so that a pause held it back
 abbrev pub is_held : Race → Option Attempt → Cause → ℕ → Bool
-is_held race last AaaaAnswer t = nat_lt (tick_of race.aaaa) t
-is_held race last BothAnswers t = nat_lt (max (tick_of race.aaaa) (tick_of race.a)) t
-is_held race last ResolutionDelay t = nat_lt (tick_of race.a + race.settings.resolution) t
-is_held race last (AttemptDelay place delay) t = nat_lt (start_of last + delay) t
-is_held race last (LaterAnswer family) t = nat_lt (tick_of (reply_of race family)) t
+is_held race last cause t = nat_lt (due_of race last cause) t

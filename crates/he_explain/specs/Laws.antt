@@ -1,16 +1,22 @@
 -- What follows from the definitions, in words of its own.
-use Rattle.std.specs.Prelude.{ℕ, ◌≡◌, ◌≢◌, ◌+◌, ◌<◌, ◌≤◌, List, max, slice_get, Option, Some, None, IsSomeAnd, IsTrue, IsFalse}
-use Rattle.std.specs.List.{list_any}
+use Rattle.std.specs.Prelude.{ℕ, ◌≡◌, ◌≢◌, ◌+◌, ◌<◌, ◌≤◌, List, max, slice_get, take, Option, Some, None, IsSomeAnd, IsTrue, IsFalse}
+use Rattle.std.specs.List.{list_all, list_any}
+use Rattle.std.specs.List.Sorted.{IsNonDecreasingBy, IsPermutation}
+use Rattle.he_addr.specs.declared.ip.Ip.{Ip}
 use Rattle.he_addr.specs.Ip.{family_of, is_usable}
 use Rattle.he_plan.specs.declared.attempts.Attempt.{Attempt}
-use Rattle.he_plan.specs.Attempts.{IsAnswered, IsFree, IsNext, is_untried, last_of, received, seen}
-use Rattle.he_plan.specs.Race.{Race}
+use Rattle.he_plan.specs.Attempts.{IsAnswered, IsFree, IsNext, is_tried, is_untried, last_of, order_at, received, seen}
+use Rattle.he_plan.specs.Race.{Race, reply_of}
 use Rattle.he_plan.specs.Timeline.{IsRace}
+use Rattle.he_plan.specs.Transcript.{Report}
 use Rattle.he_select.specs.Preference.{Member}
 use Rattle.he_select.specs.Selection.{SelectionInput}
 use Rattle.he_explain.specs.declared.cause.Cause.{Cause}
 use Rattle.he_explain.specs.declared.cause.Cause.TheVariants.{AaaaAnswer, BothAnswers, ResolutionDelay, AttemptDelay, LaterAnswer}
-use Rattle.he_explain.specs.Causes.{cause_of}
+use Rattle.he_explain.specs.Causes.{cause_of, due_of}
+use Rattle.he_explain.specs.Course.{course}
+use Rattle.he_explain.specs.Events.{events_by_kind}
+use Rattle.he_explain.specs.Listing.{listed_at}
 use Rattle.he_explain.specs.Deciding.{DecidesAt, deciding_rule, rules_in_order}
 
 -- one rule decides between the two, and it is the one that is named
@@ -36,8 +42,9 @@ IsFirstBy race t ResolutionDelay =
 IsFirstBy race t (AttemptDelay place delay) = ⊥
 IsFirstBy race t (LaterAnswer family) = ⊥
 
--- and of a later attempt: the Connection Attempt Delay after the last one is over at its tick; or it was over before, and
--- at no tick from there on at which the client could act, but at the attempt's, a received address was untried
+-- and of a later attempt: the Connection Attempt Delay after the last one is over at its tick; or it was over before, the
+-- answer of the address's family is seen at the attempt's tick, and at no earlier one at which the client could act, from
+-- the delay's end on, a received address was untried
 abbrev pub IsLaterBy : Race → List Attempt → Attempt → Attempt → Cause → Type 0
 IsLaterBy race done last next AaaaAnswer = ⊥
 IsLaterBy race done last next BothAnswers = ⊥
@@ -46,6 +53,7 @@ IsLaterBy race done last next (AttemptDelay place delay) =
     (place ≡ last.place) × (delay ≡ race.settings.attempt) × (seen race (last.tick + delay) ≡ next.tick)
 IsLaterBy race done last next (LaterAnswer family) =
     (family ≡ family_of next.ip) × (seen race (last.tick + race.settings.attempt) < next.tick)
+    × IsSomeAnd (reply_of race family) (λ r. seen race r.tick ≡ next.tick)
     × ((t : ℕ) → IsFree race t → last.tick + race.settings.attempt ≤ t → t < next.tick → IsFalse (list_any (is_untried done) (received race t)))
 
 abbrev pub IsCausedBy : Race → List Attempt → Option Attempt → Attempt → Cause → Type 0
@@ -57,3 +65,25 @@ abbrev pub CausesStand : Type 0
 CausesStand =
     (race : Race) → IsRace race → (done : List Attempt) (next : Attempt) → IsNext race done next
     → IsCausedBy race done (last_of done) next (cause_of race (last_of done) next)
+
+-- and what it waited for, at whatever tick it came, is seen at the attempt's
+abbrev pub DuesStand : Type 0
+DuesStand =
+    (race : Race) → IsRace race → (done : List Attempt) (next : Attempt) → IsNext race done next
+    → seen race (due_of race (last_of done) (cause_of race (last_of done) next)) ≡ next.tick
+
+-- the address stands at this place of the list, and those before it were tried
+abbrev pub IsFirstUntried : List Attempt → List Ip → ℕ → Ip → Type 0
+IsFirstUntried done list place ip = (slice_get list place ≡ Some ip) × IsTrue (list_all (is_tried done) (take place list))
+
+-- so it is at the place that is told of an attempt
+abbrev pub PlacesStand : Type 0
+PlacesStand =
+    (race : Race) (done : List Attempt) (next : Attempt) → IsNext race done next
+    → IsFirstUntried done (order_at race next.tick) (listed_at race next.tick next.ip).place next.ip
+
+-- a course has the events of its race up to the end, by tick
+abbrev pub CourseStands : Type 0
+CourseStands =
+    (race : Race) (report : Report) → IsPermutation (events_by_kind race report) (course race report)
+    × IsNonDecreasingBy (λ event. event.tick) (course race report)

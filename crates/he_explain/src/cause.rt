@@ -96,12 +96,7 @@ pub(crate) fn has_usable(ips: &[Ip]) -> bool
 }
 
 // Whether a delay after a tick is seen to be over before another tick.
-fn is_seen_before<A: Allocator>(
-    timeline: &Timeline<A>,
-    from: u64,
-    delay: u64,
-    tick: u64,
-) -> bool
+fn is_seen_before<A: Allocator>(timeline: &Timeline<A>, from: u64, delay: u64, tick: u64) -> bool
     ensures { result ≡ nat_lt (seen timeline.now (from + delay)) tick }
 {
     let Some(end) = from.checked_add(delay) else {

@@ -62,11 +62,7 @@ fn course<A: Allocator + Copy, B: Allocator, C: Allocator>(
     ensures { IfOk result (λ events. events.items ≡ course timeline.now transcript.now) }
 {
     let events = collect_events(alloc, timeline, transcript)?;
-    Ok(sort_events(
-        alloc,
-        &events,
-        end_tick(transcript.result()),
-    )?)
+    Ok(sort_events(alloc, &events, end_tick(transcript.result()))?)
 }
 
 fn write_cause<A: Allocator + Copy>(cause: Cause, out: &mut Vec<u8, A>) -> Result<(), Memory>

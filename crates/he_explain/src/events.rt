@@ -239,10 +239,7 @@ fn push_end<A: Allocator>(
     push_cancelled(events, lines)
 }
 
-fn push_ending<A: Allocator>(
-    events: &mut Vec<Event, A>,
-    ending: Outcome3,
-) -> Result<(), AllocError>
+fn push_ending<A: Allocator>(events: &mut Vec<Event, A>, ending: Outcome3) -> Result<(), AllocError>
     ensures { OnOk result (events.new.items ≡ events.old.items ++ end_event ending ∷ []) }
 {
     match ending {
@@ -252,10 +249,7 @@ fn push_ending<A: Allocator>(
     }
 }
 
-fn push_failures<A: Allocator>(
-    events: &mut Vec<Event, A>,
-    lines: &[Line],
-) -> Result<(), AllocError>
+fn push_failures<A: Allocator>(events: &mut Vec<Event, A>, lines: &[Line]) -> Result<(), AllocError>
     ensures { OnOk result (events.new.items ≡ events.old.items ++ flat_map (λ line. failed_by line.place line.mark) lines.now) }
 {
     for line in lines {

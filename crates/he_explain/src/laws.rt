@@ -1,13 +1,24 @@
 // Laws of the definitions. Each is the contract of a function that does nothing.
 
-ghost use Rattle.he_explain.specs.Laws.{CausesStand, OneRuleDecides};
+ghost use Rattle.he_explain.specs.Laws.{CausesStand, CourseStands, DuesStand, OneRuleDecides, PlacesStand};
 
 /// Between two members of a list just one rule decides, and that is the one which is named of their addresses.
 pub fn one_rule_decides()
     ensures { OneRuleDecides }
 {}
 
-/// The cause of an attempt is what came at its tick, and not before.
+/// The cause of an attempt is what came at its tick, and not before; where it came is seen at the attempt's tick.
 pub fn causes_stand()
-    ensures { CausesStand }
+    ensures causes { CausesStand }
+    ensures dues { DuesStand }
+{}
+
+/// An attempt's address stands at the place that is told of it, and all before it in that list were tried.
+pub fn places_stand()
+    ensures { PlacesStand }
+{}
+
+/// A course has the events of its race up to the end, by tick.
+pub fn course_stands()
+    ensures { CourseStands }
 {}

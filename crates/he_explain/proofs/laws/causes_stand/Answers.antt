@@ -1,5 +1,8 @@
-use Rattle.he_explain.proofs.CauseLaws.{causes_stand}
+use Rattle.he_explain.proofs.CauseLaws.{causes_stand, dues_stand}
 use Rattle.he_explain.proofs.laws.causes_stand.Goals as goal
 
-pub returns : goal.returns
-returns c = causes_stand
+pub returns-clause-causes : goal.returns-clause-causes
+returns-clause-causes c = causes_stand
+
+pub returns-clause-dues : goal.returns-clause-dues
+returns-clause-dues c = dues_stand
