@@ -9,26 +9,26 @@
 //!
 //! Proved, for every race: what is appended is the text of `specs/Reasons`, whose rules are those of he_select
 //! (`specs/Deciding`), and that of `specs/Course`, by the race's one transcript; and the vector is as it was where
-//! memory is refused. Between two members of a list exactly one rule decides, and the cause of an attempt
-//! (`specs/Causes`) is what came at its tick and not before ([`laws`]).
+//! memory is refused. [`laws`] has what follows from the definitions: between two members of a list exactly one rule
+//! decides; the cause of an attempt (`specs/Causes`) is what came at its tick and not before; its address is the first
+//! untried one of the interlaced list, at the place that is told (`specs/Listing`); and a course has all events up to
+//! the race's end (`specs/Events`), by tick.
 #![tactic(auto)]
 
 pub mod cause;
 pub mod course;
 pub mod deciding;
-pub mod events;
+mod events;
 pub mod explanation;
 pub mod laws;
-pub mod listing;
+mod listing;
 pub mod reasons;
 mod sorted;
 mod traits;
 mod writing;
 
-pub use cause::Cause;
+pub use cause::{Cause, cause_of, is_held};
 pub use course::write_course;
 pub use deciding::DestinationRule;
-pub use events::{Event, EventKind, Start};
 pub use explanation::write_explanation;
-pub use listing::{Listed, Turn};
 pub use reasons::write_order_reasons;
