@@ -7,5 +7,6 @@ mod LineLaws
 mod ListedLaws
 mod OneRule
 mod SourceLaws
+mod StartLaws
 mod UsableLaws
 mod WritingLaws

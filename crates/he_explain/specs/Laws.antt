@@ -1,5 +1,5 @@
 -- What follows from the definitions, in words of its own.
-use Rattle.std.specs.Prelude.{ℕ, ◌≡◌, ◌≢◌, ◌+◌, ◌<◌, ◌≤◌, List, max, slice_get, take, Option, Some, None, IsSomeAnd, IsTrue, IsFalse}
+use Rattle.std.specs.Prelude.{ℕ, ◌≡◌, ◌≢◌, ◌+◌, ◌++◌, ◌<◌, ◌≤◌, List, [], ◌∷◌, max, slice_get, take, Option, Some, None, IsSomeAnd, IsTrue, IsFalse}
 use Rattle.std.specs.List.{list_all, list_any}
 use Rattle.std.specs.List.Sorted.{IsNonDecreasingBy, IsPermutation}
 use Rattle.he_addr.specs.declared.ip.Ip.{Ip}
@@ -8,14 +8,15 @@ use Rattle.he_plan.specs.declared.attempts.Attempt.{Attempt}
 use Rattle.he_plan.specs.Attempts.{IsAnswered, IsFree, IsNext, is_tried, is_untried, last_of, order_at, received, seen}
 use Rattle.he_plan.specs.Race.{Race, reply_of}
 use Rattle.he_plan.specs.Timeline.{IsRace}
-use Rattle.he_plan.specs.Transcript.{Report}
+use Rattle.he_plan.specs.Transcript.{IsTranscript, Report}
 use Rattle.he_select.specs.Preference.{Member}
 use Rattle.he_select.specs.Selection.{SelectionInput}
 use Rattle.he_explain.specs.declared.cause.Cause.{Cause}
+use Rattle.he_explain.specs.declared.events.Event.{Event}
 use Rattle.he_explain.specs.declared.cause.Cause.TheVariants.{AaaaAnswer, BothAnswers, ResolutionDelay, AttemptDelay, LaterAnswer}
 use Rattle.he_explain.specs.Causes.{cause_of, due_of}
 use Rattle.he_explain.specs.Course.{course}
-use Rattle.he_explain.specs.Events.{events_by_kind}
+use Rattle.he_explain.specs.Events.{events_by_kind, start_event, start_events}
 use Rattle.he_explain.specs.Listing.{listed_at}
 use Rattle.he_explain.specs.Deciding.{DecidesAt, deciding_rule, rules_in_order}
 
@@ -87,3 +88,13 @@ abbrev pub CourseStands : Type 0
 CourseStands =
     (race : Race) (report : Report) → IsPermutation (events_by_kind race report) (course race report)
     × IsNonDecreasingBy (λ event. event.tick) (course race report)
+
+-- the events are the starts of attempts after these, each the one that comes after those before it, with its cause
+abbrev pub AreStarts : Race → List Attempt → List Event → Type 0
+AreStarts race done [] = Unit {0}
+AreStarts race done (event ∷ more) =
+    (next : Attempt) × IsNext race done next × (event ≡ start_event race (last_of done) next) × AreStarts race (done ++ next ∷ []) more
+
+-- so are the starts of a course
+abbrev pub StartsStand : Type 0
+StartsStand = (race : Race) (report : Report) → IsTranscript race report → AreStarts race [] (start_events race None report.lines)

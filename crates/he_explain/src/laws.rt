@@ -1,6 +1,6 @@
 // Laws of the definitions. Each is the contract of a function that does nothing.
 
-ghost use Rattle.he_explain.specs.Laws.{CausesStand, CourseStands, DuesStand, OneRuleDecides, PlacesStand};
+ghost use Rattle.he_explain.specs.Laws.{CausesStand, CourseStands, DuesStand, OneRuleDecides, PlacesStand, StartsStand};
 
 /// Between two members of a list just one rule decides, and that is the one which is named of their addresses.
 pub fn one_rule_decides()
@@ -21,4 +21,9 @@ pub fn places_stand()
 /// A course has the events of its race up to the end, by tick.
 pub fn course_stands()
     ensures { CourseStands }
+{}
+
+/// The starts of a course are those of the race's attempts, each with its cause behind the attempts before it.
+pub fn starts_stand()
+    ensures { StartsStand }
 {}
