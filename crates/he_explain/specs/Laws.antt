@@ -30,8 +30,9 @@ pub record IsOneRule (input : SelectionInput) (a b : Member) (place : ℕ) : Typ
 abbrev pub OneRuleDecides : Type 0
 OneRuleDecides = (input : SelectionInput) (a b : Member) → a.place ≢ b.place → (place : ℕ) × IsOneRule input a b place
 
--- what holds of a race whose first attempt, at t, has this cause: the AAAA answer, with a usable address, is seen at t; or
--- it has none, and the later one of both is seen at t; or it is not seen by t, and there the Resolution Delay is over
+-- what holds of a race whose first attempt, at t, has this cause: the AAAA answer, with a usable address, is seen at
+-- t; or it has none, and the later one of both is seen at t; or it is not seen by t, and there the Resolution Delay is
+-- over
 abbrev pub IsFirstBy : Race → ℕ → Cause → Type 0
 IsFirstBy race t AaaaAnswer = IsSomeAnd race.aaaa (λ r. IsTrue (list_any is_usable r.addresses) × (seen race r.tick ≡ t))
 IsFirstBy race t BothAnswers =
@@ -43,9 +44,9 @@ IsFirstBy race t ResolutionDelay =
 IsFirstBy race t (AttemptDelay place delay) = ⊥
 IsFirstBy race t (LaterAnswer family) = ⊥
 
--- and of a later attempt: the Connection Attempt Delay after the last one is over at its tick; or it was over before, the
--- answer of the address's family is seen at the attempt's tick, and at no earlier one at which the client could act, from
--- the delay's end on, a received address was untried
+-- and of a later attempt: the Connection Attempt Delay after the last one is over at its tick; or it was over before,
+-- the answer of the address's family is seen at the attempt's tick, and at no earlier one at which the client could
+-- act, from the delay's end on, a received address was untried
 abbrev pub IsLaterBy : Race → List Attempt → Attempt → Attempt → Cause → Type 0
 IsLaterBy race done last next AaaaAnswer = ⊥
 IsLaterBy race done last next BothAnswers = ⊥

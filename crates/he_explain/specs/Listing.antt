@@ -1,5 +1,5 @@
--- Where an attempt's address stands in the interlaced list from which it is taken, and whose turn it is there (RFC 8305
--- section 4).
+-- Where an attempt's address stands in the interlaced list from which it is taken, and whose turn it is there (RFC
+-- 8305 section 4).
 use Rattle.std.specs.Prelude.{ℕ, ◌+◌, ◌-◌, ◌&&◌, if◌then◌else◌, Bool, false, List, [], ◌∷◌, length, nat_lt, slice_get}
 use Rattle.std.specs.Bool.{beq}
 use Rattle.std.specs.Option.{option_map_or}
@@ -20,8 +20,8 @@ place_in ip (first ∷ more) = if same_ip first ip then 0 else place_in ip more 
 abbrev pub is_v6_at : List Ip → ℕ → Bool
 is_v6_at ips place = option_map_or is_v6 (slice_get ips place) false
 
--- whose turn it is at a place: that of the family that leads, for its first `count` addresses; else that of a family behind
--- an address of the other one; else the other one has run out
+-- whose turn it is at a place: that of the family that leads, for its first `count` addresses; else that of a family
+-- behind an address of the other one; else the other one has run out
 abbrev pub turn_at : ℕ → List Ip → ℕ → Turn
 turn_at count ips place =
     if nat_lt place count && beq (is_v6_at ips 0) (is_v6_at ips place) then Leads
