@@ -8,7 +8,8 @@ use Rattle.he_text.specs.Inputs.{AreRaceTexts}
 use Rattle.he_text.specs.Text.{BeginsWithRace, IsRaceText}
 use Rattle.he_pieces.specs.Firsts.{AreFirstRaces, BeginsWithRaces}
 
-AreRaceTexts-append : (races : List Race) (text : List ℕ) → AreRaceTexts races text
+-- one after the other
+pub AreRaceTexts-append : (races : List Race) (text : List ℕ) → AreRaceTexts races text
     → (others : List Race) (more : List ℕ) → AreRaceTexts others more → AreRaceTexts (races ++ others) (text ++ more)
 AreRaceTexts-append [] text none others more are = subst (λ (t : List ℕ). AreRaceTexts others (t ++ more)) (sym none) are
 AreRaceTexts-append (first ∷ races) text are others more more_are =

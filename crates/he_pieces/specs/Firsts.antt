@@ -4,7 +4,7 @@ use Rattle.he_plan.specs.Race.{Race}
 use Rattle.he_text.specs.Inputs.{AreRaceTexts}
 use Rattle.he_text.specs.Text.{BeginsWithRace}
 
--- up to this place the text is a text of each of the races, one after the other, of which there are no more than so many
+-- up to this place the text is a text of each of the races, one after the other; they are no more than so many
 pub record BeginsWithRaces (text : List ℕ) (most : ℕ) (races : List Race) (end : ℕ) : Type 0 where
   pub within : end ≤ length text
   pub whole : AreRaceTexts races (take end text)

@@ -6,11 +6,11 @@
 //! of them, nothing, half a race or a fault) is for the caller to look at.
 //!
 //! Proved, for every number of workers and every order of their steps (`specs/Firsts`): what is read is the races with
-//! which the text begins, in its order, and more race's text follows them only where there are as many as were asked
-//! for. So a text has one reading, whoever shares it (`laws`).
+//! which the text begins, in its order; one more follows them only where they are as many as were asked for. So a text
+//! has one reading, however many share it (`laws`).
 //!
-//! Only tested, if at all, in the crates above: that reading fails only where a growth was refused. Neither proved nor
-//! tested: where a text is cut, that the pieces are read at once, and any speed.
+//! Only tested, in the crate `he_pieces_tests`: that reading fails only where a growth was refused. Neither proved nor
+//! tested: where a text is cut, that its pieces are read at once, and any speed.
 #![tactic(auto)]
 
 mod cutting;
