@@ -46,16 +46,17 @@ IsRequest (Action action) = HasWorkers action
 IsRequest Check = Unit {0}
 IsRequest (Live port) = LEAST_PORT ≤ port
 
--- what was asked for was done, and the status tells how that ended
-abbrev pub RunsRequest : Request → (List ℕ → Bool → Type 0) → (List ℕ → Type 0) → (List ℕ → Type 0) → Type 0 → ℕ → Type 0
-RunsRequest (Action action) Given Whole Part Kept status =
-    (result : Result (Unit {0}) ReplayFault) × RunsAction action Given Whole Part Kept result × (status ≡ status_of result)
-RunsRequest Check Given Whole Part Kept status =
+-- what was asked for was done, and the status tells how that ended. Given, Taken, Ended, Failed and Put as `RunsAction` has
+-- them: of a text that is put in rounds; Whole, Part and Kept as `Lives` has them: of one text
+abbrev pub RunsRequest : Request → (List ℕ → Bool → Type 0) → (List ℕ → Type 0) → (List ℕ → Type 0) → (List ℕ → Type 0) → (List ℕ → Type 0) → (List ℕ → Type 0) → (List ℕ → Type 0) → Type 0 → ℕ → Type 0
+RunsRequest (Action action) Given Taken Ended Failed Put Whole Part Kept status =
+    (result : Result (Unit {0}) ReplayFault) × RunsAction action Given Taken Ended Failed Put result × (status ≡ status_of result)
+RunsRequest Check Given Taken Ended Failed Put Whole Part Kept status =
     (result : Result (Unit {0}) CheckFault) × Checks Given Whole Part Kept result × (status ≡ status_of result)
-RunsRequest (Live port) Given Whole Part Kept status =
+RunsRequest (Live port) Given Taken Ended Failed Put Whole Part Kept status =
     (result : Result (Unit {0}) LiveFault) × Lives Given Whole Part Kept result × (status ≡ status_of result)
 
 -- what comes of a line: what it asks for was done; or it asks for nothing that is done, and the input is Unread
-abbrev pub RunsLine : Result Request Error → (List ℕ → Bool → Type 0) → Type 0 → (List ℕ → Type 0) → (List ℕ → Type 0) → Type 0 → ℕ → Type 0
-RunsLine (Ok request) Given Unread Whole Part Kept status = RunsRequest request Given Whole Part Kept status
-RunsLine (Err error) Given Unread Whole Part Kept status = Unread × AnswersLine (kind_of error) Whole Part Kept status
+abbrev pub RunsLine : Result Request Error → (List ℕ → Bool → Type 0) → (List ℕ → Type 0) → Type 0 → (List ℕ → Type 0) → (List ℕ → Type 0) → (List ℕ → Type 0) → (List ℕ → Type 0) → (List ℕ → Type 0) → Type 0 → ℕ → Type 0
+RunsLine (Ok request) Given Taken Unread Ended Failed Put Whole Part Kept status = RunsRequest request Given Taken Ended Failed Put Whole Part Kept status
+RunsLine (Err error) Given Taken Unread Ended Failed Put Whole Part Kept status = Unread × AnswersLine (kind_of error) Whole Part Kept status

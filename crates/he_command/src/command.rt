@@ -26,6 +26,8 @@ const REPLAY_ABOUT: &str = "Reads timelines of races and writes what happens in 
 
 const ORDER_ABOUT: &str = "Reads timelines of races and writes the order of their addresses";
 
+const EXPLAIN_ABOUT: &str = "Reads timelines of races and writes why they went as they did";
+
 const CHECK_ABOUT: &str = "Checks timelines of races, and explains the first fault";
 
 const LIVE_ABOUT: &str = "Races real connections, and writes what happened and a record of it";
@@ -84,6 +86,39 @@ Its output:
 
   0 198.51.100.1 from 192.0.2.2
   1 2001:db8:1::1 from none
+  end
+
+Exit status: 0 when all is done; 1 after a fault, with one line on standard error;
+2 for a command line that is refused.";
+
+const EXPLAIN_EXAMPLE: &str = "\
+Standard input is a timeline text, as for `he replay`. Standard output has, for each
+race, its usable addresses in the order of preference, from the second on with the rule
+of RFC 6724 section 6 that puts it behind the one before; then what happened at which
+tick (millisecond), each attempt with what started it (RFC 8305 sections 3 to 5), and
+with the place of its address in the interlaced list.
+
+Example input:
+
+  race 1
+  source 2001:db8::2/64 1
+  source 192.0.2.2/24 1
+  route ::/0 1
+  route 0.0.0.0/0 1
+  aaaa 20 2001:db8:1::1
+  a 25 198.51.100.1
+  connect 2001:db8:1::1 ok 35
+  end
+
+Its output (the second line is one line):
+
+  order 0 2001:db8:1::1 source 2001:db8::2
+  order 1 198.51.100.1 source 192.0.2.2, behind 0 by rule 6, prefer higher precedence:
+    35 after 40
+  20 answer aaaa usable 1
+  20 attempt 0 2001:db8:1::1, on the AAAA answer, listed at 0 of 1, its family leads
+  25 answer a usable 1
+  55 won attempt 0
   end
 
 Exit status: 0 when all is done; 1 after a fault, with one line on standard error;
@@ -164,6 +199,9 @@ fn command<'a>(alloc: Global) -> Result<Command<'a>, AllocError> {
     let order = Command::new(alloc, "order")
         .about(ORDER_ABOUT)
         .after_help(ORDER_EXAMPLE);
+    let explain = Command::new(alloc, "explain")
+        .about(EXPLAIN_ABOUT)
+        .after_help(EXPLAIN_EXAMPLE);
     let check = Command::new(alloc, "check")
         .about(CHECK_ABOUT)
         .after_help(CHECK_EXAMPLE);
@@ -179,6 +217,7 @@ fn command<'a>(alloc: Global) -> Result<Command<'a>, AllocError> {
         .subcommand_required(true)
         .subcommand(replay)?
         .subcommand(order)?
+        .subcommand(explain)?
         .subcommand(check)?
         .subcommand(live)
 }
@@ -204,6 +243,7 @@ pub fn read_words<'a>(alloc: Global, words: &'a [&'a str]) -> Result<Request, Er
     let matches = command(alloc)?.try_get_matches_from(words)?;
     Ok(match matches.subcommand() {
         Some(("order", _)) => Request::Action(Action::Order),
+        Some(("explain", _)) => Request::Action(Action::Explain),
         Some(("check", _)) => Request::Check,
         Some(("live", live)) => Request::Live {
             port: port_of(live),

@@ -1,8 +1,8 @@
 //! A whole run of the program over an input, an output and a writer of faults.
 ghost use Rattle.std.specs.Prelude.{◌≡◌, IfOk, Result};
 ghost use Rattle.clap.specs.Values.{kind_of};
-ghost use Rattle.he_stream.specs.Input.{Gives};
-ghost use Rattle.he_stream.specs.Output.{PutsPart, PutsWhole};
+ghost use Rattle.he_stream.specs.Input.{Gives, GivesSoFar};
+ghost use Rattle.he_stream.specs.Output.{PutsAndEnds, PutsInRounds, PutsPart, PutsRoundsPart, PutsWhole};
 ghost use Rattle.he_command.specs.declared.command.Request.TheVariants.{Check};
 ghost use Rattle.he_command.specs.Run.{AnswersLine, IsRequest, RunsLine, RunsRequest, Shows, status_of};
 
@@ -48,7 +48,11 @@ where
     O: OutputStream,
     F: Write,
     ensures { (line : Result Request Error) × IfOk line IsRequest
-        × RunsLine line (Gives I.remaining I.takes input.old input.new) (input.new ≡ input.old)
+        × RunsLine line (Gives I.remaining I.takes input.old input.new)
+        (GivesSoFar I.remaining I.takes input.old input.new) (input.new ≡ input.old)
+        (PutsAndEnds O.contents O.puts O.flushes output.old output.new)
+        (PutsRoundsPart O.contents O.puts O.flushes output.old output.new)
+        (PutsInRounds O.contents O.puts O.flushes output.old output.new)
         (PutsWhole O.contents O.puts O.flushes output.old output.new)
         (PutsPart O.contents O.puts O.flushes output.old output.new) (output.new ≡ output.old) result }
 {
@@ -70,7 +74,11 @@ where
     O: OutputStream,
     F: Write,
     requires { IfOk line IsRequest }
-    ensures { RunsLine line (Gives I.remaining I.takes input.old input.new) (input.new ≡ input.old)
+    ensures { RunsLine line (Gives I.remaining I.takes input.old input.new)
+        (GivesSoFar I.remaining I.takes input.old input.new) (input.new ≡ input.old)
+        (PutsAndEnds O.contents O.puts O.flushes output.old output.new)
+        (PutsRoundsPart O.contents O.puts O.flushes output.old output.new)
+        (PutsInRounds O.contents O.puts O.flushes output.old output.new)
         (PutsWhole O.contents O.puts O.flushes output.old output.new)
         (PutsPart O.contents O.puts O.flushes output.old output.new) (output.new ≡ output.old) result }
 {
@@ -96,6 +104,10 @@ where
     F: Write,
     requires { IsRequest request }
     ensures { RunsRequest request (Gives I.remaining I.takes input.old input.new)
+        (GivesSoFar I.remaining I.takes input.old input.new)
+        (PutsAndEnds O.contents O.puts O.flushes output.old output.new)
+        (PutsRoundsPart O.contents O.puts O.flushes output.old output.new)
+        (PutsInRounds O.contents O.puts O.flushes output.old output.new)
         (PutsWhole O.contents O.puts O.flushes output.old output.new)
         (PutsPart O.contents O.puts O.flushes output.old output.new) (output.new ≡ output.old) result }
 {
@@ -116,6 +128,10 @@ fn run_check<I: InputStream, O: OutputStream, F: Write>(
     faults: &mut F,
 ) -> u8
     ensures { RunsRequest Check (Gives I.remaining I.takes input.old input.new)
+        (GivesSoFar I.remaining I.takes input.old input.new)
+        (PutsAndEnds O.contents O.puts O.flushes output.old output.new)
+        (PutsRoundsPart O.contents O.puts O.flushes output.old output.new)
+        (PutsInRounds O.contents O.puts O.flushes output.old output.new)
         (PutsWhole O.contents O.puts O.flushes output.old output.new)
         (PutsPart O.contents O.puts O.flushes output.old output.new) (output.new ≡ output.old) result }
 {

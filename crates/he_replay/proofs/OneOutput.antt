@@ -2,6 +2,7 @@
 use Rattle.std.proofs.Common.{ℕ, ◌≡◌, ◌+◌, ◌≤◌, ◌++◌, ◌↔◌, List, [], ◌∷◌, length, Bool, Option, Some, None, ap, sym, ◌∙◌, refl, arith, inl, inr, subst, append_assoc, length-append, codes}
 use Rattle.std.proofs.lemmas.List.{append_cancel_left}
 use Rattle.std.specs.Option.{option_map_or}
+use Rattle.he_explain.specs.Course.{explanation_text}
 use Rattle.he_plan.specs.Race.{Race}
 use Rattle.he_plan.specs.Transcript.{Report, IsTranscript}
 use Rattle.he_text.specs.declared.fault.TextKind.{TextKind}
@@ -82,6 +83,8 @@ module _
     one_text contents.Transcript race text other (report, is, written) (other_report, other_is, other_written) =
         written ∙ ap transcript_text (one_transcript race report other_report is other_is) ∙ sym other_written
     one_text contents.Order race text other is other_is = is ∙ sym other_is
+    one_text contents.Explanation race text other (report, is, written) (other_report, other_is, other_written) =
+        written ∙ ap (explanation_text race) (one_transcript race report other_report is other_is) ∙ sym other_written
 
     pub one_output : (content : Content) (input : List ℕ) (is_broken : Bool) (text other : List ℕ) (fault other_fault : Option InputFault)
         → IsOutput (IsTextOf content) input is_broken text fault → IsOutput (IsTextOf content) input is_broken other other_fault → (text ≡ other) × (fault ≡ other_fault)

@@ -1,4 +1,4 @@
--- One race more: what is read of an input, and what is written for it, grow together.
+-- The texts of races, one more and some more.
 use Rattle.std.proofs.Common.{ℕ, zero, suc, ◌≡◌, ◌+◌, ◌-◌, ◌<◌, ◌≤◌, ◌++◌, List, [], ◌∷◌, length, take, Bool, Some, sym, ◌∙◌, ap, subst, refl, arith, append_assoc, inr, length-append}
 use Rattle.std.specs.List.{AllZip, slice_get, slice_range}
 use Rattle.std.proofs.lemmas.List.{append-nil}
@@ -6,13 +6,9 @@ use Rattle.std.proofs.lemmas.List.Sums.{sum_by-append}
 use Rattle.std.proofs.Math.Seq.{take-add}
 use Rattle.he_plan.specs.Race.{Race}
 use Rattle.he_plan.specs.Transcript.{IsTranscript, Report}
-use Rattle.he_text.specs.FaultSearch.{fault_of}
-use Rattle.he_text.specs.Text.{IsRaceText}
 use Rattle.he_text.specs.Written.{transcript_text}
-use Rattle.he_text.specs.declared.fault.TextFault.{TextFault}
-use Rattle.he_replay.specs.Limits.{most_races}
-use Rattle.he_replay.specs.Output.{AreTexts, IsFault, IsTranscriptText, fault_behind, line_count}
-use Rattle.he_replay.specs.Steps.{HasRead, IsUnderWay, ReadsOn, TakesRace, WritesRace, transcripts_text}
+use Rattle.he_replay.specs.Output.{AreTexts, IsTranscriptText, line_count}
+use Rattle.he_replay.specs.Steps.{WritesRace, transcripts_text}
 
 pub AreTexts-snoc : (IsText : List ℕ → Race → Type 0) (races : List Race) (text : List ℕ) → AreTexts IsText races text
     → (race : Race) (last : List ℕ) → IsText last race → AreTexts IsText (races ++ race ∷ []) (text ++ last)
@@ -28,36 +24,6 @@ pub take_to : (input : List ℕ) (from end : ℕ) → from ≤ end → take end 
 take_to input from end le =
     let sum : end ≡ from + (end - from) = omega arith in
     ap (λ (n : ℕ). take n input) sum ∙ take-add from (end - from) input
-
-pub one_more : (input : List ℕ) (races new : List Race) (from count end : ℕ) → IsUnderWay input races from count → TakesRace input from races new end
-    → IsUnderWay input new end (count + 1)
-one_more input races new from count end way takes =
-    let le : from ≤ end = omega (arith, takes.past) in
-    let split : take end input ≡ take from input ++ slice_range input from end = take_to input from end le in
-    subst (λ (xs : List Race). IsUnderWay input xs end (count + 1)) (sym takes.appended) (record {
-      within = takes.within;
-      whole = let P : List ℕ → Type 0 = AreTexts IsRaceText (races ++ takes.race ∷ []) in
-          subst P (sym split) (AreTexts-snoc IsRaceText races (take from input) way.whole takes.race _ takes.read);
-      counted = length-append races (takes.race ∷ []) ∙ ap (λ (n : ℕ). n + 1) way.counted;
-    })
-
--- one race more is read
-pub reads_one : (input : List ℕ) (from : ℕ) (races new : List Race) (at count end : ℕ) → ReadsOn input from races at count → TakesRace input at races new end
-    → ReadsOn input from new end (count + 1)
-reads_one input from races new at count end way takes before past under =
-    let all : before ++ new ≡ (before ++ races) ++ takes.race ∷ [] = ap (λ (xs : List Race). before ++ xs) takes.appended ∙ sym (append_assoc before races (takes.race ∷ [])) in
-    let more = one_more input (before ++ races) (before ++ new) at (past + count) end (way before past under)
-    (record { race = takes.race; read = takes.read; past = takes.past; within = takes.within; appended = all }) in
-    let sum : past + count + 1 ≡ past + (count + 1) = omega arith in
-    subst (λ (n : ℕ). IsUnderWay input (before ++ new) end n) sum more
-
-pub one_more_read : (input : List ℕ) (from : ℕ) (races new : List Race) (at count end : ℕ) → HasRead input from races at count → TakesRace input at races new end
-    → HasRead input from new end (count + 1)
-one_more_read input from races new at count end has takes = record {
-  within = takes.within;
-  counted = ap length takes.appended ∙ (length-append races (takes.race ∷ []) ∙ ap (λ (n : ℕ). n + 1) has.counted);
-  on = reads_one input from races new at count end has.on takes;
-}
 
 pub AreTexts-append : (IsText : List ℕ → Race → Type 0) (races : List Race) (text : List ℕ) → AreTexts IsText races text
     → (others : List Race) (more : List ℕ) → AreTexts IsText others more → AreTexts IsText (races ++ others) (text ++ more)
@@ -105,9 +71,3 @@ one_more_transcript reports i report old new here told written =
     let more = transcripts-suc reports i report here in
     let goal : new ≡ transcripts_text (take (suc i) reports) = written ∙ (ap (λ (t : List ℕ). t ++ transcript_text report) told ∙ sym more) in
     subst (λ (n : ℕ). new ≡ transcripts_text (take n reports)) next goal
-
--- a fault that was found in what follows
-pub found_fault : (is_broken : Bool) (count lines : ℕ) (rest : List ℕ) (found : TextFault) → 0 < length rest → count < most_races
-    → fault_of rest ≡ Some (found.line, found.kind) → IsFault is_broken count lines rest (Some (fault_behind is_broken lines (found.line, found.kind)))
-found_fault is_broken count lines [] found some few is = absurd (omega arith)
-found_fault is_broken count lines (byte ∷ rest) found some few is = inr (omega arith, (found.line, found.kind), is, refl)

@@ -1,14 +1,13 @@
--- One race more that is told as it is read.
-use Rattle.std.proofs.Common.{ℕ, ◌≡◌, ◌+◌, ◌≤◌, ◌++◌, List, [], ◌∷◌, take, drop, length, Bool, Option, sym, ◌∙◌, ap, subst, arith, length-append}
+-- Some races that are told as they are read.
+use Rattle.std.proofs.Common.{ℕ, ◌≡◌, ◌+◌, ◌≤◌, ◌++◌, ◌∙◌, List, [], ◌∷◌, take, drop, length, sym, ap, subst, arith, length-append, length-drop, length-take, take-take}
 use Rattle.std.specs.List.{slice_range}
-use Rattle.std.proofs.lemmas.List.{append-nil, take-append-drop, take_all}
+use Rattle.std.proofs.Math.Seq.{take-add}
 use Rattle.he_plan.specs.Race.{Race}
+use Rattle.he_text.specs.Inputs.{AreRaceTexts}
 use Rattle.he_text.specs.Text.{IsRaceText}
-use Rattle.he_replay.specs.Limits.{most_races}
-use Rattle.he_replay.specs.declared.output.InputFault.{InputFault}
-use Rattle.he_replay.specs.Output.{AreTexts, IsFault, IsOutput, fault_at_end, line_count}
-use Rattle.he_replay.specs.Steps.{ReadsOn}
-use Rattle.he_replay.specs.Telling.{IsTelling, TellsOn, TellsRace}
+use Rattle.he_replay.specs.declared.beginning.Begun.{Begun}
+use Rattle.he_replay.specs.Output.{AreTexts}
+use Rattle.he_replay.specs.Telling.{IsTelling, TellsFirst, TellsRace}
 use Rattle.he_replay.proofs.Races.{AreTexts-append, AreTexts-snoc, take_to}
 
 pub one_more_told : (IsText : List ℕ → Race → Type 0) (input text new : List ℕ) (from count end : ℕ) → IsTelling IsText input text from count → TellsRace IsText input from text new end
@@ -26,48 +25,38 @@ one_more_told IsText input text new from count end way takes =
           subst P (sym takes.written.appended) (AreTexts-snoc IsText way.races text way.told takes.race takes.written.told takes.written.is_told);
     }
 
--- some races more, and their texts
-pub some_more_told : (IsText : List ℕ → Race → Type 0) (input old new told : List ℕ) (races : List Race) (from end count : ℕ) → ReadsOn input from races end count
-    → AreTexts IsText races told → new ≡ old ++ told → TellsOn IsText input from old new end count
-some_more_told IsText input old new told races from end count reads are appended past way =
-    let under = reads way.races past (record { within = way.within; whole = way.whole; counted = way.counted }) in
+-- some races more that were read from there on, and their texts
+pub some_more_told : (IsText : List ℕ → Race → Type 0) (input old new rest : List ℕ) (from count : ℕ) (begun : Begun) → IsTelling IsText input old from count
+    → rest ≡ drop from input → TellsFirst IsText rest old new begun → IsTelling IsText input new (from + begun.end) (count + begun.count)
+some_more_told IsText input old new rest from count begun way is first =
+    let within : from ≤ length input = way.within in
+    let size : begun.end ≤ length (drop from input) = subst (λ (r : List ℕ). begun.end ≤ length r) is first.within in
+    let split : take (from + begun.end) input ≡ take from input ++ take begun.end rest = take-add from begun.end input ∙ ap (λ (r : List ℕ). take from input ++ take begun.end r) (sym is) in
     record {
-      races = way.races ++ races;
-      within = under.within;
-      whole = under.whole;
-      counted = under.counted;
-      told = subst (AreTexts IsText (way.races ++ races)) (sym appended) (AreTexts-append IsText way.races old way.told races told are);
+      races = way.races ++ first.races;
+      within = omega (arith, within, size, length-drop {A = ℕ});
+      whole = let P : List ℕ → Type 0 = AreTexts IsRaceText (way.races ++ first.races) in
+          subst P (sym split) (AreTexts-append IsRaceText way.races (take from input) way.whole first.races (take begun.end rest) first.whole);
+      counted = length-append way.races first.races ∙ (ap (λ (n : ℕ). n + length first.races) way.counted ∙ ap (λ (n : ℕ). count + n) first.counted);
+      told = let P : List ℕ → Type 0 = AreTexts IsText (way.races ++ first.races) in
+          subst P (sym first.appended) (AreTexts-append IsText way.races old way.told first.races first.told first.is_told);
     }
 
--- all is read
-pub told_whole : (IsText : List ℕ → Race → Type 0) (input text : List ℕ) (is_broken : Bool) (from count : ℕ) (fault : Option InputFault) → IsTelling IsText input text from count
-    → from ≡ length input → count ≤ most_races → fault ≡ fault_at_end is_broken → IsOutput IsText input is_broken text fault
-told_whole IsText input text is_broken from count fault way all few is =
-    let whole : take from input ≡ input = take_all _ _ (omega arith) in
+-- what is told of a first part is told of all
+pub told_of_part : (IsText : List ℕ → Race → Type 0) (bytes old new : List ℕ) (size : ℕ) (begun : Begun) → size ≤ length bytes → TellsFirst IsText (take size bytes) old new begun → TellsFirst IsText bytes old new begun
+told_of_part IsText bytes old new size begun within first =
+    let small : begun.end ≤ size = let le = first.within in omega (arith, le, length-take {A = ℕ}) in
     record {
-      races = way.races;
-      before = input;
-      rest = [];
-      parts = sym (append-nil input);
-      whole = subst (AreTexts IsRaceText way.races) whole way.whole;
-      few = let same = way.counted in omega arith;
-      told = way.told;
-      fault_is = is;
+      races = first.races;
+      told = first.told;
+      within = omega (arith, small, within);
+      whole = subst (AreTexts IsRaceText first.races) (take-take begun.end size bytes small) first.whole;
+      counted = first.counted;
+      is_told = first.is_told;
+      appended = first.appended;
     }
 
--- what is read ends here, with this fault of the rest behind so many lines
-pub told_end : (IsText : List ℕ → Race → Type 0) (input text : List ℕ) (is_broken : Bool) (from lines count : ℕ) (fault : Option InputFault) → IsTelling IsText input text from count
-    → lines ≡ line_count (take from input) → count ≤ most_races → IsFault is_broken count lines (drop from input) fault → IsOutput IsText input is_broken text fault
-told_end IsText input text is_broken from lines count fault way lines_are few is = record {
-  races = way.races;
-  before = take from input;
-  rest = drop from input;
-  parts = sym (take-append-drop from input);
-  whole = way.whole;
-  few = let same = way.counted in omega arith;
-  told = way.told;
-  fault_is =
-      let P : ℕ → Type 0 = λ n. IsFault is_broken n (line_count (take from input)) (drop from input) fault in
-      let Q : ℕ → Type 0 = λ n. IsFault is_broken count n (drop from input) fault in
-      subst P (sym way.counted) (subst Q lines_are is);
-}
+-- races in the words of he_text
+pub are_race_texts : (races : List Race) (text : List ℕ) → AreRaceTexts races text → AreTexts IsRaceText races text
+are_race_texts [] text none = none
+are_race_texts (race ∷ races) text are = (are.0, are.1, are.2, are.3, are_race_texts races are.1 are.4)

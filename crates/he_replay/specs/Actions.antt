@@ -1,8 +1,8 @@
 -- What each action does with an input and an output.
 use Rattle.std.specs.Prelude.{ℕ, ◌≤◌, Bool, List, Result}
-use Rattle.he_replay.specs.Stream.{Replays, Orders}
+use Rattle.he_replay.specs.Stream.{Replays, Orders, Explanations}
 use Rattle.he_replay.specs.declared.actions.Action.{Action}
-use Rattle.he_replay.specs.declared.actions.Action.TheVariants.{Replay, Order}
+use Rattle.he_replay.specs.declared.actions.Action.TheVariants.{Replay, Order, Explain}
 use Rattle.he_replay.specs.declared.fault.ReplayFault.{ReplayFault}
 use Rattle.he_pool.specs.declared.limits.TheConstants.{LEAST_WORKERS, MOST_WORKERS}
 
@@ -10,9 +10,12 @@ use Rattle.he_pool.specs.declared.limits.TheConstants.{LEAST_WORKERS, MOST_WORKE
 abbrev pub HasWorkers : Action → Type 0
 HasWorkers (Replay workers) = (LEAST_WORKERS ≤ workers) × (workers ≤ MOST_WORKERS)
 HasWorkers Order = Unit {0}
+HasWorkers Explain = Unit {0}
 
--- what each action does. Given: what the input gave, and whether it broke off after that; Whole and Part: the text of which
--- all was put into the output and then flushed, or a first part until that failed; Kept: nothing was put into the output
-abbrev pub RunsAction : Action → (List ℕ → Bool → Type 0) → (List ℕ → Type 0) → (List ℕ → Type 0) → Type 0 → Result (Unit {0}) ReplayFault → Type 0
-RunsAction (Replay workers) Given Whole Part Kept result = Replays Given Whole Part Kept result
-RunsAction Order Given Whole Part Kept result = Orders Given Whole Part Kept result
+-- what each action does. Given: what the input gave, and whether it broke off after that; Taken: what was taken of an input
+-- that was not read further; Whole: the text of which all was put into the output and then flushed; Part: the text of which a
+-- first part was put in, until that failed; Put: the text of which all was put in and flushed, or nothing where there is none
+abbrev pub RunsAction : Action → (List ℕ → Bool → Type 0) → (List ℕ → Type 0) → (List ℕ → Type 0) → (List ℕ → Type 0) → (List ℕ → Type 0) → Result (Unit {0}) ReplayFault → Type 0
+RunsAction (Replay workers) Given Taken Whole Part Put result = Replays Given Taken Whole Part Put result
+RunsAction Order Given Taken Whole Part Put result = Orders Given Taken Whole Part Put result
+RunsAction Explain Given Taken Whole Part Put result = Explanations Given Taken Whole Part Put result

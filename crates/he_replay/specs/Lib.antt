@@ -1,7 +1,9 @@
 pub mod Actions
+pub mod Holding
 pub mod Known
 pub mod Limits
 pub mod Output
+pub mod Rounds
 pub mod Steps
 pub mod Stream
 pub mod Telling

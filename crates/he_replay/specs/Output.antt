@@ -1,5 +1,6 @@
 -- What is written for an input.
 use Rattle.std.specs.Prelude.{ℕ, ◌≡◌, ◌≤◌, ◌+◌, ◌==◌, ◌++◌, Bool, true, false, List, [], ◌∷◌, length, count_by, ◌⊎◌, Option, Some, None}
+use Rattle.he_explain.specs.Course.{IsExplanation}
 use Rattle.he_plan.specs.Race.{Race}
 use Rattle.he_plan.specs.Transcript.{IsTranscript, Report}
 use Rattle.he_text.specs.declared.fault.TextKind.{TextKind}
@@ -32,6 +33,7 @@ IsOrderText text race = text ≡ order_text race
 abbrev pub IsTextOf : Content → List ℕ → Race → Type 0
 IsTextOf contents.Transcript = IsTranscriptText
 IsTextOf contents.Order = IsOrderText
+IsTextOf contents.Explanation = IsExplanation
 
 -- how many lines end in the text
 abbrev pub line_count : List ℕ → ℕ

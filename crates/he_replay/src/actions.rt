@@ -1,9 +1,9 @@
 //! What can be done with a text of races, by name.
-ghost use Rattle.std.specs.Prelude.{◌≡◌};
-ghost use Rattle.he_stream.specs.Input.{Gives};
-ghost use Rattle.he_stream.specs.Output.{PutsPart, PutsWhole};
+ghost use Rattle.he_stream.specs.Input.{Gives, GivesSoFar};
+ghost use Rattle.he_stream.specs.Output.{PutsAndEnds, PutsInRounds, PutsRoundsPart};
 ghost use Rattle.he_replay.specs.Actions.{HasWorkers, RunsAction};
 
+use crate::explaining::explanations;
 use crate::fault::ReplayFault;
 use crate::ordering::orders;
 use crate::replaying::replay;
@@ -18,9 +18,11 @@ pub enum Action {
     Replay { workers: u16 },
     /// Write the orders of the addresses of their races.
     Order,
+    /// Write why their races went as they did.
+    Explain,
 }
 
-/// Does what the action asks for: [`replay`] or [`orders`], with the faults of that call.
+/// Does what the action asks for: [`replay`], [`orders`] or [`explanations`], with the faults of that call.
 pub fn run_action<
     R: Threads + Sync,
     A: Allocator + Copy + Send + Sync,
@@ -29,11 +31,14 @@ pub fn run_action<
 >(rt: &R, alloc: A, action: Action, input: &mut I, output: &mut O) -> Result<(), ReplayFault>
     requires { HasWorkers action }
     ensures { RunsAction action (Gives I.remaining I.takes input.old input.new)
-        (PutsWhole O.contents O.puts O.flushes output.old output.new)
-        (PutsPart O.contents O.puts O.flushes output.old output.new) (output.new ≡ output.old) result }
+        (GivesSoFar I.remaining I.takes input.old input.new)
+        (PutsAndEnds O.contents O.puts O.flushes output.old output.new)
+        (PutsRoundsPart O.contents O.puts O.flushes output.old output.new)
+        (PutsInRounds O.contents O.puts O.flushes output.old output.new) result }
 {
     match action {
         Action::Replay { workers } => replay(rt, alloc, input, output, workers),
         Action::Order => orders(alloc, input, output),
+        Action::Explain => explanations(alloc, input, output),
     }
 }

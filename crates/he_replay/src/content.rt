@@ -1,12 +1,14 @@
 //! What is written of a race.
 ghost use Rattle.std.specs.Prelude.{◌≡◌, ◌++◌, IfOk, List, OnOk};
 ghost use Rattle.std.specs.List.{AllZip};
+ghost use Rattle.he_explain.specs.Course.{IsExplanation};
 ghost use Rattle.he_plan.specs.Race.{Race};
 ghost use Rattle.he_plan.specs.Transcript.{IsTranscript};
 ghost use Rattle.he_text.specs.Written.{transcript_text};
 ghost use Rattle.he_replay.specs.Output.{AreTexts, IsOrderText, IsTextOf, IsTranscriptText};
 ghost use Rattle.he_replay.specs.Steps.{WritesRace};
 
+use he_explain::write_explanation;
 use he_plan::{Timeline, Transcript, transcript_of};
 use he_text::{write_order, write_transcript};
 use std::alloc::{AllocError, Allocator};
@@ -18,6 +20,8 @@ pub enum Content {
     Transcript,
     /// The order in which its addresses are to be tried.
     Order,
+    /// Why it went as it did.
+    Explanation,
 }
 
 impl Content {
@@ -33,6 +37,7 @@ impl Content {
         match self {
             Content::Transcript => append_transcript(alloc, timeline, text),
             Content::Order => append_order(alloc, timeline, text),
+            Content::Explanation => append_explanation(alloc, timeline, text),
         }
     }
 }
@@ -67,6 +72,18 @@ fn append_order<A: Allocator + Copy, T: Allocator + Copy>(
     let mut order = Vec::new(alloc);
     write_order(alloc, timeline, &mut order).map_err(|_| AllocError)?;
     text.extend_from_slice(&order)
+}
+
+fn append_explanation<A: Allocator + Copy, T: Allocator + Copy>(
+    alloc: A,
+    timeline: &Timeline<A>,
+    text: &mut Vec<u8, T>,
+) -> Result<(), AllocError>
+    ensures { OnOk result (WritesRace IsExplanation timeline.now text.old.items text.new.items) }
+{
+    let mut explanation = Vec::new(alloc);
+    write_explanation(alloc, timeline, &mut explanation).map_err(|_| AllocError)?;
+    text.extend_from_slice(&explanation)
 }
 
 // The texts of the races, one after the other.

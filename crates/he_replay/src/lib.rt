@@ -1,26 +1,31 @@
 //! Replaying races: texts of timelines read from an input, and what happens in each written to an output.
 //!
-//! `replay` writes the transcript of each race, `orders` the order of its addresses (RFC 6724), and `run_action` does
-//! one of the two by name.
+//! `replay` writes the transcript of each race, `orders` the order of its addresses (RFC 6724), `explanations` why it
+//! went as it did, and `run_action` does one of them by name.
 //!
-//! Proved, whatever the input and the output (by `specs/Stream` and `specs/Output`): after success and after a fault
-//! of the text, what was written and flushed is the transcripts, or the orders, of the races up to the first fault,
-//! the line of a fault counted over the whole input; after a step of the input that failed, or the bound of steps, of
-//! the races before it; after a step of the output or a flush that failed, a first part of that; after want of memory,
-//! nothing. No other step leads to such a fault. An input has one output and one fault, and a fault of the text is
-//! told only where the input ended, where nothing that follows could change it, or of a policy table in which the
-//! input broke off (`laws`).
+//! Proved, whatever the input and the output (by `specs/Stream` and `specs/Output`): what is written is put in rounds,
+//! each of which ends in a flush. After success and after a fault of the text it is the transcripts, the orders or the
+//! explanations of the races up to the first fault, the line of a fault counted over the whole input; after a step of
+//! the input that failed, or the bound of steps, of the races before it; after a step of the output or a flush that
+//! failed, a first part of those of some first races; after want of memory, those of some first races. No other step
+//! leads to such a fault. An input has one output and one fault, and a fault of the text is told only where the input ended, where
+//! nothing that follows could change it, in which case the input may not be read further, or of a policy table in which
+//! the input broke off (`laws`).
 //!
-//! Where the input is long and has jobs enough for two workers, `replay` goes through `replay_batch` (`he_pool`),
-//! whose workers take their jobs from a board, each in a thread of its own. Proved, for every number of workers and
-//! every order of their steps: the clauses of `replay`.
+//! Where races come faster than they are told, and more than one worker may be taken, `replay` reads a window of them
+//! side by side (`he_pieces`) and goes through `replay_batch` (`he_pool`), whose workers take their jobs from a board,
+//! each in a thread of its own. Proved, for every number of workers and every order of their steps: the clauses of
+//! `replay`.
 //!
-//! Only tested: that `replay` and `orders` tell want of memory only where a growth was refused. Neither proved nor
+//! Only tested: that `replay` and `orders` tell want of memory only where a growth was refused, that they write what is
+//! asked for of a race before they read on, and that they read nothing after a failed write. Neither proved nor
 //! tested: that `replay` goes through `replay_batch`, and any speed.
 #![tactic(auto)]
 
 pub mod actions;
+mod beginning;
 pub mod content;
+pub mod explaining;
 pub mod fault;
 pub mod laws;
 pub mod limits;
@@ -28,11 +33,13 @@ pub mod ordering;
 pub mod output;
 mod reading;
 pub mod replaying;
+mod rounds;
 mod sharing;
-pub mod stream;
+mod streaming;
 mod telling;
 
 pub use actions::{Action, run_action};
+pub use explaining::explanations;
 pub use fault::ReplayFault;
 pub use he_pool::{Gate, NoGate, batch_jobs, replay_batch};
 pub use ordering::orders;

@@ -1,12 +1,11 @@
 //! The orders of the addresses of an input's races, written to an output.
-ghost use Rattle.std.specs.Prelude.{◌≡◌};
-ghost use Rattle.he_stream.specs.Input.{Gives};
-ghost use Rattle.he_stream.specs.Output.{PutsPart, PutsWhole};
+ghost use Rattle.he_stream.specs.Input.{Gives, GivesSoFar};
+ghost use Rattle.he_stream.specs.Output.{PutsAndEnds, PutsInRounds, PutsRoundsPart};
 ghost use Rattle.he_replay.specs.Stream.{Orders};
 
+use crate::content::Content;
 use crate::fault::ReplayFault;
-use crate::output::order_output;
-use crate::stream::{put_output, take_input};
+use crate::streaming::stream_races;
 use he_stream::{InputStream, OutputStream};
 use std::alloc::Allocator;
 
@@ -14,8 +13,13 @@ use std::alloc::Allocator;
 /// section 6): its usable addresses, whatever the ticks of the answers, each with the source that the host uses for
 /// it.
 ///
+/// The orders are written as the races come: when a step of the input has given the last line of a race, what is asked
+/// for of all races that are whole by then is written and flushed before the next step. No more is held than the bytes
+/// of one race and one step, one race, and the text of the races that one step completes.
+///
 /// After `Text` and `Read` all that the input before the fault asks for was written, after `Write` a first part of it,
-/// after `Memory` nothing. The output is flushed at the end, after `Text` and `Read` too.
+/// after `Memory` what some first races ask for. The output is flushed at the end, after `Text` and `Read` too. After
+/// `Write`, and after a fault of the text that stands whatever follows, the input is not read further.
 ///
 /// # Errors
 ///
@@ -31,10 +35,10 @@ pub fn orders<A: Allocator + Copy, I: InputStream, O: OutputStream>(
     output: &mut O,
 ) -> Result<(), ReplayFault>
     ensures { Orders (Gives I.remaining I.takes input.old input.new)
-        (PutsWhole O.contents O.puts O.flushes output.old output.new)
-        (PutsPart O.contents O.puts O.flushes output.old output.new) (output.new ≡ output.old) result }
+        (GivesSoFar I.remaining I.takes input.old input.new)
+        (PutsAndEnds O.contents O.puts O.flushes output.old output.new)
+        (PutsRoundsPart O.contents O.puts O.flushes output.old output.new)
+        (PutsInRounds O.contents O.puts O.flushes output.old output.new) result }
 {
-    let given = take_input(alloc, input)?;
-    let answer = order_output(alloc, given.bytes.as_slice(), given.is_broken)?;
-    put_output(output, &answer)
+    stream_races(alloc, Content::Order, input, output)
 }

@@ -1,28 +1,34 @@
 //! Replaying the timelines of an input to an output.
-ghost use Rattle.std.specs.Prelude.{◌≡◌, ◌≤◌};
-ghost use Rattle.he_stream.specs.Input.{Gives};
-ghost use Rattle.he_stream.specs.Output.{PutsPart, PutsWhole};
+ghost use Rattle.std.specs.Prelude.{◌≤◌};
+ghost use Rattle.he_stream.specs.Input.{Gives, GivesSoFar};
+ghost use Rattle.he_stream.specs.Output.{PutsAndEnds, PutsInRounds, PutsRoundsPart};
 ghost use Rattle.he_replay.specs.Stream.{Replays};
 
+use crate::content::Content;
 use crate::fault::ReplayFault;
 use crate::limits::{LEAST_WORKERS, MOST_WORKERS};
-use crate::output::replay_output;
-use crate::stream::{put_output, take_input};
+use crate::sharing::stream_shared;
+use crate::streaming::stream_races;
 use he_stream::{InputStream, OutputStream};
 use std::alloc::Allocator;
 use std::thread::Threads;
 
 /// Reads timelines to the end of the input and writes their transcripts, by at most so many workers.
 ///
-/// What is written and answered does not depend on the number of workers, nor on the order of their steps. The races
-/// are read on the calling thread. A short input, of less than `limits::SHARED_BYTES`, it follows to the end alone,
-/// race by race. Of a longer one the attempts of `limits::SHARED_RACES` races at a time are shared by as many workers
-/// as there are jobs for (`limits::JOBS_OF_A_WORKER` each), in threads of their own; where one is enough, no thread is
-/// made.
+/// What is written and answered does not depend on the number of workers, nor on the order of their steps.
 ///
-/// After `Text` and `Read` all that the input before the fault asks for was written, after `Write` a
-/// first part of it, after `Memory` nothing. The output is flushed at the end, after `Text` and
-/// `Read` too.
+/// The transcripts are written as the races come: when a step of the input has given the last line of a race, the
+/// transcripts of all races that are whole by then are written and flushed before the next step. No more is held than
+/// the bytes of one race and one step, and the transcripts of the races that one step completes.
+///
+/// One worker, the calling thread, reads each race and follows it to its end before the next. More share the races that
+/// one step completes, at most `limits::WINDOW_RACES` at a time: they are read side by side, and their attempts are
+/// shared by as many workers as there are jobs for (`limits::JOBS_OF_A_WORKER` each), in threads of their own. Races of
+/// less than `limits::SHARED_BYTES` in all are left to the calling thread.
+///
+/// After `Text` and `Read` all that the input before the fault asks for was written, after `Write` a first part of it,
+/// after `Memory` the transcripts of some first races. The output is flushed at the end, after `Text` and `Read` too.
+/// After `Write`, and after a fault of the text that stands whatever follows, the input is not read further.
 ///
 /// # Errors
 ///
@@ -41,10 +47,14 @@ pub fn replay<
     requires some { LEAST_WORKERS ≤ workers }
     requires few { workers ≤ MOST_WORKERS }
     ensures { Replays (Gives I.remaining I.takes input.old input.new)
-        (PutsWhole O.contents O.puts O.flushes output.old output.new)
-        (PutsPart O.contents O.puts O.flushes output.old output.new) (output.new ≡ output.old) result }
+        (GivesSoFar I.remaining I.takes input.old input.new)
+        (PutsAndEnds O.contents O.puts O.flushes output.old output.new)
+        (PutsRoundsPart O.contents O.puts O.flushes output.old output.new)
+        (PutsInRounds O.contents O.puts O.flushes output.old output.new) result }
 {
-    let given = take_input(alloc, input)?;
-    let answer = replay_output(rt, alloc, given.bytes.as_slice(), given.is_broken, workers)?;
-    put_output(output, &answer)
+    if workers == LEAST_WORKERS {
+        stream_races(alloc, Content::Transcript, input, output)
+    } else {
+        stream_shared(rt, alloc, workers, input, output)
+    }
 }

@@ -1,80 +1,155 @@
-//! The races of an input, whose attempts workers share.
-ghost use Rattle.std.specs.Prelude.{◌≡◌, ◌≤◌, IfOk, length};
+//! The races of a window, whose reading and whose attempts workers share.
+ghost use Rattle.std.specs.Prelude.{◌≡◌, ◌≤◌, ◌+◌, [], IfOk, length, take, vec_len};
+ghost use Rattle.he_stream.specs.Input.{Gives, GivesSoFar};
+ghost use Rattle.he_stream.specs.Output.{PutsAndEnds, PutsInRounds, PutsRoundsPart};
 ghost use Rattle.he_pool.specs.Batch.{batch_jobs};
 ghost use Rattle.he_pool.specs.declared.limits.TheConstants.{LEAST_WORKERS, MOST_WORKERS};
 ghost use Rattle.he_replay.specs.declared.limits.TheConstants.{MOST_RACES};
-ghost use Rattle.he_replay.specs.Output.{AreTexts, IsOutput, IsTranscriptText};
-ghost use Rattle.he_replay.specs.Steps.{IsStop};
-ghost use Rattle.he_replay.specs.Telling.{TellsOn};
+ghost use Rattle.he_replay.specs.Output.{AreTexts, IsTranscriptText};
+ghost use Rattle.he_replay.specs.Stream.{Streams};
+ghost use Rattle.he_replay.specs.Telling.{Begins, IsTelling, TellsFirst};
 
+use crate::beginning::Begun;
 use crate::content::{Content, write_races, write_transcripts};
-use crate::limits::{JOBS_OF_A_WORKER, LEAST_WORKERS, MOST_RACES, MOST_WORKERS, SHARED_RACES};
-use crate::output::Output;
-use crate::reading::{
-    Next, Stop, fault_at_end, fault_behind, fault_past_races, line_count, read_some,
+use crate::fault::ReplayFault;
+use crate::limits::{
+    JOBS_OF_A_WORKER, LEAST_WORKERS, MOST_RACES, MOST_WORKERS, SHARED_BYTES, WINDOW_RACES,
 };
+use crate::streaming::{Held, RACE_END, end_held, tell_held};
 use he_board::Board;
+use he_pieces::read_races;
 use he_plan::Timeline;
 use he_pool::{NoGate, batch_jobs, replay_batch};
+use he_stream::limits::MOST_READS;
+use he_stream::{InputStream, OutputStream, Taken, take_piece};
+use memchr::memmem::find_iter;
 use std::alloc::{AllocError, Allocator};
 use std::thread::Threads;
 
-// The output of an input, of whose races the transcripts are asked for, by at most so many workers. They share some
-// races at a time, whose memory serves the next ones. `is_broken` tells that the input broke off after these bytes.
-pub(crate) fn share_races<R: Threads + Sync, A: Allocator + Copy + Send + Sync>(
+// Takes an input to its end and puts the transcripts of its races into the output, as they come. So many workers share
+// the races that a step of the input completes, where they are worth it.
+pub(crate) fn stream_shared<
+    R: Threads + Sync,
+    A: Allocator + Copy + Send + Sync,
+    I: InputStream,
+    O: OutputStream,
+>(
     rt: &R,
     alloc: A,
-    input: &[u8],
-    is_broken: bool,
     workers: u16,
-) -> Result<Output<A>, AllocError>
+    input: &mut I,
+    output: &mut O,
+) -> Result<(), ReplayFault>
     requires some { LEAST_WORKERS ≤ workers }
     requires few { workers ≤ MOST_WORKERS }
-    ensures { IfOk result (λ output. IsOutput IsTranscriptText input.now is_broken output.text.items output.fault) }
+    ensures { Streams IsTranscriptText (Gives I.remaining I.takes input.old input.new)
+        (GivesSoFar I.remaining I.takes input.old input.new)
+        (PutsAndEnds O.contents O.puts O.flushes output.old output.new)
+        (PutsRoundsPart O.contents O.puts O.flushes output.old output.new)
+        (PutsInRounds O.contents O.puts O.flushes output.old output.new) result }
 {
+    let content = Content::Transcript;
+    let mut held = Held::new(alloc);
     let mut text = Vec::new(alloc);
-    let mut from = 0;
-    for _ in 0..MOST_RACES / SHARED_RACES {
-        let stop = share_some(rt, alloc, input, from, workers, &mut text)?;
-        from = stop.end;
-        match stop.next {
-            Next::More => {}
-            Next::End => {
-                let fault = fault_at_end(is_broken);
-                return Ok(Output { text, fault });
+    for _steps in 0..MOST_READS {
+        match take_piece(input, &mut held.bytes, held.filled)? {
+            Taken::Bytes(count) => {
+                let begun = begin_shared(rt, alloc, &held, count, workers, &mut text)?;
+                tell_held(alloc, &mut held, count, begun, content, &mut text, output)?;
             }
-            Next::Fault(found) => {
-                let lines = line_count(&input[..from]);
-                let fault = Some(fault_behind(is_broken, lines, found));
-                return Ok(Output { text, fault });
-            }
+            Taken::Interrupted => {}
+            Taken::End => return end_held(alloc, &held, false, content, &mut text, output),
+            Taken::Failed => return end_held(alloc, &held, true, content, &mut text, output),
         }
     }
-    let lines = line_count(&input[..from]);
-    let fault = fault_past_races(is_broken, lines, &input[from..]);
-    Ok(Output { text, fault })
+    end_held(alloc, &held, true, content, &mut text, output)
 }
 
-// Reads some races from this place on, and appends the texts of their transcripts.
-fn share_some<R: Threads + Sync, A: Allocator + Copy + Send + Sync>(
+// Tells some first races, or none, of the bytes that are held where so many more were taken.
+fn begin_shared<R: Threads + Sync, A: Allocator + Copy + Send + Sync>(
     rt: &R,
     alloc: A,
-    input: &[u8],
-    from: usize,
+    held: &Held<A>,
+    count: usize,
     workers: u16,
     text: &mut Vec<u8, A>,
-) -> Result<Stop, AllocError>
+) -> Result<Begun, AllocError>
     requires some { LEAST_WORKERS ≤ workers }
     requires few { workers ≤ MOST_WORKERS }
-    requires place { from ≤ length input.now }
-    ensures told { IfOk result (λ stop. TellsOn IsTranscriptText input.now from text.old.items text.new.items stop.end stop.count) }
-    ensures next { IfOk result (IsStop input.now) }
+    requires within { held.now.filled + count ≤ vec_len held.now.bytes }
+    requires races { held.now.races ≤ MOST_RACES }
+    ensures { IfOk result (Begins IsTranscriptText held.now.races (take (held.now.filled + count) held.now.bytes.items) text.new.items) }
 {
-    let mut timelines = Vec::with_capacity(alloc, SHARED_RACES)?;
-    let stop = read_some(alloc, input, from, &mut timelines)?;
-    let told = write_shared(rt, alloc, &timelines, workers)?;
+    text.clear();
+    let bytes = &held.bytes[..held.filled + count];
+    share_windows(rt, alloc, bytes, MOST_RACES - held.races, workers, text)
+}
+
+// Tells first races of the bytes, at most so many, window by window, as long as a window is worth the workers' threads.
+fn share_windows<R: Threads + Sync, A: Allocator + Copy + Send + Sync>(
+    rt: &R,
+    alloc: A,
+    bytes: &[u8],
+    most: usize,
+    workers: u16,
+    text: &mut Vec<u8, A>,
+) -> Result<Begun, AllocError>
+    requires some { LEAST_WORKERS ≤ workers }
+    requires few { workers ≤ MOST_WORKERS }
+    requires most { most ≤ MOST_RACES }
+    requires none { text.old.items ≡ [] }
+    ensures told { IfOk result (λ begun. IsTelling IsTranscriptText bytes.now text.new.items begun.end begun.count) }
+    ensures few { IfOk result (λ begun. begun.count ≤ most) }
+{
+    let mut begun = Begun::NOTHING;
+    for _windows in 0..MOST_RACES {
+        let left = &bytes[begun.end..];
+        let races = WINDOW_RACES.min(most - begun.count);
+        let end = window_end(left, races);
+        if end < SHARED_BYTES {
+            return Ok(begun);
+        }
+        let window = share_window(rt, alloc, &left[..end], races, workers, text)?;
+        begun = Begun {
+            end: begun.end + window.end,
+            count: begun.count + window.count,
+        };
+    }
+    Ok(begun)
+}
+
+// The place behind the races that end first in the bytes, so many or as many as there are.
+fn window_end(bytes: &[u8], most: usize) -> usize
+    ensures { result ≤ length bytes.now }
+{
+    match find_iter(bytes, RACE_END).take(most).last() {
+        Some(at) => bytes.len().min(at.saturating_add(RACE_END.len())),
+        None => 0,
+    }
+}
+
+// Reads the races of a window, at most so many, and appends the texts of their transcripts, by at most so many workers.
+fn share_window<R: Threads + Sync, A: Allocator + Copy + Send + Sync>(
+    rt: &R,
+    alloc: A,
+    window: &[u8],
+    most: usize,
+    workers: u16,
+    text: &mut Vec<u8, A>,
+) -> Result<Begun, AllocError>
+    requires some { LEAST_WORKERS ≤ workers }
+    requires few { workers ≤ MOST_WORKERS }
+    requires most { most ≤ MOST_RACES }
+    ensures told { IfOk result (TellsFirst IsTranscriptText window.now text.old.items text.new.items) }
+    ensures few { IfOk result (λ begun. begun.count ≤ most) }
+{
+    let read = read_races(rt, alloc, window, most, workers)?;
+    let told = write_shared(rt, alloc, &read.timelines, workers)?;
     text.extend_from_slice(&told)?;
-    Ok(stop)
+    Ok(Begun {
+        end: read.end,
+        count: read.timelines.len(),
+    })
 }
 
 // The texts of the transcripts of the races, one after the other, by at most so many workers. Where one is enough, it

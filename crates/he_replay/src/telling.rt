@@ -1,49 +1,88 @@
-//! The races of an input, each read and told before the next.
-ghost use Rattle.std.specs.Prelude.{◌≤◌, IfOk, length};
-ghost use Rattle.he_replay.specs.Output.{IsOutput, IsTextOf};
-ghost use Rattle.he_replay.specs.Telling.{IsToldStep};
+//! The races that stand whole in some bytes, each read and told before the next.
+ghost use Rattle.std.specs.Prelude.{◌≡◌, ◌≢◌, ◌<◌, ◌≤◌, [], Some, true, IfOk, IfSome, MatchOption, length};
+ghost use Rattle.he_text.specs.FaultSearch.{fault_of};
+ghost use Rattle.he_replay.specs.declared.limits.TheConstants.{MOST_RACES};
+ghost use Rattle.he_replay.specs.Output.{IsTextOf, line_count};
+ghost use Rattle.he_replay.specs.Telling.{Begins, IsFound, IsToldStep, Tells};
+ghost use Rattle.he_text.specs.declared.fault.TextKind.TheVariants as kinds;
 
+use crate::beginning::Begun;
 use crate::content::Content;
 use crate::limits::{ARENA_BYTES, MOST_RACES};
-use crate::output::Output;
-use crate::reading::{Step, fault_at_end, fault_behind, fault_past_races, line_count};
+use crate::reading::Step;
 use bumpalo::Bump;
-use he_text::{TextKind, read_race};
+use he_text::laws::faults_stand;
+use he_text::{TextFault, TextKind, read_race};
 use std::alloc::{AllocError, Allocator};
 
-// The output of an input, of whose races this content is asked for, by the calling thread, which keeps no race when it
-// goes on to the next: a race stands in an arena, whose memory the next one takes again. `is_broken` tells that the
-// input broke off after these bytes.
+// What is asked of some bytes of an input, which stand behind races that were told before.
+#[derive(Clone, Copy)]
+pub(crate) struct Part {
+    // How far races are looked for: none is read that begins there or behind it, unless nothing follows the bytes.
+    pub(crate) reach: usize,
+    // Nothing follows the bytes.
+    pub(crate) is_last: bool,
+    // How many races were told before.
+    pub(crate) races: usize,
+}
+
+// What was told of some bytes.
+#[derive(Clone, Copy)]
+pub(crate) struct Told {
+    // The place behind the last race that was told.
+    pub(crate) end: usize,
+    // How many races were told.
+    pub(crate) count: usize,
+    // What is wrong with the bytes from there on, its line counted from there.
+    pub(crate) fault: Option<TextFault>,
+}
+
+// Appends the texts that are asked for of the races at the front of the bytes, behind those with which it begins. The
+// calling thread keeps no race when it goes on to the next: a race stands in an arena, whose memory the next one takes
+// again.
 pub(crate) fn tell_races<A: Allocator + Copy>(
     alloc: A,
-    input: &[u8],
-    is_broken: bool,
+    bytes: &[u8],
+    part: Part,
+    begun: Begun,
     content: Content,
-) -> Result<Output<A>, AllocError>
-    ensures { IfOk result (λ output. IsOutput (IsTextOf content) input.now is_broken output.text.items output.fault) }
+    text: &mut Vec<u8, A>,
+) -> Result<Told, AllocError>
+    requires begun { Begins (IsTextOf content) part.races bytes.now text.old.items begun }
+    ensures { IfOk result (Tells (IsTextOf content) part.is_last part.races bytes.now text.new.items) }
 {
-    let mut text = Vec::new(alloc);
     let mut arena = Bump::try_with_capacity(alloc, ARENA_BYTES)?;
-    let mut from = 0;
-    for _ in 0..MOST_RACES {
-        match tell_race(&arena, input, from, content, &mut text)? {
-            Step::Race(end) => from = end,
+    let mut end = begun.end;
+    for count in begun.count..MOST_RACES - part.races {
+        if !part.is_last && end >= part.reach {
+            return Ok(Told {
+                end,
+                count,
+                fault: None,
+            });
+        }
+        match tell_race(&arena, bytes, end, content, text)? {
+            Step::Race(next) => end = next,
             Step::End => {
-                let fault = fault_at_end(is_broken);
-                return Ok(Output { text, fault });
+                return Ok(Told {
+                    end,
+                    count,
+                    fault: None,
+                });
             }
             Step::Fault(found) => {
-                let lines = line_count(&input[..from]);
-                let fault = Some(fault_behind(is_broken, lines, found));
-                return Ok(Output { text, fault });
+                let fault = fault_of_rest(&bytes[end..], part.is_last, found);
+                return Ok(Told { end, count, fault });
             }
         }
         // An arena that can't be reset is no fault: it grows.
         let _ = arena.reset();
     }
-    let lines = line_count(&input[..from]);
-    let fault = fault_past_races(is_broken, lines, &input[from..]);
-    Ok(Output { text, fault })
+    Ok(Told {
+        end,
+        count: MOST_RACES - part.races,
+        fault: fault_past_races(&bytes[end..]),
+    })
 }
 
 // Reads the race at the place, and appends what is asked for of it. All that it needs for that alone stands in the
@@ -69,4 +108,53 @@ fn tell_race<A: Allocator + Copy>(
             _ => Ok(Step::Fault(fault)),
         },
     }
+}
+
+// The fault that was found in what follows some races, unless more bytes may follow and mend it.
+fn fault_of_rest(rest: &[u8], is_last: bool, found: TextFault) -> Option<TextFault>
+    requires { fault_of rest.now ≡ Some (found.line, found.kind) }
+    ensures same { IfSome result (λ fault. fault ≡ found) }
+    ensures found { IfSome result (IsFound is_last rest.now) }
+    ensures last { is_last ≡ true → result ≡ Some found }
+{
+    if is_last {
+        return Some(found);
+    }
+    faults_stand();
+    match found.kind {
+        TextKind::Unfinished => None,
+        TextKind::Policy(_) => table_fault(rest, found),
+        _ => Some(found),
+    }
+}
+
+// The fault of a policy table, unless it stands on the last line that has a line end: more rows may follow then.
+fn table_fault(rest: &[u8], found: TextFault) -> Option<TextFault>
+    ensures { MatchOption result (Unit {0}) (λ fault. (fault ≡ found) × (line_count rest.now ≢ found.line)) }
+{
+    if line_count(rest) == found.line {
+        None
+    } else {
+        Some(found)
+    }
+}
+
+// What is wrong with what follows as many races as an input may have.
+fn fault_past_races(rest: &[u8]) -> Option<TextFault>
+    ensures { MatchOption result (rest.now ≡ []) (λ fault. (0 < length rest.now) × (fault ≡ record { line = 1; kind = kinds.TooMany })) }
+{
+    if rest.is_empty() {
+        return None;
+    }
+    Some(TextFault {
+        line: 1,
+        kind: TextKind::TooMany,
+    })
+}
+
+// How many lines end in the text.
+pub(crate) fn line_count(text: &[u8]) -> u64
+    ensures { result ≡ line_count text.now }
+{
+    text.iter().filter(|byte| **byte == b'\n').count() as u64
 }

@@ -1,4 +1,4 @@
-// Each growth refused in turn: the fault is Memory and nothing is written, or all is.
+// Each growth refused in turn: the fault is Memory and what some first races ask for is written, or all is.
 
 use crate::hostile::{Call, TEXT};
 use he_replay::ReplayFault;
@@ -20,8 +20,8 @@ fn repeated(alloc: Global, text: &[u8]) -> Result<Vec<u8>, AllocError> {
     Ok(all)
 }
 
-// Whether a call whose allocator may refuse answers Memory and writes nothing only where it has refused, and writes
-// all else.
+// Whether a call whose allocator may refuse answers Memory only where it has refused, and has then written the whole
+// output of some first races, and writes all else.
 fn is_right<R: Threads + Sync>(
     rt: &R,
     heap: &Refusing<Global>,
@@ -35,7 +35,10 @@ fn is_right<R: Threads + Sync>(
     match call.run(rt, heap, &mut input, &mut output) {
         Ok(()) => output.writer().held() == wanted,
         Err(fault) => {
-            heap.has_refused() && fault == ReplayFault::Memory && output.writer().calls() == 0
+            let held = output.writer().held();
+            let is_whole = held.is_empty() || held.ends_with(call.output());
+            let is_first = wanted.starts_with(held) && is_whole;
+            heap.has_refused() && fault == ReplayFault::Memory && is_first
         }
     }
 }

@@ -167,20 +167,23 @@ static BROKEN: [(bool, &[u8], Result<(), ReplayFault>); 6] = [
     ),
 ];
 
-// How many of these end as they must, and have the output of the text where it stands before them.
+// How many of these end as they must, and have the output of the text where it stands before them: flushed when the text
+// was whole, and again at the end.
 fn right_breaks<R: Threads + Sync>(rt: &R, alloc: Global, call: Call) -> Result<usize, AllocError> {
     let mut right: usize = 0;
     for (is_behind, more, answer) in &BROKEN {
         let mut text = Vec::new(alloc);
         let mut wanted = b"".as_slice();
+        let mut flushes = 1;
         if *is_behind {
             text.extend_from_slice(TEXT)?;
             wanted = call.output();
+            flushes = 2;
         }
         text.extend_from_slice(more)?;
         let reader = FakeReader::new(&text, 5).broken();
         let writer = FakeWriter::new(alloc);
-        if !is_right(rt, alloc, call, reader, writer, (*answer, wanted, 1)) {
+        if !is_right(rt, alloc, call, reader, writer, (*answer, wanted, flushes)) {
             return Ok(right);
         }
         right = right.saturating_add(1);
@@ -211,7 +214,7 @@ fn right_ends<R: Threads + Sync>(rt: &R, alloc: Global, call: Call) -> bool {
         FakeReader::new(b"race 1\nend", 64),
         failing_too,
         (write, b"", 0),
-    ) && is_right(rt, alloc, call, pieces, slow, (Ok(()), wanted, 1))
+    ) && is_right(rt, alloc, call, pieces, slow, (Ok(()), wanted, 2))
         && is_right(
             rt,
             alloc,

@@ -11,6 +11,8 @@ mod growths;
 #[cfg(test)]
 mod hostile;
 #[cfg(test)]
+mod rounds;
+#[cfg(test)]
 mod shared;
 #[cfg(test)]
 mod steps;

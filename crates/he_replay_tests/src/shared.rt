@@ -1,9 +1,13 @@
 // A text so long that workers share its races: what is written, and what is wrong, is as with one worker.
 
 use he_replay::limits::SHARED_BYTES;
-use he_replay::output::{Output, replay_output};
+use he_replay::{ReplayFault, replay};
+use he_stream::{FromReader, ToWriter};
+use he_text::{TextFault, TextKind};
 use std::alloc::{AllocError, Global};
 use std::test::Fail;
+use std::thread::Threads;
+use stream_fakes::{FakeReader, FakeWriter};
 
 // The lines of a race of 64 addresses, as many sources and as many routes: what stands before the first number of each
 // kind, and what before and behind each number.
@@ -28,8 +32,8 @@ static LINES: [(&[u8], &[u8], &[u8]); 4] = [
 
 static DIGITS: &[u8] = b"0123456789abcdef";
 
-// So many races that some are left where workers share 128 at a time.
-const RACES: usize = 900;
+// So many races that workers share two windows of them, and some are left.
+const RACES: usize = 200;
 
 // What stands behind them: a race with a fault.
 static FAULTY: &[u8] = b"race 1\na 010 none\nend\n";
@@ -59,8 +63,28 @@ fn text_of(alloc: Global) -> Result<Vec<u8>, AllocError> {
     Ok(text)
 }
 
-fn are_same(alone: &Output<Global>, shared: &Output<Global>) -> bool {
-    alone.fault == shared.fault && alone.text.as_slice() == shared.text.as_slice()
+// How many bytes a read gives.
+const STEP: usize = 1_000_000;
+
+// What is wrong with the text: the address of the last race, in the line behind all the others.
+fn fault_in(text: &[u8]) -> Result<(), ReplayFault> {
+    let ends = text.iter().filter(|byte| **byte == b'\n').count() as u64;
+    let line = ends.saturating_sub(1);
+    let kind = TextKind::Number;
+    Err(ReplayFault::Text(TextFault { line, kind }))
+}
+
+fn replayed<R: Threads + Sync>(
+    rt: &R,
+    alloc: Global,
+    text: &[u8],
+    is_shared: bool,
+) -> (Result<(), ReplayFault>, ToWriter<FakeWriter>) {
+    let mut input = FromReader::new(FakeReader::new(text, STEP));
+    let mut output = ToWriter::new(FakeWriter::new(alloc));
+    let workers = if is_shared { 4 } else { 1 };
+    let result = replay(rt, alloc, &mut input, &mut output, workers);
+    (result, output)
 }
 
 #[test]
@@ -68,8 +92,9 @@ fn workers_share_long_texts(rt: HostRuntime) -> Result<(), Fail> {
     let alloc = rt.alloc();
     let text = text_of(alloc)?;
     assert!(rt; text.len() >= SHARED_BYTES);
-    let alone = replay_output(&rt, alloc, &text, false, 1)?;
-    let shared = replay_output(&rt, alloc, &text, false, 4)?;
-    assert!(rt; alone.fault.is_some() && are_same(&alone, &shared));
+    let (alone, written) = replayed(&rt, alloc, &text, false);
+    let (shared, also) = replayed(&rt, alloc, &text, true);
+    assert!(rt; alone == fault_in(&text) && shared == alone);
+    assert!(rt; written.writer().held() == also.writer().held());
     Ok(())
 }

@@ -34,3 +34,8 @@ pub record Gives {S : Type 0} (remaining : S → Option (List ℕ)) (takes : S �
   pub taken : Consumes (remaining first) (remaining last) bytes
   pub whole : OnFalse is_broken (IsAtEnd (remaining last))
   pub told : EndsBroken takes first last is_broken
+
+-- the input gave these bytes, and neither ended nor broke off yet
+pub record GivesSoFar {S : Type 0} (remaining : S → Option (List ℕ)) (takes : S → Taken → S → Type 0) (first last : S) (bytes : List ℕ) : Type 0 where
+  pub taken : Consumes (remaining first) (remaining last) bytes
+  pub told : Stops takes TakesOn most_reads first last

@@ -1,11 +1,9 @@
--- Mirrors the code: one step of a read, as the loop makes it.
+-- One step of an input, into room that was made for it.
 use Rattle.std.specs.Prelude.{◌≡◌, ℕ, List, Option, Result, Ok, Err}
 use Rattle.he_stream.specs.declared.answer.Taken.{Taken}
-use Rattle.he_stream.specs.declared.fault.ReadFault.{ReadFault}
-use Rattle.he_stream.specs.declared.fault.ReadFault.TheVariants as faults
 use Rattle.he_stream.specs.Steps.{Takes}
 
 -- one step, or a growth that was refused before it
-abbrev pub TakesPiece : {S : Type 0} → (S → Option (List ℕ)) → (S → Taken → S → Type 0) → S → S → List ℕ → Result Taken ReadFault → Type 0
+abbrev pub TakesPiece : {S E : Type 0} → (S → Option (List ℕ)) → (S → Taken → S → Type 0) → S → S → List ℕ → Result Taken E → Type 0
 TakesPiece remaining takes first last room (Ok taken) = Takes (remaining first) (remaining last) taken room × takes first taken last
-TakesPiece remaining takes first last room (Err fault) = (first ≡ last) × (fault ≡ faults.Memory)
+TakesPiece remaining takes first last room (Err refused) = first ≡ last

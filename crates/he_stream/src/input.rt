@@ -1,15 +1,16 @@
 //! Reading an input to its end.
-ghost use Rattle.std.specs.Prelude.{◌≡◌, ◌<◌, ◌≤◌, OnErr, OnOk, length, take, drop, vec_len};
+ghost use Rattle.std.specs.Prelude.{◌≡◌, ◌+◌, ◌≤◌, OnOk, length, take, drop, vec_len};
 ghost use Rattle.std.specs.Io.{StartsWith, appended_bytes};
 ghost use Rattle.std.specs.Io.KnownBytes.{Consumes, IsAtEnd};
 ghost use Rattle.he_stream.specs.Input.{ReadsTo};
 ghost use Rattle.he_stream.specs.Pieces.{TakesPiece};
+ghost use Rattle.he_stream.specs.Steps.{Takes};
 
 use crate::answer::Taken;
 use crate::fault::ReadFault;
 use crate::limits::{MOST_READS, READ_SIZE};
 use crate::stream::InputStream;
-use std::alloc::Allocator;
+use std::alloc::{AllocError, Allocator};
 
 /// Reads the input to its end and appends what it gives to `bytes`.
 ///
@@ -56,7 +57,7 @@ fn fill<S: InputStream, A: Allocator>(
     for _steps in 0..MOST_READS {
         let taken = match take_piece(input, bytes, filled) {
             Ok(taken) => taken,
-            Err(fault) => return (filled, Err(fault)),
+            Err(_) => return (filled, Err(ReadFault::Memory)),
         };
         match taken {
             Taken::Bytes(count) => filled += count,
@@ -68,18 +69,25 @@ fn fill<S: InputStream, A: Allocator>(
     (filled, Err(ReadFault::Bound))
 }
 
-// One step into the vector after `filled`. Room is made first, so that a refused allocation loses
-// no byte.
-fn take_piece<S: InputStream, A: Allocator>(
+/// One step of the input, into the room behind the first `filled` bytes of the vector, which stay.
+///
+/// The room is [`READ_SIZE`](crate::limits::READ_SIZE) bytes. It is made before the step, so that a refused allocation
+/// loses no byte of the input. After `Bytes(count)` the next `count` bytes of the vector are those that were taken;
+/// what stands behind them is room that the next step uses again.
+///
+/// # Errors
+///
+/// `AllocError` where an allocation was refused. The input is then as it was.
+pub fn take_piece<S: InputStream, A: Allocator>(
     input: &mut S,
     bytes: &mut Vec<u8, A>,
     filled: usize,
-) -> Result<Taken, ReadFault>
+) -> Result<Taken, AllocError>
     requires { filled ≤ vec_len bytes.old }
     ensures within { filled ≤ vec_len bytes.new }
-    ensures more { OnOk result (filled < vec_len bytes.new) }
+    ensures room { OnOk result (filled + READ_SIZE ≤ vec_len bytes.new) }
     ensures front { take filled bytes.new.items ≡ take filled bytes.old.items }
-    ensures step { TakesPiece S.remaining S.takes input.old input.new (drop filled bytes.new.items) result }
+    ensures step { TakesPiece S.remaining S.takes input.old input.new (take READ_SIZE (drop filled bytes.new.items)) result }
 {
     make_room(bytes, filled)?;
     Ok(take_at(input, bytes.as_mut_slice(), filled))
@@ -87,24 +95,25 @@ fn take_piece<S: InputStream, A: Allocator>(
 
 // One step into the slice from `at` on.
 fn take_at<S: InputStream>(input: &mut S, bytes: &mut [u8], at: usize) -> Taken
-    requires { at < length bytes.old }
+    requires { at + READ_SIZE ≤ length bytes.old }
     ensures same { length bytes.new ≡ length bytes.old }
     ensures front { take at bytes.new ≡ take at bytes.old }
-    ensures step { TakesPiece S.remaining S.takes input.old input.new (drop at bytes.new) (Ok result) }
+    ensures step { Takes (S.remaining input.old) (S.remaining input.new) result (take READ_SIZE (drop at bytes.new)) }
+    ensures told { S.takes input.old result input.new }
 {
-    input.take(&mut bytes[at..])
+    input.take(&mut bytes[at..at + READ_SIZE])
 }
 
-// Makes the vector longer than `filled`, by zeros. Room that an earlier step left stays as it is.
-fn make_room<A: Allocator>(bytes: &mut Vec<u8, A>, filled: usize) -> Result<(), ReadFault>
+// Makes the vector longer than `filled` by the room for a step, with zeros. Room that an earlier step left stays as it
+// is.
+fn make_room<A: Allocator>(bytes: &mut Vec<u8, A>, filled: usize) -> Result<(), AllocError>
     requires { filled ≤ vec_len bytes.old }
     ensures within { filled ≤ vec_len bytes.new }
     ensures front { take filled bytes.new.items ≡ take filled bytes.old.items }
-    ensures room { OnOk result (filled < vec_len bytes.new) }
-    ensures memory { OnErr result (result ≡ Err ReadFault.Memory) }
+    ensures room { OnOk result (filled + READ_SIZE ≤ vec_len bytes.new) }
 {
-    if bytes.len() == filled {
-        bytes.reserve(READ_SIZE)?;
+    if bytes.len() - filled < READ_SIZE {
+        bytes.reserve(filled + READ_SIZE - bytes.len())?;
         bytes.resize(filled + READ_SIZE, 0)?;
     }
     Ok(())

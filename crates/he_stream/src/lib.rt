@@ -2,7 +2,8 @@
 //!
 //! [`FromReader`] makes an [`InputStream`] of any reader and [`ToWriter`] an [`OutputStream`] of any writer. A step of
 //! these tells what was given or taken, the end, an interruption, or that it failed. Each call returns: it makes a bounded
-//! number of steps. A step that was interrupted is tried again and counts towards that bound.
+//! number of steps. A step that was interrupted is tried again and counts towards that bound. [`take_piece`] is one such
+//! step, for callers that use what was taken before they take more.
 //!
 //! Proved for every such stream: a fault is answered only after a step that failed, a step that took no byte, or at the
 //! bound of steps, and `Ok` only at the input's end, after the whole text, or after a flush that was done (`specs/Runs`,
@@ -25,7 +26,7 @@ pub mod writer;
 
 pub use answer::{Flushed, Put, Taken};
 pub use fault::{ReadFault, WriteFault};
-pub use input::read_input;
+pub use input::{read_input, take_piece};
 pub use output::{finish_output, write_output, write_whole};
 pub use reader::FromReader;
 pub use stream::{InputStream, OutputStream};
