@@ -15,7 +15,7 @@ help:
 	@echo 'make install PREFIX=DIR    proves and builds the program, and puts it at DIR/bin/he, its manual page and its'
 	@echo '                           completion below DIR/share'
 	@echo 'make examples HE=FILE      runs a built program over all examples'
-	@echo 'make hostile HE=FILE       runs a built program over streams that fail and with too little memory'
+	@echo 'make hostile HE=FILE       runs a built program over streams that fail, open pipes, too little memory'
 	@echo 'make refused HE=FILE       refuses each allocation of a built program in turn, also of a live race'
 	@echo 'make hosts HE=FILE         tries tools/host-lines on recorded hosts, and has a built program read its lines'
 	@echo 'make fuzz SECONDS=60 SEED=1 HE=FILE'

@@ -2,7 +2,7 @@
 # hand: . completions/he.bash
 _he() {
     local word=${COMP_WORDS[COMP_CWORD]} before=${COMP_WORDS[COMP_CWORD - 1]} command=
-    local commands='replay order check live help' options=
+    local commands='replay order explain check live help' options=
     [ "$COMP_CWORD" -gt 1 ] && command=${COMP_WORDS[1]}
     case $before in
         --workers | --port) COMPREPLY=(); return ;;
@@ -11,6 +11,7 @@ _he() {
         '') options="$commands --help --version -h -V" ;;
         replay) options='--workers --help -h' ;;
         order) options='--help -h' ;;
+        explain) options='--help -h' ;;
         check) options='--help -h' ;;
         live) options='--port --help -h' ;;
         help) options=$commands ;;

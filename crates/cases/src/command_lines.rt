@@ -28,6 +28,15 @@ const TRANSCRIPT: &[u8] = b"attempt 0 20 2001:db8:1::1 won 55\nwon 0 55\n";
 
 const ORDER: &[u8] = b"0 2001:db8:1::1 from 2001:db8::2\n1 198.51.100.1 from 192.0.2.2\nend\n";
 
+const EXPLANATION: &[u8] = b"order 0 2001:db8:1::1 source 2001:db8::2
+order 1 198.51.100.1 source 192.0.2.2, behind 0 by rule 6, prefer higher precedence: 35 after 40
+20 answer aaaa usable 1
+20 attempt 0 2001:db8:1::1, on the AAAA answer, listed at 0 of 1, its family leads
+25 answer a usable 1
+55 won attempt 0
+end
+";
+
 const WRONG_TEXT: &[u8] = b"race 1\nend";
 
 // A race that is over at once, without a socket.
@@ -66,7 +75,7 @@ type Row = (
     &'static [u8],
 );
 
-static ROWS: [Row; 47] = [
+static ROWS: [Row; 51] = [
     (&["he", "replay"], TEXT, Streams::Whole, 0, TRANSCRIPT, b""),
     (
         &["he", "replay", "--workers", "1"],
@@ -85,6 +94,38 @@ static ROWS: [Row; 47] = [
         b"",
     ),
     (&["he", "order"], TEXT, Streams::Whole, 0, ORDER, b""),
+    (
+        &["he", "explain"],
+        TEXT,
+        Streams::Whole,
+        0,
+        EXPLANATION,
+        b"",
+    ),
+    (
+        &["he", "explain"],
+        TEXT,
+        Streams::BreaksOff,
+        1,
+        EXPLANATION,
+        READ_LINE,
+    ),
+    (
+        &["he", "explain"],
+        TEXT,
+        Streams::Room(7),
+        1,
+        b"order 0",
+        WRITE_LINE,
+    ),
+    (
+        &["he", "explain", "--help"],
+        TEXT,
+        Streams::Whole,
+        0,
+        b"Reads timelines of races and writes why",
+        b"",
+    ),
     (&["he"], TEXT, Streams::Whole, 2, b"", b"error: "),
     (&["he", "race"], TEXT, Streams::Whole, 2, b"", b"error: "),
     (

@@ -2,7 +2,7 @@
 
 use crate::turns::run_turns;
 use he_check::check;
-use he_replay::{orders, replay};
+use he_replay::{explanations, orders, replay};
 use he_stream::{FromReader, ToWriter};
 use std::alloc::AllocError;
 use std::fmt::Display;
@@ -62,7 +62,7 @@ pub fn run_example<R: Threads + Sync>(
     run_both(rt, threads, name, &text, &fault, counts)
 }
 
-// Runs the text through `replay` and `orders`, where what they write stands beside it.
+// Runs the text through `replay`, `orders` and `explanations`, where what they write stands beside it.
 fn run_both<R: Threads + Sync>(
     rt: &HostRuntime,
     threads: &R,
@@ -78,13 +78,24 @@ fn run_both<R: Threads + Sync>(
         counts.count(rt, name, "the transcript by turns differs", is_same)?;
     }
     if let Some(order) = read_beside(rt, name, "order")? {
-        run_orders(rt, name, text, &order, fault, counts)?;
+        run_asked(rt, name, text, Asked::Order, &order, fault, counts)?;
+    }
+    if let Some(explanation) = read_beside(rt, name, "explanation")? {
+        run_asked(
+            rt,
+            name,
+            text,
+            Asked::Explanation,
+            &explanation,
+            fault,
+            counts,
+        )?;
     }
     if counts.ran == ran {
         counts.count(
             rt,
             name,
-            "no transcript and no order stand beside it",
+            "no transcript, order or explanation stands beside it",
             false,
         )?;
     }
@@ -115,10 +126,18 @@ fn run_replay<R: Threads + Sync>(
     Ok(())
 }
 
-fn run_orders(
+// What is asked for of a text that is told on one thread.
+#[derive(Clone, Copy)]
+enum Asked {
+    Order,
+    Explanation,
+}
+
+fn run_asked(
     rt: &HostRuntime,
     name: &str,
     text: &[u8],
+    asked: Asked,
     wanted: &[u8],
     fault: &[u8],
     counts: &mut Counts,
@@ -126,12 +145,19 @@ fn run_orders(
     for step in STEPS {
         let mut input = FromReader::new(FakeReader::new(text, step));
         let mut output = ToWriter::new(FakeWriter::new(rt.alloc()));
-        let ended = orders(rt.alloc(), &mut input, &mut output);
+        let ended = match asked {
+            Asked::Order => orders(rt.alloc(), &mut input, &mut output),
+            Asked::Explanation => explanations(rt.alloc(), &mut input, &mut output),
+        };
         let is_written = output.writer().held() == wanted;
         drop(input);
         drop(output);
         let is_same = tells(rt, ended, fault)? && is_written;
-        counts.count(rt, name, "the order differs", is_same)?;
+        let what = match asked {
+            Asked::Order => "the order differs",
+            Asked::Explanation => "the explanation differs",
+        };
+        counts.count(rt, name, what, is_same)?;
     }
     Ok(())
 }

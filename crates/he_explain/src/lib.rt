@@ -1,4 +1,4 @@
-//! Why a race went as it did. No command writes it yet.
+//! Why a race went as it did: what `he explain` writes.
 //!
 //! [`write_explanation`] writes the order of a race's addresses with its reasons, then the race's course, and `end`.
 //! Each of both is there by itself. [`write_order_reasons`] writes the usable addresses in the order of RFC 6724
