@@ -10,10 +10,10 @@ pub const MOST_RACES: usize = 1_024;
 pub const JOBS_OF_A_WORKER: usize = 2_048;
 
 /// The most races of a window, whose reading and whose attempts workers share at a time.
-pub const WINDOW_RACES: usize = 64;
+pub const WINDOW_RACES: usize = 128;
 
 /// The fewest bytes of the races of a window that workers share. Fewer are not worth a thread.
-pub const SHARED_BYTES: usize = 65_536;
+pub const SHARED_BYTES: usize = 524_288;
 
 /// The bytes that the arena has at first in which the calling thread keeps a race. Races of a few addresses need less,
 /// so they take no memory anew.

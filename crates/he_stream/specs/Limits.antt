@@ -10,4 +10,4 @@ most_writes = 4294967296
 
 -- the bytes for which room is made before a read
 abbrev pub read_size : ℕ
-read_size = 262144
+read_size = 1048576

@@ -7,4 +7,4 @@ pub const MOST_READS: u64 = 4_294_967_296;
 pub const MOST_WRITES: u64 = 4_294_967_296;
 
 /// The room that is made for a read, in bytes.
-pub const READ_SIZE: usize = 262_144;
+pub const READ_SIZE: usize = 1_048_576;
