@@ -1,5 +1,5 @@
 -- How a call goes on after a step of the input and a round, and what it comes to where it ends.
-use Rattle.std.proofs.Common.{ℕ, ◌≡◌, ◌+◌, ◌≤◌, ◌++◌, ◌∙◌, List, [], length, take, drop, Bool, true, false, Option, Some, None, Result, Ok, Err, ap, sym, subst, refl, arith, inl, inr, append_assoc, take-take}
+use Rattle.std.proofs.Common.{ℕ, ◌≡◌, ◌+◌, ◌≤◌, ◌++◌, ◌∙◌, List, [], take, drop, Bool, true, false, Option, Some, None, Result, Ok, Err, ap, sym, subst, refl, arith, inl, inr, append_assoc, take-take}
 use Rattle.std.proofs.lemmas.List.{append-nil}
 use Rattle.std.proofs.Math.Seq.{take-add}
 use Rattle.std.proofs.KnownBytes.{Consumes-kept, Consumes-trans}
@@ -17,8 +17,8 @@ use Rattle.he_replay.specs.declared.output.InputFault.TheVariants as inputs
 use Rattle.he_replay.specs.Holding.{EndsBytes, EndsWithFault, GoesOn, TellsBytes}
 use Rattle.he_replay.specs.Limits.{most_races}
 use Rattle.he_replay.specs.Output.{IsFault, IsOutput, line_count}
-use Rattle.he_replay.specs.Rounds.{IsAt, told_fault}
-use Rattle.he_replay.specs.Stream.{PutsOutput, PutsSome, Streams, TellsSome}
+use Rattle.he_replay.specs.Rounds.{IsAt}
+use Rattle.he_replay.specs.Stream.{PutsOutput, Streams, TellsSome}
 use Rattle.he_replay.specs.Telling.{IsRest}
 use Rattle.he_replay.proofs.Further.{last_fault, one_more_round, round_failed, round_on, round_put, some_told, sure_fault, told_output}
 

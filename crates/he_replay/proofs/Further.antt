@@ -1,5 +1,5 @@
 -- A round more: where a call stands after it, and what it comes to when it ends there.
-use Rattle.std.proofs.Common.{ℕ, suc, ◌≡◌, ◌≢◌, ◌+◌, ◌<◌, ◌≤◌, ◌++◌, ◌⊎◌, ◌∙◌, List, [], ◌∷◌, length, take, drop, Bool, true, false, Option, Some, None, ap, sym, subst, refl, arith, inl, inr, append_assoc, length-append, take-append-drop}
+use Rattle.std.proofs.Common.{ℕ, suc, ◌≡◌, ◌≢◌, ◌+◌, ◌≤◌, ◌++◌, ◌∙◌, List, [], ◌∷◌, length, take, drop, Bool, true, false, Option, Some, None, ap, sym, subst, refl, arith, inl, inr, append_assoc, length-append, take-append-drop}
 use Rattle.std.proofs.lemmas.List.{append-nil}
 use Rattle.he_plan.specs.Race.{Race}
 use Rattle.he_stream.specs.declared.answer.Flushed.{Flushed}
@@ -12,12 +12,11 @@ use Rattle.he_text.specs.Text.{IsRaceText}
 use Rattle.he_replay.specs.declared.output.InputFault.{InputFault}
 use Rattle.he_replay.specs.declared.output.InputFault.TheVariants.{Text}
 use Rattle.he_replay.specs.declared.telling.Told.{Told}
-use Rattle.he_replay.specs.Known.{Stands}
 use Rattle.he_replay.specs.Limits.{most_races}
-use Rattle.he_replay.specs.Output.{AreTexts, IsFault, IsOutput, fault_at_end, fault_behind, line_count}
+use Rattle.he_replay.specs.Output.{AreTexts, IsFault, IsOutput, fault_behind, line_count}
 use Rattle.he_replay.specs.Rounds.{IsAt, PutsTold, told_fault}
 use Rattle.he_replay.specs.Stream.{TellsSome}
-use Rattle.he_replay.specs.Telling.{IsFound, IsRest, IsRestFault, Tells}
+use Rattle.he_replay.specs.Telling.{IsRest, IsRestFault, Tells}
 use Rattle.he_replay.proofs.Races.{AreTexts-append, line_count-append}
 
 -- the bytes up to the place and those behind it are the bytes

@@ -1,5 +1,5 @@
 -- What an input gave when a call ends.
-use Rattle.std.proofs.Common.{ℕ, ◌≡◌, ◌+◌, ◌<◌, ◌≤◌, List, Bool, true, false, Option, subst, inl, inr}
+use Rattle.std.proofs.Common.{ℕ, ◌≡◌, ◌<◌, ◌≤◌, List, true, false, Option, subst, inl, inr}
 use Rattle.std.specs.Io.KnownBytes.{Consumes, IsAtEnd}
 use Rattle.he_stream.specs.declared.answer.Taken.{Taken}
 use Rattle.he_stream.specs.declared.answer.Taken.TheVariants as answers

@@ -1,5 +1,5 @@
 -- The texts of races, one more and some more.
-use Rattle.std.proofs.Common.{ℕ, zero, suc, ◌≡◌, ◌+◌, ◌-◌, ◌<◌, ◌≤◌, ◌++◌, List, [], ◌∷◌, length, take, Bool, Some, sym, ◌∙◌, ap, subst, refl, arith, append_assoc, inr, length-append}
+use Rattle.std.proofs.Common.{ℕ, zero, suc, ◌≡◌, ◌+◌, ◌-◌, ◌≤◌, ◌++◌, List, [], ◌∷◌, take, Some, sym, ◌∙◌, ap, subst, refl, arith, append_assoc}
 use Rattle.std.specs.List.{AllZip, slice_get, slice_range}
 use Rattle.std.proofs.lemmas.List.{append-nil}
 use Rattle.std.proofs.lemmas.List.Sums.{sum_by-append}

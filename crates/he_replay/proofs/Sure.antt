@@ -1,5 +1,5 @@
 -- A fault of a policy table that stands whatever follows.
-use Rattle.std.proofs.Common.{ℕ, ◌≡◌, ◌≢◌, ◌+◌, ◌⊎◌, ◌==◌, ◌∙◌, List, length, false, Option, Some, None, sym, subst, arith, inl, inr, IfSome, MatchOption}
+use Rattle.std.proofs.Common.{ℕ, ◌≡◌, ◌≢◌, ◌⊎◌, ◌==◌, ◌∙◌, List, length, false, Option, Some, None, sym, subst, arith, inl, inr, IfSome, MatchOption}
 use Rattle.std.proofs.lemmas.List.Splits.{length-slice_split}
 use Rattle.he_text.specs.declared.fault.TextFault.{TextFault}
 use Rattle.he_text.specs.declared.fault.TextKind.TheVariants as kinds

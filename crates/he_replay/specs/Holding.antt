@@ -1,6 +1,6 @@
 -- Mirrors the code: what a call holds of its input, before and after a round. It helps the proofs; what is taken and put by a
 -- whole call stands in `Stream`.
-use Rattle.std.specs.Prelude.{ℕ, ◌≡◌, ◌≤◌, ◌+◌, Bool, true, false, List, Option, None, Some, Result, Ok, Err, take, drop, vec_len}
+use Rattle.std.specs.Prelude.{ℕ, ◌≡◌, ◌+◌, Bool, true, false, List, Option, None, Some, Result, Ok, Err, take, drop}
 use Rattle.he_plan.specs.Race.{Race}
 use Rattle.he_stream.specs.declared.answer.Flushed.{Flushed}
 use Rattle.he_stream.specs.declared.answer.Put.{Put}

@@ -1,6 +1,6 @@
 -- Mirrors the code: one round, in which the races at the front of some bytes are told and their texts put into the output. It
 -- helps the proofs; what is taken and put by a whole call stands in `Stream`.
-use Rattle.std.specs.Prelude.{ℕ, ◌≡◌, ◌≤◌, ◌+◌, ◌⊎◌, ◌++◌, Bool, true, false, List, [], Option, None, Some, Result, Ok, Err, length, take, drop}
+use Rattle.std.specs.Prelude.{ℕ, ◌≡◌, ◌≤◌, ◌⊎◌, ◌++◌, Bool, false, List, [], Option, None, Some, Result, Ok, Err, length}
 use Rattle.he_plan.specs.Race.{Race}
 use Rattle.he_stream.specs.declared.answer.Flushed.{Flushed}
 use Rattle.he_stream.specs.declared.answer.Put.{Put}
@@ -10,7 +10,6 @@ use Rattle.he_text.specs.Text.{IsRaceText}
 use Rattle.he_replay.specs.declared.fault.ReplayFault.{ReplayFault}
 use Rattle.he_replay.specs.declared.fault.ReplayFault.TheVariants as faults
 use Rattle.he_replay.specs.declared.output.InputFault.{InputFault}
-use Rattle.he_replay.specs.declared.output.InputFault.TheVariants as inputs
 use Rattle.he_replay.specs.declared.telling.Told.{Told}
 use Rattle.he_replay.specs.Limits.{most_races}
 use Rattle.he_replay.specs.Output.{AreTexts, fault_at_end, fault_behind, line_count}

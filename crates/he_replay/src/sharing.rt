@@ -33,13 +33,7 @@ pub(crate) fn stream_shared<
     A: Allocator + Copy + Send + Sync,
     I: InputStream,
     O: OutputStream,
->(
-    rt: &R,
-    alloc: A,
-    workers: u16,
-    input: &mut I,
-    output: &mut O,
-) -> Result<(), ReplayFault>
+>(rt: &R, alloc: A, workers: u16, input: &mut I, output: &mut O) -> Result<(), ReplayFault>
     requires some { LEAST_WORKERS ≤ workers }
     requires few { workers ≤ MOST_WORKERS }
     ensures { Streams IsTranscriptText (Gives I.remaining I.takes input.old input.new)
@@ -86,6 +80,7 @@ fn begin_shared<R: Threads + Sync, A: Allocator + Copy + Send + Sync>(
 }
 
 // Tells first races of the bytes, at most so many, window by window, as long as a window is worth the workers' threads.
+// There are no more such windows than the bytes have room for, so that a faulty race is not read again and again.
 fn share_windows<R: Threads + Sync, A: Allocator + Copy + Send + Sync>(
     rt: &R,
     alloc: A,
@@ -102,7 +97,7 @@ fn share_windows<R: Threads + Sync, A: Allocator + Copy + Send + Sync>(
     ensures few { IfOk result (λ begun. begun.count ≤ most) }
 {
     let mut begun = Begun::NOTHING;
-    for _windows in 0..MOST_RACES {
+    for _windows in 0..bytes.len() / SHARED_BYTES {
         let left = &bytes[begun.end..];
         let races = WINDOW_RACES.min(most - begun.count);
         let end = window_end(left, races);

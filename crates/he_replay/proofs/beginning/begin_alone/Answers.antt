@@ -1,6 +1,5 @@
-use Rattle.std.proofs.Common.{◌≡◌, ◌≤◌, ◌+◌, ℕ, List, [], arith, refl, subst, sym}
+use Rattle.std.proofs.Common.{◌≤◌, ℕ, List, [], arith, refl, subst, sym}
 use Rattle.he_replay.specs.declared.content.Content.{Content}
-use Rattle.he_replay.specs.declared.content.Content.TheVariants as contents
 use Rattle.he_replay.specs.Limits.{most_races}
 use Rattle.he_replay.specs.Output.{IsTextOf}
 use Rattle.he_replay.specs.Telling.{Begins}

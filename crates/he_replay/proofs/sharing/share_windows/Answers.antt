@@ -1,7 +1,7 @@
-use Rattle.std.proofs.Common.{◌≡◌, ◌≤◌, ◌+◌, ◌-◌, ℕ, List, arith, drop, length, take, length-drop}
+use Rattle.std.proofs.Common.{◌≡◌, ◌≤◌, ◌-◌, ℕ, List, arith, drop, length, take, length-drop}
 use Rattle.std.proofs.lemmas.List.{take_all}
 use Rattle.he_replay.specs.Output.{IsTranscriptText}
-use Rattle.he_replay.specs.Telling.{IsTelling, TellsFirst}
+use Rattle.he_replay.specs.Telling.{TellsFirst}
 use Rattle.he_replay.proofs.Told.{some_more_told, told_of_part}
 use Rattle.he_replay.proofs.sharing.share_windows.Goals as goal
 

@@ -1,10 +1,9 @@
-use Rattle.std.proofs.Common.{rules, ◌≡◌, ◌+◌, ◌*◌, ◌<◌, ◌≤◌, ℕ, List, arith, refl, sym, length, take, drop, vec_len, length-take, length-drop}
+use Rattle.std.proofs.Common.{rules, ◌≡◌, ◌+◌, ◌*◌, ◌<◌, ◌≤◌, ℕ, arith, refl, length, take, vec_len, length-take, length-drop}
 use Rattle.std.proofs.lemmas.List.{places}
-use Rattle.std.specs.Io.KnownBytes.{Consumes, IsAtEnd}
+use Rattle.std.specs.Io.KnownBytes.{IsAtEnd}
 use Rattle.he_stream.specs.declared.limits.TheConstants.{READ_SIZE}
 use Rattle.he_stream.specs.Input.{Gives, GivesSoFar}
 use Rattle.he_stream.specs.Limits.{most_reads}
-use Rattle.he_stream.specs.Output.{PutsInRounds}
 use Rattle.he_stream.proofs.Chains.{one_step_more}
 use Rattle.he_replay.specs.declared.fault.ReplayFault.TheVariants as faults
 use Rattle.he_replay.specs.Output.{IsTranscriptText}

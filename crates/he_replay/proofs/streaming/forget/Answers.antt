@@ -1,4 +1,4 @@
-use Rattle.std.proofs.Common.{rules, ◌≡◌, ◌-◌, ◌≤◌, ◌∙◌, ℕ, List, ap, take, length}
+use Rattle.std.proofs.Common.{rules, ◌-◌, ◌≤◌, ◌∙◌, ℕ, List, ap, take, length}
 use Rattle.std.proofs.lemmas.List.{places}
 use Rattle.he_replay.proofs.Moved.{moved}
 use Rattle.he_replay.proofs.streaming.forget.Goals as goal

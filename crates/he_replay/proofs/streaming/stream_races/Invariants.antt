@@ -1,4 +1,4 @@
-use Rattle.std.proofs.Common.{◌≡◌, ◌+◌, ◌*◌, ◌≤◌, take, vec_len}
+use Rattle.std.proofs.Common.{◌+◌, ◌*◌, ◌≤◌, take, vec_len}
 use Rattle.std.specs.Io.KnownBytes.{Consumes}
 use Rattle.he_stream.specs.declared.limits.TheConstants.{READ_SIZE}
 use Rattle.he_stream.specs.Input.{TakesOn}
@@ -13,6 +13,6 @@ abbrev pub invariant-loop-steps : goal.invariant-loop-steps
 invariant-loop-steps g l =
     (l.held.filled ≤ vec_len l.held.bytes) × (l.held.lines + l.held.filled ≤ READ_SIZE * l._steps)
     × IsAt (IsTextOf l.content) (take l.held.filled l.held.bytes.items) l.held.races l.held.lines
-        (Consumes (g.I.InputStream.remaining l.fn.input) (g.I.InputStream.remaining l.input))
-        (PutsInRounds g.O.OutputStream.contents g.O.OutputStream.puts g.O.OutputStream.flushes l.fn.output l.output)
+    (Consumes (g.I.InputStream.remaining l.fn.input) (g.I.InputStream.remaining l.input))
+    (PutsInRounds g.O.OutputStream.contents g.O.OutputStream.puts g.O.OutputStream.flushes l.fn.output l.output)
     × StepsOn g.I.InputStream.takes TakesOn l._steps l.fn.input l.input

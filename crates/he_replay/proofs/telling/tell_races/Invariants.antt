@@ -1,4 +1,3 @@
-use Rattle.std.proofs.Common.{◌≤◌, ◌+◌}
 use Rattle.he_replay.specs.Output.{IsTextOf}
 use Rattle.he_replay.specs.Telling.{IsTelling}
 use Rattle.he_replay.proofs.telling.tell_races.Given as goal
