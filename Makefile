@@ -1,5 +1,5 @@
 # What a newcomer needs. The README says what each does and how long it takes.
-.PHONY: help race test edits install examples hostile refused hosts fuzz manual
+.PHONY: help race test edits install examples explained hostile refused hosts fuzz manual
 
 PREFIX ?= /usr/local
 RACE ?= crates/cases/data/ipv6-late-but-within-delay-leads.timeline
@@ -20,6 +20,7 @@ help:
 	@echo 'make hosts HE=FILE         tries tools/host-lines on recorded hosts, and has a built program read its lines'
 	@echo 'make fuzz SECONDS=60 SEED=1 HE=FILE'
 	@echo '                           compares a built program with a plain reading of the rules, on texts that are drawn'
+	@echo 'make explained HE=FILE     compares what a built program explains with its transcripts and orders'
 	@echo 'make manual HE=FILE        compares the help of a built program with its manual page and its completion'
 
 race:
@@ -52,6 +53,9 @@ fuzz:
 
 manual:
 	scripts/manual $(HE)
+
+explained:
+	scripts/explained $(HE)
 
 refused:
 	scripts/refused $(HE)
