@@ -8,9 +8,9 @@
 //! explanations of the races up to the first fault, the line of a fault counted over the whole input; after a step of
 //! the input that failed, or the bound of steps, of the races before it; after a step of the output or a flush that
 //! failed, a first part of those of some first races; after want of memory, those of some first races. No other step
-//! leads to such a fault. An input has one output and one fault, and a fault of the text is told only where the input ended, where
-//! nothing that follows could change it, in which case the input may not be read further, or of a policy table in which
-//! the input broke off (`laws`).
+//! leads to such a fault. An input has one output and one fault, and a fault of the text is told only where the input
+//! ended, where nothing that follows could change it, in which case the input may not be read further, or of a policy
+//! table in which the input broke off (`laws`).
 //!
 //! Where races come faster than they are told, and more than one worker may be taken, `replay` reads a window of them
 //! side by side (`he_pieces`) and goes through `replay_batch` (`he_pool`), whose workers take their jobs from a board,

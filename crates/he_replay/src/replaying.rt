@@ -19,7 +19,7 @@ use std::thread::Threads;
 ///
 /// The transcripts are written as the races come: when a step of the input has given the last line of a race, the
 /// transcripts of all races that are whole by then are written and flushed before the next step. No more is held than
-/// the bytes of one race and one step, and the transcripts of the races that one step completes.
+/// the bytes of one race and one step, the transcripts of the races that one step completes, and a window's races.
 ///
 /// One worker, the calling thread, reads each race and follows it to its end before the next. More share the races that
 /// one step completes, at most `limits::WINDOW_RACES` at a time: they are read side by side, and their attempts are
