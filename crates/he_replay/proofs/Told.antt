@@ -3,11 +3,9 @@ use Rattle.std.proofs.Common.{ℕ, ◌≡◌, ◌+◌, ◌≤◌, ◌++◌, ◌�
 use Rattle.std.specs.List.{slice_range}
 use Rattle.std.proofs.Math.Seq.{take-add}
 use Rattle.he_plan.specs.Race.{Race}
-use Rattle.he_text.specs.Inputs.{AreRaceTexts}
 use Rattle.he_text.specs.Text.{IsRaceText}
-use Rattle.he_replay.specs.declared.beginning.Begun.{Begun}
 use Rattle.he_replay.specs.Output.{AreTexts}
-use Rattle.he_replay.specs.Telling.{IsTelling, TellsFirst, TellsRace}
+use Rattle.he_replay.specs.Telling.{IsTelling, TellsRace}
 use Rattle.he_replay.proofs.Races.{AreTexts-append, AreTexts-snoc, take_to}
 
 pub one_more_told : (IsText : List ℕ → Race → Type 0) (input text new : List ℕ) (from count end : ℕ) → IsTelling IsText input text from count → TellsRace IsText input from text new end
@@ -25,38 +23,31 @@ one_more_told IsText input text new from count end way takes =
           subst P (sym takes.written.appended) (AreTexts-snoc IsText way.races text way.told takes.race takes.written.told takes.written.is_told);
     }
 
--- some races more that were read from there on, and their texts
-pub some_more_told : (IsText : List ℕ → Race → Type 0) (input old new rest : List ℕ) (from count : ℕ) (begun : Begun) → IsTelling IsText input old from count
-    → rest ≡ drop from input → TellsFirst IsText rest old new begun → IsTelling IsText input new (from + begun.end) (count + begun.count)
-some_more_told IsText input old new rest from count begun way is first =
-    let within : from ≤ length input = way.within in
-    let size : begun.end ≤ length (drop from input) = subst (λ (r : List ℕ). begun.end ≤ length r) is first.within in
-    let split : take (from + begun.end) input ≡ take from input ++ take begun.end rest = take-add from begun.end input ∙ ap (λ (r : List ℕ). take from input ++ take begun.end r) (sym is) in
-    record {
-      races = way.races ++ first.races;
-      within = omega (arith, within, size, length-drop {A = ℕ});
-      whole = let P : List ℕ → Type 0 = AreTexts IsRaceText (way.races ++ first.races) in
-          subst P (sym split) (AreTexts-append IsRaceText way.races (take from input) way.whole first.races (take begun.end rest) first.whole);
-      counted = length-append way.races first.races ∙ (ap (λ (n : ℕ). n + length first.races) way.counted ∙ ap (λ (n : ℕ). count + n) first.counted);
-      told = let P : List ℕ → Type 0 = AreTexts IsText (way.races ++ first.races) in
-          subst P (sym first.appended) (AreTexts-append IsText way.races old way.told first.races first.told first.is_told);
-    }
-
 -- what is told of a first part is told of all
-pub told_of_part : (IsText : List ℕ → Race → Type 0) (bytes old new : List ℕ) (size : ℕ) (begun : Begun) → size ≤ length bytes → TellsFirst IsText (take size bytes) old new begun → TellsFirst IsText bytes old new begun
-told_of_part IsText bytes old new size begun within first =
-    let small : begun.end ≤ size = let le = first.within in omega (arith, le, length-take {A = ℕ}) in
+pub told_of_part : (IsText : List ℕ → Race → Type 0) (input text : List ℕ) (cut end count : ℕ) → cut ≤ length input → IsTelling IsText (take cut input) text end count
+    → IsTelling IsText input text end count
+told_of_part IsText input text cut end count inside way =
+    let small : end ≤ cut = let le = way.within in omega (arith, le, length-take {A = ℕ}) in
     record {
-      races = first.races;
-      told = first.told;
-      within = omega (arith, small, within);
-      whole = subst (AreTexts IsRaceText first.races) (take-take begun.end size bytes small) first.whole;
-      counted = first.counted;
-      is_told = first.is_told;
-      appended = first.appended;
+      races = way.races;
+      within = omega (arith, small, inside);
+      whole = subst (AreTexts IsRaceText way.races) (take-take end cut input small) way.whole;
+      counted = way.counted;
+      told = way.told;
     }
 
--- races in the words of he_text
-pub are_race_texts : (races : List Race) (text : List ℕ) → AreRaceTexts races text → AreTexts IsRaceText races text
-are_race_texts [] text none = none
-are_race_texts (race ∷ races) text are = (are.0, are.1, are.2, are.3, are_race_texts races are.1 are.4)
+-- two pieces are told, the first one to its end
+pub both_told : (IsText : List ℕ → Race → Type 0) (input left right new : List ℕ) (cut end first more : ℕ) → cut ≤ length input → IsTelling IsText (take cut input) left cut first
+    → IsTelling IsText (drop cut input) right end more → new ≡ left ++ right → IsTelling IsText input new (cut + end) (first + more)
+both_told IsText input left right new cut end first more inside near far joined =
+    let front = told_of_part IsText input left cut cut first inside near in
+    let split : take (cut + end) input ≡ take cut input ++ take end (drop cut input) = take-add cut end input in
+    record {
+      races = front.races ++ far.races;
+      within = let within = far.within in omega (arith, inside, within, length-drop {A = ℕ});
+      whole = let P : List ℕ → Type 0 = AreTexts IsRaceText (front.races ++ far.races) in
+          subst P (sym split) (AreTexts-append IsRaceText front.races (take cut input) front.whole far.races (take end (drop cut input)) far.whole);
+      counted = length-append front.races far.races ∙ (ap (λ (n : ℕ). n + length far.races) front.counted ∙ ap (λ (n : ℕ). first + n) far.counted);
+      told = let P : List ℕ → Type 0 = AreTexts IsText (front.races ++ far.races) in
+          subst P (sym joined) (AreTexts-append IsText front.races left front.told far.races right far.told);
+    }

@@ -1,6 +1,6 @@
 -- Mirrors the code: one step through an input whose races are told as they are read. It helps the proofs; what is written
 -- for an input stands in `Output`.
-use Rattle.std.specs.Prelude.{ℕ, ◌≡◌, ◌≢◌, ◌<◌, ◌≤◌, ◌+◌, ◌⊎◌, Bool, true, false, List, [], Option, length, drop, take, slice_range, None, Some, ◌++◌}
+use Rattle.std.specs.Prelude.{ℕ, ◌≡◌, ◌≢◌, ◌<◌, ◌≤◌, ◌+◌, ◌⊎◌, Bool, true, false, List, [], Option, length, drop, take, slice_range, None, Some}
 use Rattle.he_plan.specs.Race.{Race}
 use Rattle.he_text.specs.Beginnings.{FaultStands}
 use Rattle.he_text.specs.FaultSearch.{fault_of}
@@ -35,16 +35,6 @@ pub record IsTelling (IsText : List ℕ → Race → Type 0) (input text : List 
   pub whole : AreTexts IsRaceText races (take from input)
   pub counted : length races ≡ count
   pub told : AreTexts IsText races text
-
--- the texts of some first races of the bytes, up to an end and so many, were appended
-pub record TellsFirst (IsText : List ℕ → Race → Type 0) (bytes old new : List ℕ) (begun : Begun) : Type 0 where
-  pub races : List Race
-  pub told : List ℕ
-  pub within : begun.end ≤ length bytes
-  pub whole : AreTexts IsRaceText races (take begun.end bytes)
-  pub counted : length races ≡ begun.count
-  pub is_told : AreTexts IsText races told
-  pub appended : new ≡ old ++ told
 
 -- some first races of the bytes were told, or none, behind so many races
 abbrev pub Begins : (List ℕ → Race → Type 0) → ℕ → List ℕ → List ℕ → Begun → Type 0

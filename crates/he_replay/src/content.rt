@@ -1,11 +1,8 @@
 //! What is written of a race.
-ghost use Rattle.std.specs.Prelude.{◌≡◌, ◌++◌, IfOk, List, OnOk};
-ghost use Rattle.std.specs.List.{AllZip};
+ghost use Rattle.std.specs.Prelude.{◌≡◌, ◌++◌, OnOk};
 ghost use Rattle.he_explain.specs.Course.{IsExplanation};
-ghost use Rattle.he_plan.specs.Race.{Race};
-ghost use Rattle.he_plan.specs.Transcript.{IsTranscript};
 ghost use Rattle.he_text.specs.Written.{transcript_text};
-ghost use Rattle.he_replay.specs.Output.{AreTexts, IsOrderText, IsTextOf, IsTranscriptText};
+ghost use Rattle.he_replay.specs.Output.{IsOrderText, IsTextOf, IsTranscriptText};
 ghost use Rattle.he_replay.specs.Steps.{WritesRace};
 
 use he_explain::write_explanation;
@@ -84,33 +81,4 @@ fn append_explanation<A: Allocator + Copy, T: Allocator + Copy>(
     let mut explanation = Vec::new(alloc);
     write_explanation(alloc, timeline, &mut explanation).map_err(|_| AllocError)?;
     text.extend_from_slice(&explanation)
-}
-
-// The texts of the races, one after the other.
-pub(crate) fn write_races<A: Allocator + Copy>(
-    alloc: A,
-    timelines: &[Timeline<A>],
-    content: Content,
-) -> Result<Vec<u8, A>, AllocError>
-    ensures { IfOk result (λ text. AreTexts (IsTextOf content) timelines.now text.items) }
-{
-    let mut text = Vec::new(alloc);
-    for timeline in timelines {
-        content.write(alloc, timeline, &mut text)?;
-    }
-    Ok(text)
-}
-
-// The texts of the transcripts, one after the other.
-pub(crate) fn write_transcripts<A: Allocator + Copy>(
-    alloc: A,
-    transcripts: &[Transcript<A>],
-) -> Result<Vec<u8, A>, AllocError>
-    ensures { (races : List Race) → AllZip IsTranscript races transcripts.now → IfOk result (λ text. AreTexts IsTranscriptText races text.items) }
-{
-    let mut text = Vec::new(alloc);
-    for transcript in transcripts {
-        append_text(transcript, &mut text)?;
-    }
-    Ok(text)
 }

@@ -19,12 +19,12 @@ use std::thread::Threads;
 ///
 /// The transcripts are written as the races come: when a step of the input has given the last line of a race, the
 /// transcripts of all races that are whole by then are written and flushed before the next step. No more is held than
-/// the bytes of one race and one step, the transcripts of the races that one step completes, and a window's races.
+/// the bytes of one race and one step, and the transcripts of the races that one step completes.
 ///
-/// One worker, the calling thread, reads each race and follows it to its end before the next. More share the races that
-/// one step completes, at most `limits::WINDOW_RACES` at a time: they are read side by side, and their attempts are
-/// shared by as many workers as there are jobs for (`limits::JOBS_OF_A_WORKER` each), in threads of their own. Races of
-/// less than `limits::SHARED_BYTES` in all are left to the calling thread.
+/// One worker, the calling thread, reads each race and follows it to its end before the next. More share the bytes of
+/// one step: they are cut behind races, each worker reads a piece of them and writes the transcripts of its races, in a
+/// thread of its own, and these are put together in the order of the races. No more workers are taken than have
+/// `limits::PIECE_BYTES` bytes each; fewer bytes are left to the calling thread.
 ///
 /// After `Text` and `Read` all that the input before the fault asks for was written, after `Write` a first part of it,
 /// after `Memory` the transcripts of some first races. The output is flushed at the end, after `Text` and `Read` too.

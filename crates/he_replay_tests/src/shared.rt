@@ -1,9 +1,12 @@
-// A text so long that workers share its races: what is written, and what is wrong, is as with one worker.
+// Texts so long that workers share their races: what is written, and what is wrong, is as with one worker; and want of
+// memory is told only where a growth was refused, behind the whole texts of some first races.
+ghost use Rattle.std.specs.Prelude.{◌≤◌};
 
-use he_replay::limits::SHARED_BYTES;
+use he_replay::limits::PIECE_BYTES;
 use he_replay::{ReplayFault, replay};
 use he_stream::{FromReader, ToWriter};
 use he_text::{TextFault, TextKind};
+use refusing::{Refusing, each_growth_refused};
 use std::alloc::{AllocError, Global};
 use std::test::Fail;
 use std::thread::Threads;
@@ -32,8 +35,10 @@ static LINES: [(&[u8], &[u8], &[u8]); 4] = [
 
 static DIGITS: &[u8] = b"0123456789abcdef";
 
-// So many races that workers share two windows of them, and some are left.
+// So many races that workers share those of two steps, and some are left; and so many that two workers share one step.
 const RACES: usize = 200;
+
+const FEW_RACES: usize = 24;
 
 // What stands behind them: a race with a fault.
 static FAULTY: &[u8] = b"race 1\na 010 none\nend\n";
@@ -53,10 +58,11 @@ fn race_of(alloc: Global) -> Result<Vec<u8>, AllocError> {
     Ok(race)
 }
 
-fn text_of(alloc: Global) -> Result<Vec<u8>, AllocError> {
+// So many races, and one with a fault.
+fn text_of(alloc: Global, races: usize) -> Result<Vec<u8>, AllocError> {
     let race = race_of(alloc)?;
     let mut text = Vec::new(alloc);
-    for _ in 0..RACES {
+    for _ in 0..races {
         text.extend_from_slice(&race)?;
     }
     text.extend_from_slice(FAULTY)?;
@@ -78,11 +84,13 @@ fn replayed<R: Threads + Sync>(
     rt: &R,
     alloc: Global,
     text: &[u8],
-    is_shared: bool,
-) -> (Result<(), ReplayFault>, ToWriter<FakeWriter>) {
+    workers: u16,
+) -> (Result<(), ReplayFault>, ToWriter<FakeWriter>)
+    requires some { 1 ≤ workers }
+    requires few { workers ≤ 64 }
+{
     let mut input = FromReader::new(FakeReader::new(text, STEP));
     let mut output = ToWriter::new(FakeWriter::new(alloc));
-    let workers = if is_shared { 4 } else { 1 };
     let result = replay(rt, alloc, &mut input, &mut output, workers);
     (result, output)
 }
@@ -90,11 +98,44 @@ fn replayed<R: Threads + Sync>(
 #[test]
 fn workers_share_long_texts(rt: HostRuntime) -> Result<(), Fail> {
     let alloc = rt.alloc();
-    let text = text_of(alloc)?;
-    assert!(rt; text.len() >= SHARED_BYTES);
-    let (alone, written) = replayed(&rt, alloc, &text, false);
-    let (shared, also) = replayed(&rt, alloc, &text, true);
+    let text = text_of(alloc, RACES)?;
+    assert!(rt; text.len() >= 4 * PIECE_BYTES);
+    let (alone, written) = replayed(&rt, alloc, &text, 1);
+    let (shared, also) = replayed(&rt, alloc, &text, 4);
     assert!(rt; alone == fault_in(&text) && shared == alone);
     assert!(rt; written.writer().held() == also.writer().held());
+    Ok(())
+}
+
+// Whether two workers whose allocator may refuse tell want of memory only where it has refused, and have then written
+// nothing of the one step, and tell and write all else.
+fn is_right<R: Threads + Sync>(
+    rt: &R,
+    heap: &Refusing<Global>,
+    alloc: Global,
+    text: &[u8],
+    wanted: &[u8],
+) -> bool {
+    let mut input = FromReader::new(FakeReader::new(text, STEP));
+    let mut output = ToWriter::new(FakeWriter::new(alloc));
+    let result = replay(rt, heap, &mut input, &mut output, 2);
+    let held = output.writer().held();
+    if result == Err(ReplayFault::Memory) {
+        heap.has_refused() && (held.is_empty() || held == wanted)
+    } else {
+        result == fault_in(text) && held == wanted
+    }
+}
+
+#[test]
+fn refused_growths_of_workers_are_told(rt: HostRuntime) -> Result<(), Fail> {
+    let heap = Refusing::new(rt.alloc());
+    let text = text_of(rt.alloc(), FEW_RACES)?;
+    assert!(rt; text.len() >= 2 * PIECE_BYTES);
+    let (_, written) = replayed(&rt, rt.alloc(), &text, 1);
+    let refused = each_growth_refused(&heap, || {
+        assert!(rt; is_right(&rt, &heap, rt.alloc(), &text, written.writer().held()));
+    });
+    assert!(rt; refused > 3);
     Ok(())
 }
