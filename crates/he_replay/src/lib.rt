@@ -32,6 +32,7 @@ pub mod explaining;
 pub mod fault;
 pub mod laws;
 pub mod limits;
+mod line_ends;
 pub mod ordering;
 pub mod output;
 mod pieces;

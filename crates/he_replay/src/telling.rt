@@ -9,6 +9,7 @@ ghost use Rattle.he_text.specs.declared.fault.TextKind.TheVariants as kinds;
 use crate::beginning::Begun;
 use crate::content::Content;
 use crate::limits::{ARENA_BYTES, MOST_RACES};
+use crate::line_ends::line_count;
 use crate::reading::Step;
 use bumpalo::Bump;
 use he_text::laws::faults_stand;
@@ -150,11 +151,4 @@ fn fault_past_races(rest: &[u8]) -> Option<TextFault>
         line: 1,
         kind: TextKind::TooMany,
     })
-}
-
-// How many lines end in the text.
-pub(crate) fn line_count(text: &[u8]) -> u64
-    ensures { result ≡ line_count text.now }
-{
-    text.iter().filter(|byte| **byte == b'\n').count() as u64
 }
