@@ -23,31 +23,17 @@ one_more_told IsText input text new from count end way takes =
           subst P (sym takes.written.appended) (AreTexts-snoc IsText way.races text way.told takes.race takes.written.told takes.written.is_told);
     }
 
--- what is told of a first part is told of all
-pub told_of_part : (IsText : List ℕ → Race → Type 0) (input text : List ℕ) (cut end count : ℕ) → cut ≤ length input → IsTelling IsText (take cut input) text end count
-    → IsTelling IsText input text end count
-told_of_part IsText input text cut end count inside way =
-    let small : end ≤ cut = let le = way.within in omega (arith, le, length-take {A = ℕ}) in
+-- races more that were told from there on
+pub more_told : (IsText : List ℕ → Race → Type 0) (input text other new : List ℕ) (from end count more : ℕ) → IsTelling IsText input text from count
+    → IsTelling IsText (drop from input) other end more → new ≡ text ++ other → IsTelling IsText input new (from + end) (count + more)
+more_told IsText input text other new from end count more way on joined =
+    let split : take (from + end) input ≡ take from input ++ take end (drop from input) = take-add from end input in
     record {
-      races = way.races;
-      within = omega (arith, small, inside);
-      whole = subst (AreTexts IsRaceText way.races) (take-take end cut input small) way.whole;
-      counted = way.counted;
-      told = way.told;
-    }
-
--- two pieces are told, the first one to its end
-pub both_told : (IsText : List ℕ → Race → Type 0) (input left right new : List ℕ) (cut end first more : ℕ) → cut ≤ length input → IsTelling IsText (take cut input) left cut first
-    → IsTelling IsText (drop cut input) right end more → new ≡ left ++ right → IsTelling IsText input new (cut + end) (first + more)
-both_told IsText input left right new cut end first more inside near far joined =
-    let front = told_of_part IsText input left cut cut first inside near in
-    let split : take (cut + end) input ≡ take cut input ++ take end (drop cut input) = take-add cut end input in
-    record {
-      races = front.races ++ far.races;
-      within = let within = far.within in omega (arith, inside, within, length-drop {A = ℕ});
-      whole = let P : List ℕ → Type 0 = AreTexts IsRaceText (front.races ++ far.races) in
-          subst P (sym split) (AreTexts-append IsRaceText front.races (take cut input) front.whole far.races (take end (drop cut input)) far.whole);
-      counted = length-append front.races far.races ∙ (ap (λ (n : ℕ). n + length far.races) front.counted ∙ ap (λ (n : ℕ). first + n) far.counted);
-      told = let P : List ℕ → Type 0 = AreTexts IsText (front.races ++ far.races) in
-          subst P (sym joined) (AreTexts-append IsText front.races left front.told far.races right far.told);
+      races = way.races ++ on.races;
+      within = let within = way.within in let behind = on.within in omega (arith, within, behind, length-drop {A = ℕ});
+      whole = let P : List ℕ → Type 0 = AreTexts IsRaceText (way.races ++ on.races) in
+          subst P (sym split) (AreTexts-append IsRaceText way.races (take from input) way.whole on.races (take end (drop from input)) on.whole);
+      counted = length-append way.races on.races ∙ (ap (λ (n : ℕ). n + length on.races) way.counted ∙ ap (λ (n : ℕ). count + n) on.counted);
+      told = let P : List ℕ → Type 0 = AreTexts IsText (way.races ++ on.races) in
+          subst P (sym joined) (AreTexts-append IsText way.races text way.told on.races other on.told);
     }

@@ -3,6 +3,7 @@ pub mod Holding
 pub mod Known
 pub mod Limits
 pub mod Output
+pub mod Pieces
 pub mod Rounds
 pub mod Steps
 pub mod Stream

@@ -27,7 +27,6 @@
 pub mod actions;
 mod beginning;
 pub mod content;
-mod cutting;
 pub mod explaining;
 pub mod fault;
 pub mod laws;

@@ -5,9 +5,14 @@ pub use he_pool::limits::{LEAST_WORKERS, MOST_WORKERS};
 /// The most races of a text.
 pub const MOST_RACES: usize = 1_024;
 
-/// The fewest bytes for each worker that `replay` takes, of those that it holds after a step of the input: fewer are not
-/// worth a thread.
-pub const PIECE_BYTES: usize = 131_072;
+/// The bytes of a piece, which a worker takes at a time, up to the end of its last race.
+pub const PIECE_BYTES: usize = 65_536;
+
+/// The most pieces into which the bytes of a step are cut.
+pub const MOST_PIECES: usize = 1_024;
+
+/// The fewest pieces for each worker that `replay` takes: fewer are not worth a thread.
+pub const PIECES_OF_A_WORKER: usize = 2;
 
 /// The bytes that the arena has at first in which the calling thread keeps a race. Races of a few addresses need less,
 /// so they take no memory anew.

@@ -1,139 +1,275 @@
-//! The first races of some bytes, told by workers: each worker reads a piece of the bytes and writes the transcripts of
-//! its races, in a thread of its own.
-ghost use Rattle.std.specs.Prelude.{◌≤◌, IfOk, drop, length, take};
+//! The first races of some bytes, told by workers. The bytes are cut into pieces behind races. Each worker takes pieces
+//! from a board that all share, reads them and writes the transcripts of their races, in a thread of its own; and these
+//! are put together in the order of the races.
+ghost use Rattle.std.specs.Prelude.{◌≡◌, ◌≤◌, ◌<◌, [], All, IfOk, drop, length};
 ghost use denote.Param.Send.{Frees, IsSend, IsSync};
-ghost use Rattle.he_pool.specs.declared.limits.TheConstants.{LEAST_WORKERS};
+ghost use Rattle.he_board.specs.Passes.{IsPassOf, jobs_of};
+ghost use Rattle.he_pool.specs.declared.limits.TheConstants.{LEAST_WORKERS, MOST_WORKERS};
 ghost use Rattle.he_replay.specs.declared.limits.TheConstants.{MOST_RACES};
 ghost use Rattle.he_replay.specs.Output.{IsTranscriptText};
-ghost use Rattle.he_replay.specs.Telling.{Begins};
+ghost use Rattle.he_replay.specs.Pieces.{IsPiece, MayTake};
+ghost use Rattle.he_replay.specs.Telling.{Begins, IsTelling};
 
 use crate::beginning::Begun;
 use crate::content::Content;
-use crate::cutting::cut_behind;
-use crate::limits::{LEAST_WORKERS, MOST_RACES};
+use crate::limits::{LEAST_WORKERS, MOST_PIECES, MOST_RACES, MOST_WORKERS, PIECE_BYTES};
+use crate::streaming::RACE_END;
 use crate::telling::{Part, tell_races};
+use he_board::{Board, Pass};
+use memchr::memmem;
 use std::alloc::{AllocError, Allocator};
 use std::thread;
 use std::thread::Threads;
 
-// What was told of some bytes: some first races.
+// What was told of a piece of some bytes: its first races.
 #[derive(Drop)]
 pub(crate) struct Piece<A: Allocator> {
-    // The texts of their transcripts.
-    pub(crate) text: Vec<u8, A>,
-    // How many they are, and where they end.
-    pub(crate) begun: Begun,
+    // The place of the bytes where the piece begins.
+    from: usize,
+    // The texts of the transcripts.
+    text: Vec<u8, A>,
+    // How many races they are, and where in the piece they end.
+    begun: Begun,
 }
 
-// Tells first races of the bytes, behind so many races that were told before, by so many workers. The calling thread is
-// one of them.
-#[cycle(workers)]
+// How many pieces so many bytes have: the last one has what is too short for another.
+pub(crate) fn piece_count(bytes: usize) -> usize
+    ensures { result ≤ MOST_PIECES }
+{
+    MOST_PIECES.min(bytes / PIECE_BYTES)
+}
+
+// Tells so many pieces of the bytes, by so many workers. The calling thread is one of them.
 pub(crate) fn tell_pieces<R: Threads + Sync, A: Allocator + Copy + Send + Sync>(
     rt: &R,
     alloc: A,
     bytes: &[u8],
-    races: usize,
+    count: usize,
     workers: u16,
-) -> Result<Piece<A>, AllocError>
+) -> Result<Vec<Piece<A>, A>, AllocError>
     requires some { LEAST_WORKERS ≤ workers }
-    requires few { races ≤ MOST_RACES }
-    ensures { IfOk result (λ piece. Begins IsTranscriptText races bytes.now piece.text.items piece.begun) }
+    requires few { workers ≤ MOST_WORKERS }
+    ensures { IfOk result (λ pieces. All (λ piece. IsPiece bytes.now piece.from piece.text.items piece.begun) pieces.items) }
+{
+    match Board::new(alloc, count, 0) {
+        Ok((board, pass)) => run_workers(rt, alloc, bytes, &board, pass, count, workers),
+        Err(_) => Err(AllocError),
+    }
+}
+
+// Runs so many workers. One runs on the calling thread, and more by halves that run at once.
+#[cycle(workers)]
+fn run_workers<R: Threads + Sync, A: Allocator + Copy + Send + Sync>(
+    rt: &R,
+    alloc: A,
+    bytes: &[u8],
+    board: &Board<A>,
+    pass: Pass,
+    count: usize,
+    workers: u16,
+) -> Result<Vec<Piece<A>, A>, AllocError>
+    requires { MayTake board.now pass count workers }
+    ensures { IfOk result (λ pieces. All (λ piece. IsPiece bytes.now piece.from piece.text.items piece.begun) pieces.items) }
 {
     if workers == LEAST_WORKERS {
-        return tell_alone(alloc, bytes, races);
+        return run_worker(alloc, bytes, board, pass, count);
     }
     let far = workers / 2;
     let near = workers - far;
-    let Some(cut) = cut_behind(bytes, near, workers) else {
-        return tell_alone(alloc, bytes, races);
-    };
-    let (left, right) = tell_halves(rt, alloc, &bytes[..cut], near, &bytes[cut..], far, races);
-    join_halves(bytes, races, cut, left?, right?)
+    let (p, q) = board.fork(pass);
+    let (left, right) = run_halves(rt, alloc, bytes, board, p, near, q, far, count);
+    join_halves(bytes, left?, right?)
 }
 
-// Tells first races of two pieces of the bytes at once, each by so many workers.
+// Runs workers of two numbers at once, each number with its pass.
 #[cycle(workers)]
-fn tell_halves<R: Threads + Sync, A: Allocator + Copy + Send + Sync>(
+fn run_halves<R: Threads + Sync, A: Allocator + Copy + Send + Sync>(
     rt: &R,
     alloc: A,
-    left: &[u8],
+    bytes: &[u8],
+    board: &Board<A>,
+    p: Pass,
     near: u16,
-    right: &[u8],
+    q: Pass,
     far: u16,
-    races: usize,
-) -> (Result<Piece<A>, AllocError>, Result<Piece<A>, AllocError>)
-    requires near { LEAST_WORKERS ≤ near }
-    requires far { LEAST_WORKERS ≤ far }
-    requires few { races ≤ MOST_RACES }
-    ensures left { IfOk result.0 (λ piece. Begins IsTranscriptText races left.now piece.text.items piece.begun) }
-    ensures right { IfOk result.1 (λ piece. Begins IsTranscriptText races right.now piece.text.items piece.begun) }
+    count: usize,
+) -> (
+    Result<Vec<Piece<A>, A>, AllocError>,
+    Result<Vec<Piece<A>, A>, AllocError>,
+)
+    requires near { MayTake board.now p count near }
+    requires far { MayTake board.now q count far }
+    ensures left { IfOk result.0 (λ pieces. All (λ piece. IsPiece bytes.now piece.from piece.text.items piece.begun) pieces.items) }
+    ensures right { IfOk result.1 (λ pieces. All (λ piece. IsPiece bytes.now piece.from piece.text.items piece.begun) pieces.items) }
 {
     thread::join(
         rt,
-        move || -> Result<Piece<A>, AllocError>
-            requires { IsSync R.row × IsSend A.row × IsSync A.row × Frees A.Allocator A.dealloc_token × (LEAST_WORKERS ≤ near) × (races ≤ MOST_RACES) }
-            ensures { IfOk result (λ piece. Begins IsTranscriptText races left.entry.now piece.text.items piece.begun) }
-        { tell_pieces(rt, alloc, left, races, near) },
-        move || -> Result<Piece<A>, AllocError>
-            requires { IsSync R.row × IsSend A.row × IsSync A.row × Frees A.Allocator A.dealloc_token × (LEAST_WORKERS ≤ far) × (races ≤ MOST_RACES) }
-            ensures { IfOk result (λ piece. Begins IsTranscriptText races right.entry.now piece.text.items piece.begun) }
-        { tell_pieces(rt, alloc, right, races, far) },
+        move || -> Result<Vec<Piece<A>, A>, AllocError>
+            requires { IsSync R.row × IsSend A.row × IsSync A.row × Frees A.Allocator A.dealloc_token × MayTake board.now p count near }
+            ensures { IfOk result (λ pieces. All (λ piece. IsPiece bytes.entry.now piece.from piece.text.items piece.begun) pieces.items) }
+        { run_workers(rt, alloc, bytes, board, p, count, near) },
+        move || -> Result<Vec<Piece<A>, A>, AllocError>
+            requires { IsSync R.row × IsSend A.row × IsSync A.row × Frees A.Allocator A.dealloc_token × MayTake board.now q count far }
+            ensures { IfOk result (λ pieces. All (λ piece. IsPiece bytes.entry.now piece.from piece.text.items piece.begun) pieces.items) }
+        { run_workers(rt, alloc, bytes, board, q, count, far) },
     )
 }
 
-// Tells the races at the front of the bytes on the calling thread.
-fn tell_alone<A: Allocator + Copy>(
+// What workers of both numbers told.
+fn join_halves<A: Allocator>(
+    bytes: &[u8],
+    left: Vec<Piece<A>, A>,
+    right: Vec<Piece<A>, A>,
+) -> Result<Vec<Piece<A>, A>, AllocError>
+    requires left { All (λ piece. IsPiece bytes.now piece.from piece.text.items piece.begun) left.items }
+    requires right { All (λ piece. IsPiece bytes.now piece.from piece.text.items piece.begun) right.items }
+    ensures { IfOk result (λ pieces. All (λ piece. IsPiece bytes.now piece.from piece.text.items piece.begun) pieces.items) }
+{
+    let mut pieces = left;
+    let mut others = right;
+    pieces.append(&mut others)?;
+    Ok(pieces)
+}
+
+// Tells each piece that nobody has taken.
+fn run_worker<A: Allocator + Copy>(
     alloc: A,
     bytes: &[u8],
-    races: usize,
-) -> Result<Piece<A>, AllocError>
-    requires { races ≤ MOST_RACES }
-    ensures { IfOk result (λ piece. Begins IsTranscriptText races bytes.now piece.text.items piece.begun) }
+    board: &Board<A>,
+    pass: Pass,
+    count: usize,
+) -> Result<Vec<Piece<A>, A>, AllocError>
+    requires own { IsPassOf board.now pass }
+    requires jobs { count ≤ jobs_of board.now }
+    ensures { IfOk result (λ pieces. All (λ piece. IsPiece bytes.now piece.from piece.text.items piece.begun) pieces.items) }
 {
+    let mut pass = pass;
+    let mut pieces = Vec::new(alloc);
+    for number in 0..count {
+        if board.take(&mut pass, number) {
+            pieces.push(tell_piece(alloc, bytes, number, count)?)?;
+        }
+    }
+    Ok(pieces)
+}
+
+// Tells the piece of this number, of so many.
+fn tell_piece<A: Allocator + Copy>(
+    alloc: A,
+    bytes: &[u8],
+    number: usize,
+    count: usize,
+) -> Result<Piece<A>, AllocError>
+    requires { number < count }
+    ensures { IfOk result (λ piece. IsPiece bytes.now piece.from piece.text.items piece.begun) }
+{
+    let from = piece_start(bytes, number);
+    let end = if number + 1 == count {
+        bytes.len()
+    } else {
+        piece_start(bytes, number + 1)
+    };
     let mut text = Vec::new(alloc);
+    let begun = tell_range(alloc, bytes, from, end, &mut text)?;
+    Ok(Piece { from, text, begun })
+}
+
+// Where the piece of this number begins: behind the first race that ends so many pieces' bytes from the start or more.
+fn piece_start(bytes: &[u8], number: usize) -> usize
+    ensures { result ≤ length bytes.now }
+{
+    if number == 0 {
+        return 0;
+    }
+    let from = bytes.len().min(number.saturating_mul(PIECE_BYTES));
+    match memmem::find(&bytes[from..], RACE_END) {
+        Some(at) => from + at + RACE_END.len(),
+        None => bytes.len(),
+    }
+}
+
+// Tells the races at the front of a range of the bytes.
+fn tell_range<A: Allocator + Copy>(
+    alloc: A,
+    bytes: &[u8],
+    from: usize,
+    end: usize,
+    text: &mut Vec<u8, A>,
+) -> Result<Begun, AllocError>
+    requires from { from ≤ length bytes.now }
+    requires end { end ≤ length bytes.now }
+    requires none { text.old.items ≡ [] }
+    ensures { IfOk result (λ begun. IsTelling IsTranscriptText (drop from bytes.now) text.new.items begun.end begun.count) }
+{
+    if end <= from {
+        return Ok(Begun::NOTHING);
+    }
+    let piece = &bytes[from..end];
     let part = Part {
-        reach: bytes.len(),
+        reach: piece.len(),
         is_last: false,
-        races,
+        races: 0,
     };
     let told = tell_races(
         alloc,
-        bytes,
+        piece,
         part,
         Begun::NOTHING,
         Content::Transcript,
-        &mut text,
+        text,
     )?;
-    let begun = Begun {
+    Ok(Begun {
         end: told.end,
         count: told.count,
-    };
-    Ok(Piece { text, begun })
+    })
 }
 
-// What was told of the pieces in front of and behind a cut, as one. The races of the second piece count where the first
-// one is races to its end, and all of them together are few enough.
-fn join_halves<A: Allocator>(
+// Appends the texts of first races of the bytes, behind so many races that were told before: of the pieces with which
+// the bytes begin, as long as each is races to its end and all of them together are few enough.
+pub(crate) fn join_pieces<A: Allocator>(
     bytes: &[u8],
     races: usize,
-    cut: usize,
-    left: Piece<A>,
-    right: Piece<A>,
-) -> Result<Piece<A>, AllocError>
-    requires cut { cut ≤ length bytes.now }
+    pieces: &[Piece<A>],
+    text: &mut Vec<u8, A>,
+) -> Result<Begun, AllocError>
     requires few { races ≤ MOST_RACES }
-    requires left { Begins IsTranscriptText races (take cut bytes.now) left.text.items left.begun }
-    requires right { Begins IsTranscriptText races (drop cut bytes.now) right.text.items right.begun }
-    ensures { IfOk result (λ piece. Begins IsTranscriptText races bytes.now piece.text.items piece.begun) }
+    requires told { All (λ piece. IsPiece bytes.now piece.from piece.text.items piece.begun) pieces.now }
+    requires none { text.old.items ≡ [] }
+    ensures { IfOk result (Begins IsTranscriptText races bytes.now text.new.items) }
 {
-    let mut text = left.text;
-    let mut begun = left.begun;
-    if begun.end == cut && right.begun.count <= MOST_RACES - races - begun.count {
-        text.extend_from_slice(&right.text)?;
-        begun = Begun {
-            end: cut + right.begun.end,
-            count: begun.count + right.begun.count,
-        };
+    let mut begun = Begun::NOTHING;
+    for _passes in 0..pieces.len() {
+        let before = begun.end;
+        begun = join_some(bytes, races, pieces, begun, text)?;
+        if begun.end == before {
+            return Ok(begun);
+        }
     }
-    Ok(Piece { text, begun })
+    Ok(begun)
+}
+
+// Appends the text of each piece that begins where those end that were appended before.
+fn join_some<A: Allocator>(
+    bytes: &[u8],
+    races: usize,
+    pieces: &[Piece<A>],
+    before: Begun,
+    text: &mut Vec<u8, A>,
+) -> Result<Begun, AllocError>
+    requires told { All (λ piece. IsPiece bytes.now piece.from piece.text.items piece.begun) pieces.now }
+    requires begun { Begins IsTranscriptText races bytes.now text.old.items before }
+    ensures { IfOk result (Begins IsTranscriptText races bytes.now text.new.items) }
+{
+    let mut begun = before;
+    for piece in pieces {
+        let room = MOST_RACES - races - begun.count;
+        if piece.from == begun.end && piece.begun.count <= room {
+            text.extend_from_slice(&piece.text)?;
+            begun = Begun {
+                end: begun.end + piece.begun.end,
+                count: begun.count + piece.begun.count,
+            };
+        }
+    }
+    Ok(begun)
 }

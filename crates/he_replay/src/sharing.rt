@@ -11,8 +11,8 @@ ghost use Rattle.he_replay.specs.Telling.{Begins};
 use crate::beginning::{Begun, begin_alone};
 use crate::content::Content;
 use crate::fault::ReplayFault;
-use crate::limits::{LEAST_WORKERS, MOST_RACES, MOST_WORKERS, PIECE_BYTES};
-use crate::pieces::tell_pieces;
+use crate::limits::{LEAST_WORKERS, MOST_RACES, MOST_WORKERS, PIECES_OF_A_WORKER};
+use crate::pieces::{join_pieces, piece_count, tell_pieces};
 use crate::streaming::{Held, end_held, tell_held};
 use he_stream::limits::MOST_READS;
 use he_stream::{InputStream, OutputStream, Taken, take_piece};
@@ -68,23 +68,24 @@ fn begin_shared<R: Threads + Sync, A: Allocator + Copy + Send + Sync>(
     ensures { IfOk result (Begins IsTranscriptText held.now.races (take (held.now.filled + count) held.now.bytes.items) text.new.items) }
 {
     let bytes = &held.bytes[..held.filled + count];
-    let enough = enough_workers(bytes.len(), workers);
+    let pieces = piece_count(bytes.len());
+    let enough = enough_workers(pieces, workers);
     if enough == LEAST_WORKERS {
         return Ok(begin_alone(text));
     }
-    let piece = tell_pieces(rt, alloc, bytes, held.races, enough)?;
-    *text = piece.text;
-    Ok(piece.begun)
+    let told = tell_pieces(rt, alloc, bytes, pieces, enough)?;
+    text.clear();
+    join_pieces(bytes, held.races, &told, text)
 }
 
-// So many of the workers that each has enough bytes to be worth its thread, and at least one.
-fn enough_workers(bytes: usize, workers: u16) -> u16
+// So many of the workers that each has enough pieces to be worth its thread, and at least one.
+fn enough_workers(pieces: usize, workers: u16) -> u16
     requires some { LEAST_WORKERS ≤ workers }
     requires few { workers ≤ MOST_WORKERS }
     ensures some { LEAST_WORKERS ≤ result }
     ensures few { result ≤ workers }
 {
-    let enough = bytes / PIECE_BYTES;
+    let enough = pieces / PIECES_OF_A_WORKER;
     if enough == 0 {
         LEAST_WORKERS
     } else if enough < workers as usize {

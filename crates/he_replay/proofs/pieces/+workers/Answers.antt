@@ -1,13 +1,10 @@
-use Rattle.std.proofs.Common.{ℕ, ◌-◌, List, drop, length, subst, take, arith, length-drop}
-use Rattle.std.proofs.lemmas.List.{take_all}
-use Rattle.he_replay.specs.Output.{IsTranscriptText}
-use Rattle.he_replay.specs.Telling.{Begins}
+use borrow.Author.Rules.{rules, lives}
 use Rattle.he_replay.proofs.pieces.+workers.Goals as goal
 
-pub tell_pieces-join_halves-requires-clause-right : goal.tell_pieces-join_halves-requires-clause-right
-tell_pieces-join_halves-requires-clause-right g t c =
-    let bytes = c.args.bytes.now in
-    let cut = c.in-Some.cut in
-    let P : List ℕ → Type 0 = λ (piece : List ℕ). Begins IsTranscriptText c.args.races piece c.in_ok-right.field-0.text.items c.in_ok-right.field-0.begun in
-    let there : P (take (length bytes - cut) (drop cut bytes)) = rw c.in_ok-right.was at c.tell_halves-left.ensures.right in
-    subst P (take_all _ _ (omega (arith, length-drop {A = ℕ}))) there
+pub fn::run_halves::join+arg2+FnOnce::call_once-join+arg2-requires :
+    goal.fn::run_halves::join+arg2+FnOnce::call_once-join+arg2-requires
+fn::run_halves::join+arg2+FnOnce::call_once-join+arg2-requires g t c κs within = search (rules, lives, within) depth 24 fits 20000
+
+pub fn::run_halves::join+arg3+FnOnce::call_once-join+arg3-requires :
+    goal.fn::run_halves::join+arg3+FnOnce::call_once-join+arg3-requires
+fn::run_halves::join+arg3+FnOnce::call_once-join+arg3-requires g t c κs within = search (rules, lives, within) depth 24 fits 20000
