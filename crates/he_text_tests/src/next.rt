@@ -1,5 +1,5 @@
-// What is told of the first race of a text that may go on, or that ends. Each growth is refused in turn: what is refused
-// is told as want of memory, and what isn't is told as ever.
+// What is told of the first race of a text that may go on, or that ends. Each growth is refused in turn: what is
+// refused is told as want of memory, and what isn't is told as ever.
 
 use he_select::PolicyFault;
 use he_text::{Next, TextFault, TextKind, next_race};
