@@ -1,10 +1,7 @@
-//! Tests of `he_explain`: for each rule of RFC 6724 section 6 a race in which it decides, for each cause of an attempt
-//! and each way in which a race ends one that has it, and want of memory.
+//! Tests of `he_explain`: want of memory. What it writes of a race is tried by examples, `crates/cases/data`.
 #![tactic(auto)]
 
 #[cfg(test)]
-mod courses;
+mod races;
 #[cfg(test)]
 mod refused;
-#[cfg(test)]
-mod rules;

@@ -1,5 +1,7 @@
-//! Tests of `he_text` that no file of races can hold: timelines written, and want of memory.
+//! Tests of `he_text` that no file of races can hold: timelines written, texts that may go on, and want of memory.
 #![tactic(auto)]
 
+#[cfg(test)]
+mod next;
 #[cfg(test)]
 mod written;

@@ -1,0 +1,146 @@
+// Races that have between them each kind of event, with their explanations. These stand among the examples too, as
+// `explained-late-aaaa` and so on, and are worked out by hand.
+
+// The Resolution Delay ends, and the AAAA answer comes when no address is left.
+const LATE_AAAA: (&str, &str) = (
+    "race 1
+source 2001:db8::2/64 1
+source 192.0.2.2/24 1
+route ::/0 1
+route 0.0.0.0/0 1
+aaaa 400 2001:db8:1::1
+a 10 198.51.100.1
+connect 2001:db8:1::1 ok 30
+end
+",
+    "order 0 2001:db8:1::1 source 2001:db8::2
+order 1 198.51.100.1 source 192.0.2.2, behind 0 by rule 6, prefer higher precedence: 35 after 40
+10 answer a usable 1
+10 wait for aaaa until 60
+60 resolution delay over
+60 attempt 0 198.51.100.1, at the end of the Resolution Delay, listed at 0 of 1, its family leads
+400 answer aaaa usable 1
+400 attempt 1 2001:db8:1::1, on the later AAAA answer, listed at 0 of 2, its family leads
+430 won attempt 1
+430 cancelled attempt 0
+end
+",
+);
+
+// A wait that the AAAA answer ends, a failure, and a pause over a start.
+const NEGATIVE_AAAA: (&str, &str) = (
+    "race 1
+source 2001:db8::2/64 1
+source 192.0.2.2/24 1
+route ::/0 1
+route 0.0.0.0/0 1
+aaaa 40 none
+a 10 198.51.100.1 198.51.100.2
+connect 198.51.100.1 fail 200
+connect 198.51.100.2 ok 30
+pause 280 300
+end
+",
+    "order 0 198.51.100.1 source 192.0.2.2
+order 1 198.51.100.2 source 192.0.2.2, behind 0 by rule 10, otherwise leave the order unchanged
+10 answer a usable 2
+10 wait for aaaa until 60
+40 answer aaaa usable 0
+40 attempt 0 198.51.100.1, on both answers, listed at 0 of 2, its family leads
+240 failed attempt 0
+280 pause until 300
+300 attempt 1 198.51.100.2, 250 after attempt 0, after a pause, listed at 1 of 2, the other family has run out
+330 won attempt 1
+end
+",
+);
+
+// The race is exhausted.
+const BOTH_FAMILIES_FAIL: (&str, &str) = (
+    "race 1
+source 2001:db8::2/64 1
+source 192.0.2.2/24 1
+route ::/0 1
+route 0.0.0.0/0 1
+aaaa 20 2001:db8:1::1
+a 20 198.51.100.1
+connect 2001:db8:1::1 fail 5
+connect 198.51.100.1 fail 5
+end
+",
+    "order 0 2001:db8:1::1 source 2001:db8::2
+order 1 198.51.100.1 source 192.0.2.2, behind 0 by rule 6, prefer higher precedence: 35 after 40
+20 answer aaaa usable 1
+20 answer a usable 1
+20 attempt 0 2001:db8:1::1, on the AAAA answer, listed at 0 of 2, its family leads
+25 failed attempt 0
+270 attempt 1 198.51.100.1, 250 after attempt 0, listed at 1 of 2, its family's turn
+275 failed attempt 1
+275 exhausted
+end
+",
+);
+
+// An address without a source.
+const UNREACHABLE_LAST: (&str, &str) = (
+    "race 1
+source 2001:db8::2/64 1
+source 192.0.2.2/24 1
+route 0.0.0.0/0 1
+aaaa 20 2001:db8:1::1
+a 20 198.51.100.1
+connect 2001:db8:1::1 ok 10
+end
+",
+    "order 0 198.51.100.1 source 192.0.2.2
+order 1 2001:db8:1::1 without source, behind 0 by rule 1, avoid unusable destinations
+20 answer aaaa usable 1
+20 answer a usable 1
+20 attempt 0 198.51.100.1, on the AAAA answer, listed at 0 of 2, its family leads
+270 attempt 1 2001:db8:1::1, 250 after attempt 0, listed at 1 of 2, its family's turn
+280 won attempt 1
+280 cancelled attempt 0
+end
+",
+);
+
+// Four addresses, and the limit.
+const TWO_LEAD: (&str, &str) = (
+    "race 1
+set attempt 100
+set count 2
+set limit 1000
+source 2001:db8::2/64 1
+source 192.0.2.2/24 1
+route ::/0 1
+route 0.0.0.0/0 1
+aaaa 0 2001:db8:a::1 2001:db8:a::2 2001:db8:a::3
+a 0 198.51.100.1
+end
+",
+    "order 0 2001:db8:a::1 source 2001:db8::2
+order 1 2001:db8:a::2 source 2001:db8::2, behind 0 by rule 10, otherwise leave the order unchanged
+order 2 2001:db8:a::3 source 2001:db8::2, behind 1 by rule 10, otherwise leave the order unchanged
+order 3 198.51.100.1 source 192.0.2.2, behind 2 by rule 6, prefer higher precedence: 35 after 40
+0 answer aaaa usable 3
+0 answer a usable 1
+0 attempt 0 2001:db8:a::1, on the AAAA answer, listed at 0 of 4, its family leads
+100 attempt 1 2001:db8:a::2, 100 after attempt 0, listed at 1 of 4, its family leads
+200 attempt 2 198.51.100.1, 100 after attempt 1, listed at 2 of 4, its family's turn
+300 attempt 3 2001:db8:a::3, 100 after attempt 2, listed at 3 of 4, its family's turn
+1000 limit
+1000 cancelled attempt 0
+1000 cancelled attempt 1
+1000 cancelled attempt 2
+1000 cancelled attempt 3
+end
+",
+);
+
+pub static RACES: [(&str, &str); 5] = [
+    LATE_AAAA,
+    NEGATIVE_AAAA,
+    BOTH_FAMILIES_FAIL,
+    UNREACHABLE_LAST,
+    TWO_LEAD,
+];
