@@ -1,10 +1,10 @@
 // The course of a race: its events in order, written to a text.
 
-ghost use Rattle.std.specs.Prelude.{◌≡◌, ◌++◌, [], codes, decimal, filter, nat_le, IfOk, OnOk, OnErr};
+ghost use Rattle.std.specs.Prelude.{◌≡◌, ◌++◌, [], codes, decimal, filter, map, nat_le, IfOk, OnOk, OnErr};
 ghost use Rattle.std.specs.List.{flat_map};
 ghost use Rattle.he_addr.specs.Printing.{printed};
 ghost use Rattle.he_text.specs.Writing.{AppendsText};
-ghost use Rattle.he_explain.specs.Course.{cause_text, course, course_text, event_text, held_text, kind_text, listed_text, put_events, start_text, turn_text};
+ghost use Rattle.he_explain.specs.Course.{cause_text, course_text, event_text, held_text, kind_text, listed_text, put_events, start_text, turn_text};
 ghost use Rattle.he_explain.specs.Sorting.{sorted_of};
 
 use crate::cause::Cause;
@@ -17,39 +17,40 @@ use he_plan::{Timeline, Transcript};
 use he_select::Sourced;
 use std::alloc::{AllocError, Allocator};
 
-// Puts the events up to the end in order of tick, those of one tick as they stood.
-fn sort_events<A: Allocator>(events: &mut Vec<Event, A>, end: u64) -> Result<(), AllocError>
-    ensures { OnOk result (events.new.items ≡ put_events [] (filter (λ event. nat_le event.tick end) events.old.items)) }
+// The events up to the end by tick, those of one tick in the order of the list. What is sorted is references: an event
+// is large.
+fn sort_events<'a, A: Allocator>(
+    alloc: A,
+    events: &'a [Event],
+    end: u64,
+) -> Result<Vec<&'a Event, A>, AllocError>
+    ensures { IfOk result (λ sorted. map (λ event. event.now) sorted.items ≡ put_events [] (filter (λ event. nat_le event.tick end) events.now)) }
 {
-    keep_until(events, end);
-    sort_by_tick(events)
+    let mut sorted = events_until(alloc, events, end)?;
+    sort_by_tick(&mut sorted)?;
+    Ok(sorted)
 }
 
-fn keep_until<A: Allocator>(events: &mut Vec<Event, A>, end: u64)
-    ensures { events.new.items ≡ filter (λ event. nat_le event.tick end) events.old.items }
+fn events_until<'a, A: Allocator>(
+    alloc: A,
+    events: &'a [Event],
+    end: u64,
+) -> Result<Vec<&'a Event, A>, AllocError>
+    ensures { IfOk result (λ kept. map (λ event. event.now) kept.items ≡ filter (λ event. nat_le event.tick end) events.now) }
 {
-    events.retain(|event| event.tick <= end);
+    let mut kept = Vec::with_capacity(alloc, events.len())?;
+    for event in events {
+        if event.tick <= end {
+            kept.push(event)?;
+        }
+    }
+    Ok(kept)
 }
 
-fn sort_by_tick<A: Allocator>(events: &mut Vec<Event, A>) -> Result<(), AllocError>
-    ensures { OnOk result (events.new.items ≡ put_events [] events.old.items) }
+fn sort_by_tick<'a, A: Allocator>(events: &mut Vec<&'a Event, A>) -> Result<(), AllocError>
+    ensures { OnOk result (map (λ event. event.now) events.new.items ≡ put_events [] (map (λ event. event.now) events.old.items)) }
 {
     events.sort_by_key(|event| event.tick)
-}
-
-// The events of the race with this transcript in order.
-fn course<A: Allocator + Copy, B: Allocator, C: Allocator>(
-    alloc: A,
-    timeline: &Timeline<B>,
-    sorted: &[Sourced],
-    transcript: &Transcript<C>,
-) -> Result<Vec<Event, A>, Memory>
-    requires { sorted.now ≡ sorted_of timeline.now }
-    ensures { IfOk result (λ events. events.items ≡ course timeline.now transcript.now) }
-{
-    let mut events = collect_events(alloc, timeline, sorted, transcript)?;
-    sort_events(&mut events, end_tick(transcript.result()))?;
-    Ok(events)
 }
 
 fn write_cause<A: Allocator + Copy>(cause: Cause, out: &mut Vec<u8, A>) -> Result<(), Memory>
@@ -178,11 +179,11 @@ fn write_event<A: Allocator + Copy>(event: Event, out: &mut Vec<u8, A>) -> Resul
     write_rest(event.kind, out)
 }
 
-fn write_events<A: Allocator + Copy>(events: &[Event], out: &mut Vec<u8, A>) -> Result<(), Memory>
-    ensures { AppendsText result out.old.items out.new.items (flat_map event_text events.now) }
+fn write_events<A: Allocator + Copy>(events: &[&Event], out: &mut Vec<u8, A>) -> Result<(), Memory>
+    ensures { AppendsText result out.old.items out.new.items (flat_map event_text (map (λ event. event.now) events.now)) }
 {
     for event in events {
-        write_event(*event, out)?;
+        write_event(**event, out)?;
     }
     Ok(())
 }
@@ -198,8 +199,9 @@ pub(crate) fn write_course_of<A: Allocator + Copy, B: Allocator, C: Allocator>(
     requires { sorted.now ≡ sorted_of timeline.now }
     ensures { AppendsText result out.old.items out.new.items (course_text timeline.now transcript.now) }
 {
-    let events = course(alloc, timeline, sorted, transcript)?;
-    write_events(&events, out)
+    let events = collect_events(alloc, timeline, sorted, transcript)?;
+    let by_tick = sort_events(alloc, &events, end_tick(transcript.result()))?;
+    write_events(&by_tick, out)
 }
 
 fn write_sorted<A: Allocator + Copy, B: Allocator, C: Allocator>(

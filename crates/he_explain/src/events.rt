@@ -17,6 +17,9 @@ use he_plan::{Attempt, Line, Mark, Outcome3, Timeline, Transcript};
 use he_select::Sourced;
 use std::alloc::{AllocError, Allocator};
 
+// The two answers, the wait for the AAAA answer, the Resolution Delay's end, and the race's end.
+const OTHER_EVENTS: usize = 5;
+
 /// The start of an attempt.
 #[derive(Clone, Copy, Debug, PartialEq, Eq)]
 pub struct Start {
@@ -84,10 +87,20 @@ pub(crate) fn collect_events<A: Allocator + Copy, B: Allocator, C: Allocator>(
     requires { sorted.now ≡ sorted_of timeline.now }
     ensures { IfOk result (λ events. events.items ≡ events_of timeline.now transcript.now) }
 {
-    let mut events = Vec::new(alloc);
+    let most = most_events(timeline.pauses(), transcript.attempts());
+    let mut events = Vec::with_capacity(alloc, most)?;
     push_met(&mut events, timeline)?;
     push_told(alloc, &mut events, timeline, sorted, transcript)?;
     Ok(events)
+}
+
+// No race with these pauses and attempts has more events: each attempt starts, and fails or is cancelled.
+fn most_events(pauses: &[(u64, u64)], lines: &[Line]) -> usize {
+    let of_attempts = lines.len().saturating_mul(2);
+    pauses
+        .len()
+        .saturating_add(of_attempts)
+        .saturating_add(OTHER_EVENTS)
 }
 
 /// The tick at which the race ends.
