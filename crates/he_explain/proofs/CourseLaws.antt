@@ -8,11 +8,10 @@ use Rattle.he_explain.specs.declared.events.Event.{Event}
 use Rattle.he_explain.specs.Course.{course, put_event, put_events}
 use Rattle.he_explain.specs.Events.{events_by_kind}
 use Rattle.he_explain.specs.Laws.{CourseStands}
-use Rattle.he_explain.specs.Sorting.{event_place}
 use Rattle.he_explain.proofs.CauseLaws.{not_before}
-use Rattle.he_explain.proofs.EventLaws.{inserted}
+use Rattle.he_explain.proofs.EventLaws.{event_place, inserted}
 
-abbrev tick_of_event : Event → ℕ
+abbrev pub tick_of_event : Event → ℕ
 tick_of_event event = event.tick
 
 -- no event before the place is later than the tick, and the one at the place is
@@ -41,7 +40,7 @@ place_is tick (first ∷ more) = by_tick (nat_lt tick first.tick) refl (place_is
         subst (λ n. IsPlace tick (first ∷ more) n) (sym (plus_one (event_place tick more)))
         (further tick first more (event_place tick more) (not_before tick first.tick e) rest)
 
-put_ascends : (event : Event) (events : List Event) → IsNonDecreasingBy tick_of_event events → IsNonDecreasingBy tick_of_event (put_event event events)
+pub put_ascends : (event : Event) (events : List Event) → IsNonDecreasingBy tick_of_event events → IsNonDecreasingBy tick_of_event (put_event event events)
 put_ascends event events up =
     let place : ℕ = event_place event.tick events in
     let is : IsPlace event.tick events place = place_is event.tick events in
@@ -50,7 +49,7 @@ put_ascends event events up =
     (λ k d from inside. let first : event.tick < (get_or events place d).tick = is.at d (omega (arith, from, inside)) in
     omega (arith, first, up place k d from inside)))
 
-puts_ascend : (done events : List Event) → IsNonDecreasingBy tick_of_event done → IsNonDecreasingBy tick_of_event (put_events done events)
+pub puts_ascend : (done events : List Event) → IsNonDecreasingBy tick_of_event done → IsNonDecreasingBy tick_of_event (put_events done events)
 puts_ascend done [] up = up
 puts_ascend done (event ∷ more) up = puts_ascend (put_event event done) more (put_ascends event done up)
 

@@ -3,7 +3,11 @@ use Rattle.std.proofs.Common.{◌≡◌, ℕ, suc, ◌+◌, Bool, true, false, L
 use Rattle.std.specs.List.{insert}
 use Rattle.he_explain.specs.declared.events.Event.{Event}
 use Rattle.he_explain.specs.Course.{put_event}
-use Rattle.he_explain.specs.Sorting.{event_place}
+
+-- the number of events before the first one that is later than the tick
+abbrev pub event_place : ℕ → List Event → ℕ
+event_place tick [] = 0
+event_place tick (first ∷ more) = if nat_lt tick first.tick then 0 else event_place tick more + 1
 
 plus_one : (n : ℕ) → n + 1 ≡ suc n
 plus_one n = omega arith

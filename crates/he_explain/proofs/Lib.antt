@@ -2,10 +2,12 @@ mod CauseLaws
 mod CourseLaws
 mod DecidingLaws
 mod EventLaws
+mod InterlacedLaws
 mod LaterLaws
 mod LineLaws
 mod ListedLaws
 mod OneRule
+mod SortLaws
 mod SourceLaws
 mod StartLaws
 mod UsableLaws

@@ -22,6 +22,7 @@ use Rattle.he_explain.specs.declared.traits.SourceTraits.{SourceTraits}
 use Rattle.he_explain.specs.declared.traits.Traits.{Traits}
 use Rattle.he_explain.specs.Deciding.{deciding_rule}
 use Rattle.he_explain.specs.Reasons.{after_text, behind_text, compared_text, order_reasons_text, place_text, reason_line, reason_lines, reason_text, rule_text, values_text, with_source_text}
+use Rattle.he_explain.specs.Sorting.{sorted_of}
 use Rattle.he_explain.specs.Traits.{source_traits_of, traits_by, traits_of}
 use Rattle.he_explain.specs.Writing.{behind_by, compared_by, line_by, lines_by, placed_by, reason_by, source_by}
 use Rattle.he_explain.proofs.DecidingLaws.{rule_is}
@@ -79,16 +80,15 @@ lines_are input differ place earlier (ip ∷ ips) =
     ∙ ap (λ (text : List ℕ). reason_line input place earlier ip ++ text) (lines_are input differ (place + 1) (Some ip) ips)
 
 -- the lines of a race
-race_lines : (race : Race) → IsHost race.host → (sorted : List Sourced) → sorted ≡ map (sourced_by (selection_input race.policy race.host)) (order race (usable_addresses race))
-    → lines_by (selection_input race.policy race.host) 0 None sorted ≡ order_reasons_text race
+race_lines : (race : Race) → IsHost race.host → (sorted : List Sourced) → sorted ≡ sorted_of race → lines_by (selection_input race.policy race.host) 0 None sorted ≡ order_reasons_text race
+unfolding sorted_of
 race_lines race host sorted is =
     ap (λ (l : List Sourced). lines_by (selection_input race.policy race.host) 0 None l) is
     ∙ lines_are (selection_input race.policy race.host) host.different_sources 0 None (order race (usable_addresses race))
 
 -- the same with a table and a host that are the race's own
 pub race_lines_with : (race : Race) (rows : List Row) (host : HostLists) (sorted : List Sourced) → rows ≡ race.policy → host ≡ race.host → IsHost race.host
-    → sorted ≡ map (sourced_by (selection_input race.policy race.host)) (order race (usable_addresses race))
-    → lines_by (selection_input rows host) 0 None sorted ≡ order_reasons_text race
+    → sorted ≡ sorted_of race → lines_by (selection_input rows host) 0 None sorted ≡ order_reasons_text race
 race_lines_with race rows host sorted of_rows of_host is_host is =
     ap (λ (r : List Row). lines_by (selection_input r host) 0 None sorted) of_rows
     ∙ ap (λ (h : HostLists). lines_by (selection_input race.policy h) 0 None sorted) of_host

@@ -1,12 +1,10 @@
 -- The addresses of an order are usable, and what holds of their race's parts.
-use Rattle.std.proofs.Common.{◌≡◌, ℕ, Bool, true, false, IsTrue, cond, filter, refl, ◌&&◌, List, [], ◌∷◌, ◌∙◌, ap, subst}
-use Rattle.std.specs.Prelude.{Option, None, Some, if◌then◌else◌, nat_le}
+use Rattle.std.proofs.Common.{◌≡◌, Bool, true, false, IsTrue, cond, filter, refl, ◌&&◌, List, [], ◌∷◌, ◌∙◌, ap, subst}
 use Rattle.std.specs.List.{list_all}
 use Rattle.std.proofs.lemmas.List.Folds.{list_all-append}
 use Rattle.he_addr.specs.declared.ip.Ip.{Ip}
 use Rattle.he_addr.specs.Ip.{is_usable}
-use Rattle.he_plan.specs.Attempts.{received, received_of, seen}
-use Rattle.he_plan.specs.Race.{Race, Reply, addresses_of}
+use Rattle.he_plan.specs.Race.{Race, addresses_of}
 use Rattle.he_select.specs.declared.policy.Row.{Row}
 use Rattle.he_select.specs.Hosts.{HostLists}
 use Rattle.he_text.specs.Orders.{usable_addresses}
@@ -34,18 +32,3 @@ pub with_race : (Is : List Row → HostLists → List Ip → Type 0) (race : Rac
     → rows ≡ race.policy → host ≡ race.host → given ≡ wanted → Is rows host given → Is race.policy race.host wanted
 with_race Is race rows host given wanted of_rows of_host of_given is =
     subst (Is race.policy race.host) of_given (subst (λ lists. Is race.policy lists given) of_host (subst (λ table. Is table host given) of_rows is))
-
-received_part : (race : Race) (t : ℕ) (reply : Option Reply) → list_all is_usable (received_of race t reply) ≡ true
-received_part race t None = refl
-received_part race t (Some reply) = by_tick (nat_le (seen race reply.tick) t)
-  where
-    by_tick : (b : Bool) → list_all is_usable (if b then filter is_usable reply.addresses else []) ≡ true
-    by_tick true = kept_usable reply.addresses
-    by_tick false = refl
-
--- what is received is usable
-pub received_usable : (race : Race) (t : ℕ) (ips : List Ip) → ips ≡ received race t → IsTrue (list_all is_usable ips)
-received_usable race t ips is =
-    ap (list_all is_usable) is
-    ∙ list_all-append is_usable (received_of race t race.aaaa) (received_of race t race.a)
-    ∙ both _ _ (received_part race t race.aaaa) (received_part race t race.a)

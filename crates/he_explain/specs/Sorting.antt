@@ -1,8 +1,12 @@
--- Mirrors the code: where an event is put.
-use Rattle.std.specs.Prelude.{ℕ, ◌+◌, if◌then◌else◌, List, [], ◌∷◌, nat_lt}
-use Rattle.he_explain.specs.declared.events.Event.{Event}
+-- Mirrors the code: the sorted addresses that it keeps.
+use Rattle.std.specs.Prelude.{List, map}
+use Rattle.he_plan.specs.Attempts.{order}
+use Rattle.he_plan.specs.Race.{Race}
+use Rattle.he_select.specs.Preference.{sourced_by}
+use Rattle.he_select.specs.Selection.{selection_input}
+use Rattle.he_select.specs.declared.sorting.Sourced.{Sourced}
+use Rattle.he_text.specs.Orders.{usable_addresses}
 
--- the number of events before the first one that is later than the tick
-abbrev pub event_place : ℕ → List Event → ℕ
-event_place tick [] = 0
-event_place tick (first ∷ more) = if nat_lt tick first.tick then 0 else event_place tick more + 1
+-- the usable addresses of both answers in order, each with its source
+unfoldable pub sorted_of : Race → List Sourced
+sorted_of race = map (sourced_by (selection_input race.policy race.host)) (order race (usable_addresses race))

@@ -1,68 +1,56 @@
 // The course of a race: its events in order, written to a text.
 
-ghost use Rattle.std.specs.Prelude.{◌≡◌, ◌++◌, [], ◌≤◌, codes, decimal, filter, length, nat_le, IfOk, OnOk, OnErr};
+ghost use Rattle.std.specs.Prelude.{◌≡◌, ◌++◌, [], codes, decimal, filter, map, nat_le, IfOk, OnOk, OnErr};
 ghost use Rattle.std.specs.List.{flat_map};
 ghost use Rattle.he_addr.specs.Printing.{printed};
 ghost use Rattle.he_text.specs.Writing.{AppendsText};
-ghost use Rattle.he_explain.specs.Course.{cause_text, course, course_text, event_text, held_text, kind_text, listed_text, put_event, put_events, start_text, turn_text};
-ghost use Rattle.he_explain.specs.Sorting.{event_place};
+ghost use Rattle.he_explain.specs.Course.{cause_text, course_text, event_text, held_text, kind_text, listed_text, put_events, start_text, turn_text};
+ghost use Rattle.he_explain.specs.Sorting.{sorted_of};
 
 use crate::cause::Cause;
 use crate::events::{Event, EventKind, Start, collect_events, end_tick};
 use crate::listing::{Listed, Turn};
+use crate::sorted::sorted_addresses;
 use crate::writing::{write_bytes, write_labelled, write_labelled_ip, write_values};
 use he_addr::{Family, Ip, Memory, write_number};
 use he_plan::{Timeline, Transcript};
+use he_select::Sourced;
 use std::alloc::{AllocError, Allocator};
 
-// The number of events before the first one that is later than the tick.
-fn event_place(events: &[Event], tick: u64) -> usize
-    ensures value { result ≡ event_place tick events.now }
-    ensures inside { result ≤ length events.now }
-{
-    for (place, event) in events.iter().enumerate() {
-        if tick < event.tick {
-            return place;
-        }
-    }
-    events.len()
-}
-
-fn put_event<A: Allocator>(events: &mut Vec<Event, A>, event: Event) -> Result<(), AllocError>
-    ensures { OnOk result (events.new.items ≡ put_event event events.old.items) }
-{
-    let place = event_place(events, event.tick);
-    events.insert(place, event)?;
-    Ok(())
-}
-
-// The events up to the end by tick, those of one tick in the order of the list.
-fn sort_events<A: Allocator>(
+// The events up to the end by tick, those of one tick in the order of the list. What is sorted is references: an event
+// is large.
+fn sort_events<'a, A: Allocator>(
     alloc: A,
-    events: &[Event],
+    events: &'a [Event],
     end: u64,
-) -> Result<Vec<Event, A>, AllocError>
-    ensures { IfOk result (λ sorted. sorted.items ≡ put_events [] (filter (λ event. nat_le event.tick end) events.now)) }
+) -> Result<Vec<&'a Event, A>, AllocError>
+    ensures { IfOk result (λ sorted. map (λ event. event.now) sorted.items ≡ put_events [] (filter (λ event. nat_le event.tick end) events.now)) }
 {
-    let mut sorted = Vec::new(alloc);
-    for event in events {
-        if event.tick <= end {
-            put_event(&mut sorted, *event)?;
-        }
-    }
+    let mut sorted = events_until(alloc, events, end)?;
+    sort_by_tick(&mut sorted)?;
     Ok(sorted)
 }
 
-// The events of the race with this transcript in order.
-fn course<A: Allocator + Copy, B: Allocator, C: Allocator>(
+fn events_until<'a, A: Allocator>(
     alloc: A,
-    timeline: &Timeline<B>,
-    transcript: &Transcript<C>,
-) -> Result<Vec<Event, A>, Memory>
-    ensures { IfOk result (λ events. events.items ≡ course timeline.now transcript.now) }
+    events: &'a [Event],
+    end: u64,
+) -> Result<Vec<&'a Event, A>, AllocError>
+    ensures { IfOk result (λ kept. map (λ event. event.now) kept.items ≡ filter (λ event. nat_le event.tick end) events.now) }
 {
-    let events = collect_events(alloc, timeline, transcript)?;
-    Ok(sort_events(alloc, &events, end_tick(transcript.result()))?)
+    let mut kept = Vec::with_capacity(alloc, events.len())?;
+    for event in events {
+        if event.tick <= end {
+            kept.push(event)?;
+        }
+    }
+    Ok(kept)
+}
+
+fn sort_by_tick<'a, A: Allocator>(events: &mut Vec<&'a Event, A>) -> Result<(), AllocError>
+    ensures { OnOk result (map (λ event. event.now) events.new.items ≡ put_events [] (map (λ event. event.now) events.old.items)) }
+{
+    events.sort_by_key(|event| event.tick)
 }
 
 fn write_cause<A: Allocator + Copy>(cause: Cause, out: &mut Vec<u8, A>) -> Result<(), Memory>
@@ -191,13 +179,29 @@ fn write_event<A: Allocator + Copy>(event: Event, out: &mut Vec<u8, A>) -> Resul
     write_rest(event.kind, out)
 }
 
-fn write_events<A: Allocator + Copy>(events: &[Event], out: &mut Vec<u8, A>) -> Result<(), Memory>
-    ensures { AppendsText result out.old.items out.new.items (flat_map event_text events.now) }
+fn write_events<A: Allocator + Copy>(events: &[&Event], out: &mut Vec<u8, A>) -> Result<(), Memory>
+    ensures { AppendsText result out.old.items out.new.items (flat_map event_text (map (λ event. event.now) events.now)) }
 {
     for event in events {
-        write_event(*event, out)?;
+        write_event(**event, out)?;
     }
     Ok(())
+}
+
+// The course of a race, whose sorted addresses are given.
+pub(crate) fn write_course_of<A: Allocator + Copy, B: Allocator, C: Allocator>(
+    alloc: A,
+    timeline: &Timeline<B>,
+    sorted: &[Sourced],
+    transcript: &Transcript<C>,
+    out: &mut Vec<u8, A>,
+) -> Result<(), Memory>
+    requires { sorted.now ≡ sorted_of timeline.now }
+    ensures { AppendsText result out.old.items out.new.items (course_text timeline.now transcript.now) }
+{
+    let events = collect_events(alloc, timeline, sorted, transcript)?;
+    let by_tick = sort_events(alloc, &events, end_tick(transcript.result()))?;
+    write_events(&by_tick, out)
 }
 
 fn write_sorted<A: Allocator + Copy, B: Allocator, C: Allocator>(
@@ -208,8 +212,8 @@ fn write_sorted<A: Allocator + Copy, B: Allocator, C: Allocator>(
 ) -> Result<(), Memory>
     ensures { AppendsText result out.old.items out.new.items (course_text timeline.now transcript.now) }
 {
-    let events = course(alloc, timeline, transcript)?;
-    write_events(&events, out)
+    let sorted = sorted_addresses(alloc, timeline)?;
+    write_course_of(alloc, timeline, &sorted, transcript, out)
 }
 
 /// Appends the course of the race, whose transcript is given: what happened in it up to its end, an event a line,

@@ -4,14 +4,21 @@ ghost use Rattle.std.specs.Prelude.{◌≡◌, ◌++◌, ◌∷◌, [], None, co
 ghost use Rattle.std.specs.List.{flat_map};
 ghost use Rattle.he_addr.specs.Ip.{is_usable};
 ghost use Rattle.he_addr.specs.declared.ip.Family.TheVariants as families;
+ghost use Rattle.he_plan.specs.Attempts.{order_at};
 ghost use Rattle.he_plan.specs.Race.{reply_of};
+ghost use Rattle.he_explain.specs.Sorting.{sorted_of};
 ghost use Rattle.he_explain.specs.Events.{answer_events, attempt_of, cancelled_by, end_event, event_at, events_of, failed_by, is_seen_by, met_events, over_events, pause_events, start_event, start_events, told_events, wait_events};
 
 use crate::cause::{Cause, cause_of, has_usable, is_held};
-use crate::listing::{Listed, listed_at};
+use crate::interlaced::{Interlaced, bring_to};
+use crate::listing::{Listed, listed_in};
 use he_addr::{Family, Ip, Memory};
 use he_plan::{Attempt, Line, Mark, Outcome3, Timeline, Transcript};
+use he_select::Sourced;
 use std::alloc::{AllocError, Allocator};
+
+// The two answers, the wait for the AAAA answer, the Resolution Delay's end, and the race's end.
+const OTHER_EVENTS: usize = 5;
 
 /// The start of an attempt.
 #[derive(Clone, Copy, Debug, PartialEq, Eq)]
@@ -74,14 +81,26 @@ pub struct Event {
 pub(crate) fn collect_events<A: Allocator + Copy, B: Allocator, C: Allocator>(
     alloc: A,
     timeline: &Timeline<B>,
+    sorted: &[Sourced],
     transcript: &Transcript<C>,
 ) -> Result<Vec<Event, A>, Memory>
+    requires { sorted.now ≡ sorted_of timeline.now }
     ensures { IfOk result (λ events. events.items ≡ events_of timeline.now transcript.now) }
 {
-    let mut events = Vec::new(alloc);
+    let most = most_events(timeline.pauses(), transcript.attempts());
+    let mut events = Vec::with_capacity(alloc, most)?;
     push_met(&mut events, timeline)?;
-    push_told(alloc, &mut events, timeline, transcript)?;
+    push_told(alloc, &mut events, timeline, sorted, transcript)?;
     Ok(events)
+}
+
+// No race with these pauses and attempts has more events: each attempt starts, and fails or is cancelled.
+fn most_events(pauses: &[(u64, u64)], lines: &[Line]) -> usize {
+    let of_attempts = lines.len().saturating_mul(2);
+    pauses
+        .len()
+        .saturating_add(of_attempts)
+        .saturating_add(OTHER_EVENTS)
 }
 
 /// The tick at which the race ends.
@@ -205,11 +224,13 @@ fn push_told<A: Allocator + Copy, B: Allocator, C: Allocator>(
     alloc: A,
     events: &mut Vec<Event, A>,
     timeline: &Timeline<B>,
+    sorted: &[Sourced],
     transcript: &Transcript<C>,
 ) -> Result<(), Memory>
+    requires { sorted.now ≡ sorted_of timeline.now }
     ensures { OnOk result (events.new.items ≡ events.old.items ++ told_events timeline.now transcript.now) }
 {
-    push_attempts(alloc, events, timeline, transcript.attempts())?;
+    push_attempts(alloc, events, timeline, sorted, transcript.attempts())?;
     push_end(events, transcript.result(), transcript.attempts())?;
     Ok(())
 }
@@ -219,12 +240,14 @@ fn push_attempts<A: Allocator + Copy, B: Allocator>(
     alloc: A,
     events: &mut Vec<Event, A>,
     timeline: &Timeline<B>,
+    sorted: &[Sourced],
     lines: &[Line],
 ) -> Result<(), Memory>
+    requires { sorted.now ≡ sorted_of timeline.now }
     ensures { OnOk result (events.new.items ≡ events.old.items ++ (flat_map (λ line. failed_by line.place line.mark) lines.now ++ start_events timeline.now None lines.now)) }
 {
     push_failures(events, lines)?;
-    push_starts(alloc, events, timeline, lines)
+    push_starts(alloc, events, timeline, sorted, lines)
 }
 
 // The end of the race, and what it cancelled.
@@ -310,37 +333,41 @@ fn push_starts<A: Allocator + Copy, B: Allocator>(
     alloc: A,
     events: &mut Vec<Event, A>,
     timeline: &Timeline<B>,
+    sorted: &[Sourced],
     lines: &[Line],
 ) -> Result<(), Memory>
+    requires { sorted.now ≡ sorted_of timeline.now }
     ensures { OnOk result (events.new.items ≡ events.old.items ++ start_events timeline.now None lines.now) }
 {
+    let mut list = Interlaced::new(alloc);
     let mut last = None;
     for line in lines {
         let next = attempt(line);
-        push_start(alloc, events, timeline, last, next)?;
+        bring_to(alloc, timeline, sorted, next.tick, &mut list)?;
+        push_start(events, timeline, &list.ips, last, next)?;
         last = Some(next);
     }
     Ok(())
 }
 
-fn push_start<A: Allocator + Copy, B: Allocator>(
-    alloc: A,
+// The start of an attempt, whose address is taken from this list.
+fn push_start<A: Allocator, B: Allocator>(
     events: &mut Vec<Event, A>,
     timeline: &Timeline<B>,
+    ips: &[Ip],
     last: Option<Attempt>,
     next: Attempt,
-) -> Result<(), Memory>
+) -> Result<(), AllocError>
+    requires { ips.now ≡ order_at timeline.now next.tick }
     ensures { OnOk result (events.new.items ≡ events.old.items ++ start_event timeline.now last next ∷ []) }
 {
-    let listed = listed_at(alloc, timeline, next.tick, next.ip)?;
     let cause = cause_of(timeline, last, next);
     let start = Start {
         place: next.place,
         ip: next.ip,
         cause,
         held: is_held(timeline, last, cause, next.tick),
-        listed,
+        listed: listed_in(ips, timeline.settings().count(), next.ip),
     };
-    push(events, next.tick, EventKind::Started(start))?;
-    Ok(())
+    push(events, next.tick, EventKind::Started(start))
 }

@@ -3,27 +3,33 @@
 ghost use Rattle.std.specs.Prelude.{◌≡◌, ◌++◌, codes, OnOk, OnErr};
 ghost use Rattle.he_text.specs.Writing.{AppendsText, Grows};
 ghost use Rattle.he_explain.specs.Course.{Explains, course_text, explanation_text};
+ghost use Rattle.he_explain.specs.Sorting.{sorted_of};
 
-use crate::course::write_course;
-use crate::reasons::write_order_reasons;
+use crate::course::write_course_of;
+use crate::reasons::write_order_of;
+use crate::sorted::sorted_addresses;
 use crate::writing::write_bytes;
 use he_addr::Memory;
 use he_plan::{Timeline, Transcript, transcript_of};
+use he_select::Sourced;
 use std::alloc::Allocator;
 
 // The course, and `end`.
 fn write_ended<A: Allocator + Copy, B: Allocator, C: Allocator>(
     alloc: A,
     timeline: &Timeline<B>,
+    sorted: &[Sourced],
     transcript: &Transcript<C>,
     out: &mut Vec<u8, A>,
 ) -> Result<(), Memory>
+    requires { sorted.now ≡ sorted_of timeline.now }
     ensures { AppendsText result out.old.items out.new.items (course_text timeline.now transcript.now ++ codes "end\n") }
 {
-    write_course(alloc, timeline, transcript, out)?;
+    write_course_of(alloc, timeline, sorted, transcript, out)?;
     write_bytes(b"end\n", out)
 }
 
+// The addresses are sorted once: the order is told of them, and the course takes its lists from it.
 fn write_parts<A: Allocator + Copy, B: Allocator, C: Allocator>(
     alloc: A,
     timeline: &Timeline<B>,
@@ -32,8 +38,9 @@ fn write_parts<A: Allocator + Copy, B: Allocator, C: Allocator>(
 ) -> Result<(), Memory>
     ensures { AppendsText result out.old.items out.new.items (explanation_text timeline.now transcript.now) }
 {
-    write_order_reasons(alloc, timeline, out)?;
-    write_ended(alloc, timeline, transcript, out)
+    let sorted = sorted_addresses(alloc, timeline)?;
+    write_order_of(timeline, &sorted, out)?;
+    write_ended(alloc, timeline, &sorted, transcript, out)
 }
 
 fn write_whole<A: Allocator + Copy, B: Allocator>(
@@ -48,8 +55,8 @@ fn write_whole<A: Allocator + Copy, B: Allocator>(
     write_parts(alloc, timeline, &transcript, out)
 }
 
-/// Appends what explains the race: the order of its addresses, as [`write_order_reasons`] writes it, then its course,
-/// as [`write_course`] does, and a line `end`. After `Memory` the vector holds what it held.
+/// Appends what explains the race: the order of its addresses, as [`crate::write_order_reasons`] writes it, then its
+/// course, as [`crate::write_course`] does, and a line `end`. After `Memory` the vector holds what it held.
 pub fn write_explanation<A: Allocator + Copy, B: Allocator>(
     alloc: A,
     timeline: &Timeline<B>,

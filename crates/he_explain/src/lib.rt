@@ -20,6 +20,7 @@ pub mod course;
 pub mod deciding;
 mod events;
 pub mod explanation;
+mod interlaced;
 pub mod laws;
 mod listing;
 pub mod reasons;

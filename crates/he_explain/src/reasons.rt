@@ -4,6 +4,7 @@ ghost use Rattle.std.specs.Prelude.{◌≡◌, ◌++◌, codes, None, OnOk, OnEr
 ghost use Rattle.he_select.specs.Selection.{selection_input};
 ghost use Rattle.he_text.specs.Writing.{AppendsText};
 ghost use Rattle.he_explain.specs.Reasons.{after_text, order_reasons_text, rule_text};
+ghost use Rattle.he_explain.specs.Sorting.{sorted_of};
 ghost use Rattle.he_explain.specs.Writing.{behind_by, compared_by, line_by, lines_by, place_by, placed_by, reason_by, rule_by, source_by, source_number};
 
 use crate::deciding::DestinationRule;
@@ -214,6 +215,18 @@ fn write_lines<A: Allocator + Copy, P: Allocator, H: Allocator>(
     Ok(())
 }
 
+// The order of a race's addresses, which are given sorted.
+pub(crate) fn write_order_of<A: Allocator + Copy, B: Allocator>(
+    timeline: &Timeline<B>,
+    sorted: &[Sourced],
+    out: &mut Vec<u8, A>,
+) -> Result<(), Memory>
+    requires { sorted.now ≡ sorted_of timeline.now }
+    ensures { AppendsText result out.old.items out.new.items (order_reasons_text timeline.now) }
+{
+    write_lines(timeline.policy(), timeline.host(), sorted, out)
+}
+
 fn write_whole<A: Allocator + Copy, B: Allocator>(
     alloc: A,
     timeline: &Timeline<B>,
@@ -222,7 +235,7 @@ fn write_whole<A: Allocator + Copy, B: Allocator>(
     ensures { AppendsText result out.old.items out.new.items (order_reasons_text timeline.now) }
 {
     let sorted = sorted_addresses(alloc, timeline)?;
-    write_lines(timeline.policy(), timeline.host(), &sorted, out)
+    write_order_of(timeline, &sorted, out)
 }
 
 /// Appends the order in which the race's addresses would be tried if all of them were there, with its reasons (RFC

@@ -1,23 +1,18 @@
 // The addresses of a race in the order of RFC 6724 section 6.
 
-ghost use Rattle.std.specs.Prelude.{◌≡◌, ◌++◌, filter, map, IsTrue, IfOk, OnOk};
+ghost use Rattle.std.specs.Prelude.{◌≡◌, ◌++◌, filter, IsTrue, IfOk, OnOk};
 ghost use Rattle.std.specs.List.{list_all};
 ghost use Rattle.he_addr.specs.Ip.{is_usable};
-ghost use Rattle.he_plan.specs.Attempts.{order};
 ghost use Rattle.he_plan.specs.Race.{reply_of, addresses_of};
-ghost use Rattle.he_select.specs.Preference.{sourced_by};
-ghost use Rattle.he_select.specs.Selection.{selection_input};
 ghost use Rattle.he_text.specs.Orders.{usable_addresses};
+ghost use Rattle.he_explain.specs.Sorting.{sorted_of};
 
 use he_addr::{Family, Ip, Memory};
 use he_plan::Timeline;
 use he_select::{Sourced, order_with_sources};
 use std::alloc::{AllocError, Allocator};
 
-pub(crate) fn push_usable<A: Allocator>(
-    ips: &mut Vec<Ip, A>,
-    addresses: &[Ip],
-) -> Result<(), AllocError>
+fn push_usable<A: Allocator>(ips: &mut Vec<Ip, A>, addresses: &[Ip]) -> Result<(), AllocError>
     ensures { OnOk result (ips.new.items ≡ ips.old.items ++ filter is_usable addresses.now) }
 {
     for ip in addresses {
@@ -60,7 +55,7 @@ pub(crate) fn sorted_addresses<A: Allocator + Copy, B: Allocator>(
     alloc: A,
     timeline: &Timeline<B>,
 ) -> Result<Vec<Sourced, A>, Memory>
-    ensures { IfOk result (λ sorted. sorted.items ≡ map (sourced_by (selection_input timeline.now.policy timeline.now.host)) (order timeline.now (usable_addresses timeline.now))) }
+    ensures { IfOk result (λ sorted. sorted.items ≡ sorted_of timeline.now) }
 {
     let usable = usable_addresses(alloc, timeline)?;
     order_with_sources(alloc, timeline.policy(), timeline.host(), &usable)

@@ -137,10 +137,77 @@ end
 ",
 );
 
-pub static RACES: [(&str, &str); 5] = [
+// The first six attempts fail at the ticks at which the last six start, and these after all have started; of each six the
+// last one fails first. There are more events than a stable sort puts in order without memory.
+const LATER_ATTEMPTS_FAIL_FIRST: (&str, &str) = (
+    "race 1
+set attempt 100
+source 2001:db8::2/64 1
+route ::/0 1
+aaaa 0 2001:db8:1::1 2001:db8:1::2 2001:db8:1::3 2001:db8:1::4 2001:db8:1::5 2001:db8:1::6 2001:db8:1::7 2001:db8:1::8 2001:db8:1::9 2001:db8:1::a 2001:db8:1::b 2001:db8:1::c
+a 0 none
+connect 2001:db8:1::1 fail 1100
+connect 2001:db8:1::2 fail 900
+connect 2001:db8:1::3 fail 700
+connect 2001:db8:1::4 fail 500
+connect 2001:db8:1::5 fail 300
+connect 2001:db8:1::6 fail 100
+connect 2001:db8:1::7 fail 1100
+connect 2001:db8:1::8 fail 900
+connect 2001:db8:1::9 fail 700
+connect 2001:db8:1::a fail 500
+connect 2001:db8:1::b fail 300
+connect 2001:db8:1::c fail 100
+end
+",
+    "order 0 2001:db8:1::1 source 2001:db8::2
+order 1 2001:db8:1::2 source 2001:db8::2, behind 0 by rule 10, otherwise leave the order unchanged
+order 2 2001:db8:1::3 source 2001:db8::2, behind 1 by rule 10, otherwise leave the order unchanged
+order 3 2001:db8:1::4 source 2001:db8::2, behind 2 by rule 10, otherwise leave the order unchanged
+order 4 2001:db8:1::5 source 2001:db8::2, behind 3 by rule 10, otherwise leave the order unchanged
+order 5 2001:db8:1::6 source 2001:db8::2, behind 4 by rule 10, otherwise leave the order unchanged
+order 6 2001:db8:1::7 source 2001:db8::2, behind 5 by rule 10, otherwise leave the order unchanged
+order 7 2001:db8:1::8 source 2001:db8::2, behind 6 by rule 10, otherwise leave the order unchanged
+order 8 2001:db8:1::9 source 2001:db8::2, behind 7 by rule 10, otherwise leave the order unchanged
+order 9 2001:db8:1::a source 2001:db8::2, behind 8 by rule 10, otherwise leave the order unchanged
+order 10 2001:db8:1::b source 2001:db8::2, behind 9 by rule 10, otherwise leave the order unchanged
+order 11 2001:db8:1::c source 2001:db8::2, behind 10 by rule 10, otherwise leave the order unchanged
+0 answer aaaa usable 12
+0 answer a usable 0
+0 attempt 0 2001:db8:1::1, on the AAAA answer, listed at 0 of 12, its family leads
+100 attempt 1 2001:db8:1::2, 100 after attempt 0, listed at 1 of 12, the other family has run out
+200 attempt 2 2001:db8:1::3, 100 after attempt 1, listed at 2 of 12, the other family has run out
+300 attempt 3 2001:db8:1::4, 100 after attempt 2, listed at 3 of 12, the other family has run out
+400 attempt 4 2001:db8:1::5, 100 after attempt 3, listed at 4 of 12, the other family has run out
+500 attempt 5 2001:db8:1::6, 100 after attempt 4, listed at 5 of 12, the other family has run out
+600 failed attempt 5
+600 attempt 6 2001:db8:1::7, 100 after attempt 5, listed at 6 of 12, the other family has run out
+700 failed attempt 4
+700 attempt 7 2001:db8:1::8, 100 after attempt 6, listed at 7 of 12, the other family has run out
+800 failed attempt 3
+800 attempt 8 2001:db8:1::9, 100 after attempt 7, listed at 8 of 12, the other family has run out
+900 failed attempt 2
+900 attempt 9 2001:db8:1::a, 100 after attempt 8, listed at 9 of 12, the other family has run out
+1000 failed attempt 1
+1000 attempt 10 2001:db8:1::b, 100 after attempt 9, listed at 10 of 12, the other family has run out
+1100 failed attempt 0
+1100 attempt 11 2001:db8:1::c, 100 after attempt 10, listed at 11 of 12, the other family has run out
+1200 failed attempt 11
+1300 failed attempt 10
+1400 failed attempt 9
+1500 failed attempt 8
+1600 failed attempt 7
+1700 failed attempt 6
+1700 exhausted
+end
+",
+);
+
+pub static RACES: [(&str, &str); 6] = [
     LATE_AAAA,
     NEGATIVE_AAAA,
     BOTH_FAMILIES_FAIL,
     UNREACHABLE_LAST,
     TWO_LEAD,
+    LATER_ATTEMPTS_FAIL_FIRST,
 ];
