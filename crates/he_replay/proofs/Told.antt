@@ -1,5 +1,5 @@
 -- Some races that are told as they are read.
-use Rattle.std.proofs.Common.{ℕ, ◌≡◌, ◌+◌, ◌≤◌, ◌++◌, ◌∙◌, List, [], ◌∷◌, take, drop, length, sym, ap, subst, arith, length-append, length-drop, length-take, take-take}
+use Rattle.std.proofs.Common.{ℕ, ◌≡◌, ◌+◌, ◌≤◌, ◌++◌, ◌∙◌, List, [], ◌∷◌, take, drop, length, sym, ap, subst, arith, length-append, length-drop}
 use Rattle.std.specs.List.{slice_range}
 use Rattle.std.proofs.Math.Seq.{take-add}
 use Rattle.he_plan.specs.Race.{Race}

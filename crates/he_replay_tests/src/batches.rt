@@ -77,7 +77,7 @@ const JOBS: usize = 2_048;
 const RACES: usize = 4;
 
 // The most turns for which a gate holds a worker.
-const TURNS: u64 = 1_000_000_000;
+const TURNS: u64 = 300_000_000;
 
 fn timelines_of<A: Allocator + Copy>(alloc: A) -> Option<Vec<Timeline<A>, A>> {
     let mut timelines = Vec::new(alloc);
