@@ -1,4 +1,4 @@
-use Rattle.std.proofs.Common.{rules, ◌+◌, ◌≤◌, Fits, w64, vec_len, length, ℕ, arith, subst, take, drop, take-take, length-drop}
+use Rattle.std.proofs.Common.{rules, ◌+◌, ◌≤◌, Fits, w64, vec_len, length, ℕ, arith, subst, drop, take-take, length-drop}
 use Rattle.std.specs.Io.KnownBytes.{Consumes}
 use Rattle.std.proofs.lemmas.List.{length-take}
 use Rattle.std.proofs.lemmas.List.{places}

@@ -1,4 +1,4 @@
-use Rattle.std.proofs.Common.{rules, ◌≡◌, ◌+◌, ◌-◌, ◌≤◌, ◌∙◌, ap, sym, subst, arith, length, take, drop, ℕ, List}
+use Rattle.std.proofs.Common.{rules, ◌≡◌, ◌+◌, ◌-◌, ◌∙◌, ap, sym, subst, arith, length, take, drop, ℕ}
 use Rattle.std.proofs.lemmas.Slice.{between-put_mid}
 use Rattle.he_stream.specs.Steps.{Takes}
 use Rattle.he_stream.specs.declared.limits.TheConstants.{READ_SIZE}
