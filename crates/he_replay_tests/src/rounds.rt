@@ -10,25 +10,25 @@ use stream_fakes::{FakeReader, FakeWriter};
 
 const RACES: usize = 100;
 
-fn text_of(alloc: Global) -> Result<Vec<u8>, AllocError> {
+fn text_of(alloc: Global, races: usize) -> Result<Vec<u8>, AllocError> {
     let mut text = Vec::new(alloc);
-    for _ in 0..RACES {
+    for _ in 0..races {
         text.extend_from_slice(TEXT)?;
     }
     Ok(text)
 }
 
-// How often the input is read, and the output flushed, where it takes the output of so many races and no more; the
-// answer; and how many bytes the output then holds.
+// The answer where the output takes that of so many races and no more; how often the input was read, and the output
+// flushed; and how many bytes the output then holds.
 fn run<R: Threads + Sync>(
     rt: &R,
     alloc: Global,
     call: Call,
-    text: &[u8],
+    reader: FakeReader<'_>,
     races: usize,
 ) -> (Result<(), ReplayFault>, u64, u64, usize) {
     let room = call.output().len().saturating_mul(races);
-    let mut input = FromReader::new(FakeReader::new(text, TEXT.len()));
+    let mut input = FromReader::new(reader);
     let mut output = ToWriter::new(FakeWriter::new(alloc).with_room(room));
     let result = call.run(rt, alloc, &mut input, &mut output);
     let writer = output.writer();
@@ -37,18 +37,24 @@ fn run<R: Threads + Sync>(
 }
 
 // With room for 64 races the 65th write fails: the races before it were written and flushed, each before the next read,
-// and nothing is read after it.
+// and nothing is read after it. And a reader that fails behind the 65th race leaves all 65 written.
 #[test]
 fn races_are_told_as_they_come(rt: HostRuntime) -> Result<(), Fail> {
     let alloc = rt.alloc();
-    let text = text_of(alloc)?;
+    let text = text_of(alloc, RACES)?;
+    let front = text_of(alloc, 65)?;
+    let size = TEXT.len();
     for call in [Call::Replay, Call::Orders] {
         let one = call.output().len();
-        let failing = run(&rt, alloc, call, &text, 64);
-        let whole = run(&rt, alloc, call, &text, RACES);
-        let first = one.saturating_mul(64);
+        let failing = run(&rt, alloc, call, FakeReader::new(&text, size), 64);
+        let whole = run(&rt, alloc, call, FakeReader::new(&text, size), RACES);
+        let breaking = FakeReader::new(&front, size).broken();
+        let broken = run(&rt, alloc, call, breaking, RACES);
+        let some = one.saturating_mul(64);
+        let most = one.saturating_mul(65);
         let all = one.saturating_mul(RACES);
-        assert_eq!(rt; failing, (Err(ReplayFault::Write), 65, 64, first));
+        assert_eq!(rt; failing, (Err(ReplayFault::Write), 65, 64, some));
+        assert_eq!(rt; broken, (Err(ReplayFault::Read), 66, 66, most));
         assert_eq!(rt; whole, (Ok(()), 101, 101, all));
     }
     Ok(())
