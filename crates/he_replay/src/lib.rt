@@ -13,8 +13,9 @@
 //! table in which the input broke off (`laws`).
 //!
 //! Where races come faster than they are told, and more than one worker may be taken, `replay` cuts the bytes of a step
-//! behind races, and each worker reads a piece of them and writes its transcripts, in a thread of its own. Proved, for
-//! every number of workers and every order of their steps: the clauses of `replay`.
+//! into pieces behind races. Each worker takes pieces from a board (`he_board`), reads them and writes the transcripts
+//! of their races, in a thread of its own. Proved, for every number of workers and every order of their steps: the
+//! clauses of `replay`.
 //!
 //! `replay_batch` (`he_pool`), which shares the attempts of races that are in memory, is offered here too; `replay` does
 //! not go through it.

@@ -104,7 +104,7 @@ fn take_at<S: InputStream>(input: &mut S, bytes: &mut [u8], at: usize) -> Taken
     input.take(&mut bytes[at..at + READ_SIZE])
 }
 
-// Zeros that are copied into new room: `resize` writes it byte by byte, thirty times as many instructions.
+// Zeros that are copied into new room, as often as it takes.
 static ZEROS: [u8; 4_096] = [0; 4_096];
 
 // Makes the vector longer than `filled` by the room for a step, with zeros. Room that an earlier step left stays as it
