@@ -14,6 +14,19 @@ pub const MOST_PIECES: usize = 1_024;
 /// The fewest pieces for each worker that `replay` takes: fewer are not worth a thread.
 pub const PIECES_OF_A_WORKER: usize = 2;
 
+/// The room for the first read, in bytes. A read that fills its room is followed by one with four times as much: a
+/// short input takes little memory, and a long one is read in few steps.
+pub const FIRST_ROOM: usize = 262_144;
+
+/// The most room for a read of which the calling thread tells the races, in bytes.
+pub const MOST_ROOM: usize = 1_048_576;
+
+/// The room for the first read of which workers share the races, in bytes: enough for some pieces each.
+pub const FIRST_SHARED_ROOM: usize = 1_048_576;
+
+/// The most room for a read of which workers share the races, in bytes: their threads are made anew for each read.
+pub const MOST_SHARED_ROOM: usize = 4_194_304;
+
 /// The bytes that the arena has at first in which the calling thread keeps a race. Races of a few addresses need less,
 /// so they take no memory anew.
 pub const ARENA_BYTES: usize = 65_536;

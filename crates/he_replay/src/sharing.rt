@@ -11,9 +11,12 @@ ghost use Rattle.he_replay.specs.Telling.{Begins};
 use crate::beginning::{Begun, begin_alone};
 use crate::content::Content;
 use crate::fault::ReplayFault;
-use crate::limits::{LEAST_WORKERS, MOST_RACES, MOST_WORKERS, PIECES_OF_A_WORKER};
+use crate::limits::{
+    FIRST_SHARED_ROOM, LEAST_WORKERS, MOST_RACES, MOST_SHARED_ROOM, MOST_WORKERS,
+    PIECES_OF_A_WORKER,
+};
 use crate::pieces::{join_pieces, piece_count, tell_pieces};
-use crate::streaming::{Held, end_held, tell_held};
+use crate::streaming::{Held, end_held, next_room, tell_held};
 use he_stream::limits::MOST_READS;
 use he_stream::{InputStream, OutputStream, Taken, take_piece};
 use std::alloc::{AllocError, Allocator};
@@ -36,13 +39,14 @@ pub(crate) fn stream_shared<
         (PutsInRounds O.contents O.puts O.flushes output.old output.new) result }
 {
     let content = Content::Transcript;
-    let mut held = Held::new(alloc);
+    let mut held = Held::new(alloc, FIRST_SHARED_ROOM);
     let mut text = Vec::new(alloc);
     for _steps in 0..MOST_READS {
-        match take_piece(input, &mut held.bytes, held.filled)? {
+        match take_piece(input, &mut held.bytes, held.filled, held.room)? {
             Taken::Bytes(count) => {
                 let begun = begin_shared(rt, alloc, &held, count, workers, &mut text)?;
                 tell_held(alloc, &mut held, count, begun, content, &mut text, output)?;
+                held.room = next_room(held.room, count, MOST_SHARED_ROOM);
             }
             Taken::Interrupted => {}
             Taken::End => return end_held(alloc, &held, false, content, &mut text, output),

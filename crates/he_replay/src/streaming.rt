@@ -1,5 +1,6 @@
 //! The whole of an input, round by round.
-ghost use Rattle.std.specs.Prelude.{◌≡◌, ◌+◌, ◌-◌, ◌^◌, ◌≤◌, OnOk, drop, length, take, vec_len};
+ghost use Rattle.std.specs.Prelude.{◌≡◌, ◌+◌, ◌-◌, ◌^◌, ◌<◌, ◌≤◌, OnOk, drop, length, take, vec_len};
+ghost use Rattle.he_stream.specs.declared.limits.TheConstants.{READ_SIZE};
 ghost use Rattle.he_stream.specs.Input.{Gives, GivesSoFar};
 ghost use Rattle.he_stream.specs.Output.{PutsAndEnds, PutsInRounds, PutsRoundsPart};
 ghost use Rattle.he_replay.specs.declared.limits.TheConstants.{MOST_RACES};
@@ -11,12 +12,12 @@ ghost use Rattle.he_replay.specs.Telling.{Begins};
 use crate::beginning::{Begun, begin_alone};
 use crate::content::Content;
 use crate::fault::ReplayFault;
-use crate::limits::TRIED_BYTES;
+use crate::limits::{FIRST_ROOM, MOST_ROOM, TRIED_BYTES};
 use crate::line_ends::line_count;
 use crate::output::InputFault;
 use crate::rounds::{put_round, told_fault};
 use crate::telling::Part;
-use he_stream::limits::{MOST_READS, READ_SIZE};
+use he_stream::limits::MOST_READS;
 use he_stream::{InputStream, OutputStream, Taken, take_piece};
 use memchr::memmem::rfind;
 use std::alloc::Allocator;
@@ -30,6 +31,8 @@ pub(crate) struct Held<A: Allocator> {
     // The bytes that were taken and not told yet, and behind them room for the next step.
     pub(crate) bytes: Vec<u8, A>,
     pub(crate) filled: usize,
+    // The room for the next step.
+    pub(crate) room: usize,
     // The races that were told, and the lines that ended in them.
     pub(crate) races: usize,
     lines: u64,
@@ -38,13 +41,15 @@ pub(crate) struct Held<A: Allocator> {
 }
 
 impl<A: Allocator> Held<A> {
-    // Nothing is taken yet.
-    pub(crate) fn new(alloc: A) -> Held<A>
-        ensures { (result.filled ≡ 0) × (result.races ≡ 0) × (result.lines ≡ 0) }
+    // Nothing is taken yet, and the first step gets so much room.
+    pub(crate) fn new(alloc: A, room: usize) -> Held<A>
+        ensures empty { (result.filled ≡ 0) × (result.races ≡ 0) × (result.lines ≡ 0) }
+        ensures room { result.room ≡ room }
     {
         Held {
             bytes: Vec::new(alloc),
             filled: 0,
+            room,
             races: 0,
             lines: 0,
             tried: 0,
@@ -65,13 +70,14 @@ pub(crate) fn stream_races<A: Allocator + Copy, I: InputStream, O: OutputStream>
         (PutsRoundsPart O.contents O.puts O.flushes output.old output.new)
         (PutsInRounds O.contents O.puts O.flushes output.old output.new) result }
 {
-    let mut held = Held::new(alloc);
+    let mut held = Held::new(alloc, FIRST_ROOM);
     let mut text = Vec::new(alloc);
     for _steps in 0..MOST_READS {
-        match take_piece(input, &mut held.bytes, held.filled)? {
+        match take_piece(input, &mut held.bytes, held.filled, held.room)? {
             Taken::Bytes(count) => {
                 let begun = begin_alone(&mut text);
                 tell_held(alloc, &mut held, count, begun, content, &mut text, output)?;
+                held.room = next_room(held.room, count, MOST_ROOM);
             }
             Taken::Interrupted => {}
             Taken::End => return end_held(alloc, &held, false, content, &mut text, output),
@@ -79,6 +85,22 @@ pub(crate) fn stream_races<A: Allocator + Copy, I: InputStream, O: OutputStream>
         }
     }
     end_held(alloc, &held, true, content, &mut text, output)
+}
+
+// The room for the step behind one that took so many bytes: four times as much where its room was filled, since much
+// more may be ready then.
+pub(crate) fn next_room(room: usize, count: usize, most: usize) -> usize
+    requires some { 0 < room }
+    requires few { room ≤ READ_SIZE }
+    requires most { (0 < most) × (most ≤ READ_SIZE) }
+    ensures some { 0 < result }
+    ensures few { result ≤ READ_SIZE }
+{
+    if count < room {
+        room
+    } else {
+        (4 * room).min(most)
+    }
 }
 
 // Tells what stands ready when so many more bytes were taken, and forgets what was told.
@@ -93,9 +115,10 @@ pub(crate) fn tell_held<A: Allocator + Copy, O: OutputStream>(
 ) -> Result<(), ReplayFault>
     requires within { held.old.filled + count ≤ vec_len held.old.bytes }
     requires few { held.old.races ≤ MOST_RACES }
-    requires lines { held.old.lines + held.old.filled + count ≤ 2 ^ 52 }
+    requires lines { held.old.lines + held.old.filled + count ≤ 2 ^ 54 }
     requires begun { Begins (IsTextOf content) held.old.races (take (held.old.filled + count) held.old.bytes.items) text.old.items begun }
     ensures within { OnOk result (held.new.filled ≤ vec_len held.new.bytes) }
+    ensures room { OnOk result (held.new.room ≡ held.old.room) }
     ensures size { OnOk result (held.new.lines + held.new.filled ≤ held.old.lines + held.old.filled + count) }
     ensures told { TellsBytes (IsTextOf content) O.contents O.puts O.flushes
         (take (held.old.filled + count) held.old.bytes.items) held.old.races held.old.lines
@@ -103,7 +126,7 @@ pub(crate) fn tell_held<A: Allocator + Copy, O: OutputStream>(
 {
     let filled = held.filled + count;
     let bytes = &held.bytes[..filled];
-    let ready = reach_of(bytes, held.filled, count < READ_SIZE, held.tried);
+    let ready = reach_of(bytes, held.filled, count < held.room, held.tried);
     let reach = ready.max(begun.end);
     if reach == 0 {
         held.filled = filled;
@@ -148,7 +171,7 @@ pub(crate) fn end_held<A: Allocator + Copy, O: OutputStream>(
 ) -> Result<(), ReplayFault>
     requires within { held.now.filled ≤ vec_len held.now.bytes }
     requires few { held.now.races ≤ MOST_RACES }
-    requires lines { held.now.lines + held.now.filled ≤ 2 ^ 52 }
+    requires lines { held.now.lines + held.now.filled ≤ 2 ^ 54 }
     ensures { EndsBytes (IsTextOf content) O.contents O.puts O.flushes (take held.now.filled held.now.bytes.items)
         held.now.races held.now.lines is_broken output.old output.new result }
 {

@@ -8,6 +8,6 @@ most_reads = 4294967296
 abbrev pub most_writes : ℕ
 most_writes = 4294967296
 
--- the bytes for which room is made before a read
+-- the most bytes for which room is made before a read
 abbrev pub read_size : ℕ
-read_size = 1048576
+read_size = 4194304

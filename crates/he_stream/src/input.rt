@@ -1,14 +1,15 @@
 //! Reading an input to its end.
-ghost use Rattle.std.specs.Prelude.{◌≡◌, ◌+◌, ◌≤◌, OnOk, length, take, drop, vec_len};
+ghost use Rattle.std.specs.Prelude.{◌≡◌, ◌+◌, ◌<◌, ◌≤◌, OnOk, length, take, drop, vec_len};
 ghost use Rattle.std.specs.Io.{StartsWith, appended_bytes};
 ghost use Rattle.std.specs.Io.KnownBytes.{Consumes, IsAtEnd};
 ghost use Rattle.he_stream.specs.Input.{ReadsTo};
+ghost use Rattle.he_stream.specs.declared.limits.TheConstants.{READ_SIZE};
 ghost use Rattle.he_stream.specs.Pieces.{TakesPiece};
 ghost use Rattle.he_stream.specs.Steps.{Takes};
 
 use crate::answer::Taken;
 use crate::fault::ReadFault;
-use crate::limits::{MOST_READS, READ_SIZE};
+use crate::limits::{INPUT_ROOM, MOST_READS};
 use crate::stream::InputStream;
 use std::alloc::{AllocError, Allocator};
 
@@ -55,7 +56,7 @@ fn fill<S: InputStream, A: Allocator>(
 {
     let mut filled = bytes.len();
     for _steps in 0..MOST_READS {
-        let taken = match take_piece(input, bytes, filled) {
+        let taken = match take_piece(input, bytes, filled, INPUT_ROOM) {
             Ok(taken) => taken,
             Err(_) => return (filled, Err(ReadFault::Memory)),
         };
@@ -71,9 +72,9 @@ fn fill<S: InputStream, A: Allocator>(
 
 /// One step of the input, into the room behind the first `filled` bytes of the vector, which stay.
 ///
-/// The room is [`READ_SIZE`](crate::limits::READ_SIZE) bytes. It is made before the step, so that a refused allocation
-/// loses no byte of the input. After `Bytes(count)` the next `count` bytes of the vector are those that were taken;
-/// what stands behind them is room that the next step uses again.
+/// So many bytes of room are made before the step, so that a refused allocation loses no byte of the input: 1 to
+/// [`READ_SIZE`](crate::limits::READ_SIZE). After `Bytes(count)` the next `count` bytes of the vector are those that were
+/// taken; what stands behind them is room that the next step uses again.
 ///
 /// # Errors
 ///
@@ -82,44 +83,47 @@ pub fn take_piece<S: InputStream, A: Allocator>(
     input: &mut S,
     bytes: &mut Vec<u8, A>,
     filled: usize,
+    room: usize,
 ) -> Result<Taken, AllocError>
-    requires { filled ≤ vec_len bytes.old }
+    requires filled { filled ≤ vec_len bytes.old }
+    requires some { 0 < room }
+    requires few { room ≤ READ_SIZE }
     ensures within { filled ≤ vec_len bytes.new }
-    ensures room { OnOk result (filled + READ_SIZE ≤ vec_len bytes.new) }
+    ensures room { OnOk result (filled + room ≤ vec_len bytes.new) }
     ensures front { take filled bytes.new.items ≡ take filled bytes.old.items }
-    ensures step { TakesPiece S.remaining S.takes input.old input.new (take READ_SIZE (drop filled bytes.new.items)) result }
+    ensures step { TakesPiece S.remaining S.takes input.old input.new (take room (drop filled bytes.new.items)) result }
 {
-    make_room(bytes, filled)?;
-    Ok(take_at(input, bytes.as_mut_slice(), filled))
+    make_room(bytes, filled, room)?;
+    Ok(take_at(input, bytes.as_mut_slice(), filled, room))
 }
 
-// One step into the slice from `at` on.
-fn take_at<S: InputStream>(input: &mut S, bytes: &mut [u8], at: usize) -> Taken
-    requires { at + READ_SIZE ≤ length bytes.old }
+// One step into so many bytes of the slice from `at` on.
+fn take_at<S: InputStream>(input: &mut S, bytes: &mut [u8], at: usize, room: usize) -> Taken
+    requires { at + room ≤ length bytes.old }
     ensures same { length bytes.new ≡ length bytes.old }
     ensures front { take at bytes.new ≡ take at bytes.old }
-    ensures step { Takes (S.remaining input.old) (S.remaining input.new) result (take READ_SIZE (drop at bytes.new)) }
+    ensures step { Takes (S.remaining input.old) (S.remaining input.new) result (take room (drop at bytes.new)) }
     ensures told { S.takes input.old result input.new }
 {
-    input.take(&mut bytes[at..at + READ_SIZE])
+    input.take(&mut bytes[at..at + room])
 }
-
-// Zeros that are copied into new room, as often as it takes.
-static ZEROS: [u8; 4_096] = [0; 4_096];
 
 // Makes the vector longer than `filled` by the room for a step, with zeros. Room that an earlier step left stays as it
 // is.
-fn make_room<A: Allocator>(bytes: &mut Vec<u8, A>, filled: usize) -> Result<(), AllocError>
-    requires { filled ≤ vec_len bytes.old }
+fn make_room<A: Allocator>(
+    bytes: &mut Vec<u8, A>,
+    filled: usize,
+    room: usize,
+) -> Result<(), AllocError>
+    requires filled { filled ≤ vec_len bytes.old }
+    requires few { room ≤ READ_SIZE }
     ensures within { filled ≤ vec_len bytes.new }
     ensures front { take filled bytes.new.items ≡ take filled bytes.old.items }
-    ensures room { OnOk result (filled + READ_SIZE ≤ vec_len bytes.new) }
+    ensures room { OnOk result (filled + room ≤ vec_len bytes.new) }
 {
-    if bytes.len() - filled < READ_SIZE {
-        bytes.reserve(READ_SIZE + ZEROS.len())?;
-    }
-    while bytes.len() - filled < READ_SIZE {
-        bytes.extend_from_slice(&ZEROS)?;
+    if bytes.len() - filled < room {
+        bytes.reserve(filled + room - bytes.len())?;
+        bytes.resize(filled + room, 0)?;
     }
     Ok(())
 }
