@@ -21,4 +21,5 @@ pub mod Repeats
 pub mod Sources
 pub mod Standards
 pub mod Stepping
+pub mod Ties
 pub mod Walks

@@ -16,4 +16,5 @@ pub mod Selection
 pub mod Standard
 pub mod TableFaults
 pub mod Tables
+pub mod Ties
 pub mod Walking

@@ -21,6 +21,7 @@
 
 pub(crate) mod distinct;
 pub mod host;
+pub(crate) mod kinds;
 pub mod laws;
 pub mod limits;
 pub(crate) mod lookup;

@@ -1,6 +1,6 @@
 // The key of a destination (RFC 6724 section 6).
 
-ghost use Rattle.std.specs.Prelude.{◌≡◌, Option, IsTrue, IfSome};
+ghost use Rattle.std.specs.Prelude.{◌≡◌, All, Option, IsTrue, IfOk, IfSome, OnOk};
 ghost use Rattle.std.specs.List.{list_all};
 ghost use Rattle.std.specs.Option.{option_map_or};
 ghost use Rattle.std.specs.Cmp.{eq_by_cmp_equiv, partial_equiv_from_equiv, partial_order_from_total};
@@ -11,13 +11,16 @@ ghost use Rattle.he_addr.specs.Prefix.{common_of};
 ghost use Rattle.he_select.specs.KeyOrder.{key_order, key_order_total, late_key_cmp};
 ghost use Rattle.he_select.specs.Ranking.{attributes_of, chosen_by, key_by, ranked_from};
 ghost use Rattle.he_select.specs.HostFaults.{is_sound_source};
+ghost use Rattle.he_select.specs.Ties.{tied_of};
 
 use crate::host::Route;
+use crate::kinds::{Kind, choose};
 use crate::lookup::{find_route, find_row};
 use crate::policy::Row;
 use crate::selection::{Destination, Labelled};
 use crate::sorting::Sourced;
 use he_addr::{Ip, common_len};
+use std::alloc::{AllocError, Allocator};
 use std::cmp::{Ordering, Reverse};
 
 /// A number for each rule, in the rules' order; the preferred destination has the least key.
@@ -129,24 +132,28 @@ struct Attributes {
 }
 
 /// The destination that stands at this place of the list, with its source and its key.
-pub(crate) fn rank(
+pub(crate) fn rank<A: Allocator + Copy>(
+    alloc: A,
     rows: &[Row],
     routes: &[Route],
     sources: &[Labelled],
+    kinds: &mut Vec<Kind<A>, A>,
     ip: Ip,
     place: usize,
-) -> Ranked
-    requires { IsTrue (list_all (λ labelled. is_sound_source labelled.source) sources.now) }
-    ensures ranked { result ≡ ranked_from rows.now routes.now sources.now (record { ip = ip; place = place }) }
+) -> Result<Ranked, AllocError>
+    requires sound { IsTrue (list_all (λ labelled. is_sound_source labelled.source) sources.now) }
+    requires kinds { All (λ kind. kind.tied.items ≡ tied_of kind.destination sources.now) kinds.old.items }
+    ensures ranked { IfOk result (λ ranked. ranked ≡ ranked_from rows.now routes.now sources.now (record { ip = ip; place = place })) }
+    ensures kinds { OnOk result (All (λ kind. kind.tied.items ≡ tied_of kind.destination sources.now) kinds.new.items) }
     ensures range { InRange ip }
 {
     let goal = Attributes::new(rows, routes, ip);
-    let chosen = goal.choose_source(sources);
+    let chosen = goal.choose_source(alloc, kinds, sources)?;
     let source = chosen.map(|labelled| labelled.source.ip);
-    Ranked {
+    Ok(Ranked {
         key: goal.key(chosen, place),
         sourced: Sourced { ip, source },
-    }
+    })
 }
 
 impl Attributes {
@@ -168,13 +175,25 @@ impl Attributes {
     }
 
     #[tactic(auto, unfolding(crate::specs::Ranking::chosen_by))]
-    fn choose_source(&self, sources: &[Labelled]) -> Option<Labelled>
-        requires { IsTrue (list_all (λ labelled. is_sound_source labelled.source) sources.now) }
-        ensures chosen { result ≡ chosen_by self.now sources.now }
-        ensures sound { IfSome result (λ labelled. IsTrue (is_sound_source labelled.source)) }
+    fn choose_source<A: Allocator + Copy>(
+        &self,
+        alloc: A,
+        kinds: &mut Vec<Kind<A>, A>,
+        sources: &[Labelled],
+    ) -> Result<Option<Labelled>, AllocError>
+        requires sound { IsTrue (list_all (λ labelled. is_sound_source labelled.source) sources.now) }
+        requires kinds { All (λ kind. kind.tied.items ≡ tied_of kind.destination sources.now) kinds.old.items }
+        ensures chosen { IfOk result (λ chosen. chosen ≡ chosen_by self.now sources.now) }
+        ensures sound { IfOk result (λ chosen. IfSome chosen (λ labelled. IsTrue (is_sound_source labelled.source))) }
+        ensures kinds { OnOk result (All (λ kind. kind.tied.items ≡ tied_of kind.destination sources.now) kinds.new.items) }
     {
-        let route = self.route?;
-        Destination::new(self.ip, self.label, &route).best_of(sources)
+        match self.route {
+            Some(route) => {
+                let destination = Destination::new(self.ip, self.label, &route);
+                choose(alloc, kinds, sources, &destination)
+            }
+            None => Ok(None),
+        }
     }
 
     #[tactic(auto, unfolding(crate::specs::Ranking::key_by))]

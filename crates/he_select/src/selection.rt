@@ -106,7 +106,7 @@ impl Destination {
     /// Whether the source may be used: one of the destination's family, for a destination of link scope only one on
     /// the route's interface.
     #[inline(always)]
-    fn admits(&self, labelled: &Labelled) -> bool
+    pub(crate) fn admits(&self, labelled: &Labelled) -> bool
         ensures { result ≡ admits self.now labelled.now }
     {
         labelled.source.ip.family() == self.ip.family()
@@ -166,7 +166,7 @@ impl Destination {
 
     /// Of two scopes the smaller one, unless it is smaller than the destination's; then the larger.
     #[inline(always)]
-    fn prefers_scope(&self, this: u8, other: u8) -> bool
+    pub(crate) fn prefers_scope(&self, this: u8, other: u8) -> bool
         ensures { result ≡ is_lt (by_appropriate_scope self.now.scope this other) }
     {
         if this < other {
@@ -177,7 +177,7 @@ impl Destination {
     }
 
     #[inline(always)]
-    fn common(&self, labelled: &Labelled) -> u8
+    pub(crate) fn common(&self, labelled: &Labelled) -> u8
         requires { IsTrue (is_sound_source labelled.now.source) }
         ensures { result ≡ common_of labelled.now.source.ip labelled.now.source.plen self.now.ip }
     {

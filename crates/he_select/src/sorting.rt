@@ -169,9 +169,11 @@ fn rank_all<A: Allocator + Copy>(
     ensures keys { IfOk result (λ keys. keys.items ≡ map (key_from rows.now routes.now sources.now) (members_from 0 addresses.now)) }
     ensures range { OnOk result (All InRange addresses.now) }
 {
+    let mut kinds = Vec::new(alloc);
     let mut keys = Vec::with_capacity(alloc, addresses.len())?;
     for (place, ip) in addresses.iter().enumerate() {
-        keys.push(rank(rows, routes, sources, *ip, place).key)?;
+        let ranked = rank(alloc, rows, routes, sources, &mut kinds, *ip, place)?;
+        keys.push(ranked.key)?;
     }
     Ok(keys)
 }
@@ -189,10 +191,11 @@ fn rank_with_sources<A: Allocator + Copy>(
     ensures sourced { IfOk result (λ made. made.1.items ≡ map (sourced_from rows.now routes.now sources.now) addresses.now) }
     ensures range { OnOk result (All InRange addresses.now) }
 {
+    let mut kinds = Vec::new(alloc);
     let mut keys = Vec::with_capacity(alloc, addresses.len())?;
     let mut sourced = Vec::with_capacity(alloc, addresses.len())?;
     for (place, ip) in addresses.iter().enumerate() {
-        let ranked = rank(rows, routes, sources, *ip, place);
+        let ranked = rank(alloc, rows, routes, sources, &mut kinds, *ip, place)?;
         keys.push(ranked.key)?;
         sourced.push(ranked.sourced)?;
     }

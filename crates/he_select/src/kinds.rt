@@ -1,0 +1,197 @@
+// The sources among which the longest common prefix decides, kept for each kind of destination.
+
+ghost use Rattle.std.specs.Prelude.{◌≡◌, ◌==◌, ◌<◌, All, None, length, option_map, IsTrue, IfOk, IfSome, OnOk};
+ghost use Rattle.std.specs.List.{list_all, list_any, HoldsAt};
+ghost use Rattle.he_addr.specs.Ip.{same_ip};
+ghost use Rattle.he_select.specs.HostFaults.{is_sound_source};
+ghost use Rattle.he_select.specs.LabelledRules.{admits, is_better_labelled};
+ghost use Rattle.he_select.specs.Rules.{first_of};
+ghost use Rattle.he_select.specs.Selection.{by_appropriate_scope};
+ghost use Rattle.he_select.specs.Ties.{closest_of, is_alike, is_closer, keep_tied, kind_rules, tied_of};
+ghost use Rattle.he_select.specs.Walking.{keep_better, walk_fitting};
+
+use crate::selection::{Destination, Labelled};
+use std::alloc::{AllocError, Allocator};
+use std::cmp::Ordering;
+
+/// Of so few sources to ask each one costs less than to keep which of them tie.
+const FEW_SOURCES: usize = 4;
+
+/// The sources that tie for a destination by rules 2 to 7. These look at its family, scope, label and interface alone,
+/// and a list of addresses has few such kinds.
+#[derive(Drop)]
+pub(crate) struct Kind<A: Allocator> {
+    /// The first destination of the kind.
+    pub(crate) destination: Destination,
+
+    pub(crate) tied: Vec<Labelled, A>,
+}
+
+/// The best of the sources that may be used for the destination, by the kinds met before; a kind that is met first is
+/// kept with them.
+pub(crate) fn choose<A: Allocator + Copy>(
+    alloc: A,
+    kinds: &mut Vec<Kind<A>, A>,
+    sources: &[Labelled],
+    destination: &Destination,
+) -> Result<Option<Labelled>, AllocError>
+    requires sound { IsTrue (list_all (λ labelled. is_sound_source labelled.source) sources.now) }
+    requires kinds { All (λ kind. kind.tied.items ≡ tied_of kind.destination sources.now) kinds.old.items }
+    ensures best { IfOk result (λ best. best ≡ walk_fitting (admits destination.now) (is_better_labelled destination.now) None sources.now) }
+    ensures sound { IfOk result (λ best. IfSome best (λ labelled. IsTrue (is_sound_source labelled.source))) }
+    ensures kinds { OnOk result (All (λ kind. kind.tied.items ≡ tied_of kind.destination sources.now) kinds.new.items) }
+{
+    // Rule 1, prefer same address, is asked of one destination alone, and seldom decides.
+    if sources.len() <= FEW_SOURCES || destination.has_source(sources) {
+        return Ok(destination.best_of(sources));
+    }
+    if let Some(place) = place_of(kinds, destination) {
+        return Ok(destination.closest_of(&kinds[place].tied));
+    }
+    let tied = destination.tie(alloc, sources)?;
+    let best = destination.closest_of(&tied);
+    kinds.push(Kind {
+        destination: *destination,
+        tied,
+    })?;
+    Ok(best)
+}
+
+/// The place of the kind of this destination, where it was met before.
+fn place_of<A: Allocator>(kinds: &[Kind<A>], destination: &Destination) -> Option<usize>
+    ensures inside { IfSome result (λ place. place < length kinds.now) }
+    ensures alike { IfSome result (λ place. HoldsAt (λ kind. IsTrue (is_alike kind.destination destination.now)) kinds.now place) }
+{
+    for place in 0..kinds.len() {
+        if kinds[place].destination.is_alike(destination) {
+            return Some(place);
+        }
+    }
+    None
+}
+
+impl Destination {
+    /// Whether rules 2 to 7 say the same of any two sources for both destinations.
+    fn is_alike(&self, other: &Destination) -> bool
+        ensures { result ≡ is_alike self.now other.now }
+    {
+        self.ip.family() == other.ip.family()
+            && self.scope == other.scope
+            && self.label == other.label
+            && self.interface == other.interface
+    }
+
+    /// Whether a source has this destination's address.
+    fn has_source(&self, sources: &[Labelled]) -> bool
+        ensures { result ≡ list_any (λ labelled. same_ip labelled.source.ip self.now.ip) sources.now }
+    {
+        for labelled in sources {
+            if labelled.source.ip == self.ip {
+                return true;
+            }
+        }
+        false
+    }
+
+    /// The sources that may be used for this destination and than which none is better by rules 2 to 7.
+    fn tie<A: Allocator + Copy>(
+        &self,
+        alloc: A,
+        sources: &[Labelled],
+    ) -> Result<Vec<Labelled, A>, AllocError>
+        ensures { IfOk result (λ tied. tied.items ≡ tied_of self.now sources.now) }
+    {
+        let mut tied = Vec::new(alloc);
+        for labelled in sources {
+            self.keep_tied(&mut tied, labelled)?;
+        }
+        Ok(tied)
+    }
+
+    /// The same with one more source: all that tie compare to it alike.
+    fn keep_tied<A: Allocator>(
+        &self,
+        tied: &mut Vec<Labelled, A>,
+        labelled: &Labelled,
+    ) -> Result<(), AllocError>
+        ensures { OnOk result (tied.new.items ≡ keep_tied (admits self.now) (first_of (kind_rules self.now)) tied.old.items labelled.now) }
+    {
+        if !self.admits(labelled) {
+            return Ok(());
+        }
+        if let Some(first) = tied.first().copied() {
+            match self.compare(labelled, &first) {
+                Ordering::Less => tied.clear(),
+                Ordering::Equal => {}
+                Ordering::Greater => return Ok(()),
+            }
+        }
+        tied.push(*labelled)?;
+        Ok(())
+    }
+
+    /// How two sources compare by rules 2 to 7, the better one less.
+    #[tactic(auto, unfolding(crate::specs::Ties::kind_rules))]
+    fn compare(&self, this: &Labelled, other: &Labelled) -> Ordering
+        ensures { result ≡ first_of (kind_rules self.now) this.now other.now }
+    {
+        // Rule 2: prefer appropriate scope.
+        self.compare_scopes(this.scope, other.scope)
+            // Rule 3: avoid deprecated addresses.
+            .then((!other.source.deprecated).cmp(&!this.source.deprecated))
+            // Rule 5: prefer outgoing interface.
+            .then(
+                (other.source.interface == self.interface).cmp(
+                    &(this.source.interface == self.interface),
+                ),
+            )
+            // Rule 6: prefer matching label.
+            .then((other.label == self.label).cmp(&(this.label == self.label)))
+            // Rule 7: prefer temporary addresses.
+            .then(other.source.temporary.cmp(&this.source.temporary))
+    }
+
+    /// How two scopes compare by rule 2: the smaller one is preferred, unless it is smaller than the destination's;
+    /// then the larger.
+    fn compare_scopes(&self, this: u8, other: u8) -> Ordering
+        ensures { result ≡ by_appropriate_scope self.now.scope this other }
+    {
+        if self.prefers_scope(this, other) {
+            Ordering::Less
+        } else if self.prefers_scope(other, this) {
+            Ordering::Greater
+        } else {
+            Ordering::Equal
+        }
+    }
+
+    /// The first of those sources that have the longest prefix in common with this destination.
+    fn closest_of(&self, tied: &[Labelled]) -> Option<Labelled>
+        requires { IsTrue (list_all (λ labelled. is_sound_source labelled.source) tied.now) }
+        ensures closest { result ≡ closest_of self.now tied.now }
+        ensures sound { IfSome result (λ labelled. IsTrue (is_sound_source labelled.source)) }
+    {
+        let mut best = None;
+        for labelled in tied {
+            best = self.keep_closer(best, labelled);
+        }
+        best.copied()
+    }
+
+    #[inline(always)]
+    fn keep_closer<'a>(
+        &self,
+        best: Option<&'a Labelled>,
+        labelled: &'a Labelled,
+    ) -> Option<&'a Labelled>
+        requires sound { IsTrue (is_sound_source labelled.now.source) }
+        requires best { IfSome best (λ kept. IsTrue (is_sound_source kept.now.source)) }
+        ensures kept { option_map (λ kept. kept.now) result ≡ keep_better (is_closer self.now) (option_map (λ kept. kept.now) best.entry) labelled.now }
+        ensures sound { IfSome result (λ kept. IsTrue (is_sound_source kept.now.source)) }
+    {
+        match best {
+            Some(kept) if self.common(labelled) <= self.common(kept) => best,
+            _ => Some(labelled),
+        }
+    }
+}
