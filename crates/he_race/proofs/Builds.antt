@@ -1,5 +1,5 @@
--- What the calls of the builder leave where they answer Ok.
-use Rattle.std.proofs.Common.{◌≡◌, ℕ, ◌&&◌, Bool, true, false, not, List, [], if◌then◌else◌, length, Option, Some, None, is_some, Result, Ok, Err, nat_le, nat_lt, refl, ap, ◌∙◌}
+-- What the calls of the builder leave where their checks are met.
+use Rattle.std.proofs.Common.{◌≡◌, ℕ, ◌≤◌, ◌<◌, ◌&&◌, Bool, true, false, List, [], length, Option, Some, None, is_some, Result, Ok, Err, IfErr, OnOk, nat_le, nat_lt, refl, sym, ap, subst, ◌∙◌}
 use Rattle.he_addr.specs.declared.ip.Family.{Family}
 use Rattle.he_addr.specs.declared.ip.Family.TheVariants as families
 use Rattle.he_addr.specs.declared.ip.Ip.{Ip}
@@ -7,54 +7,91 @@ use Rattle.he_plan.specs.declared.builder.BuildFault.{BuildFault}
 use Rattle.he_plan.specs.declared.builder.BuildFault.TheVariants as faults
 use Rattle.he_plan.specs.declared.limits.TheConstants.{MAX_ADDRESSES, MAX_PAUSES, MAX_PAUSE_END, MAX_TICK}
 use Rattle.he_plan.specs.declared.outcome.Outcome.{Outcome}
-use Rattle.he_plan.specs.Building.{add_answer, add_outcome, add_pause, empty_race, last_end, with_answer, with_outcome, with_pause}
+use Rattle.he_plan.specs.Building.{Becomes, add_answer, add_outcome, add_pause, empty_race, last_end, with_answer, with_outcome, with_pause}
 use Rattle.he_plan.specs.Settings.{SettingValues}
 use Rattle.he_plan.specs.Race.{Race, Reply, has_outcome, is_in_answer, reply_of}
-use Rattle.he_plan.specs.Timeline.{are_distinct, are_of, duration_of, is_duration}
+use Rattle.he_plan.specs.Timeline.{IsRace, are_distinct, are_of, duration_of, is_answer, is_duration}
+use Rattle.he_plan.proofs.Bools.{and_left, and_right, le_from, le_test, lt_test, not_le, not_lt}
+use Rattle.he_plan.proofs.Ranges.{IsRace-with_answer}
 use Rattle.he_race.specs.Answered.{with_reply}
 use Rattle.he_race.specs.Recording.{unrecorded}
 use Rattle.he_select.specs.declared.policy.Row.{Row}
 use Rattle.he_select.specs.Hosts.{HostLists}
 
--- a choice that answers Ok was not the fault
-no_fault : (b : Bool) (fault : BuildFault) (rest : Result Race BuildFault) (new : Race) → (if b then Err fault else rest) ≡ Ok new → (b ≡ false) × (rest ≡ Ok new)
-no_fault true fault rest new h = cc
-no_fault false fault rest new h = (refl, h)
+-- what a call of the builder leaves where its checks are met: the race with what was added, and it refuses nothing but
+-- memory
+only_memory : (answer : Result (Unit {0}) BuildFault) (old new made : Race) → Becomes answer old new (Ok made) → IfErr answer (λ fault. fault ≡ faults.Memory)
+only_memory (Ok done) old new made b = tt
+only_memory (Err faults.Memory) old new made b = refl
+only_memory (Err faults.Answered) old new made b = let no : ◌≡◌ {A = Result Race BuildFault} (Ok made) (Err faults.Answered) = b.1 in cc
+only_memory (Err faults.Range) old new made b = let no : ◌≡◌ {A = Result Race BuildFault} (Ok made) (Err faults.Range) = b.1 in cc
+only_memory (Err faults.TooMany) old new made b = let no : ◌≡◌ {A = Result Race BuildFault} (Ok made) (Err faults.TooMany) = b.1 in cc
+only_memory (Err faults.Stranger) old new made b = let no : ◌≡◌ {A = Result Race BuildFault} (Ok made) (Err faults.Stranger) = b.1 in cc
+only_memory (Err faults.Repeated) old new made b = let no : ◌≡◌ {A = Result Race BuildFault} (Ok made) (Err faults.Repeated) = b.1 in cc
 
 same_race : (x y : Race) → ◌≡◌ {A = Result Race BuildFault} (Ok x) (Ok y) → y ≡ x
 same_race x y h = cc
 
-pub paused-is : (race new : Race) (from to : ℕ) → add_pause from to race ≡ Ok new → new ≡ with_pause race from to
-paused-is race new from to h =
-    let one = no_fault (not (nat_le (last_end race.pauses) from && nat_lt from to && nat_le to MAX_PAUSE_END)) faults.Range (if nat_le MAX_PAUSES (length race.pauses) then Err faults.TooMany else Ok (with_pause race from to)) new h in
-    let two = no_fault (nat_le MAX_PAUSES (length race.pauses)) faults.TooMany (Ok (with_pause race from to)) new one.1 in
-    same_race _ _ two.1
+pub record Adds (answer : Result (Unit {0}) BuildFault) (new made : Race) : Type 0 where
+  pub refused : IfErr answer (λ fault. fault ≡ faults.Memory)
+  pub left : answer ≡ Ok tt → new ≡ made
 
-pub record Told (race new : Race) (ip : Ip) (outcome : Outcome) : Type 0 where
-  pub is : new ≡ with_outcome race ip outcome
-  pub first : has_outcome ip race.outcomes ≡ false
+adds : (answer : Result (Unit {0}) BuildFault) (old new made : Race) → Becomes answer old new (Ok made) → Adds answer new made
+adds answer old new made b = record {
+  refused = only_memory answer old new made b;
+  left = λ done. (let P : Result (Unit {0}) BuildFault → Type 0 = λ r. Becomes r old new (Ok made) in same_race made new (subst P done b));
+}
 
-pub told-is : (race new : Race) (ip : Ip) (outcome : Outcome) → add_outcome ip outcome race ≡ Ok new → Told race new ip outcome
-told-is race new ip outcome h =
-    let rest : Result Race BuildFault = if has_outcome ip race.outcomes then Err faults.Repeated else Ok (with_outcome race ip outcome) in
-    let one = no_fault (not (is_duration (duration_of outcome))) faults.Range (if not (is_in_answer race ip) then Err faults.Stranger else rest) new h in
-    let two = no_fault (not (is_in_answer race ip)) faults.Stranger rest new one.1 in
-    let three = no_fault (has_outcome ip race.outcomes) faults.Repeated (Ok (with_outcome race ip outcome)) new two.1 in
-    record { is = same_race _ _ three.1; first = three.0 }
+pub left-ok : {E : Type 0} (answer : Result (Unit {0}) BuildFault) (new made : Race) (r : Result (Unit {0}) E) → Adds answer new made → OnOk r (answer ≡ Ok tt) → OnOk r (new ≡ made)
+left-ok answer new made (Ok done) a h = a.left h
+left-ok answer new made (Err fault) a h = tt
 
-pub answered-is : (race new : Race) (family : Family) (tick : ℕ) (ips : List Ip) → add_answer family tick ips race ≡ Ok new → new ≡ with_answer race family (record { tick = tick; addresses = ips })
-answered-is race new family tick ips h =
-    let made : Result Race BuildFault = Ok (with_answer race family (record { tick = tick; addresses = ips })) in
-    let five : Result Race BuildFault = if not (are_distinct ips) then Err faults.Repeated else made in
-    let four : Result Race BuildFault = if not (are_of family ips) then Err faults.Stranger else five in
-    let three : Result Race BuildFault = if nat_lt MAX_ADDRESSES (length ips) then Err faults.TooMany else four in
-    let two : Result Race BuildFault = if nat_lt MAX_TICK tick then Err faults.Range else three in
-    let a = no_fault (is_some (reply_of race family)) faults.Answered two new h in
-    let b = no_fault (nat_lt MAX_TICK tick) faults.Range three new a.1 in
-    let c = no_fault (nat_lt MAX_ADDRESSES (length ips)) faults.TooMany four new b.1 in
-    let d = no_fault (not (are_of family ips)) faults.Stranger five new c.1 in
-    let e = no_fault (not (are_distinct ips)) faults.Repeated made new d.1 in
-    same_race _ _ e.1
+pub valid-ok : {E : Type 0} (answer : Result (Unit {0}) BuildFault) (new made : Race) (r : Result (Unit {0}) E) → Adds answer new made → IsRace made → OnOk r (answer ≡ Ok tt) → OnOk r (IsRace new)
+valid-ok answer new made (Ok done) a v h = let P : Race → Type 0 = IsRace in subst P (sym (a.left h)) v
+valid-ok answer new made (Err fault) a v h = tt
+
+pub pause-adds : (answer : Result (Unit {0}) BuildFault) (race new : Race) (from to : ℕ) → last_end race.pauses ≤ from → from < to → to ≤ MAX_PAUSE_END → length race.pauses < MAX_PAUSES → Becomes answer race new (add_pause from to race) → Adds answer new (with_pause race from to)
+pause-adds answer race new from to later some early few b =
+    let fits : add_pause from to race ≡ Ok (with_pause race from to) = rw (le_test (last_end race.pauses) from later, lt_test from to some, le_test to MAX_PAUSE_END early, not_le MAX_PAUSES (length race.pauses) few) refl in
+    adds answer race new (with_pause race from to) (subst (Becomes answer race new) fits b)
+
+pub outcome-adds : (answer : Result (Unit {0}) BuildFault) (race new : Race) (ip : Ip) (outcome : Outcome) → is_duration (duration_of outcome) ≡ true → is_in_answer race ip ≡ true → has_outcome ip race.outcomes ≡ false → Becomes answer race new (add_outcome ip outcome race) → Adds answer new (with_outcome race ip outcome)
+outcome-adds answer race new ip outcome lasts known first b =
+    let fits : add_outcome ip outcome race ≡ Ok (with_outcome race ip outcome) = rw (lasts, known, first) refl in
+    adds answer race new (with_outcome race ip outcome) (subst (Becomes answer race new) fits b)
+
+-- the parts of a choice of answers that is in range
+record Fits (family : Family) (tick : ℕ) (ips : List Ip) : Type 0 where
+  early : nat_lt MAX_TICK tick ≡ false
+  few : nat_lt MAX_ADDRESSES (length ips) ≡ false
+  of : are_of family ips ≡ true
+  distinct : are_distinct ips ≡ true
+
+fits-in : (family : Family) (tick : ℕ) (ips : List Ip) → is_answer family (Some (record { tick = tick; addresses = ips })) ≡ true → Fits family tick ips
+fits-in family tick ips h =
+    let early : Bool = nat_le tick MAX_TICK in
+    let few : Bool = nat_le (length ips) MAX_ADDRESSES in
+    let of : Bool = are_of family ips in
+    let three : (early && few && of) ≡ true = and_left (early && few && of) (are_distinct ips) h in
+    let two : (early && few) ≡ true = and_left (early && few) of three in
+    record {
+      early = not_lt MAX_TICK tick (le_from tick MAX_TICK (and_left early few two));
+      few = not_lt MAX_ADDRESSES (length ips) (le_from (length ips) MAX_ADDRESSES (and_right early few two));
+      of = and_right (early && few) of three;
+      distinct = and_right (early && few && of) (are_distinct ips) h;
+    }
+
+answer_fits : (race : Race) (family : Family) (tick : ℕ) (ips : List Ip) → reply_of race family ≡ None → Fits family tick ips → add_answer family tick ips race ≡ Ok (with_answer race family (record { tick = tick; addresses = ips }))
+answer_fits race family tick ips none f = rw (none, f.early, f.few, f.of, f.distinct) refl
+
+pub answer-adds : (answer : Result (Unit {0}) BuildFault) (race new : Race) (family : Family) (tick : ℕ) (ips : List Ip) → reply_of race family ≡ None → is_answer family (Some (record { tick = tick; addresses = ips })) ≡ true → Becomes answer race new (add_answer family tick ips race) → Adds answer new (with_answer race family (record { tick = tick; addresses = ips }))
+answer-adds answer race new family tick ips none in_range b =
+    adds answer race new (with_answer race family (record { tick = tick; addresses = ips })) (subst (Becomes answer race new) (answer_fits race family tick ips none (fits-in family tick ips in_range)) b)
+
+pub answer-valid : (race : Race) (family : Family) (tick : ℕ) (ips : List Ip) → IsRace race → reply_of race family ≡ None → is_answer family (Some (record { tick = tick; addresses = ips })) ≡ true → IsRace (with_answer race family (record { tick = tick; addresses = ips }))
+answer-valid race family tick ips r none in_range =
+    let f : Fits family tick ips = fits-in family tick ips in_range in
+    IsRace-with_answer race family tick ips r (ap is_some none) f.early f.few f.of f.distinct
 
 copied : (s : SettingValues) (p : List Row) (h : HostLists) (aaaa a : Option Reply) → with_reply (with_reply (empty_race s p h) families.V6 aaaa) families.V4 a ≡ record { settings = s; policy = p; host = h; aaaa = aaaa; a = a; outcomes = []; pauses = [] }
 copied s p h None None = refl

@@ -1,5 +1,6 @@
 pub mod Awake
 pub mod Builds
+pub mod Counted
 pub mod Driven
 pub mod DueTicks
 pub mod Ending
@@ -10,8 +11,10 @@ pub mod Recorded
 pub mod Replayed
 pub mod Runs
 pub mod Scripts
+pub mod Standing
 pub mod Sweeps
 pub mod Swept
 pub mod Turning
+pub mod Untold
 pub mod Waits
 pub mod Wheels

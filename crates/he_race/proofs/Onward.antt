@@ -71,7 +71,7 @@ next_script race end rr re alike free xs x clear is = record {
   ip = subst (λ (ips : List Ip). find (is_untried xs) ips ≡ Some x.ip) (sym (order-shared race end rr re alike x.tick clear (free x.tick clear))) is.ip;
 }
 
-take_all_of : (xs : List Attempt) (x : Attempt) → take (length xs) (xs ++ x ∷ []) ≡ xs
+pub take_all_of : (xs : List Attempt) (x : Attempt) → take (length xs) (xs ++ x ∷ []) ≡ xs
 take_all_of [] x = refl
 take_all_of (y ∷ xs) x = ap (λ (zs : List Attempt). y ∷ zs) (take_all_of xs x)
 

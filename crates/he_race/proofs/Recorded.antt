@@ -1,5 +1,5 @@
 -- What is known of a race that is being run when a turn begins, when an attempt finishes in it, and when it ends.
-use Rattle.std.proofs.Common.{◌≡◌, ℕ, zero, suc, ◌+◌, ◌-◌, ◌≤◌, ◌<◌, ◌&&◌, ◌||◌, ◌++◌, Bool, true, false, not, List, [], ◌∷◌, if◌then◌else◌, length, find, get_or, Option, Some, None, Result, Ok, Err, IfSome, IfOk, OnOk, IsSomeAnd, nat_le, nat_lt, refl, sym, ◌∙◌, ap, subst, arith, inl, inr, length-append}
+use Rattle.std.proofs.Common.{◌≡◌, ℕ, zero, suc, ◌+◌, ◌-◌, ◌≤◌, ◌<◌, ◌⊎◌, ◌&&◌, ◌||◌, ◌++◌, Bool, true, false, not, List, [], ◌∷◌, if◌then◌else◌, length, find, get_or, Option, Some, None, Result, Ok, Err, IfSome, IfOk, OnOk, IsSomeAnd, nat_le, nat_lt, refl, sym, ◌∙◌, ap, subst, arith, inl, inr, length-append}
 use Rattle.std.specs.List.{All, Contains, list_all, slice_get}
 use Rattle.std.specs.Option.{option_map, option_map_or}
 use Rattle.std.proofs.lemmas.Bool.{cases_lt}
@@ -16,7 +16,7 @@ use Rattle.he_plan.specs.Agreement.{AgreeBelow}
 use Rattle.he_plan.specs.Attempts.{AreNextInTurn, IsFree, IsLeast, IsNext, IsSeen, MayStart, is_tried, is_untried, last_of, seen, seen_past}
 use Rattle.he_plan.specs.Building.{last_end, with_outcome, with_pause}
 use Rattle.he_plan.specs.Continuing.{Follow}
-use Rattle.he_plan.specs.Due.{IsAfterTurn, IsDue, IsDueTick, IsTaken}
+use Rattle.he_plan.specs.Due.{IsAfterTurn, IsDelayDue, IsDue, IsDueTick, IsStartDue, IsTaken}
 use Rattle.he_plan.specs.Finish.{outcome_in, outcome_of}
 use Rattle.he_plan.specs.Planning.{IsPlanned, PlansNext, was_received}
 use Rattle.he_plan.specs.Race.{Race, Reply, has_outcome}
@@ -31,7 +31,8 @@ use Rattle.he_plan.proofs.Planned.{last_of-more}
 use Rattle.he_plan.proofs.Queued.{IsQueue-new}
 use Rattle.he_plan.proofs.Ranges.{same_ip-sym}
 use Rattle.he_plan.proofs.Starting.{IsSeen-seen}
-use Rattle.he_race.specs.Recording.{Begins, EndedBy, FailedBelow, HasSuccess, InTurn, Rests, ended_by, floor, unrecorded}
+use Rattle.he_race.specs.Recording.{Begins, EndedBy, FailedBelow, HasSuccess, InTurn, Rests, ended_by, floor, taken, unrecorded}
+use Rattle.he_race.proofs.Counted.{all_taken_later, due_taken, turn_by}
 use Rattle.he_race.proofs.DueTicks.{due_starts}
 
 pub own_ip : (ip : Ip) → same_ip ip ip ≡ true
@@ -107,10 +108,28 @@ begins-late race turn xs due now rest is up late r' =
         ended = All-weaker (λ (x : Attempt). IfSome (outcome_of race' x.ip) (FailedBelow race' now x)) (λ (x : Attempt). IfSome (outcome_of race' x.ip) (EndedBy race' now false x)) (λ x h. if_some (FailedBelow race' now x) (EndedBy race' now false x) (outcome_of race' x.ip) (failed_ended race' now x) h) xs failed;
         stops = stops agree;
         success = λ e. absurd (not_won e);
+        few = omega (arith, one_more, rest.few, all_taken_later turn now up race);
+        starts = λ more early. starts more early is.holds;
       };
       failed = failed;
     }
   where
+    one_more : length (race.pauses ++ (due, now) ∷ []) ≡ length race.pauses + 1
+    one_more = length-append race.pauses ((due, now) ∷ [])
+
+    starts_at : now < race.settings.limit → IsDelayDue (with_pause race due now) turn xs due ⊎ IsStartDue (with_pause race due now) turn xs due → MayStart (with_pause race due now) xs now
+    starts_at early is_due =
+        let over : last_end (race.pauses ++ (due, now) ∷ []) ≡ now = last_end-more race.pauses (due, now) in
+        due_starts (with_pause race due now) r' turn xs due now is_due (turn_by turn now up) (omega arith) (pauses-over (with_pause race due now) r' now (omega (arith, over))) early
+
+    -- the new pause is one too many only where a delay was over, so that an attempt may start
+    starts : taken (Some now) race + length xs < length (race.pauses ++ (due, now) ∷ []) → now < race.settings.limit → IsDue race turn xs due → MayStart (with_pause race due now) xs now
+    starts more early (inl six) = absurd (let no : ⊥ = omega (arith, more, one_more, rest.few, due_taken turn now due up (omega arith) race (inl six)) in no)
+    starts more early (inr (inl four)) = absurd (let no : ⊥ = omega (arith, more, one_more, rest.few, due_taken turn now due up (omega arith) race (inr four)) in no)
+    starts more early (inr (inr (inl delay))) = starts_at early (inl (record { none = delay.none; aaaa = delay.aaaa; a = delay.a }))
+    starts more early (inr (inr (inr (inl start)))) = starts_at early (inr (record { delay = start.delay; some = start.some }))
+    starts more early (inr (inr (inr (inr limit)))) = absurd (let no : ⊥ = omega (arith, limit, early) in no)
+
     stops : AgreeBelow due race (with_pause race due now) → (t : ℕ) → MayStart (with_pause race due now) xs t → now ≤ t
     stops agree t m = elim (cases_lt t due) [
       | inl sooner ↦
@@ -137,6 +156,8 @@ begins-now race turn xs due now rest is up early =
         ended = All-weaker (λ (x : Attempt). IfSome (outcome_of race x.ip) (FailedBelow race now x)) (λ (x : Attempt). IfSome (outcome_of race x.ip) (EndedBy race now false x)) (λ x h. if_some (FailedBelow race now x) (EndedBy race now false x) (outcome_of race x.ip) (failed_ended race now x) h) xs failed;
         stops = λ t m. (let k : seen race due ≤ t = due-no_sooner race r turn xs due rest.after is t m in let s : IsSeen race due (seen race due) = IsSeen-seen race r due in let l : due ≤ seen race due = s.holds.0 in omega arith);
         success = λ e. absurd (not_won e);
+        few = omega (arith, rest.few, all_taken_later turn now up race);
+        starts = λ more early. absurd (let no : ⊥ = omega (arith, more, rest.few, all_taken_later turn now up race) in no);
       };
       failed = failed;
     }
@@ -266,6 +287,7 @@ rests-still race now xs t early none = record {
   over = omega (arith, t.over);
   failed = all_failed race now xs t.ended;
   after = (pauses-over race t.valid now t.over, early, none);
+  few = elim (cases_lt (taken (Some now) race + length xs) (length race.pauses)) [ inl more ↦ absurd (none (t.starts more early)) | inr few ↦ few ];
 }
 
 tried_more : (xs : List Attempt) (x : Attempt) (told : List (Ip × Outcome)) → list_all (λ (p : Ip × Outcome). is_tried xs p.0) told ≡ true → list_all (λ (p : Ip × Outcome). is_tried (xs ++ x ∷ []) p.0) told ≡ true
@@ -292,6 +314,7 @@ rests-started race now xs all t may p =
       over = omega (arith, t.over);
       failed = All-push (λ (x : Attempt). IfSome (outcome_of race x.ip) (FailedBelow race (now + 1) x)) xs p.next (all_failed race now xs t.ended) (silent p.next (untold xs race.outcomes p.next.ip t.made.tried (next_untried race xs p.next next)));
       after = (pauses-over race t.valid now t.over, may.0, none next);
+      few = omega (arith, t.few, length-append xs (p.next ∷ []));
     })
   where
     silent : (x : Attempt) → outcome_of race x.ip ≡ None → IfSome (outcome_of race x.ip) (FailedBelow race (now + 1) x)
@@ -315,6 +338,8 @@ finished race now xs won ok x t at silent first r' = record {
   ended = λ k d lt. by_ip k d lt (same_ip x.ip (get_or xs k d).ip) refl;
   stops = λ s m. elim (cases_lt s now) [ inl sooner ↦ t.stops s ((starts-below now race race' t.valid r' (outcome-below race x.ip o now) xs s sooner).1 m) | inr later ↦ later ];
   success = by_success ok refl won refl;
+  few = t.few;
+  starts = λ more early. (starts-below (now + 1) race race' t.valid r' (outcome-below race x.ip o (now + 1)) xs now (omega arith)).0 (t.starts more early);
 }
   where
     o : Outcome
@@ -385,4 +410,5 @@ rests-new race given r e = record {
   over = let o : last_end race.pauses ≡ 0 = ap (λ (x : Race). last_end x.pauses) e in omega arith;
   failed = All-nil (λ (x : Attempt). IfSome (outcome_of race x.ip) (FailedBelow race 0 x));
   after = tt;
+  few = let none : length race.pauses ≡ 0 = ap (λ (x : Race). length x.pauses) e in omega (arith, none);
 }

@@ -27,7 +27,7 @@ use Rattle.he_race.specs.declared.live.Unfinished.{Unfinished}
 use Rattle.he_race.specs.declared.trial.Trial.{Ghosts as TrialOf}
 use Rattle.he_race.specs.Answered.{is_tried_out_by}
 use Rattle.he_race.specs.Recording.{Begins, EndedBy, EndsRace, FailedBelow, InTurn, IsEnded, MakesOne, ended_by, slept}
-use Rattle.he_race.specs.Turns.{Answers, IsUnfinished, Polled, Records, is_connection, is_over}
+use Rattle.he_race.specs.Turns.{Answers, IsUnfinished, Polled, Records, are_untold, is_connection, is_over}
 use Rattle.he_race.proofs.Recorded.{finished, planned-told}
 
 pub take-set : {X : Type 0} (xs : List X) (i : ℕ) (a : X) → take i (slice_set xs i a) ≡ take i xs
@@ -160,6 +160,7 @@ module _ {C Conn Run : Type 0} (connector : ConnectorOf C Conn Run) (trial : Tri
   pub record Polling (first : Course) (now : ℕ) (cur : Live C Conn Run) (i : ℕ) (won : Bool) : Type 0 where
     pub turn : InTurn cur.course.recorded now cur.course.planner.attempts.items won
     pub unfinished : All (IsUnfinished connector trial cur.course.planner.attempts.items) cur.unfinished.items
+    pub untold : are_untold cur.course.recorded.outcomes cur.unfinished.items ≡ true
     pub polled : Polled first cur.course
     pub within : i ≤ vec_len cur.unfinished
 
@@ -172,27 +173,29 @@ module _ {C Conn Run : Type 0} (connector : ConnectorOf C Conn Run) (trial : Tri
   pub unfinished-later : (race : Race) (xs all : List Attempt) (now : ℕ) (os : List (Unfinished C Conn Run)) → MakesOne race xs all now → All (IsUnfinished connector trial xs) os → All (IsUnfinished connector trial all) os
   unfinished-later race xs all now os m h = All-weaker (IsUnfinished connector trial xs) (IsUnfinished connector trial all) (λ o u. record { made = made_later race xs all now o.attempt m u.made; can = u.can }) os h
 
-  pub polling-none : (first : Course) (now : ℕ) (cur new : Live C Conn Run) (i : ℕ) (won : Bool) (answer : Option (Result Conn ConnectFault)) → Polling first now cur i won → i < vec_len cur.unfinished → answer ≡ None → Answers cur.course now answer new.course → All (IsUnfinished connector trial cur.course.planner.attempts.items) new.unfinished.items → vec_len new.unfinished + (if is_some answer then 1 else 0) ≡ vec_len cur.unfinished → Polling first now new (i + 1) won
-  polling-none first now cur new i won (Some a) p lt e course left len = cc
-  polling-none first now cur new i won None p lt e course left len =
+  pub polling-none : (first : Course) (now : ℕ) (cur new : Live C Conn Run) (i : ℕ) (won : Bool) (answer : Option (Result Conn ConnectFault)) → Polling first now cur i won → i < vec_len cur.unfinished → answer ≡ None → Answers cur.course now answer new.course → All (IsUnfinished connector trial cur.course.planner.attempts.items) new.unfinished.items → are_untold new.course.recorded.outcomes new.unfinished.items ≡ true → vec_len new.unfinished + (if is_some answer then 1 else 0) ≡ vec_len cur.unfinished → Polling first now new (i + 1) won
+  polling-none first now cur new i won (Some a) p lt e course left untold len = cc
+  polling-none first now cur new i won None p lt e course left untold len =
       let P : Course → Type 0 = λ c. InTurn c.recorded now c.planner.attempts.items won in
       let Q : Course → Type 0 = λ c. All (IsUnfinished connector trial c.planner.attempts.items) new.unfinished.items in
       record {
         turn = subst P (sym course) p.turn;
         unfinished = subst Q (sym course) left;
+        untold = untold;
         polled = subst (Polled first) (sym course) p.polled;
         within = omega (arith, len);
       }
 
-  pub polling-some : (first : Course) (now : ℕ) (cur new : Live C Conn Run) (i : ℕ) (won more : Bool) (answer : Option (Result Conn ConnectFault)) (a : Result Conn ConnectFault) → Polling first now cur i won → i < vec_len cur.unfinished → answer ≡ Some a → more ≡ (won || is_connection a) → Answers cur.course now answer new.course → All (IsUnfinished connector trial cur.course.planner.attempts.items) new.unfinished.items → vec_len new.unfinished + (if is_some answer then 1 else 0) ≡ vec_len cur.unfinished → Polling first now new i more
-  polling-some first now cur new i won more None a p lt e m course left len = cc
-  polling-some first now cur new i won more (Some b) a p lt e m course left len =
+  pub polling-some : (first : Course) (now : ℕ) (cur new : Live C Conn Run) (i : ℕ) (won more : Bool) (answer : Option (Result Conn ConnectFault)) (a : Result Conn ConnectFault) → Polling first now cur i won → i < vec_len cur.unfinished → answer ≡ Some a → more ≡ (won || is_connection a) → Answers cur.course now answer new.course → All (IsUnfinished connector trial cur.course.planner.attempts.items) new.unfinished.items → are_untold new.course.recorded.outcomes new.unfinished.items ≡ true → vec_len new.unfinished + (if is_some answer then 1 else 0) ≡ vec_len cur.unfinished → Polling first now new i more
+  polling-some first now cur new i won more None a p lt e m course left untold len = cc
+  polling-some first now cur new i won more (Some b) a p lt e m course left untold len =
       let same : b ≡ a = cc in
       let r : Records cur.course now a new.course = subst (λ (x : Result Conn ConnectFault). Records cur.course now x new.course) same course in
       let Q : Course → Type 0 = λ c. All (IsUnfinished connector trial c.planner.attempts.items) new.unfinished.items in
       record {
         turn = subst (InTurn new.course.recorded now new.course.planner.attempts.items) (sym m) (recorded-turn cur.course new.course now won a p.turn r);
         unfinished = subst Q (sym r.is) left;
+        untold = untold;
         polled = polled-more first cur.course new.course now a p.polled r;
         within = omega (arith, len);
       }

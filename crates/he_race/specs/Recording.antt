@@ -1,6 +1,6 @@
 -- What holds of a race that is being run, between two turns and in one: of what is recorded of it, and of the
 -- attempts that were made.
-use Rattle.std.specs.Prelude.{ℕ, ◌≡◌, ◌+◌, ◌<◌, ◌≤◌, ◌⊎◌, Bool, true, false, List, [], if◌then◌else◌, Option, Some, None, IfSome, IsTrue, nat_lt}
+use Rattle.std.specs.Prelude.{ℕ, ◌≡◌, ◌+◌, ◌<◌, ◌≤◌, ◌⊎◌, Bool, true, false, List, [], length, if◌then◌else◌, Option, Some, None, IfSome, IsTrue, nat_lt}
 use Rattle.std.specs.List.{All, Contains, list_all}
 use Rattle.he_plan.specs.declared.attempts.Attempt.{Attempt}
 use Rattle.he_plan.specs.declared.outcome.Outcome.{Outcome}
@@ -12,9 +12,10 @@ use Rattle.he_plan.specs.Building.{last_end, with_pause}
 use Rattle.he_plan.specs.Due.{IsAfterTurn, IsDueTick}
 use Rattle.he_plan.specs.Finish.{outcome_of}
 use Rattle.he_plan.specs.Planning.{IsPlanned, PlansNext}
-use Rattle.he_plan.specs.Race.{Race}
+use Rattle.he_plan.specs.Race.{Race, Reply}
 use Rattle.he_plan.specs.Timeline.{IsRace}
 use Rattle.he_race.specs.declared.course.Course.{Course}
+use Rattle.he_race.specs.Answered.{is_taken}
 
 -- the first tick after the last turn
 abbrev pub floor : Option ℕ → ℕ
@@ -53,7 +54,16 @@ pub record AreMade (race : Race) (xs : List Attempt) : Type 0 where
   pub in_turn : AreNextInTurn race xs
   pub tried : IsTrue (list_all (λ p. is_tried xs p.0) race.outcomes)
 
--- between two turns: every attempt was made, and ended if it did, by the last turn, which left none to start
+-- how many answers the turn, or one before it, has taken
+abbrev pub taken_of : Option ℕ → Option Reply → ℕ
+taken_of turn None = 0
+taken_of turn (Some reply) = if is_taken turn reply.tick then 1 else 0
+
+abbrev pub taken : Option ℕ → Race → ℕ
+taken turn race = taken_of turn race.aaaa + taken_of turn race.a
+
+-- between two turns: every attempt was made, and ended if it did, by the last turn, which left none to start; for
+-- each pause an answer was taken or an attempt made
 pub record Rests (race : Race) (turn : Option ℕ) (xs : List Attempt) : Type 0 where
   pub valid : IsRace race
   pub made : AreMade race xs
@@ -61,8 +71,10 @@ pub record Rests (race : Race) (turn : Option ℕ) (xs : List Attempt) : Type 0 
   pub over : last_end race.pauses ≤ floor turn
   pub failed : All (λ x. IfSome (outcome_of race x.ip) (FailedBelow race (floor turn) x)) xs
   pub after : IsAfterTurn race turn xs
+  pub few : length race.pauses ≤ taken turn race + length xs
 
--- in a turn, with an attempt that succeeded in it or none
+-- in a turn, with an attempt that succeeded in it or none; there is one pause more than answers taken and attempts
+-- made only where an attempt may start at once
 pub record InTurn (race : Race) (now : ℕ) (xs : List Attempt) (won : Bool) : Type 0 where
   pub valid : IsRace race
   pub made : AreMade race xs
@@ -71,6 +83,8 @@ pub record InTurn (race : Race) (now : ℕ) (xs : List Attempt) (won : Bool) : T
   pub ended : All (λ x. IfSome (outcome_of race x.ip) (EndedBy race now won x)) xs
   pub stops : (t : ℕ) → MayStart race xs t → now ≤ t
   pub success : won ≡ true → HasSuccess race xs
+  pub few : length race.pauses ≤ taken (Some now) race + length xs + 1
+  pub starts : taken (Some now) race + length xs < length race.pauses → now < race.settings.limit → MayStart race xs now
 
 -- the race ends at the tick: it is won there, or no attempt may start any more
 pub record EndsRace (race : Race) (stop : ℕ) (xs : List Attempt) (won : Bool) : Type 0 where

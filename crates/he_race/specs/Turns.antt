@@ -1,9 +1,12 @@
 -- What a race that is being run keeps between two polls, and what it ends with.
-use Rattle.std.specs.Prelude.{ℕ, ◌≡◌, ◌+◌, ◌-◌, ◌<◌, ◌≤◌, ◌==◌, ◌&&◌, ◌||◌, ◌⊎◌, ◌++◌, ⊤, length, min, nat_le, Bool, true, false, MatchBool, List, [], ◌∷◌, slice_get, Option, Some, None, is_some, option_map, Result, Ok, Err}
-use Rattle.std.specs.List.{All, Contains, remove, slice_set}
+use Rattle.std.specs.Prelude.{ℕ, ◌≡◌, ◌+◌, ◌-◌, ◌<◌, ◌≤◌, ◌==◌, ◌&&◌, ◌||◌, ◌⊎◌, ◌++◌, ⊤, length, min, nat_le, not, Bool, true, false, IsTrue, MatchBool, List, [], ◌∷◌, slice_get, Option, Some, None, is_some, option_map, Result, Ok, Err}
+use Rattle.std.specs.List.{All, Contains, list_any, remove, slice_set}
 use Rattle.futures.specs.declared.task.Poll.{Poll}
 use Rattle.futures.specs.declared.task.Poll.TheVariants.{Ready, Pending}
+use Rattle.he_addr.specs.declared.ip.Ip.{Ip}
+use Rattle.he_addr.specs.Ip.{same_ip}
 use Rattle.he_plan.specs.declared.attempts.Attempt.{Attempt}
+use Rattle.he_plan.specs.declared.outcome.Outcome.{Outcome}
 use Rattle.he_plan.specs.Agreement.{AreAlike}
 use Rattle.he_plan.specs.Building.{with_outcome}
 use Rattle.he_plan.specs.Planning.{IsPlanned}
@@ -97,6 +100,12 @@ pub record Sweep (C Conn Run : Type 0) : Type 0 where
 abbrev pub unpolled : {C Conn Run : Type 0} → C → Course → Sweep C Conn Run
 unpolled c course = record { connector = c; course = course; pending = []; first = None }
 
+-- no address of these attempts has an outcome, and none stands twice
+abbrev pub are_untold : {C Conn Run : Type 0} → List (Ip × Outcome) → List (Unfinished C Conn Run) → Bool
+are_untold told [] = true
+are_untold told (o ∷ os) =
+    not (has_outcome o.attempt.ip told) && not (list_any (λ p. same_ip p.attempt.ip o.attempt.ip) os) && are_untold told os
+
 -- a race before its first turn: nothing is recorded, and no attempt was made
 pub record IsNew {C Conn Run : Type 0} (race : Race) (live : Live C Conn Run) : Type 0 where
   pub recorded : live.course.recorded ≡ unrecorded race
@@ -118,6 +127,7 @@ module _ {C Conn Run : Type 0} (connector : ConnectorOf C Conn Run) (trial : Tri
   pub record IsLive (live : Live C Conn Run) : Type 0 where
     pub course : IsCourse live.course
     pub unfinished : All (IsUnfinished live.course.planner.attempts.items) live.unfinished.items
+    pub untold : IsTrue (are_untold live.course.recorded.outcomes live.unfinished.items)
 
   -- the least of the due tick and the ticks at which an unfinished attempt is due
   abbrev pub asked_tick : ℕ → List (Unfinished C Conn Run) → ℕ

@@ -1,26 +1,27 @@
 // A race that is being run, apart from its connections: what is recorded of it, the attempts that were made, and
 // what is due next.
 
-ghost use Rattle.std.specs.Prelude.{◌≡◌, ◌+◌, ◌-◌, ◌<◌, ◌≤◌, ◌&&◌, ◌||◌, not, Bool, [], Some, None, true, false, map, option_map, IfOk, IfSome, OnOk};
-ghost use Rattle.std.specs.List.{list_all};
+ghost use Rattle.std.specs.Prelude.{◌≡◌, ◌+◌, ◌-◌, ◌<◌, ◌≤◌, ◌&&◌, ◌||◌, not, Bool, [], Ok, Err, Some, None, true, false, length, map, option_map, IfErr, IfOk, IfSome, OnErr, OnOk};
+ghost use Rattle.std.specs.List.{Contains, list_all};
 ghost use Rattle.he_addr.specs.Ip.{is_usable};
 ghost use Rattle.he_addr.specs.declared.ip.Family.TheVariants as families;
-ghost use Rattle.he_plan.specs.declared.limits.TheConstants.{MAX_LIMIT};
+ghost use Rattle.he_plan.specs.declared.builder.BuildFault.TheVariants as build_faults;
+ghost use Rattle.he_plan.specs.declared.limits.TheConstants.{MAX_LIMIT, MAX_PAUSES, MAX_PAUSE_END};
 ghost use Rattle.he_plan.specs.Attempts.{is_tried};
 ghost use Rattle.he_plan.specs.Building.{empty_race, last_end, with_answer, with_outcome, with_pause};
 ghost use Rattle.he_plan.specs.Due.{IsAfterTurn, IsDueTick};
 ghost use Rattle.he_plan.specs.Finish.{fate_of};
 ghost use Rattle.he_plan.specs.Planning.{IsPlanned};
-ghost use Rattle.he_plan.specs.Race.{has_outcome, reply_of};
-ghost use Rattle.he_plan.specs.Timeline.{IsRace};
+ghost use Rattle.he_plan.specs.Race.{has_outcome, is_in_answer, reply_of};
+ghost use Rattle.he_plan.specs.Timeline.{IsRace, duration_of, is_answer, is_duration};
 ghost use Rattle.he_plan.specs.Transcript.{IsTranscript};
 ghost use Rattle.he_race.specs.Answered.{earliest, is_taken, is_tried_out_by, untaken_tick, with_reply};
 ghost use Rattle.he_race.specs.Recording.{Begins, InTurn, IsCourse, IsEnded, MakesOne, Rests, ended_by, floor, is_won, slept, unrecorded};
 
 use he_addr::{Family, Ip, Memory};
 use he_plan::{
-    Attempt, Fate, Outcome, Planner, Timeline, TimelineBuilder, Transcript, transcript_at_stop,
-    winner,
+    Attempt, BuildFault, Fate, Outcome, Planner, Timeline, TimelineBuilder, Transcript,
+    transcript_at_stop, winner,
 };
 use std::alloc::{Allocator, Global};
 use std::mem::drop;
@@ -65,6 +66,7 @@ impl Course {
     pub(crate) fn begin_turn(&mut self, now: u64) -> Result<(), Memory>
         requires course { IsCourse self.old }
         requires later { floor self.old.turn ≤ now }
+        requires in_time { now ≤ self.old.recorded.settings.limit + 1 }
         ensures recorded { OnOk result (self.new ≡ record self.old { recorded = slept self.old.recorded self.old.due now }) }
         ensures begins { OnOk result (Begins self.new.recorded now self.new.planner.attempts.items) }
         ensures planned { OnOk result (IsPlanned self.new.recorded self.new.planner.attempts.items self.new.planner.queue.v6 self.new.planner.queue.v4 self.new.planner.queue.ips.items self.new.planner.queue.next) }
@@ -77,10 +79,11 @@ impl Course {
 
     // Records how the attempt ended in the turn at the tick.
     pub(crate) fn finish(&mut self, attempt: Attempt, now: u64, is_won: bool) -> Result<(), Memory>
-        requires valid { IsRace self.old.recorded }
-        requires past { attempt.tick ≤ now }
+        requires turn { (won : Bool) × InTurn self.old.recorded now self.old.planner.attempts.items won }
+        requires made { Contains self.old.planner.attempts.items attempt }
+        requires unfinished { has_outcome attempt.ip self.old.recorded.outcomes ≡ false }
+        requires in_time { now ≤ MAX_LIMIT }
         ensures recorded { OnOk result (self.new ≡ record self.old { recorded = with_outcome self.old.recorded attempt.ip (ended_by is_won (now - attempt.tick)) }) }
-        ensures first { OnOk result (has_outcome attempt.ip self.old.recorded.outcomes ≡ false) }
         ensures valid { OnOk result (IsRace self.new.recorded) }
     {
         let duration = now - attempt.tick;
@@ -205,7 +208,9 @@ fn copy_answers<A: Allocator>(
     builder: &mut TimelineBuilder,
     timeline: &Timeline<A>,
 ) -> Result<(), Memory>
-    requires { IsRace builder.old }
+    requires valid { IsRace builder.old }
+    requires aaaa { builder.old.aaaa ≡ None }
+    requires a { builder.old.a ≡ None }
     ensures answers { OnOk result (builder.new ≡ with_reply (with_reply builder.old families.V6 timeline.now.aaaa) families.V4 timeline.now.a) }
     ensures valid { OnOk result (IsRace builder.new) }
 {
@@ -218,7 +223,8 @@ fn copy_answer<A: Allocator>(
     timeline: &Timeline<A>,
     family: Family,
 ) -> Result<(), Memory>
-    requires { IsRace builder.old }
+    requires valid { IsRace builder.old }
+    requires none { reply_of builder.old family ≡ None }
     ensures answer { OnOk result (builder.new ≡ with_reply builder.old family (reply_of timeline.now family)) }
     ensures valid { OnOk result (IsRace builder.new) }
 {
@@ -234,36 +240,48 @@ fn add_answer(
     tick: u64,
     addresses: &[Ip],
 ) -> Result<(), Memory>
-    requires { IsRace builder.old }
+    requires valid { IsRace builder.old }
+    requires none { reply_of builder.old family ≡ None }
+    requires in_range { is_answer family (Some (record { tick = tick; addresses = addresses.now })) ≡ true }
     ensures answer { OnOk result (builder.new ≡ with_answer builder.old family (record { tick = tick; addresses = addresses.now })) }
     ensures valid { OnOk result (IsRace builder.new) }
 {
-    match builder.answer(family, tick, addresses) {
-        Ok(()) => Ok(()),
-        Err(_) => Err(Memory),
-    }
+    only_memory(builder.answer(family, tick, addresses))
 }
 
 fn add_pause(recorded: &mut TimelineBuilder, from: u64, to: u64) -> Result<(), Memory>
-    requires { IsRace recorded.old }
+    requires valid { IsRace recorded.old }
+    requires later { last_end recorded.old.pauses ≤ from }
+    requires some { from < to }
+    requires early { to ≤ MAX_PAUSE_END }
+    requires few { length recorded.old.pauses < MAX_PAUSES }
     ensures recorded { OnOk result (recorded.new ≡ with_pause recorded.old from to) }
     ensures valid { OnOk result (IsRace recorded.new) }
 {
-    match recorded.pause(from, to) {
-        Ok(()) => Ok(()),
-        Err(_) => Err(Memory),
-    }
+    only_memory(recorded.pause(from, to))
 }
 
 fn add_outcome(recorded: &mut TimelineBuilder, ip: Ip, outcome: Outcome) -> Result<(), Memory>
-    requires { IsRace recorded.old }
+    requires valid { IsRace recorded.old }
+    requires lasts { is_duration (duration_of outcome) ≡ true }
+    requires known { is_in_answer recorded.old ip ≡ true }
+    requires first { has_outcome ip recorded.old.outcomes ≡ false }
     ensures recorded { OnOk result (recorded.new ≡ with_outcome recorded.old ip outcome) }
-    ensures first { OnOk result (has_outcome ip recorded.old.outcomes ≡ false) }
     ensures valid { OnOk result (IsRace recorded.new) }
 {
-    match recorded.outcome(ip, outcome) {
+    only_memory(recorded.outcome_of_known(ip, outcome))
+}
+
+// The answer of a call of the builder that meets all its checks, so that nothing but memory can be refused.
+fn only_memory(answer: Result<(), BuildFault>) -> Result<(), Memory>
+    requires { IfErr answer (λ fault. fault ≡ build_faults.Memory) }
+    ensures ok { OnOk result (answer ≡ Ok tt) }
+    ensures refused { OnErr result (answer ≡ Err build_faults.Memory) }
+{
+    match answer {
         Ok(()) => Ok(()),
-        Err(_) => Err(Memory),
+        Err(BuildFault::Memory) => Err(Memory),
+        Err(_) => unreachable!(),
     }
 }
 

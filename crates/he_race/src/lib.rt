@@ -88,6 +88,10 @@
 //! - A poll that is pending has asked its ticker for the least of the due tick and the attempts' `due`, or, where it
 //!   took no turn, for the tick after the last one; `Clock` comes only where the ticker answered Lost; after its
 //!   answer, and only then, a race is over (`RacePolls` in `specs/Racing.antt`).
+//! - No call that a race makes of the builder of its record can be refused for another cause than memory
+//!   (`only_memory` in `src/course.rt`): for each pause an answer was taken or an attempt made, so there are at most
+//!   131; an unfinished attempt is at an address of an answer, has no outcome and stands once; an outcome lasts at
+//!   most to the limit.
 //! - A trial of `Scripted` that begins at `s` answers its address's outcome, of duration `d`, at polls from `s + d`
 //!   on, and is pending before; a silent one always is.
 //! - `WheelTicker` starts at the first tick that no pause covers, goes on to the least tick asked for, moved by the
@@ -97,8 +101,8 @@
 //!   only those that it slept. Over these two its one fault is `Memory`.
 //! - `run_attempt` answers the fate that `he_plan` defines (`Finish`).
 //!
-//! Tested only: that calls succeed where memory is granted, that a race answers `Memory` for no other cause, and a
-//! connector and tickers of a user's own.
+//! Tested only: that calls succeed where memory is granted, since no contract can say that a growth was refused, and
+//! a connector and tickers of a user's own.
 #![tactic(auto)]
 
 mod alone;

@@ -1,13 +1,14 @@
 // A race that is being run, with the connections of its unfinished attempts.
 
-ghost use Rattle.std.specs.Prelude.{All, if◌then◌else◌, ◌≡◌, ◌+◌, ◌-◌, ◌<◌, ◌≤◌, ◌&&◌, ◌||◌, ◌==◌, Bool, ℕ, [], MatchBool, None, Some, false, length, is_some, min, vec_len, IfOk, OnOk};
+ghost use Rattle.std.specs.Prelude.{All, if◌then◌else◌, ◌≡◌, ◌+◌, ◌-◌, ◌<◌, ◌≤◌, ◌&&◌, ◌||◌, ◌==◌, Bool, ℕ, [], MatchBool, None, Some, false, length, is_some, min, true, vec_len, IfOk, OnOk};
 ghost use Rattle.futures.specs.Task.{Keeps};
+ghost use Rattle.he_plan.specs.declared.limits.TheConstants.{MAX_LIMIT};
 ghost use Rattle.he_plan.specs.Agreement.{AreAlike};
 ghost use Rattle.he_plan.specs.Planning.{IsPlanned};
 ghost use Rattle.he_race.specs.declared.limits.TheConstants.{MAX_POLL_TICK};
 ghost use Rattle.he_race.specs.Attempt.{CanPoll};
 ghost use Rattle.he_race.specs.Recording.{InTurn, IsEnded, floor, unrecorded};
-ghost use Rattle.he_race.specs.Turns.{Answers, ArePolled, AsksInTime, BeginsAt, BeginsFrom, EndsWith, GoesOn, IsLive, IsNew, IsUnfinished, Polled, PolledAt, PollsAt, Turned, TurnsFrom, asked_tick, first_of, is_connection, is_over, unpolled};
+ghost use Rattle.he_race.specs.Turns.{Answers, ArePolled, AsksInTime, BeginsAt, BeginsFrom, EndsWith, GoesOn, IsLive, IsNew, IsUnfinished, Polled, PolledAt, PollsAt, Turned, TurnsFrom, are_untold, asked_tick, first_of, is_connection, is_over, unpolled};
 
 use crate::attempt::{AttemptFuture, Finish};
 use crate::connector::Connector;
@@ -123,6 +124,7 @@ impl<C: Connector> Live<C> {
         requires turn { InTurn self.course.recorded now self.course.planner.attempts.items false }
         requires planned { IsPlanned self.course.recorded self.course.planner.attempts.items self.course.planner.queue.v6 self.course.planner.queue.v4 self.course.planner.queue.ips.items self.course.planner.queue.next }
         requires unfinished { All (IsUnfinished C.Connector C.Run.Trial self.course.planner.attempts.items) self.unfinished.items }
+        requires untold { are_untold self.course.recorded.outcomes self.unfinished.items ≡ true }
         requires early { now ≤ self.course.recorded.settings.limit }
         ensures turned { IfOk result (TurnsFrom C.Connector C.Run.Trial (unpolled connector.old self.course) self.unfinished.items now connector.new) }
         ensures kept { Keeps cx.old cx.new }
@@ -152,9 +154,11 @@ impl<C: Connector> Live<C> {
     ) -> Result<Option<C::Conn>, Memory>
         requires turn { InTurn self.old.course.recorded now self.old.course.planner.attempts.items false }
         requires unfinished { All (IsUnfinished C.Connector C.Run.Trial self.old.course.planner.attempts.items) self.old.unfinished.items }
-        requires in_time { now ≤ MAX_POLL_TICK }
+        requires untold { are_untold self.old.course.recorded.outcomes self.old.unfinished.items ≡ true }
+        requires in_time { now ≤ MAX_LIMIT }
         ensures turn { IfOk result (λ won. InTurn self.new.course.recorded now self.new.course.planner.attempts.items (is_some won)) }
         ensures unfinished { OnOk result (All (IsUnfinished C.Connector C.Run.Trial self.new.course.planner.attempts.items) self.new.unfinished.items) }
+        ensures untold { OnOk result (are_untold self.new.course.recorded.outcomes self.new.unfinished.items ≡ true) }
         ensures course { OnOk result (Polled self.old.course self.new.course) }
         ensures each { IfOk result (λ won. ArePolled C.Connector C.Run.Trial now (unpolled connector.old self.old.course) self.old.unfinished.items (record { connector = connector.new; course = self.new.course; pending = self.new.unfinished.items; first = won })) }
         ensures kept { Keeps cx.old cx.new }
@@ -181,9 +185,11 @@ impl<C: Connector> Live<C> {
         requires below { i < vec_len self.old.unfinished }
         requires turn { (won : Bool) × InTurn self.old.course.recorded now self.old.course.planner.attempts.items won }
         requires unfinished { All (IsUnfinished C.Connector C.Run.Trial self.old.course.planner.attempts.items) self.old.unfinished.items }
-        requires in_time { now ≤ MAX_POLL_TICK }
+        requires untold { are_untold self.old.course.recorded.outcomes self.old.unfinished.items ≡ true }
+        requires in_time { now ≤ MAX_LIMIT }
         ensures course { IfOk result (λ answer. Answers self.old.course now answer self.new.course) }
         ensures unfinished { OnOk result (All (IsUnfinished C.Connector C.Run.Trial self.old.course.planner.attempts.items) self.new.unfinished.items) }
+        ensures untold { OnOk result (are_untold self.new.course.recorded.outcomes self.new.unfinished.items ≡ true) }
         ensures step { IfOk result (λ answer. PollsAt C.Connector C.Run.Trial connector.old self.old i now answer connector.new self.new) }
         ensures left { IfOk result (λ answer. vec_len self.new.unfinished + (if is_some answer then 1 else 0) ≡ vec_len self.old.unfinished) }
         ensures kept { Keeps cx.old cx.new }
@@ -218,6 +224,7 @@ impl<C: Connector> Live<C> {
         requires in_turn { InTurn self.course.recorded now self.course.planner.attempts.items false }
         requires planned { IsPlanned self.course.recorded self.course.planner.attempts.items self.course.planner.queue.v6 self.course.planner.queue.v4 self.course.planner.queue.ips.items self.course.planner.queue.next }
         requires unfinished { All (IsUnfinished C.Connector C.Run.Trial self.course.planner.attempts.items) self.unfinished.items }
+        requires untold { are_untold self.course.recorded.outcomes self.unfinished.items ≡ true }
         requires early { now < self.course.recorded.settings.limit }
         ensures on { IfOk result (GoesOn C.Connector C.Run.Trial connector.old self now connector.new) }
         ensures kept { Keeps cx.old cx.new }

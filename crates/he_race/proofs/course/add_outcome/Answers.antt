@@ -1,14 +1,16 @@
-use Rattle.he_plan.proofs.Growing.{outcome-grows}
-use Rattle.he_race.proofs.Builds.{Told, told-is}
+use Rattle.he_plan.specs.Building.{with_outcome}
+use Rattle.he_plan.proofs.Ranges.{IsRace-with_outcome}
+use Rattle.he_race.proofs.Builds.{Adds, left-ok, outcome-adds, valid-ok}
 use Rattle.he_race.proofs.course.add_outcome.Goals as goal
 
-pub returns-in-Ok-clause-recorded : goal.returns-in-Ok-clause-recorded
-returns-in-Ok-clause-recorded c =
-    let t : Told c.args.recorded.now c.outcome.new.self c.args.ip c.args.outcome = told-is c.args.recorded.now c.outcome.new.self c.args.ip c.args.outcome c.in-Ok.ensures in t.is
+pub only_memory-requires : goal.only_memory-requires
+only_memory-requires c =
+    let a : Adds c.outcome_of_known.result c.outcome_of_known.new.self (with_outcome c.args.recorded.now c.args.ip c.args.outcome) = outcome-adds c.outcome_of_known.result c.args.recorded.now c.outcome_of_known.new.self c.args.ip c.args.outcome c.requires.lasts c.requires.known c.requires.first c.outcome_of_known.ensures in a.refused
 
-pub returns-in-Ok-clause-first : goal.returns-in-Ok-clause-first
-returns-in-Ok-clause-first c =
-    let t : Told c.args.recorded.now c.outcome.new.self c.args.ip c.args.outcome = told-is c.args.recorded.now c.outcome.new.self c.args.ip c.args.outcome c.in-Ok.ensures in t.first
+pub returns-clause-recorded : goal.returns-clause-recorded
+returns-clause-recorded c =
+    left-ok c.outcome_of_known.result c.outcome_of_known.new.self (with_outcome c.args.recorded.now c.args.ip c.args.outcome) c.only_memory.result (outcome-adds c.outcome_of_known.result c.args.recorded.now c.outcome_of_known.new.self c.args.ip c.args.outcome c.requires.lasts c.requires.known c.requires.first c.outcome_of_known.ensures) c.only_memory.ensures.ok
 
-pub returns-in-Ok-clause-valid : goal.returns-in-Ok-clause-valid
-returns-in-Ok-clause-valid c = outcome-grows c.args.recorded.now c.outcome.new.self c.args.ip c.args.outcome c.requires c.in-Ok.ensures
+pub returns-clause-valid : goal.returns-clause-valid
+returns-clause-valid c =
+    valid-ok c.outcome_of_known.result c.outcome_of_known.new.self (with_outcome c.args.recorded.now c.args.ip c.args.outcome) c.only_memory.result (outcome-adds c.outcome_of_known.result c.args.recorded.now c.outcome_of_known.new.self c.args.ip c.args.outcome c.requires.lasts c.requires.known c.requires.first c.outcome_of_known.ensures) (IsRace-with_outcome c.args.recorded.now c.args.ip c.args.outcome c.requires.valid c.requires.lasts c.requires.known c.requires.first) c.only_memory.ensures.ok

@@ -1,12 +1,15 @@
-use Rattle.std.proofs.Common.{◌≡◌, ◌+◌, ◌<◌, ◌≤◌, List, ap, subst, arith}
+use Rattle.std.proofs.Common.{◌≡◌, ◌+◌, ◌<◌, ◌≤◌, true, List, ap, subst, arith}
 use Rattle.std.specs.List.{All}
 use Rattle.std.proofs.lemmas.List.Elements.{All-weaker}
 use Rattle.he_plan.specs.declared.attempts.Attempt.{Attempt}
+use Rattle.he_plan.specs.Attempts.{AreNextInTurn}
+use Rattle.he_plan.specs.Race.{Race}
 use Rattle.he_race.specs.declared.limits.TheConstants.{MAX_POLL_TICK}
 use Rattle.he_race.specs.Recording.{floor}
-use Rattle.he_race.specs.Turns.{IsUnfinished}
+use Rattle.he_race.specs.Turns.{IsUnfinished, StartsOne, are_untold}
 use Rattle.he_race.proofs.Sweeps.{starts-one}
 use Rattle.he_race.proofs.Turning.{unfinished-later}
+use Rattle.he_race.proofs.Untold.{untold-started}
 use Rattle.he_race.proofs.live.Live.end_turn.Goals as goal
 
 pub with_made-requires-clause-unfinished : goal.with_made-requires-clause-unfinished
@@ -21,11 +24,22 @@ with_made-requires-clause-in_time g c =
 pub returns-in-Ok-with_made-clause-on : goal.returns-in-Ok-with_made-clause-on
 returns-in-Ok-with_made-clause-on g c = record {
   recorded = c.in-Ok.ensures.recorded;
-  starts = starts-one g.C.Connector g.C.Run.Trial c.args.self.course.recorded c.args.now c.args.connector.now c.with_made.new.connector c.args.self.course.planner.attempts.items c.in-Ok.course.planner.attempts.items c.args.self.unfinished.items c.in-Ok-with_made.unfinished.items c.in-Ok.ensures.made (rw (c.attempts.ensures, c.attempts-made.ensures) at c.in-Ok-with_made.ensures.starts);
+  starts = starts;
   kept = record {
     course = c.in-Ok.ensures.course;
     unfinished = subst (λ (xs : List Attempt). All (IsUnfinished g.C.Connector g.C.Run.Trial xs) c.in-Ok-with_made.unfinished.items) c.attempts.ensures c.in-Ok-with_made.ensures.unfinished;
+    untold = untold;
   };
   turn = c.in-Ok.ensures.turn;
   asked = rw c.deref.ensures.value at c.next_tick-tick.ensures;
 }
+  where
+    starts : StartsOne g.C.Connector g.C.Run.Trial c.args.connector.now c.args.now c.args.self.course.planner.attempts.items c.in-Ok.course.planner.attempts.items c.args.self.unfinished.items c.with_made.new.connector c.in-Ok-with_made.unfinished.items
+    starts = starts-one g.C.Connector g.C.Run.Trial c.args.self.course.recorded c.args.now c.args.connector.now c.with_made.new.connector c.args.self.course.planner.attempts.items c.in-Ok.course.planner.attempts.items c.args.self.unfinished.items c.in-Ok-with_made.unfinished.items c.in-Ok.ensures.made (rw (c.attempts.ensures, c.attempts-made.ensures) at c.in-Ok-with_made.ensures.starts)
+
+    turn : AreNextInTurn c.args.self.course.recorded c.in-Ok.course.planner.attempts.items
+    turn = subst (λ (race : Race). AreNextInTurn race c.in-Ok.course.planner.attempts.items) c.in-Ok.ensures.recorded c.in-Ok.ensures.course.rests.made.in_turn
+
+    untold : are_untold c.in-Ok.course.recorded.outcomes c.in-Ok-with_made.unfinished.items ≡ true
+    untold =
+        rw c.in-Ok.ensures.recorded (untold-started g.C.Connector g.C.Run.Trial c.args.self.course.recorded c.args.now c.args.self.course.planner.attempts.items c.in-Ok.course.planner.attempts.items c.args.self.unfinished.items c.in-Ok-with_made.unfinished.items c.args.connector.now c.with_made.new.connector turn c.requires.in_turn.made.tried c.requires.unfinished c.requires.untold starts)

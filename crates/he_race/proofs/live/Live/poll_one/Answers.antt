@@ -1,7 +1,11 @@
-use Rattle.std.proofs.Common.{◌<◌, length, sym, subst, rules}
+use Rattle.std.proofs.Common.{◌≡◌, ◌∙◌, ◌<◌, Some, length, refl, sym, ap, subst, rules}
 use Rattle.std.proofs.lemmas.List.Elements.{All-set}
-use Rattle.he_race.specs.Turns.{IsUnfinished}
+use Rattle.futures.specs.declared.task.Poll.TheVariants.{Pending, Ready}
+use Rattle.he_plan.specs.declared.attempts.Attempt.{Attempt}
+use Rattle.he_race.specs.declared.course.Course.{Course}
+use Rattle.he_race.specs.Turns.{IsUnfinished, told}
 use Rattle.he_race.proofs.Turning.{All-left}
+use Rattle.he_race.proofs.Untold.{ended-told, same-at, same-attempt, stands-at, untold-at, untold-gone, untold-set}
 use Rattle.he_race.proofs.live.Live.poll_one.Goals as goal
 
 pub returns-in-Pending-clause-unfinished : goal.returns-in-Pending-clause-unfinished
@@ -13,3 +17,61 @@ returns-in-Pending-clause-unfinished g c =
 pub returns-in_ok-finish-in-Ready-clause-unfinished : goal.returns-in_ok-finish-in-Ready-clause-unfinished
 returns-in_ok-finish-in-Ready-clause-unfinished g c =
     rw c.remove.ensures.items (All-left (IsUnfinished g.C.Connector g.C.Run.Trial c.args.self.now.course.planner.attempts.items) c.args.self.now.unfinished.items c.args.i _ c.requires.unfinished)
+
+pub finish-requires-clause-unfinished : goal.finish-requires-clause-unfinished
+finish-requires-clause-unfinished g c =
+    let lt : c.args.i < length c.args.self.now.unfinished.items = search rules in
+    rw c.index.ensures (untold-at c.args.self.now.course.recorded.outcomes c.args.self.now.unfinished.items c.requires.untold c.args.i c.index.result.now lt)
+
+pub returns-in-Pending-clause-untold : goal.returns-in-Pending-clause-untold
+returns-in-Pending-clause-untold g c =
+    let lt : c.args.i < length c.args.self.now.unfinished.items = search rules in
+    untold-set c.args.self.now.course.recorded.outcomes c.args.self.now.unfinished.items c.requires.untold c.args.i c.index_mut.result.now _ lt (same-attempt c.index_mut.result.now _ c.index_mut.ensures.value)
+
+pub returns-in-Pending-clause-step : goal.returns-in-Pending-clause-step
+returns-in-Pending-clause-step g c =
+    let lt : c.args.i < length c.args.self.now.unfinished.items = search rules in
+    record {
+      o = c.index_mut.result.now;
+      at = stands-at c.args.self.now.unfinished.items c.args.i c.index_mut.result.now lt ∙ ap Some (sym c.index_mut.ensures.value);
+      polled = Pending;
+      future = c.poll_attempt.new.self;
+      polls = c.in-Pending.ensures.step;
+      left = (refl, refl, refl);
+    }
+
+pub returns-in_ok-finish-in-Ready-clause-course : goal.returns-in_ok-finish-in-Ready-clause-course
+returns-in_ok-finish-in-Ready-clause-course g c =
+    let lt : c.args.i < length c.args.self.now.unfinished.items = search rules in
+    let was : IsUnfinished g.C.Connector g.C.Run.Trial c.args.self.now.course.planner.attempts.items c.index.result.now = subst (IsUnfinished g.C.Connector g.C.Run.Trial c.args.self.now.course.planner.attempts.items) (sym c.index.ensures) (c.requires.unfinished c.args.i c.index.result.now lt) in
+    record {
+      x = c.index.result.now.attempt;
+      made = was.made;
+      first = rw c.index.ensures (untold-at c.args.self.now.course.recorded.outcomes c.args.self.now.unfinished.items c.requires.untold c.args.i c.index.result.now lt);
+      is = c.in_ok-finish-in-Ready.ensures.recorded ∙ ended-told c.args.self.now.course c.index.result.now.attempt c.args.now c.in-Ready.finish.result c.is_ok.result c.is_ok.ensures.value;
+      valid = c.in_ok-finish-in-Ready.ensures.valid;
+    }
+
+pub returns-in_ok-finish-in-Ready-clause-untold : goal.returns-in_ok-finish-in-Ready-clause-untold
+returns-in_ok-finish-in-Ready-clause-untold g c =
+    let lt : c.args.i < length c.args.self.now.unfinished.items = search rules in
+    untold-gone c.args.self.now.course.recorded.outcomes c.finish.new.self.recorded.outcomes c.args.self.now.unfinished.items c.remove.new.self.items c.requires.untold c.args.i c.index.result.now _ c.index.result.now lt c.index.ensures _ (ap (λ (x : Course). x.recorded.outcomes) c.in_ok-finish-in-Ready.ensures.recorded) c.remove.ensures.items
+
+pub returns-in_ok-finish-in-Ready-clause-step : goal.returns-in_ok-finish-in-Ready-clause-step
+returns-in_ok-finish-in-Ready-clause-step g c =
+    let lt : c.args.i < length c.args.self.now.unfinished.items = search rules in
+    let same : c.index.result.now.attempt ≡ c.index_mut.result.now.attempt = same-attempt c.index.result.now c.index_mut.result.now (c.index.ensures ∙ same-at c.args.self.now.unfinished.items c.args.i c.index.result.now c.index_mut.result.now lt ∙ sym c.index_mut.ensures.value) in
+    record {
+      o = c.index_mut.result.now;
+      at = stands-at c.args.self.now.unfinished.items c.args.i c.index_mut.result.now lt ∙ ap Some (sym c.index_mut.ensures.value);
+      polled = Ready c.in-Ready.finish;
+      future = c.poll_attempt.new.self;
+      polls = c.in-Ready.ensures.step;
+      left = (
+        refl,
+        c.in_ok-finish-in-Ready.ensures.recorded
+            ∙ ended-told c.args.self.now.course c.index.result.now.attempt c.args.now c.in-Ready.finish.result c.is_ok.result c.is_ok.ensures.value
+            ∙ ap (λ (x : Attempt). told c.args.self.now.course x c.args.now c.in-Ready.finish.result) same,
+        c.remove.ensures.items,
+      );
+    }

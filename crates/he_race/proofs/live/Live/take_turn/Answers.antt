@@ -1,4 +1,4 @@
-use Rattle.std.proofs.Common.{◌≡◌, ◌+◌, ap, sym, subst, arith}
+use Rattle.std.proofs.Common.{◌≡◌, ◌+◌, ◌∙◌, ap, sym, subst, arith}
 use Rattle.std.specs.List.{All}
 use Rattle.he_plan.specs.Agreement.{AreAlike}
 use Rattle.he_race.specs.declared.course.Course.{Course}
@@ -6,6 +6,7 @@ use Rattle.he_race.specs.Recording.{slept}
 use Rattle.he_race.specs.Turns.{IsUnfinished}
 use Rattle.he_race.proofs.Sweeps.{turned-late, turned-run}
 use Rattle.he_race.proofs.Turning.{ended-late, ends-late, same_limit, slept-alike}
+use Rattle.he_race.proofs.Untold.{slept-outcomes}
 use Rattle.he_race.proofs.live.Live.take_turn.Goals as goal
 
 pub end-requires : goal.end-requires
@@ -27,6 +28,11 @@ run_turn-requires-clause-turn g c = c.in-Ok.ensures.begins.in_turn
 pub run_turn-requires-clause-unfinished : goal.run_turn-requires-clause-unfinished
 run_turn-requires-clause-unfinished g c =
     subst (λ (x : Course). All (IsUnfinished g.C.Connector g.C.Run.Trial x.planner.attempts.items) c.args.self.unfinished.items) (sym c.in-Ok.ensures.recorded) c.requires.live.unfinished
+
+pub run_turn-requires-clause-untold : goal.run_turn-requires-clause-untold
+run_turn-requires-clause-untold g c =
+    let same : c.begin_turn.new.self.recorded.outcomes ≡ c.args.self.course.recorded.outcomes = ap (λ (x : Course). x.recorded.outcomes) c.in-Ok.ensures.recorded ∙ slept-outcomes c.args.self.course.recorded c.args.self.course.due c.args.now in
+    rw same c.requires.live.untold
 
 pub run_turn-requires-clause-early : goal.run_turn-requires-clause-early
 run_turn-requires-clause-early g c =
