@@ -34,33 +34,32 @@ fn first_word(line: Line<'_>) -> Result<(Word, Tokens<'_>), TextKind>
     }
 }
 
-// The word of a line that begins with one and a space.
+// The word of a line that begins with one and a space. Its first byte leaves two words at most, which are compared:
+// eight comparisons in a row took some thirty instructions more.
 #[inline(always)]
 fn spaced_word(line: Line<'_>) -> Option<(Word, Tokens<'_>)>
     ensures { IfSome result (λ x. word_of (tokens_of (line_bytes line.entry)) ≡ Ok (x.0, tokens_left x.1)) }
 {
-    if let Some(found) = line.behind_word(Word::Connect, b"connect ") {
-        return Some(found);
+    let [first, ..] = line.bytes() else {
+        return None;
+    };
+    match *first {
+        b'c' => line.behind_word(Word::Connect, b"connect "),
+        b'p' => match line.behind_word(Word::Pause, b"pause ") {
+            Some(found) => Some(found),
+            None => line.behind_word(Word::Policy, b"policy "),
+        },
+        b's' => match line.behind_word(Word::Source, b"source ") {
+            Some(found) => Some(found),
+            None => line.behind_word(Word::Set, b"set "),
+        },
+        b'r' => line.behind_word(Word::Route, b"route "),
+        b'a' => match line.behind_word(Word::Aaaa, b"aaaa ") {
+            Some(found) => Some(found),
+            None => line.behind_word(Word::A, b"a "),
+        },
+        _ => None,
     }
-    if let Some(found) = line.behind_word(Word::Pause, b"pause ") {
-        return Some(found);
-    }
-    if let Some(found) = line.behind_word(Word::Source, b"source ") {
-        return Some(found);
-    }
-    if let Some(found) = line.behind_word(Word::Route, b"route ") {
-        return Some(found);
-    }
-    if let Some(found) = line.behind_word(Word::Policy, b"policy ") {
-        return Some(found);
-    }
-    if let Some(found) = line.behind_word(Word::Aaaa, b"aaaa ") {
-        return Some(found);
-    }
-    if let Some(found) = line.behind_word(Word::A, b"a ") {
-        return Some(found);
-    }
-    line.behind_word(Word::Set, b"set ")
 }
 
 // The word of a line, whatever stands behind it.
