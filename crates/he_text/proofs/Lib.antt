@@ -1,4 +1,5 @@
 mod Agreement
+mod AllAddresses
 mod Beginnings
 mod Checks
 mod CompleteChecks

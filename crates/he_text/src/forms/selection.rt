@@ -1,6 +1,7 @@
 // What address selection looks at: the rows of the policy table, and the sources and routes of the host.
 
 ghost use Rattle.std.specs.Prelude.{◌≡◌, ◌≤◌, [], ◌∷◌};
+ghost use Rattle.he_addr.specs.Reading.{prefix_in};
 ghost use Rattle.he_text.specs.Forms.{number_from, row_in, source_address_in, interface_in, source_marks_in, host_source_in, route_marks_in, host_route_in};
 ghost use Rattle.he_text.specs.Left.{tokens_left};
 
@@ -10,7 +11,8 @@ use crate::limits::{
     MAX_INTERFACE, MAX_LABEL, MAX_PRECEDENCE, MIN_INTERFACE, ROUTE_MARKS, SOURCE_MARKS,
 };
 use crate::parts::Tokens;
-use he_addr::{Ip, read_prefix, read_source};
+use he_addr::prefix::MAPPED_LEN;
+use he_addr::{Ip, Prefix, read_prefix, read_source};
 use he_select::{Route, Row, Source};
 
 // A number of at most 16 bits.
@@ -21,6 +23,21 @@ fn short(low: u64, high: u64, token: &[u8]) -> Result<u16, TextKind>
     Ok(number(low, high, token)? as u16)
 }
 
+// The prefix that a token spells. Those of all addresses of a family are known by sight: most hosts have two default
+// routes and no other, and the reader takes some 450 instructions for each of them.
+#[tactic(auto, using(crate::proofs::AllAddresses::all_six, crate::proofs::AllAddresses::all_four))]
+fn spelled_prefix(token: &[u8]) -> Option<Prefix>
+    ensures { result ≡ prefix_in token.now }
+{
+    if token == b"::/0".as_slice() {
+        return Prefix::try_new(0, 0);
+    }
+    if token == b"0.0.0.0/0".as_slice() {
+        return Prefix::try_new(Ip::V4(0).mapped(), MAPPED_LEN);
+    }
+    read_prefix(token)
+}
+
 // policy PREFIX PRECEDENCE LABEL
 #[tactic(auto, unfolding(crate::specs::Forms::row_in))]
 pub(crate) fn row(tokens: Tokens) -> Result<Row, TextKind>
@@ -29,7 +46,7 @@ pub(crate) fn row(tokens: Tokens) -> Result<Row, TextKind>
     let Some((prefix, precedence, label)) = tokens.three() else {
         return Err(TextKind::Word);
     };
-    let Some(prefix) = read_prefix(prefix) else {
+    let Some(prefix) = spelled_prefix(prefix) else {
         return Err(TextKind::Prefix);
     };
     let precedence = short(0, MAX_PRECEDENCE, precedence)?;
@@ -150,7 +167,7 @@ pub(crate) fn route(tokens: Tokens) -> Result<Route, TextKind>
     if left.len() > ROUTE_MARKS {
         return Err(TextKind::Word);
     }
-    let Some(prefix) = read_prefix(prefix) else {
+    let Some(prefix) = spelled_prefix(prefix) else {
         return Err(TextKind::Prefix);
     };
     let interface = interface(number)?;
