@@ -3,9 +3,9 @@ use Rattle.std.proofs.Common.{◌≡◌, ℕ, w8, get_or, map, replicate, ◌+�
 use Rattle.std.specs.List.{AllByRecursion, prefix_len, position, position_or_len, count_by, onto_first, join_with_byte}
 use Rattle.std.proofs.lemmas.List.Elements.{All-from_recursion}
 use Rattle.std.proofs.lemmas.Bool.{eq-eqb, ltb-true, ltb-false}
-use Rattle.std.proofs.lemmas.List.{length-take, length-take-le, length-drop, get_or-take, take-append-drop, take-take, drop-take}
+use Rattle.std.proofs.lemmas.List.{length-take, length-take-le, length-drop, get_or-take, take-append-drop, take-take, take_all, drop-take, drop-drop}
 use Rattle.std.proofs.lemmas.List.Folds.{prefix_len-append}
-use Rattle.std.proofs.lemmas.List.Sums.{fails_before_first, passes_at_first, position_or_len_is, prefix_len-le-length}
+use Rattle.std.proofs.lemmas.List.Sums.{count_by-le-length, fails_before_first, passes_at_first, position_or_len_is, prefix_len-le-length, sum_by-take-drop}
 use Rattle.std.proofs.lemmas.List.Splits.{slice_split_at, slice_split_none, slice_split_first, length-slice_split}
 use Rattle.std.proofs.lemmas.Simd.{bitmask_splat, first_set_mask_l}
 use lib.Lanes.{zip2, mask_l, top}
@@ -166,6 +166,23 @@ near_missed mark near text within h = by_first (position (λ b. eqb b mark) text
 -- there is one part more than there are marks
 pub parts_counted : (mark : ℕ) (text : List ℕ) → count_by (λ b. eqb b mark) text + 1 ≡ length (pieces_of mark text)
 parts_counted mark text = sym (length-slice_split (λ b. eqb b mark) text)
+
+-- the marks of a text, at most one for each byte
+pub marks_within : (mark : ℕ) (text : List ℕ) → count_by (λ b. eqb b mark) text ≤ length text
+marks_within mark text = count_by-le-length (λ b. eqb b mark) text
+
+-- the marks of a vector's bytes, and of what stands before and behind them
+pub marks_on : (mark at found front : ℕ) (text : List ℕ) → at ≤ length text
+    → front ≡ count_by (λ b. eqb b mark) (take 32 (take (length text - at) (drop at text)))
+    → found + count_by (λ b. eqb b mark) (drop at text) ≡ count_by (λ b. eqb b mark) text
+    → (found + front) + count_by (λ b. eqb b mark) (drop (at + 32) text) ≡ count_by (λ b. eqb b mark) text
+marks_on mark at found front text within is before =
+    let rest : List ℕ = drop at text in
+    let whole : take (length text - at) rest ≡ rest = take_all (length text - at) rest (omega (arith, length-drop at text)) in
+    let first : front ≡ count_by (λ b. eqb b mark) (take 32 rest) = is ∙ ap (λ part. count_by (λ b. eqb b mark) (take 32 part)) whole in
+    let cut : count_by (λ b. eqb b mark) (take 32 rest) + count_by (λ b. eqb b mark) (drop (at + 32) text) ≡ count_by (λ b. eqb b mark) rest =
+    ap (λ part. count_by (λ b. eqb b mark) (take 32 rest) + count_by (λ b. eqb b mark) part) (sym (drop-drop 32 at text)) ∙ sum_by-take-drop _ rest 32 in
+    omega (arith, cut, first, before)
 
 -- no byte is the mark
 abbrev pub Lacks : ℕ → List ℕ → Type 0

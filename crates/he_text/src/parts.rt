@@ -1,7 +1,7 @@
 // Lines and tokens: the parts of a text between two bytes.
 
 ghost use Rattle.std.specs.Prelude.{◌≡◌, ◌≤◌, ◌<◌, ◌+◌, ◌^◌, ◌==◌, [], ◌∷◌, ◌++◌, length, take, MatchOption, IfSome, Ok, position};
-ghost use Rattle.std.specs.List.{position_or_len};
+ghost use Rattle.std.specs.List.{count_by, position_or_len};
 ghost use Rattle.he_text.specs.Forms.{word_of};
 ghost use Rattle.he_text.specs.Left.{line_bytes, tokens_left, lowest_bit};
 ghost use Rattle.he_text.specs.Parts.{pieces_of, tokens_of};
@@ -180,9 +180,22 @@ impl<'a> Tokens<'a> {
         }
     }
 
-    // How many tokens are still to be read.
+    // How many tokens are still to be read. The first one is passed by itself: mostly there is no other, and then
+    // nothing has to be counted.
     pub(crate) fn len(&self) -> usize
         ensures { result ≡ length (tokens_left self.now) }
+    {
+        let mut left = *self;
+        match left.next() {
+            None => 0,
+            Some(_) => left.count() + 1,
+        }
+    }
+
+    // The same, by the bytes between them.
+    fn count(&self) -> usize
+        ensures value { result ≡ length (tokens_left self.now) }
+        ensures few { result ≤ 2 ^ 63 }
     {
         match self.rest {
             None => 0,
@@ -194,6 +207,39 @@ impl<'a> Tokens<'a> {
 fn count(text: &[u8], mark: u8) -> usize
     ensures marks { result + 1 ≡ length (pieces_of mark text.now) }
     ensures few { result < 2 ^ 63 }
+{
+    marks_in(text, mark)
+}
+
+// How many bytes of the text are the mark.
+#[tactic(auto, using(crate::proofs::PartLaws::marks_within))]
+fn marks_in(text: &[u8], mark: u8) -> usize
+    ensures value { result ≡ count_by (λ b. b == mark) text.now }
+    ensures few { result ≤ length text.now }
+{
+    let mut found = 0;
+    let mut at = 0;
+    while text.len() - at >= LANES {
+        found += marks_at_front(&text[at..], mark);
+        at += LANES;
+    }
+    found + marks_by_bytes(&text[at..], mark)
+}
+
+// How many of the first bytes are the mark.
+#[inline(always)]
+fn marks_at_front(text: &[u8], mark: u8) -> usize
+    requires { LANES ≤ length text.now }
+    ensures { result ≡ count_by (λ b. b == mark) (take LANES text.now) }
+{
+    let marks = u8x32::from_slice(text).simd_eq(u8x32::splat(mark));
+    marks.to_bitmask().count_ones() as usize
+}
+
+// The same of a whole text, byte by byte: for one that is too short to be compared at once. In a long one that takes
+// eight times as many instructions.
+fn marks_by_bytes(text: &[u8], mark: u8) -> usize
+    ensures { result ≡ count_by (λ b. b == mark) text.now }
 {
     memchr_iter(mark, text).count()
 }
