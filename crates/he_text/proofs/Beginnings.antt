@@ -3,7 +3,7 @@ use Rattle.std.proofs.Common.{◌≡◌, ℕ, ◌+◌, ◌<◌, ◌≤◌, Bool,
 use Rattle.std.specs.Prelude.{◌⊎◌, MatchOption, option_map}
 use Rattle.std.specs.List.{onto_first}
 use Rattle.std.specs.Option.{option_map_or}
-use Rattle.std.proofs.lemmas.Bool.{lt-ltb, ltb-true, eq-eqb, eqb-true}
+use Rattle.std.proofs.lemmas.Bool.{lt-ltb, ltb-true}
 use Rattle.std.proofs.lemmas.List.{append-nil}
 use Rattle.std.proofs.lemmas.List.Splits.{length-slice_split}
 use Rattle.he_plan.specs.Race.{Race}
@@ -22,6 +22,7 @@ use Rattle.he_text.specs.Said.{Said, Setting, PolicyRow, HostSource, HostRoute, 
 use Rattle.he_text.specs.Text.{IsRaceText, TellsFault}
 use Rattle.he_text.proofs.CompleteFaults.{begins_right, right_begins}
 use Rattle.he_text.proofs.CompleteTexts.{no_longer}
+use Rattle.he_text.proofs.OpenLines.{open_of, one_in_front, policy_may_follow}
 
 -- the lines of a longer text: the last one goes on, and others may follow
 abbrev pub GoOn : List (List ℕ) → List (List ℕ) → Type 0
@@ -78,7 +79,7 @@ is_table_fault true fault kind h = cc
 is_table_fault false None kind h = cc
 is_table_fault false (Some fault) kind h = (fault, cc)
 
-table_fault_is : (told : List Said) (after : List (List ℕ)) (said : Result Said TextKind) (kind : TextKind) → of_said (wrong_table told after) said ≡ Some kind → IsPolicyFault kind
+pub table_fault_is : (told : List Said) (after : List (List ℕ)) (said : Result Said TextKind) (kind : TextKind) → of_said (wrong_table told after) said ≡ Some kind → IsPolicyFault kind
 unfolding table_check
 table_fault_is told after (Err k) kind h = cc
 table_fault_is told after (Ok (Setting name value)) kind h = cc
@@ -118,33 +119,54 @@ table_passes told last longer (Ok (Told ip outcome)) h = refl
 table_passes told last longer (Ok (Paused from to)) h = refl
 table_passes told last longer (Ok Ended) h = refl
 
+-- no table is checked on a row that another follows
+pub row_mends : (told : List Said) (longer : List (List ℕ)) (said : Result Said TextKind) → is_policy_next longer ≡ true → of_said (wrong_table told longer) said ≡ None
+unfolding table_check
+row_mends told longer (Err k) is = refl
+row_mends told longer (Ok (Setting name value)) is = refl
+row_mends told longer (Ok (PolicyRow row)) is = ap (λ b. table_check b (table_fault (rows_given told ++ row ∷ []))) is
+row_mends told longer (Ok (HostSource source)) is = refl
+row_mends told longer (Ok (HostRoute route)) is = refl
+row_mends told longer (Ok (Answer family reply)) is = refl
+row_mends told longer (Ok (Told ip outcome)) is = refl
+row_mends told longer (Ok (Paused from to)) is = refl
+row_mends told longer (Ok Ended) is = refl
+
+-- what stands behind a line is no whole line yet, and a row in the longer text
+abbrev BecomesRow : List (List ℕ) → List (List ℕ) → Type 0
+BecomesRow after longer = (last : List ℕ) × (after ≡ last ∷ []) × (is_policy_next longer ≡ true)
+
 -- whether a row follows is known once the next line is whole
-row_known : (after longer : List (List ℕ)) → GoOn after longer → (is_policy_next after ≡ is_policy_next longer) ⊎ ((last : List ℕ) × (after ≡ last ∷ []))
+row_known : (after longer : List (List ℕ)) → GoOn after longer → (is_policy_next after ≡ is_policy_next longer) ⊎ BecomesRow after longer
 row_known [] longer h = absurd h
-row_known (last ∷ []) longer h = inr (last, refl)
+row_known (last ∷ []) longer h = by_next (is_policy_next longer) refl
+  where
+    by_next : (b : Bool) → is_policy_next longer ≡ b → (false ≡ is_policy_next longer) ⊎ BecomesRow (last ∷ []) longer
+    by_next false e = inl (sym e)
+    by_next true e = inr (last, refl, e)
 row_known (line ∷ next ∷ lines) [] h = absurd h
 row_known (line ∷ next ∷ []) (other ∷ []) h = absurd h.1
 row_known (line ∷ next ∷ third ∷ lines) (other ∷ []) h = absurd h.1
 row_known (line ∷ next ∷ lines) (other ∷ more ∷ others) h = inl (ap (λ l. is_policy_next (l ∷ next ∷ lines)) h.0)
 
 -- all checks but the last
-abbrev early : List (List ℕ) → List ℕ → List (List ℕ) → List (Option TextKind)
+abbrev pub early : List (List ℕ) → List ℕ → List (List ℕ) → List (Option TextKind)
 early before line after =
     too_long line ∷ unfinished after ∷ wrong_word (last_group 0 before) (word_of (tokens_of line)) ∷ too_often before (word_of (tokens_of line))
     ∷ result_err (said_in (known_to (said_before before)) line) ∷ of_said (wrong_bounds (said_before before)) (said_in (known_to (said_before before)) line)
     ∷ of_said (repeated (said_before before)) (said_in (known_to (said_before before)) line) ∷ []
 
-abbrev table_of_line : List (List ℕ) → List ℕ → List (List ℕ) → Option TextKind
+abbrev pub table_of_line : List (List ℕ) → List ℕ → List (List ℕ) → Option TextKind
 table_of_line before line after = of_said (wrong_table (said_before before) after) (said_in (known_to (said_before before)) line)
 
-same_early : (before : List (List ℕ)) (line : List ℕ) (after longer : List (List ℕ)) → GoOn after longer → early before line after ≡ early before line longer
+pub same_early : (before : List (List ℕ)) (line : List ℕ) (after longer : List (List ℕ)) → GoOn after longer → early before line after ≡ early before line longer
 same_early before line [] longer h = absurd h
 same_early before line (last ∷ []) [] h = absurd h
 same_early before line (next ∷ other ∷ lines) [] h = absurd h
 same_early before line (next ∷ lines) (other ∷ more) h = refl
 
 line_stands : (before : List (List ℕ)) (line : List ℕ) (after longer : List (List ℕ)) (kind : TextKind) → GoOn after longer → line_fault before line after ≡ Some kind
-    → (line_fault before line longer ≡ Some kind) ⊎ (IsPolicyFault kind × ((last : List ℕ) × (after ≡ last ∷ [])))
+    → (line_fault before line longer ≡ Some kind) ⊎ (IsPolicyFault kind × BecomesRow after longer)
 unfolding line_fault
 line_stands before line after longer kind on h =
     let early_is : early before line after ≡ early before line longer = same_early before line after longer on in
@@ -158,7 +180,7 @@ line_stands before line after longer kind on h =
       ]
     ]
 
-line_passes : (before : List (List ℕ)) (line : List ℕ) (after longer : List (List ℕ)) → GoOn after longer → line_fault before line after ≡ None → line_fault before line longer ≡ None
+pub line_passes : (before : List (List ℕ)) (line : List ℕ) (after longer : List (List ℕ)) → GoOn after longer → line_fault before line after ≡ None → line_fault before line longer ≡ None
 unfolding line_fault
 line_passes before line after longer on h =
     let P : List (Option TextKind) → Type 0 = λ checks. first_fault (checks ++ table_of_line before line after ∷ []) ≡ None in
@@ -173,7 +195,7 @@ line_passes before line after longer on h =
     here
 
 -- all checks but the first two
-abbrev later_checks : List (List ℕ) → List ℕ → List (List ℕ) → List (Option TextKind)
+abbrev pub later_checks : List (List ℕ) → List ℕ → List (List ℕ) → List (Option TextKind)
 later_checks before line after =
     wrong_word (last_group 0 before) (word_of (tokens_of line)) ∷ too_often before (word_of (tokens_of line))
     ∷ result_err (said_in (known_to (said_before before)) line) ∷ of_said (wrong_bounds (said_before before)) (said_in (known_to (said_before before)) line)
@@ -198,9 +220,16 @@ last_line before last line more longer = elim (long_or_open (ltb MAX_LINE (lengt
   | inr rest ↦ inr rest
 ]
 
--- a fault on a line that what follows may mend, among the lines from line n on
-abbrev MayBeMended : ℕ → List (List ℕ) → ℕ → TextKind → Type 0
-MayBeMended n lines m kind = (kind ≡ kinds.Unfinished) ⊎ (IsPolicyFault kind × (n + length lines ≡ m + 2))
+-- line m is the last of the whole lines from line n on, and what stands behind it is a row in the longer text
+abbrev RowFollows : ℕ → List (List ℕ) → List (List ℕ) → ℕ → Type 0
+RowFollows n [] longer m = ⊥
+RowFollows n (last ∷ []) longer m = (n ≡ m + 1) × (is_policy_next longer ≡ true)
+RowFollows n (line ∷ next ∷ lines) [] m = ⊥
+RowFollows n (line ∷ next ∷ lines) (other ∷ more) m = RowFollows (n + 1) (next ∷ lines) more m
+
+-- a fault on a line that the longer text mends, among the lines from line n on
+abbrev MayBeMended : ℕ → List (List ℕ) → List (List ℕ) → ℕ → TextKind → Type 0
+MayBeMended n lines longer m kind = (kind ≡ kinds.Unfinished) ⊎ (IsPolicyFault kind × RowFollows n lines longer m)
 
 pub number_is : (n m : ℕ) (k kind : TextKind) → ◌≡◌ {A = Option (ℕ × TextKind)} (Some (n, k)) (Some (m, kind)) → (n ≡ m) × (k ≡ kind)
 number_is n m k kind h =
@@ -210,7 +239,7 @@ only : (n m : ℕ) (k kind : TextKind) (o : Option TextKind) (later : Option (�
 only n m k kind o later e h = ap (λ f. at_line_number n f later) (sym e) ∙ h
 
 from_stands : (n : ℕ) (before lines longer : List (List ℕ)) (m : ℕ) (kind : TextKind) → GoOn lines longer → fault_from n before lines ≡ Some (m, kind)
-    → MayBeMended n lines m kind ⊎ (fault_from n before longer ≡ Some (m, kind))
+    → MayBeMended n lines longer m kind ⊎ (fault_from n before longer ≡ Some (m, kind))
 unfolding fault_from
 from_stands n before [] longer m kind on h = absurd on
 from_stands n before (last ∷ []) [] m kind on h = absurd on
@@ -220,24 +249,26 @@ from_stands n before (last ∷ []) (line ∷ more) m kind on h = elim (last_line
 ]
 from_stands n before (line ∷ next ∷ lines) [] m kind on h = absurd on
 from_stands n before (line ∷ next ∷ lines) (other ∷ more) m kind on h =
-    let P : List ℕ → Type 0 = λ l. MayBeMended n (line ∷ next ∷ lines) m kind ⊎ (fault_from n before (l ∷ more) ≡ Some (m, kind)) in
+    let P : List ℕ → Type 0 = λ l. MayBeMended n (line ∷ next ∷ lines) (l ∷ more) m kind ⊎ (fault_from n before (l ∷ more) ≡ Some (m, kind)) in
     subst P on.0 (by_fault (λ e. from_stands (n + 1) (before ++ line ∷ []) (next ∷ lines) more m kind on.1 e) (line_fault before line (next ∷ lines)) refl h)
   where
-    ended : (last : List ℕ) → next ∷ lines ≡ last ∷ [] → length lines ≡ 0
-    ended last e = let size : length (next ∷ lines) ≡ 1 = ap length e in omega arith
+    follows : (last : List ℕ) → next ∷ lines ≡ last ∷ [] → is_policy_next more ≡ true → n ≡ m → RowFollows (n + 1) (next ∷ lines) more m
+    follows last e row is =
+        let F : List (List ℕ) → Type 0 = λ after. RowFollows (n + 1) after more m in
+        subst F (sym e) (omega arith, row)
 
-    by_end : (fault_from (n + 1) (before ++ line ∷ []) (next ∷ lines) ≡ Some (m, kind) → MayBeMended (n + 1) (next ∷ lines) m kind ⊎ (fault_from (n + 1) (before ++ line ∷ []) more ≡ Some (m, kind)))
+    by_end : (fault_from (n + 1) (before ++ line ∷ []) (next ∷ lines) ≡ Some (m, kind) → MayBeMended (n + 1) (next ∷ lines) more m kind ⊎ (fault_from (n + 1) (before ++ line ∷ []) more ≡ Some (m, kind)))
         → (b : Bool) → cond b None (fault_from (n + 1) (before ++ line ∷ []) (next ∷ lines)) ≡ Some (m, kind)
-        → MayBeMended n (line ∷ next ∷ lines) m kind ⊎ (cond b None (fault_from (n + 1) (before ++ line ∷ []) more) ≡ Some (m, kind))
+        → MayBeMended n (line ∷ next ∷ lines) (line ∷ more) m kind ⊎ (cond b None (fault_from (n + 1) (before ++ line ∷ []) more) ≡ Some (m, kind))
     by_end later true e = cc
     by_end later false e = elim (later e) [
       | inr stands ↦ inr stands
-      | inl may ↦ inl (elim may [ inl rest ↦ inl rest | inr table ↦ let size : n + 1 + length (next ∷ lines) ≡ m + 2 = table.1 in inr (table.0, omega arith) ])
+      | inl may ↦ inl may
     ]
 
-    by_fault : (fault_from (n + 1) (before ++ line ∷ []) (next ∷ lines) ≡ Some (m, kind) → MayBeMended (n + 1) (next ∷ lines) m kind ⊎ (fault_from (n + 1) (before ++ line ∷ []) more ≡ Some (m, kind)))
+    by_fault : (fault_from (n + 1) (before ++ line ∷ []) (next ∷ lines) ≡ Some (m, kind) → MayBeMended (n + 1) (next ∷ lines) more m kind ⊎ (fault_from (n + 1) (before ++ line ∷ []) more ≡ Some (m, kind)))
         → (o : Option TextKind) → line_fault before line (next ∷ lines) ≡ o → at_line_number n o (cond (ends line) None (fault_from (n + 1) (before ++ line ∷ []) (next ∷ lines))) ≡ Some (m, kind)
-        → MayBeMended n (line ∷ next ∷ lines) m kind ⊎ (at_line_number n (line_fault before line more) (cond (ends line) None (fault_from (n + 1) (before ++ line ∷ []) more)) ≡ Some (m, kind))
+        → MayBeMended n (line ∷ next ∷ lines) (line ∷ more) m kind ⊎ (at_line_number n (line_fault before line more) (cond (ends line) None (fault_from (n + 1) (before ++ line ∷ []) more)) ≡ Some (m, kind))
     by_fault later None e found = elim (by_end later (ends line) found) [
       | inl may ↦ inl may
       | inr stands ↦ inr (ap (λ o. at_line_number n o (cond (ends line) None (fault_from (n + 1) (before ++ line ∷ []) more))) (line_passes before line (next ∷ lines) more on.1 e) ∙ stands)
@@ -246,29 +277,28 @@ from_stands n before (line ∷ next ∷ lines) (other ∷ more) m kind on h =
       | inl stands ↦ inr (ap (λ o. at_line_number n o (cond (ends line) None (fault_from (n + 1) (before ++ line ∷ []) more))) stands ∙ found)
       | inr table ↦
           let is = number_is n m k kind found in
-          let size : length lines ≡ 0 = ended table.1.0 table.1.1 in
           let T : TextKind → Type 0 = IsPolicyFault in
-          inl (inr (subst T is.1 table.0, omega arith))
+          inl (inr (subst T is.1 table.0, follows table.1.0 table.1.1 table.1.2 is.0))
     ]
 
 -- no fault comes on an earlier line
-abbrev NotBefore : ℕ → Option (ℕ × TextKind) → Type 0
+abbrev pub NotBefore : ℕ → Option (ℕ × TextKind) → Type 0
 NotBefore n fault = MatchOption fault (Unit {0}) (λ f. n ≤ f.0)
 
-here_or_behind : (n m : ℕ) (o : Option TextKind) (later : Option (ℕ × TextKind)) → n ≤ m → NotBefore m later → NotBefore n (at_line_number m o later)
+pub here_or_behind : (n m : ℕ) (o : Option TextKind) (later : Option (ℕ × TextKind)) → n ≤ m → NotBefore m later → NotBefore n (at_line_number m o later)
 here_or_behind n m (Some kind) later le h = le
 here_or_behind n m None None le h = tt
 here_or_behind n m None (Some f) le h = omega arith
 
-unless_ended : (n : ℕ) (b : Bool) (later : Option (ℕ × TextKind)) → NotBefore n later → NotBefore n (cond b None later)
+pub unless_ended : (n : ℕ) (b : Bool) (later : Option (ℕ × TextKind)) → NotBefore n later → NotBefore n (cond b None later)
 unless_ended n true later h = tt
 unless_ended n false later h = h
 
-weaker : (n m : ℕ) (later : Option (ℕ × TextKind)) → n ≤ m → NotBefore m later → NotBefore n later
+pub weaker : (n m : ℕ) (later : Option (ℕ × TextKind)) → n ≤ m → NotBefore m later → NotBefore n later
 weaker n m None le h = tt
 weaker n m (Some f) le h = omega arith
 
-from_here : (n : ℕ) (before lines : List (List ℕ)) → NotBefore n (fault_from n before lines)
+pub from_here : (n : ℕ) (before lines : List (List ℕ)) → NotBefore n (fault_from n before lines)
 unfolding fault_from
 from_here n before [] = omega arith
 from_here n before (line ∷ after) =
@@ -314,7 +344,7 @@ last_header last line more longer = elim (long_or_open (ltb MAX_LINE (length las
   | inr rest ↦ inr rest
 ]
 
-in_stands : (lines longer : List (List ℕ)) (m : ℕ) (kind : TextKind) → GoOn lines longer → fault_in lines ≡ Some (m, kind) → MayBeMended 1 lines m kind ⊎ (fault_in longer ≡ Some (m, kind))
+in_stands : (lines longer : List (List ℕ)) (m : ℕ) (kind : TextKind) → GoOn lines longer → fault_in lines ≡ Some (m, kind) → MayBeMended 1 lines longer m kind ⊎ (fault_in longer ≡ Some (m, kind))
 unfolding fault_in
 in_stands [] longer m kind on h = absurd on
 in_stands (last ∷ []) [] m kind on h = absurd on
@@ -324,18 +354,18 @@ in_stands (last ∷ []) (line ∷ more) m kind on h = elim (last_header last lin
 ]
 in_stands (line ∷ next ∷ lines) [] m kind on h = absurd on
 in_stands (line ∷ next ∷ lines) (other ∷ more) m kind on h =
-    let P : List ℕ → Type 0 = λ l. MayBeMended 1 (line ∷ next ∷ lines) m kind ⊎ (fault_in (l ∷ more) ≡ Some (m, kind)) in
+    let P : List ℕ → Type 0 = λ l. MayBeMended 1 (line ∷ next ∷ lines) (l ∷ more) m kind ⊎ (fault_in (l ∷ more) ≡ Some (m, kind)) in
     subst P on.0 (elim (by_fault (first_fault (too_long line ∷ None ∷ wrong_header line ∷ [])) h) [
       | inl may ↦ inl may
       | inr stands ↦ inr (ap (λ u. at_line_number 1 (first_fault (too_long line ∷ u ∷ wrong_header line ∷ [])) (fault_from 2 [] more)) (more_follow next lines more on.1) ∙ stands)
     ])
   where
     by_fault : (o : Option TextKind) → at_line_number 1 o (fault_from 2 [] (next ∷ lines)) ≡ Some (m, kind)
-        → MayBeMended 1 (line ∷ next ∷ lines) m kind ⊎ (at_line_number 1 o (fault_from 2 [] more) ≡ Some (m, kind))
+        → MayBeMended 1 (line ∷ next ∷ lines) (line ∷ more) m kind ⊎ (at_line_number 1 o (fault_from 2 [] more) ≡ Some (m, kind))
     by_fault (Some k) found = inr found
     by_fault None found = elim (from_stands 2 [] (next ∷ lines) more m kind on.1 found) [
       | inr stands ↦ inr stands
-      | inl may ↦ inl (elim may [ inl rest ↦ inl rest | inr table ↦ let size : 2 + length (next ∷ lines) ≡ m + 2 = table.1 in inr (table.0, omega arith) ])
+      | inl may ↦ inl may
     ]
 
 in_later : (lines longer : List (List ℕ)) (m : ℕ) (kind : TextKind) → GoOn lines longer → fault_in lines ≡ Some (m, kind) → NotBefore m (fault_in longer)
@@ -373,33 +403,39 @@ by_kind kinds.Unfinished = inl (inl refl)
 by_kind (kinds.Policy fault) = inl (inr (fault, refl))
 by_kind kinds.Memory = inr (λ e. cc, λ t. let e = t.1 in cc)
 
-same_or_not : (a b : ℕ) → (a ≡ b) ⊎ (a ≡ b → ⊥)
-same_or_not a b = by_test (eqb a b) refl
-  where
-    by_test : (t : Bool) → eqb a b ≡ t → (a ≡ b) ⊎ (a ≡ b → ⊥)
-    by_test true e = inl (eqb-true a b e)
-    by_test false e = inr (λ same. let wrong : true ≡ false = sym (eq-eqb a b same) ∙ e in cc)
+-- where the text is so many whole lines and one open, it tells which line the row follows
+row_follows : (n : ℕ) (whole : List (List ℕ)) (last : List ℕ) (longer : List (List ℕ)) (m : ℕ) → RowFollows n (whole ++ last ∷ []) (whole ++ longer) m → (n + length whole ≡ m + 1) × (is_policy_next longer ≡ true)
+row_follows n [] last longer m h = (omega (arith, h.0), h.1)
+row_follows n (line ∷ []) last longer m h = let behind = row_follows (n + 1) [] last longer m h in (omega (arith, behind.0), behind.1)
+row_follows n (line ∷ next ∷ whole) last longer m h = let behind = row_follows (n + 1) (next ∷ whole) last longer m h in (omega (arith, behind.0), behind.1)
+
+changes : (text more : List ℕ) (n : ℕ) (kind : TextKind) → MayBeMended 1 (lines_of text) (lines_of (text ++ more)) n kind → MayChange text n kind
+changes text more n kind (inl rest) = inl rest
+changes text more n kind (inr (table, follows)) =
+    let ending = open_of 10 text in
+    let F : List (List ℕ) → List (List ℕ) → Type 0 = λ lines longer. RowFollows 1 lines longer n in
+    let G : List (List ℕ) → Type 0 = F (lines_of text) in
+    let H : List (List ℕ) → Type 0 = λ lines. F lines (ending.whole ++ lines_of (ending.rest ++ more)) in
+    let row = row_follows 1 ending.whole ending.rest (lines_of (ending.rest ++ more)) n (subst H ending.parts (subst G (ending.grows more) follows)) in
+    inr (table, (ending.rest, (ending.whole, ending.parts, omega (arith, row.0)), (more, row.1)))
 
 may_or_not : (text : List ℕ) (n : ℕ) (kind : TextKind) → MayChange text n kind ⊎ (MayChange text n kind → ⊥)
 may_or_not text n kind = elim (by_kind kind) [
   | inr other ↦ inr (λ may. elim may [ inl e ↦ other.0 e | inr t ↦ other.1 t.0 ])
   | inl known ↦ elim known [
     | inl e ↦ inl (inl e)
-    | inr table ↦ elim (same_or_not (length (lines_of text)) (n + 1)) [
-      | inl last ↦ inl (inr (table, last))
-      | inr inside ↦ inr (λ may. elim may [ inl e ↦ let wrong : kinds.Policy table.0 ≡ kinds.Unfinished = sym table.1 ∙ e in cc | inr t ↦ inside t.1 ])
+    | inr table ↦ elim (policy_may_follow text n) [
+      | inl follows ↦ inl (inr (table, follows))
+      | inr never ↦ inr (λ may. elim may [ inl e ↦ let wrong : kinds.Policy table.0 ≡ kinds.Unfinished = sym table.1 ∙ e in cc | inr t ↦ never t.1 ])
     ]
   ]
 ]
-
-changes : (text : List ℕ) (n : ℕ) (kind : TextKind) → MayBeMended 1 (lines_of text) n kind → MayChange text n kind
-changes text n kind may = elim may [ inl rest ↦ inl rest | inr table ↦ let size : 1 + length (lines_of text) ≡ n + 2 = table.1 in inr (table.0, omega arith) ]
 
 pub stands : (text : List ℕ) (n : ℕ) (kind : TextKind) → fault_of text ≡ Some (n, kind) → MayChange text n kind ⊎ FaultStands text n kind
 stands text n kind h = elim (may_or_not text n kind) [
   | inl may ↦ inl may
   | inr never ↦ inr (λ more. elim (in_stands (lines_of text) (lines_of (text ++ more)) n kind (parts_go_on 10 text more) h) [
-    | inl may ↦ absurd (never (changes text n kind may))
+    | inl may ↦ absurd (never (changes text more n kind may))
     | inr same ↦ same
   ])
 ]
@@ -430,18 +466,7 @@ tells text more n kind told = elim told [
         inr (inl (refused, subst P (sym none) tt))
     by_fault (Some f) e refused later = inr (inl (refused, farther n f.0 (fault_of (text ++ more)) later (not_earlier text more f.0 f.1 e)))
 
--- two texts with which a text begins: one is the beginning of the other
-one_in_front : (xs ys more others : List ℕ) → xs ++ more ≡ ys ++ others → ((m : List ℕ) × (ys ≡ xs ++ m)) ⊎ ((m : List ℕ) × (xs ≡ ys ++ m))
-one_in_front [] ys more others h = inl (ys, refl)
-one_in_front (x ∷ xs) [] more others h = inr (x ∷ xs, refl)
-one_in_front (x ∷ xs) (y ∷ ys) more others h =
-    let first : x ≡ y = cc (h) in
-    let rest : xs ++ more ≡ ys ++ others = cc (h) in
-    elim (one_in_front xs ys more others rest) [
-      | inl longer ↦ inl (longer.0, ap (λ t. y ∷ t) longer.1 ∙ ap (λ b. b ∷ xs ++ longer.0) (sym first))
-      | inr longer ↦ inr (longer.0, ap (λ t. x ∷ t) longer.1 ∙ ap (λ b. b ∷ ys ++ longer.0) first)
-    ]
-
+-- the race with which a text begins is one
 pub one_race_first : (front rest other_front other_rest : List ℕ) (race other : Race) → IsRaceText front race → IsRaceText other_front other → front ++ rest ≡ other_front ++ other_rest
     → (front ≡ other_front) × (race ≡ other)
 one_race_first front rest other_front other_rest race other is also same = elim (one_in_front front other_front rest other_rest same) [

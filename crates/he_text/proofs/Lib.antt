@@ -14,6 +14,7 @@ mod CompleteTexts
 mod FaultTexts
 mod FirstFaults
 mod FormFacts
+mod FormKinds
 mod FormLaws
 mod FormReads
 mod GivenLaws
@@ -25,9 +26,11 @@ mod LineLaws
 mod LineReads
 mod LineTexts
 mod LoopLaws
+mod Mending
 mod NextLines
 mod NextRaces
 mod OneInput
+mod OpenLines
 mod OrderLaws
 mod OrderTexts
 mod PartLaws

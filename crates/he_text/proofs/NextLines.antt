@@ -49,7 +49,7 @@ pub next_word : (line : List ℕ) (after : List (List ℕ)) (word : Result (Word
 next_word line [] word e h = cc
 next_word line (next ∷ after) word e h = ap begins_policy (sym e) ∙ (and_parts (leb (length line) MAX_LINE) (begins_policy (word_of (tokens_of line))) h).1
 
-policy_word : (word : Word) → is_policy word ≡ true → word ≡ words.Policy
+pub policy_word : (word : Word) → is_policy word ≡ true → word ≡ words.Policy
 policy_word words.Set h = cc
 policy_word words.Policy h = refl
 policy_word words.Source h = cc

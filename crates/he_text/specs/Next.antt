@@ -3,13 +3,13 @@ use Rattle.std.specs.Prelude.{ℕ, ◌≡◌, ◌⊎◌, ◌<◌, ◌≤◌, ◌
 use Rattle.he_text.specs.declared.fault.TextKind.{TextKind}
 use Rattle.he_text.specs.declared.next.Next.{Next}
 use Rattle.he_text.specs.declared.next.Next.TheVariants as nexts
-use Rattle.he_text.specs.Beginnings.{MayChange}
+use Rattle.he_text.specs.Beginnings.{FaultChanges}
 use Rattle.he_text.specs.FaultSearch.{fault_of}
 use Rattle.he_text.specs.Text.{IsRaceText, TellsFault}
 
--- what the text is depends on what follows it: it is empty, or has a fault that what follows may mend
+-- what the text is depends on what follows it: it is empty, or has a fault that not every text has that begins with its bytes
 abbrev pub MayGoOn : List ℕ → Type 0
-MayGoOn text = (text ≡ []) ⊎ ((line : ℕ) × (kind : TextKind) × (fault_of text ≡ Some (line, kind)) × MayChange text line kind)
+MayGoOn text = (text ≡ []) ⊎ ((line : ℕ) × (kind : TextKind) × (fault_of text ≡ Some (line, kind)) × FaultChanges text line kind)
 
 -- a race's text stands from the place on, or what stands there depends on what follows; or the text ends there
 abbrev pub IsNext : {A : Type 0} → List ℕ → ℕ → Bool → Next A → Type 0

@@ -8,7 +8,7 @@ ghost use Rattle.he_text.specs.declared.fault.TextKind.{TextKind};
 ghost use Rattle.he_text.specs.declared.limits.TheConstants.{MAX_LINE, MAX_ANSWERS, SOURCE_MARKS, ROUTE_MARKS, MAX_PRECEDENCE, MAX_LABEL, MIN_INTERFACE, MAX_INTERFACE};
 ghost use Rattle.he_text.specs.declared.parts.TheConstants.{LINE_END, TOKEN_END};
 ghost use Rattle.he_select.specs.Ranges.{least_interface};
-ghost use Rattle.he_text.specs.Beginnings.{FaultStands, MayChange};
+ghost use Rattle.he_text.specs.Beginnings.{FaultChanges, FaultStands, MayChange};
 ghost use Rattle.he_text.specs.FaultSearch.{fault_of};
 ghost use Rattle.he_text.specs.FirstFault.{IsFirstFaultOf};
 ghost use Rattle.he_text.specs.InRange.{RaceInRange};
@@ -45,9 +45,14 @@ pub fn one_race_first()
 {}
 
 /// A fault of a text is the fault of every text that begins with its bytes, unless the text ends inside a race, or
-/// with the last row of a policy table that more rows may mend. Runs nothing.
+/// where one more row of a policy table may follow and mend it. Runs nothing.
 pub fn faults_stand()
     ensures { (text : List ℕ) (line : ℕ) (kind : TextKind) → fault_of text ≡ Some (line, kind) → MayChange text line kind ⊎ FaultStands text line kind }
+{}
+
+/// Where what follows may mend a fault of a text, some text that begins with its bytes has not this fault. Runs nothing.
+pub fn mendable_faults_change()
+    ensures { (text : List ℕ) (line : ℕ) (kind : TextKind) → fault_of text ≡ Some (line, kind) → MayChange text line kind → FaultChanges text line kind }
 {}
 
 /// What the form of a line, its tokens checked from left to right, makes of it is what the line says, where it

@@ -1,11 +1,15 @@
-use Rattle.std.proofs.Common.{ℕ, ◌↔◌, IsTrue, nat_eq, sym, subst}
+use Rattle.std.proofs.Common.{ℕ, ◌↔◌, List, IsTrue, nat_eq, sym, subst}
+use Rattle.std.proofs.lemmas.Bool.{eqb-true}
 use Rattle.he_text.specs.declared.fault.TextKind.{TextKind}
 use Rattle.he_text.specs.Beginnings.{MayChange}
-use Rattle.he_text.proofs.NextRaces.{table_changes}
+use Rattle.he_text.proofs.OpenLines.{table_stands}
 use Rattle.he_text.proofs.next.may_change.Goals as goal
 
-pub returns-in-Policy : goal.returns-in-Policy
-returns-in-Policy c =
+pub returns-else-line_count-fault : goal.returns-else-line_count-fault
+returns-else-line_count-fault c =
+    let text : List ℕ = c.args.text.now in
     let lines : ℕ = c.line_count.result in
-    let P : TextKind → Type 0 = λ kind. IsTrue (nat_eq lines c.args.fault.line) ↔ MayChange c.args.text.now c.args.fault.line kind in
-    subst P (sym c.in-Policy.is) (table_changes c.args.text.now lines c.args.fault.line c.in-Policy.field-0 c.line_count.ensures)
+    let n : ℕ = c.args.fault.line in
+    let P : TextKind → Type 0 = λ kind. IsTrue (nat_eq lines n) ↔ MayChange text n kind in
+    let other = c.if-line_count-fault.false in
+    subst P (sym c.in-Policy.is) (λ same. absurd (other (eqb-true lines n same)), λ may. absurd (table_stands text lines n c.in-Policy.field-0 c.line_count.ensures other may))

@@ -5,7 +5,7 @@ use Rattle.he_plan.specs.Race.{Race}
 use Rattle.he_text.specs.declared.fault.TextKind.TheVariants as kinds
 use Rattle.he_text.specs.declared.next.Next.TheVariants as nexts
 use Rattle.he_text.specs.Beginnings.{MayChange}
-use Rattle.he_text.proofs.NextRaces.{not_memory, tells_for}
+use Rattle.he_text.proofs.NextRaces.{goes_on, not_memory, tells_for}
 use Rattle.he_text.proofs.next.next_race.Goals as goal
 use Rattle.he_text.proofs.next.next_race.Goals.{then-not-is_last+else-may_change, else-not-is_last}
 
@@ -13,6 +13,15 @@ pub returns-in-Ok-Some-clause-complete : goal.returns-in-Ok-Some-clause-complete
 returns-in-Ok-Some-clause-complete g c end race le is =
     let found : Some (c.in-Ok-Some.race, c.in-Ok-Some.end) ≡ Some (race, end) = sym c.in-Ok-Some.field-0-is ∙ c.in-Ok-Some.ensures.complete end race le is in
     ap (λ (o : Option (Race × ℕ)). option_map_or (λ x. nexts.Race x.0 x.1) o nexts.More) found
+
+pub returns-in-Err-clause-next : goal.returns-in-Err-clause-next
+returns-in-Err-clause-next g c =
+    let text : List ℕ = drop c.args.from c.args.text.now in
+    let whole : take (length c.args.text.now - c.args.from) text ≡ text = take_all _ _ (omega (arith, length-drop {A = ℕ})) in
+    let P : List ℕ → Type 0 = λ rest. MayChange rest c.in-Err.fault.line c.in-Err.fault.kind in
+    let may = subst P whole (c.may_change.ensures.0 c.if-may_change.true) in
+    let open_ended : c.args.is_last ≡ false = (let not_last = c.if-not-is_last.true in cc) in
+    (open_ended, goes_on text c.in-Err.fault.line c.in-Err.fault.kind c.in-Err.ensures.fault may)
 
 pub returns-in-Err-clause-complete : goal.returns-in-Err-clause-complete
 returns-in-Err-clause-complete g c end race le is =

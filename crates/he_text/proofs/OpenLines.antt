@@ -1,0 +1,288 @@
+-- What stands behind the last mark of a text, and which bytes may become a `policy` line.
+use Rattle.std.proofs.Common.{◌≡◌, ◌↔◌, ℕ, ◌+◌, ◌<◌, ◌≤◌, ◌==◌, ◌&&◌, ◌||◌, Bool, true, false, cond, eqb, leb, List, [], ◌∷◌, ◌++◌, length, take, drop, get_or, None, Ok, Err, refl, sym, ◌∙◌, ap, subst, inl, inr, arith, append_assoc}
+use Rattle.std.specs.Prelude.{◌⊎◌, IsTrue, codes, slice_index}
+use Rattle.std.specs.List.{AllByRecursion, onto_first, join_with_byte, starts_with}
+use Rattle.std.proofs.lemmas.Bool.{le-leb, leb-true, eq-eqb, eqb-true, and_parts}
+use Rattle.std.proofs.lemmas.Bool.Decides.{Decides-eqb}
+use Rattle.std.proofs.lemmas.List.{append-nil, length-append, length-drop, take-append-drop, drop_more, get_or-drop}
+use Rattle.std.proofs.lemmas.List.Splits.{join_with_byte-slice_split, length-slice_split}
+use Rattle.std.proofs.lemmas.Slice.Eq.{starts_is}
+use Rattle.memchr.specs.Find.{Nowhere, Passes, is_byte}
+use Rattle.he_select.specs.declared.policy.PolicyFault.{PolicyFault}
+use Rattle.he_text.specs.declared.fault.TextKind.TheVariants as kinds
+use Rattle.he_text.specs.declared.limits.TheConstants.{MAX_LINE}
+use Rattle.he_text.specs.Beginnings.{EndsIn, MayBecomePolicy, MayChange, PolicyMayFollow}
+use Rattle.he_text.specs.Faults.{begins_policy, is_policy_next}
+use Rattle.he_text.specs.Forms.{word_of}
+use Rattle.he_text.specs.Inputs.{line_count}
+use Rattle.he_text.specs.Parts.{pieces_of, lines_of, tokens_of}
+use Rattle.he_text.specs.Words.{spelling_of, word_in}
+use Rattle.he_text.proofs.NextLines.{policy_word}
+use Rattle.he_text.proofs.PartLaws.{Lacks, first_byte, parts_counted, parts_lack, parts_whole}
+use Rattle.he_text.proofs.SaysLaws.{word_tokens}
+
+-- the whole parts of a text, and the open one behind the last mark, which alone goes on in a longer text
+pub record Open (mark : ℕ) (text : List ℕ) : Type 0 where
+  pub whole : List (List ℕ)
+  pub rest : List ℕ
+  pub parts : pieces_of mark text ≡ whole ++ rest ∷ []
+  pub grows : (more : List ℕ) → pieces_of mark (text ++ more) ≡ whole ++ pieces_of mark (rest ++ more)
+
+pub open_of : (mark : ℕ) (text : List ℕ) → Open mark text
+open_of mark [] = record { whole = []; rest = []; parts = refl; grows = λ more. refl }
+open_of mark (x ∷ xs) = by_mark (eqb x mark) refl (open_of mark xs)
+  where
+    cut : (b : Bool) → eqb x mark ≡ b → (ys : List ℕ) → pieces_of mark (x ∷ ys) ≡ cond b ([] ∷ pieces_of mark ys) (onto_first x (pieces_of mark ys))
+    cut b e ys = ap (λ t. cond t ([] ∷ pieces_of mark ys) (onto_first x (pieces_of mark ys))) e
+
+    by_whole : eqb x mark ≡ false → (whole : List (List ℕ)) (rest : List ℕ) → pieces_of mark xs ≡ whole ++ rest ∷ []
+        → ((more : List ℕ) → pieces_of mark (xs ++ more) ≡ whole ++ pieces_of mark (rest ++ more)) → Open mark (x ∷ xs)
+    by_whole e [] rest parts grows = record {
+      whole = [];
+      rest = x ∷ rest;
+      parts = cut false e xs ∙ ap (onto_first x) parts;
+      grows = λ more. cut false e (xs ++ more) ∙ ap (onto_first x) (grows more) ∙ sym (cut false e (rest ++ more));
+    }
+    by_whole e (part ∷ whole) rest parts grows = record {
+      whole = (x ∷ part) ∷ whole;
+      rest = rest;
+      parts = cut false e xs ∙ ap (onto_first x) parts;
+      grows = λ more. cut false e (xs ++ more) ∙ ap (onto_first x) (grows more);
+    }
+
+    by_mark : (b : Bool) → eqb x mark ≡ b → Open mark xs → Open mark (x ∷ xs)
+    by_mark true e ending = record {
+      whole = [] ∷ ending.whole;
+      rest = ending.rest;
+      parts = cut true e xs ∙ ap (λ ps. [] ∷ ps) ending.parts;
+      grows = λ more. cut true e (xs ++ more) ∙ ap (λ ps. [] ∷ ps) (ending.grows more);
+    }
+    by_mark false e ending = by_whole e ending.whole ending.rest ending.parts ending.grows
+
+-- the last part is one alone
+last_part : List (List ℕ) → List ℕ
+last_part [] = []
+last_part (part ∷ []) = part
+last_part (part ∷ next ∷ parts) = last_part (next ∷ parts)
+
+last_is : (whole : List (List ℕ)) (rest : List ℕ) → last_part (whole ++ rest ∷ []) ≡ rest
+unfolding last_part
+last_is [] rest = refl
+last_is (part ∷ []) rest = refl
+last_is (part ∷ next ∷ whole) rest = last_is (next ∷ whole) rest
+
+pub one_last : (whole others : List (List ℕ)) (rest other : List ℕ) → whole ++ rest ∷ [] ≡ others ++ other ∷ [] → rest ≡ other
+one_last whole others rest other h = sym (last_is whole rest) ∙ ap last_part h ∙ last_is others other
+
+-- bytes without the mark stand at the front of the first part
+pub front_part : (mark : ℕ) (rest more first : List ℕ) (parts : List (List ℕ)) → Lacks mark rest → pieces_of mark more ≡ first ∷ parts → pieces_of mark (rest ++ more) ≡ (rest ++ first) ∷ parts
+front_part mark [] more first parts lacks h = h
+front_part mark (x ∷ rest) more first parts lacks h =
+    ap (λ b. cond b ([] ∷ pieces_of mark (rest ++ more)) (onto_first x (pieces_of mark (rest ++ more)))) lacks.0
+    ∙ ap (onto_first x) (front_part mark rest more first parts lacks.1 h)
+
+pub some_part : (mark : ℕ) (text : List ℕ) → (first : List ℕ) × (parts : List (List ℕ)) × (pieces_of mark text ≡ first ∷ parts)
+some_part mark text = by_parts (pieces_of mark text) refl (omega (arith, length-slice_split (λ b. eqb b mark) text))
+  where
+    by_parts : (all : List (List ℕ)) → pieces_of mark text ≡ all → 1 ≤ length all → (first : List ℕ) × (parts : List (List ℕ)) × (pieces_of mark text ≡ first ∷ parts)
+    by_parts [] e some = absurd (omega arith)
+    by_parts (first ∷ parts) e some = (first, parts, e)
+
+-- two beginnings of a text: one is a beginning of the other
+pub one_in_front : (xs ys more others : List ℕ) → xs ++ more ≡ ys ++ others → ((m : List ℕ) × (ys ≡ xs ++ m)) ⊎ ((m : List ℕ) × (xs ≡ ys ++ m))
+one_in_front [] ys more others h = inl (ys, refl)
+one_in_front (x ∷ xs) [] more others h = inr (x ∷ xs, refl)
+one_in_front (x ∷ xs) (y ∷ ys) more others h =
+    let first : x ≡ y = cc (h) in
+    let rest : xs ++ more ≡ ys ++ others = cc (h) in
+    elim (one_in_front xs ys more others rest) [
+      | inl longer ↦ inl (longer.0, ap (λ t. y ∷ t) longer.1 ∙ ap (λ b. b ∷ xs ++ longer.0) (sym first))
+      | inr longer ↦ inr (longer.0, ap (λ t. x ∷ t) longer.1 ∙ ap (λ b. b ∷ ys ++ longer.0) first)
+    ]
+
+-- the bytes begin a `policy` line, or are one that may go on
+abbrev pub BeginsPolicy : List ℕ → Type 0
+BeginsPolicy rest = ((more : List ℕ) × (codes "policy " ≡ rest ++ more)) ⊎ ((more : List ℕ) × (rest ≡ codes "policy " ++ more) × (length rest ≤ MAX_LINE))
+
+policy_alone : is_policy_next (lines_of (codes "policy " ++ 10 ∷ [])) ≡ true
+unfolding word_of word_in
+policy_alone = refl
+
+policy_tokens : (more : List ℕ) → begins_policy (word_of (tokens_of (codes "policy " ++ more))) ≡ true
+unfolding word_of word_in
+policy_tokens more = refl
+
+-- a line end makes a `policy` line of what begins so
+pub becomes_policy : (rest : List ℕ) → Lacks 10 rest → BeginsPolicy rest → MayBecomePolicy rest
+becomes_policy rest lacks (inl (more, is)) =
+    (more ++ 10 ∷ [], ap (λ t. is_policy_next (lines_of t)) (sym (append_assoc rest more (10 ∷ [])) ∙ ap (λ t. t ++ 10 ∷ []) (sym is)) ∙ policy_alone)
+becomes_policy rest lacks (inr (more, is, short)) =
+    let lines : lines_of (rest ++ 10 ∷ []) ≡ rest ∷ [] ∷ [] = front_part 10 rest (10 ∷ []) [] ([] ∷ []) lacks refl ∙ ap (λ t. t ∷ [] ∷ []) (append-nil rest) in
+    let word : begins_policy (word_of (tokens_of rest)) ≡ true = ap (λ t. begins_policy (word_of (tokens_of t))) is ∙ policy_tokens more in (
+      10 ∷ [],
+      ap is_policy_next lines ∙ ap (λ b. b && begins_policy (word_of (tokens_of rest))) (le-leb (length rest) MAX_LINE short) ∙ word,
+    )
+
+-- a line whose word is `policy` is that word, or goes on behind a space
+policy_line : (line : List ℕ) → begins_policy (word_of (tokens_of line)) ≡ true → (line ≡ codes "policy") ⊎ ((more : List ℕ) × (line ≡ codes "policy " ++ more))
+policy_line line h = by_word (word_of (tokens_of line)) refl h
+  where
+    by_tokens : (tokens : List (List ℕ)) → line ≡ join_with_byte 32 (codes "policy" ∷ tokens) → (line ≡ codes "policy") ⊎ ((more : List ℕ) × (line ≡ codes "policy " ++ more))
+    by_tokens [] e = inl e
+    by_tokens (token ∷ tokens) e = inr (join_with_byte 32 (token ∷ tokens), e)
+
+    by_word : (word : _) → word_of (tokens_of line) ≡ word → begins_policy word ≡ true → (line ≡ codes "policy") ⊎ ((more : List ℕ) × (line ≡ codes "policy " ++ more))
+    by_word (Err kind) e b = cc
+    by_word (Ok parts) e b = by_tokens parts.1 (
+        sym (join_with_byte-slice_split 32 line)
+        ∙ ap (join_with_byte 32) (word_tokens (tokens_of line) parts e ∙ ap (λ w. spelling_of w ∷ parts.1) (policy_word parts.0 b))
+        )
+
+-- only what begins so becomes a `policy` line
+pub begins_policy_line : (rest : List ℕ) → Lacks 10 rest → MayBecomePolicy rest → BeginsPolicy rest
+begins_policy_line rest lacks (more, is) =
+    let front = some_part 10 more in
+    by_parts front.0 front.1 (front_part 10 rest more front.0 front.1 lacks front.2)
+  where
+    by_line : (first : List ℕ) → length (rest ++ first) ≤ MAX_LINE → (rest ++ first ≡ codes "policy") ⊎ ((tail : List ℕ) × (rest ++ first ≡ codes "policy " ++ tail))
+        → BeginsPolicy rest
+    by_line first short (inl word) = inl (first ++ 32 ∷ [], ap (λ l. l ++ 32 ∷ []) (sym word) ∙ append_assoc rest first (32 ∷ []))
+    by_line first short (inr (tail, line)) = elim (one_in_front rest (codes "policy ") first tail line) [
+      | inl longer ↦ inl longer
+      | inr longer ↦ inr (longer.0, longer.1, omega (arith, length-append rest first))
+    ]
+
+    by_parts : (first : List ℕ) (parts : List (List ℕ)) → lines_of (rest ++ more) ≡ (rest ++ first) ∷ parts
+        → BeginsPolicy rest
+    by_parts first [] lines = let never : false ≡ true = sym (ap is_policy_next lines) ∙ is in cc
+    by_parts first (next ∷ parts) lines =
+        let both = and_parts (leb (length (rest ++ first)) MAX_LINE) (begins_policy (word_of (tokens_of (rest ++ first)))) (sym (ap is_policy_next lines) ∙ is) in
+        by_line first (leb-true (length (rest ++ first)) MAX_LINE both.0) (policy_line (rest ++ first) both.1)
+
+-- whether the bytes begin so is found by two tests
+abbrev pub test_beginning : List ℕ → Bool
+test_beginning rest = starts_with (λ a b. a == b) (codes "policy ") rest || starts_with (λ a b. a == b) rest (codes "policy ") && leb (length rest) MAX_LINE
+
+pub beginning_found : (rest : List ℕ) (front behind short : Bool) → front ≡ starts_with (λ a b. a == b) (codes "policy ") rest → behind ≡ starts_with (λ a b. a == b) rest (codes "policy ")
+    → short ≡ leb (length rest) MAX_LINE → (IsTrue (front || behind && short) → BeginsPolicy rest) × (BeginsPolicy rest → IsTrue (front || behind && short))
+beginning_found rest front behind short f b s = (found front behind short f b s, tested)
+  where
+    found : (front behind short : Bool) → front ≡ starts_with (λ a b. a == b) (codes "policy ") rest → behind ≡ starts_with (λ a b. a == b) rest (codes "policy ") → short ≡ leb (length rest) MAX_LINE
+        → IsTrue (front || behind && short) → BeginsPolicy rest
+    found true behind short f b s h = inl (_, (starts_is Decides-eqb (codes "policy ") rest _ refl).0 (sym f))
+    found false true true f b s h = inr (_, (starts_is Decides-eqb rest (codes "policy ") _ refl).0 (sym b), leb-true (length rest) MAX_LINE (sym s))
+    found false true false f b s h = cc
+    found false false short f b s h = cc
+
+    or_true : (b : Bool) → b || true ≡ true
+    or_true true = refl
+    or_true false = refl
+
+    tested : BeginsPolicy rest → IsTrue (front || behind && short)
+    tested (inl (m, e)) = ap (λ t. t || behind && short) (f ∙ (starts_is Decides-eqb (codes "policy ") rest _ refl).1 m e)
+    tested (inr (m, e, le)) =
+        ap (λ t. front || t && short) (b ∙ (starts_is Decides-eqb rest (codes "policy ") _ refl).1 m e)
+        ∙ ap (λ t. front || t) (s ∙ le-leb (length rest) MAX_LINE le)
+        ∙ or_true front
+
+last_lacks : (mark : ℕ) (whole : List (List ℕ)) (rest : List ℕ) → AllByRecursion (Lacks mark) (whole ++ rest ∷ []) → Lacks mark rest
+last_lacks mark [] rest all = all.0
+last_lacks mark (part ∷ whole) rest all = last_lacks mark whole rest all.1
+
+pub open_lacks : (mark : ℕ) (text : List ℕ) → Lacks mark (open_of mark text).rest
+open_lacks mark text =
+    let ending : Open mark text = open_of mark text in
+    let A : List (List ℕ) → Type 0 = AllByRecursion (Lacks mark) in
+    last_lacks mark ending.whole ending.rest (subst A ending.parts (parts_lack mark text))
+
+-- whether one more row may follow
+pub policy_may_follow : (text : List ℕ) (n : ℕ) → PolicyMayFollow text n ⊎ (PolicyMayFollow text n → ⊥)
+policy_may_follow text n = by_count (eqb (length ending.whole) n) refl
+  where
+    ending : Open 10 text
+    ending = open_of 10 text
+
+    lacks : Lacks 10 ending.rest
+    lacks = open_lacks 10 text
+
+    same_rest : (rest : List ℕ) → EndsIn text n rest → ending.rest ≡ rest
+    same_rest rest (lines, parts, count) = one_last ending.whole lines ending.rest rest (sym ending.parts ∙ parts)
+
+    by_test : (b : Bool) → test_beginning ending.rest ≡ b → length ending.whole ≡ n
+        → PolicyMayFollow text n ⊎ (PolicyMayFollow text n → ⊥)
+    by_test true e count = inl (ending.rest, (ending.whole, ending.parts, count), becomes_policy ending.rest lacks ((beginning_found ending.rest _ _ _ refl refl refl).0 e))
+    by_test false e count = inr (λ may.
+        let here : MayBecomePolicy ending.rest = subst MayBecomePolicy (sym (same_rest may.0 may.1)) may.2 in
+        let wrong : false ≡ true = sym e ∙ (beginning_found ending.rest _ _ _ refl refl refl).1 (begins_policy_line ending.rest lacks here) in
+        cc)
+
+    counted : (lines : List (List ℕ)) (rest : List ℕ) → lines_of text ≡ lines ++ rest ∷ [] → length lines + 1 ≡ length (lines_of text)
+    counted lines rest parts = sym (ap length parts ∙ length-append lines (rest ∷ []))
+
+    same_count : (rest : List ℕ) → EndsIn text n rest → length ending.whole ≡ n
+    same_count rest (lines, parts, count) = let all = counted lines rest parts in let ours = counted ending.whole ending.rest ending.parts in omega arith
+
+    by_count : (b : Bool) → eqb (length ending.whole) n ≡ b → PolicyMayFollow text n ⊎ (PolicyMayFollow text n → ⊥)
+    by_count true e = by_test (test_beginning ending.rest) refl (eqb-true (length ending.whole) n e)
+    by_count false e = inr (λ may. let wrong : true ≡ false = sym (eq-eqb (length ending.whole) n (same_count may.0 may.1)) ∙ e in cc)
+
+-- what stands behind the last mark is one part
+pieces_behind : (mark byte : ℕ) (front rest : List ℕ) → eqb byte mark ≡ true → pieces_of mark rest ≡ rest ∷ [] → pieces_of mark (front ++ byte ∷ rest) ≡ pieces_of mark front ++ rest ∷ []
+pieces_behind mark byte [] rest is alone = ap (λ b. cond b ([] ∷ pieces_of mark rest) (onto_first byte (pieces_of mark rest))) is ∙ ap (λ ps. [] ∷ ps) alone
+pieces_behind mark byte (x ∷ front) rest is alone =
+    let first = some_part mark front in
+    by_mark (eqb x mark) first.0 first.1 first.2 (pieces_behind mark byte front rest is alone)
+  where
+    by_mark : (b : Bool) (first : List ℕ) (parts : List (List ℕ)) → pieces_of mark front ≡ first ∷ parts → pieces_of mark (front ++ byte ∷ rest) ≡ pieces_of mark front ++ rest ∷ []
+        → cond b ([] ∷ pieces_of mark (front ++ byte ∷ rest)) (onto_first x (pieces_of mark (front ++ byte ∷ rest))) ≡ cond b ([] ∷ pieces_of mark front) (onto_first x (pieces_of mark front)) ++ rest ∷ []
+    by_mark true first parts e h = ap (λ ps. [] ∷ ps) h
+    by_mark false first parts e h = ap (onto_first x) (h ∙ ap (λ ps. ps ++ rest ∷ []) e) ∙ sym (ap (λ ps. onto_first x ps ++ rest ∷ []) e)
+
+-- bytes of which none is the mark are one part
+none_marks : (mark from : ℕ) (text : List ℕ) → Nowhere (Passes (is_byte mark) text) from (length text) → pieces_of mark (drop from text) ≡ drop from text ∷ []
+none_marks mark from text never = parts_whole mark (drop from text) (sym (first_byte mark (drop from text) None (λ j low high passes.
+    never (from + j) (omega arith) (omega (arith, high, length-drop from text)) (ap (λ b. eqb b mark) (sym (get_or-drop from text j 0)) ∙ passes))))
+
+-- the text ends in what stands behind its last line end
+pub ends_behind : (text : List ℕ) (at : ℕ) → at < length text → slice_index text at ≡ 10 → Nowhere (Passes (is_byte 10) text) (at + 1) (length text)
+    → EndsIn text (line_count text) (drop (at + 1) text) × (lines_of (drop (at + 1) text) ≡ drop (at + 1) text ∷ [])
+ends_behind text at inside is never =
+    let alone = none_marks 10 (at + 1) text never in
+    let parts : lines_of text ≡ lines_of (take at text) ++ drop (at + 1) text ∷ [] =
+    ap lines_of (sym (take-append-drop at text) ∙ ap (λ l. take at text ++ l) (drop_more text at 0 inside)) ∙ pieces_behind 10 (get_or text at 0) (take at text) (drop (at + 1) text) (ap (λ b. eqb b 10) is) alone in
+    ((lines_of (take at text), parts, ended (lines_of (take at text)) (drop (at + 1) text) parts), alone)
+  where
+    ended : (lines : List (List ℕ)) (rest : List ℕ) → lines_of text ≡ lines ++ rest ∷ [] → length lines ≡ line_count text
+    ended lines rest parts = let all = parts_counted 10 text in let sum : length (lines_of text) ≡ length lines + 1 = ap length parts ∙ length-append lines (rest ∷ []) in omega arith
+
+pub ends_whole : (text : List ℕ) → Nowhere (Passes (is_byte 10) text) 0 (length text) → EndsIn text (line_count text) text × (lines_of text ≡ text ∷ [])
+ends_whole text never =
+    let alone : lines_of text ≡ text ∷ [] = none_marks 10 0 text never in
+    let all = parts_counted 10 text in
+    let one : length (lines_of text) ≡ 1 = ap length alone in
+    (([], alone, omega arith), alone)
+
+-- what the two tests tell of bytes that are one line
+pub becomes : (rest : List ℕ) (front behind : Bool) → lines_of rest ≡ rest ∷ [] → front ≡ starts_with (λ a b. a == b) (codes "policy ") rest → behind ≡ starts_with (λ a b. a == b) rest (codes "policy ")
+    → IsTrue (front || behind && leb (length rest) MAX_LINE) ↔ MayBecomePolicy rest
+becomes rest front behind alone f b =
+    let A : List (List ℕ) → Type 0 = AllByRecursion (Lacks 10) in
+    let lacks : Lacks 10 rest = (subst A alone (parts_lack 10 rest)).0 in
+    let tested = beginning_found rest front behind _ f b refl in
+    (λ h. becomes_policy rest lacks (tested.0 h), λ may. tested.1 (begins_policy_line rest lacks may))
+
+-- the fault of a policy table on the last whole line may change where a `policy` line may follow
+pub table_changes : (text rest : List ℕ) (n : ℕ) (fault : PolicyFault) (b : Bool) → EndsIn text n rest → IsTrue b ↔ MayBecomePolicy rest → IsTrue b ↔ MayChange text n (kinds.Policy fault)
+table_changes text rest n fault b (lines, parts, count) is = (λ t. inr ((fault, refl), (rest, (lines, parts, count), is.0 t)), by_cause)
+  where
+    by_cause : MayChange text n (kinds.Policy fault) → IsTrue b
+    by_cause (inl unfinished) = cc
+    by_cause (inr (table, (other, (others, other_parts, other_count), may))) = is.1 (subst MayBecomePolicy (one_last others lines other rest (sym other_parts ∙ parts)) may)
+
+-- on another line it may not
+pub table_stands : (text : List ℕ) (lines n : ℕ) (fault : PolicyFault) → lines ≡ line_count text → (lines ≡ n → ⊥) → MayChange text n (kinds.Policy fault) → ⊥
+table_stands text lines n fault counted other (inl unfinished) = cc
+table_stands text lines n fault counted other (inr (table, (rest, (whole, parts, count), may))) =
+    let all = parts_counted 10 text in
+    let sum : length (lines_of text) ≡ length whole + 1 = ap length parts ∙ length-append whole (rest ∷ []) in
+    other (omega arith)
