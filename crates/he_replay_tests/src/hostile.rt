@@ -74,31 +74,35 @@ fn fault(line: u64, kind: TextKind) -> Result<(), ReplayFault> {
     Err(ReplayFault::Text(TextFault { line, kind }))
 }
 
-// How many first parts of the text, the empty one and the whole left out, are unfinished where the input ends behind
-// them, and a failed read where it breaks there. Nothing is written of them.
+// Whether this first part of the text is unfinished where the input ends behind it, and a failed read where it breaks
+// there. Nothing is written of it.
+fn is_cut_right<R: Threads + Sync>(rt: &R, alloc: Global, call: Call, cut: &[u8]) -> bool {
+    let ends = cut.iter().filter(|byte| **byte == b'\n').count() as u64;
+    let unfinished = fault(ends.saturating_add(1), TextKind::Unfinished);
+    let whole = FakeReader::new(cut, 7);
+    let broken = FakeReader::new(cut, 7).broken();
+    is_right(
+        rt,
+        alloc,
+        call,
+        whole,
+        FakeWriter::new(alloc),
+        (unfinished, b"", 1),
+    ) && is_right(
+        rt,
+        alloc,
+        call,
+        broken,
+        FakeWriter::new(alloc),
+        (Err(ReplayFault::Read), b"", 1),
+    )
+}
+
+// How many first parts of the text, the empty one and the whole left out, end so.
 fn right_cuts<R: Threads + Sync>(rt: &R, alloc: Global, call: Call) -> usize {
     let mut right: usize = 0;
     for count in 1..TEXT.len() {
-        let cut = &TEXT[..count];
-        let ends = cut.iter().filter(|byte| **byte == b'\n').count() as u64;
-        let unfinished = fault(ends.saturating_add(1), TextKind::Unfinished);
-        let whole = FakeReader::new(cut, 7);
-        let broken = FakeReader::new(cut, 7).broken();
-        if !is_right(
-            rt,
-            alloc,
-            call,
-            whole,
-            FakeWriter::new(alloc),
-            (unfinished, b"", 1),
-        ) || !is_right(
-            rt,
-            alloc,
-            call,
-            broken,
-            FakeWriter::new(alloc),
-            (Err(ReplayFault::Read), b"", 1),
-        ) {
+        if !is_cut_right(rt, alloc, call, &TEXT[..count]) {
             return right;
         }
         right = right.saturating_add(1);

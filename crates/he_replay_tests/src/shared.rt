@@ -2,7 +2,7 @@
 // memory is told only where a growth was refused, behind the whole texts of some first races.
 ghost use Rattle.std.specs.Prelude.{◌≤◌};
 
-use he_replay::limits::PIECE_BYTES;
+use he_replay::limits::{PIECE_BYTES, PIECES_OF_A_WORKER};
 use he_replay::{ReplayFault, replay};
 use he_stream::{FromReader, ToWriter};
 use he_text::{TextFault, TextKind};
@@ -99,7 +99,7 @@ fn replayed<R: Threads + Sync>(
 fn workers_share_long_texts(rt: HostRuntime) -> Result<(), Fail> {
     let alloc = rt.alloc();
     let text = text_of(alloc, RACES)?;
-    assert!(rt; text.len() >= 4 * PIECE_BYTES);
+    assert!(rt; text.len() >= 4 * PIECES_OF_A_WORKER * PIECE_BYTES);
     let (alone, written) = replayed(&rt, alloc, &text, 1);
     let (shared, also) = replayed(&rt, alloc, &text, 4);
     assert!(rt; alone == fault_in(&text) && shared == alone);
@@ -131,7 +131,7 @@ fn is_right<R: Threads + Sync>(
 fn refused_growths_of_workers_are_told(rt: HostRuntime) -> Result<(), Fail> {
     let heap = Refusing::new(rt.alloc());
     let text = text_of(rt.alloc(), FEW_RACES)?;
-    assert!(rt; text.len() >= 2 * PIECE_BYTES);
+    assert!(rt; text.len() >= 2 * PIECES_OF_A_WORKER * PIECE_BYTES);
     let (_, written) = replayed(&rt, rt.alloc(), &text, 1);
     let refused = each_growth_refused(&heap, || {
         assert!(rt; is_right(&rt, &heap, rt.alloc(), &text, written.writer().held()));
