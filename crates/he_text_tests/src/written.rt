@@ -1,10 +1,12 @@
-// Texts that are read and written again, with each growth refused in turn: what is refused is told as want of memory,
-// and what isn't writes the same as ever.
+// Texts that are read, and written again, with each growth refused in turn: what is refused is told as want of memory,
+// and what isn't answers and writes the same as ever.
 
 use he_addr::Memory;
 use he_plan::{Timeline, Transcript, transcript_of};
-use he_text::{TextKind, read_race, write_order, write_timeline, write_transcript};
-use refusing::{MOST_RUNS, Refusing};
+use he_text::{
+    NotOneRace, TextKind, read_one_race, read_race, write_order, write_timeline, write_transcript,
+};
+use refusing::{MOST_RUNS, Refusing, each_growth_refused};
 use std::test::Fail;
 
 // A race with all kinds of lines, as it is written, and behind it its order and its transcript. For 2001:db8:1::1 and
@@ -147,6 +149,31 @@ fn races(rt: HostRuntime) {
     let heap = Refusing::new(rt.alloc());
     for (text, wanted) in [(FULL, FULL), (SHORT, SHORT_WRITTEN)] {
         let refused = refused_in_turn(&heap, text, wanted);
+        assert!(rt; refused > 0, "{text}");
+    }
+}
+
+// Texts, and why they are not one race.
+static ONE_RACE: [(&str, Option<NotOneRace>); 2] = [
+    (SHORT, None),
+    (
+        "race 1\nset limit 9\nend\nrace 1\nend\n",
+        Some(NotOneRace::Count),
+    ),
+];
+
+#[test]
+fn one_race(rt: HostRuntime) {
+    let heap = Refusing::new(rt.alloc());
+    for (text, wanted) in &ONE_RACE {
+        let refused = each_growth_refused(&heap, || {
+            let fault = read_one_race(&heap, text.as_bytes(), false).err();
+            let is_memory = fault == Some(NotOneRace::Memory);
+            assert!(rt;
+                fault == *wanted || is_memory && heap.has_refused(),
+                "{text}"
+            );
+        });
         assert!(rt; refused > 0, "{text}");
     }
 }
