@@ -1,6 +1,6 @@
 // Each growth refused in turn: the fault is Memory and what some first races ask for is written, or all is.
 
-use crate::hostile::{Call, TEXT};
+use crate::hostile::{CALLS, Call, TEXT};
 use he_replay::ReplayFault;
 use he_stream::{FromReader, ToWriter};
 use refusing::{Refusing, each_growth_refused};
@@ -47,7 +47,7 @@ fn is_right<R: Threads + Sync>(
 fn refused_growths_are_told(rt: HostRuntime) -> Result<(), Fail> {
     let heap = Refusing::new(rt.alloc());
     let text = repeated(rt.alloc(), TEXT)?;
-    for call in [Call::Replay, Call::Orders] {
+    for call in CALLS {
         let wanted = repeated(rt.alloc(), call.output())?;
         let refused = each_growth_refused(&heap, || {
             assert!(rt; is_right(&rt, &heap, rt.alloc(), call, &text, &wanted));

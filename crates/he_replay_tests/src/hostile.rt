@@ -1,10 +1,12 @@
-// Replays and orders of texts that break off, over readers and writers that fail.
+// Replays, orders and explanations of texts that break off, over readers and writers that fail.
 
-use he_replay::{ReplayFault, orders, replay};
+use he_replay::{ReplayFault, explanations, orders, replay};
 use he_select::PolicyFault;
-use he_stream::{FromReader, ToWriter};
+use he_stream::{FromReader, InputStream, ToWriter};
 use he_text::{TextFault, TextKind};
 use std::alloc::{AllocError, Allocator, Global};
+use std::io::Read;
+use std::mem::drop;
 use std::test::Fail;
 use std::thread::Threads;
 use stream_fakes::{FakeReader, FakeWriter};
@@ -24,12 +26,24 @@ pub const TRANSCRIPT: &[u8] = b"attempt 0 20 2001:db8:1::1 won 55\nwon 0 55\n";
 
 pub const ORDER: &[u8] = b"0 2001:db8:1::1 from 2001:db8::2\n1 198.51.100.1 from 192.0.2.2\nend\n";
 
+const EXPLANATION: &[u8] = b"order 0 2001:db8:1::1 source 2001:db8::2
+order 1 198.51.100.1 source 192.0.2.2, behind 0 by rule 6, prefer higher precedence: 35 after 40
+20 answer aaaa usable 1
+20 attempt 0 2001:db8:1::1, on the AAAA answer, listed at 0 of 1, its family leads
+25 answer a usable 1
+55 won attempt 0
+end
+";
+
 // Which call is made.
 #[derive(Clone, Copy)]
 pub enum Call {
     Replay,
     Orders,
+    Explanations,
 }
+
+pub const CALLS: [Call; 3] = [Call::Replay, Call::Orders, Call::Explanations];
 
 impl Call {
     // What is written for the text above.
@@ -37,19 +51,21 @@ impl Call {
         match self {
             Call::Replay => TRANSCRIPT,
             Call::Orders => ORDER,
+            Call::Explanations => EXPLANATION,
         }
     }
 
-    pub fn run<R: Threads + Sync, A: Allocator + Copy + Send + Sync>(
+    pub fn run<R: Threads + Sync, A: Allocator + Copy + Send + Sync, I: InputStream>(
         self,
         rt: &R,
         alloc: A,
-        input: &mut FromReader<FakeReader<'_>>,
+        input: &mut I,
         output: &mut ToWriter<FakeWriter>,
     ) -> Result<(), ReplayFault> {
         match self {
             Call::Replay => replay(rt, alloc, input, output, 4),
             Call::Orders => orders(alloc, input, output),
+            Call::Explanations => explanations(alloc, input, output),
         }
     }
 }
@@ -187,7 +203,8 @@ fn right_breaks<R: Threads + Sync>(rt: &R, alloc: Global, call: Call) -> Result<
         text.extend_from_slice(more)?;
         let reader = FakeReader::new(&text, 5).broken();
         let writer = FakeWriter::new(alloc);
-        if !is_right(rt, alloc, call, reader, writer, (*answer, wanted, flushes)) {
+        let is_told = is_right(rt, alloc, call, reader, writer, (*answer, wanted, flushes));
+        if !is_told || !is_right_in_two(rt, alloc, call, &text, (*answer, wanted)) {
             return Ok(right);
         }
         right = right.saturating_add(1);
@@ -195,14 +212,51 @@ fn right_breaks<R: Threads + Sync>(rt: &R, alloc: Global, call: Call) -> Result<
     Ok(right)
 }
 
-// A flush that fails, behind a whole output and behind the output before a fault; and a text in pieces, with
-// interruptions.
+// Whether the same is answered and written wherever the text, behind which the reader breaks, is cut into two pieces.
+fn is_right_in_two<R: Threads + Sync>(
+    rt: &R,
+    alloc: Global,
+    call: Call,
+    text: &[u8],
+    wanted: (Result<(), ReplayFault>, &[u8]),
+) -> bool {
+    for cut in 0..=text.len() {
+        let (before, behind) = text.split_at(cut);
+        let rest = FakeReader::new(behind, usize::MAX).broken();
+        let mut input = FromReader::new(FakeReader::new(before, usize::MAX).chain(rest));
+        let mut output = ToWriter::new(FakeWriter::new(alloc));
+        let result = call.run(rt, alloc, &mut input, &mut output);
+        let is_same = result == wanted.0 && output.writer().held() == wanted.1;
+        drop(input);
+        drop(output);
+        if !is_same {
+            return false;
+        }
+    }
+    true
+}
+
+// How many reads of the text, byte by byte, and as many writes and flushes may each answer `Interrupted` once, and
+// change nothing.
+fn right_interruptions<R: Threads + Sync>(rt: &R, alloc: Global, call: Call) -> usize {
+    let mut right: usize = 0;
+    for number in 0..=TEXT.len() {
+        let number = number as u64;
+        let reader = FakeReader::new(TEXT, 1).interrupted_at(number);
+        let writer = FakeWriter::new(alloc).with_step(3).interrupted_at(number);
+        if !is_right(rt, alloc, call, reader, writer, (Ok(()), call.output(), 2)) {
+            return right;
+        }
+        right = right.saturating_add(1);
+    }
+    right
+}
+
+// A flush that fails, behind a whole output and behind the output before a fault; and the empty text.
 fn right_ends<R: Threads + Sync>(rt: &R, alloc: Global, call: Call) -> bool {
     let wanted = call.output();
     let failing = FakeWriter::new(alloc).failing_flush();
     let failing_too = FakeWriter::new(alloc).failing_flush();
-    let slow = FakeWriter::new(alloc).with_step(3).interrupted_at(2);
-    let pieces = FakeReader::new(TEXT, 1).interrupted_at(9);
     let write = Err(ReplayFault::Write);
     is_right(
         rt,
@@ -218,30 +272,36 @@ fn right_ends<R: Threads + Sync>(rt: &R, alloc: Global, call: Call) -> bool {
         FakeReader::new(b"race 1\nend", 64),
         failing_too,
         (write, b"", 0),
-    ) && is_right(rt, alloc, call, pieces, slow, (Ok(()), wanted, 2))
-        && is_right(
-            rt,
-            alloc,
-            call,
-            FakeReader::new(b"", 1),
-            FakeWriter::new(alloc),
-            (Ok(()), b"", 1),
-        )
+    ) && is_right(
+        rt,
+        alloc,
+        call,
+        FakeReader::new(b"", 1),
+        FakeWriter::new(alloc),
+        (Ok(()), b"", 1),
+    )
 }
 
 #[test]
 fn hostile_streams_are_told(rt: HostRuntime) -> Result<(), Fail> {
     let alloc = rt.alloc();
-    for call in [Call::Replay, Call::Orders] {
+    for call in CALLS {
         let right = (
             right_cuts(&rt, alloc, call),
             right_rooms(&rt, alloc, call),
             right_breaks(&rt, alloc, call)?,
+            right_interruptions(&rt, alloc, call),
             right_ends(&rt, alloc, call),
         );
         assert_eq!(rt;
             right,
-            (TEXT.len() - 1, call.output().len(), BROKEN.len(), true)
+            (
+                TEXT.len() - 1,
+                call.output().len(),
+                BROKEN.len(),
+                TEXT.len() + 1,
+                true
+            )
         );
     }
     Ok(())

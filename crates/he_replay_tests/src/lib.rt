@@ -1,9 +1,11 @@
-//! Tests of streams and replays over readers, writers and an allocator that fail, and of batches with a gate that
-//! holds workers.
+//! Tests of streams, replays and checks over readers, writers and an allocator that fail, and of batches with a gate
+//! that holds workers.
 #![tactic(auto)]
 
 #[cfg(test)]
 mod batches;
+#[cfg(test)]
+mod checks;
 #[cfg(test)]
 mod gates;
 #[cfg(test)]

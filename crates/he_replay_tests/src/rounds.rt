@@ -1,6 +1,6 @@
 // What is written while the input still comes: of 100 races, each of which one read gives.
 
-use crate::hostile::{Call, TEXT};
+use crate::hostile::{CALLS, Call, TEXT};
 use he_replay::ReplayFault;
 use he_stream::{FromReader, ToWriter};
 use std::alloc::{AllocError, Global};
@@ -44,7 +44,7 @@ fn races_are_told_as_they_come(rt: HostRuntime) -> Result<(), Fail> {
     let text = text_of(alloc, RACES)?;
     let front = text_of(alloc, 65)?;
     let size = TEXT.len();
-    for call in [Call::Replay, Call::Orders] {
+    for call in CALLS {
         let one = call.output().len();
         let failing = run(&rt, alloc, call, FakeReader::new(&text, size), 64);
         let whole = run(&rt, alloc, call, FakeReader::new(&text, size), RACES);

@@ -1,0 +1,77 @@
+// Checks of texts with each growth refused in turn: want of memory is told only where a growth was refused, with
+// nothing written and nothing explained, and all else as ever. `check` goes through `check_input` and `explain_fault`.
+
+use he_check::{CheckFault, check};
+use he_select::PolicyFault;
+use he_stream::{FromReader, ToWriter};
+use he_text::{TextFault, TextKind};
+use refusing::{Refusing, each_growth_refused};
+use std::alloc::Global;
+use stream_fakes::{FakeReader, FakeWriter};
+
+// A text; what is answered, written and explained.
+type Row = (
+    &'static [u8],
+    Result<(), CheckFault>,
+    &'static [u8],
+    &'static [u8],
+);
+
+static ROWS: [Row; 3] = [
+    (
+        b"race 1\naaaa 20 2001:db8:1::1\nend\nrace 1\nend\n",
+        Ok(()),
+        b"2 races, 5 lines\n",
+        b"",
+    ),
+    (
+        b"race 1\nset attempt 9\nend\n",
+        Err(CheckFault::Text(TextFault {
+            line: 2,
+            kind: TextKind::Range,
+        })),
+        b"",
+        b"  set attempt 9
+              ^
+the attempt delay is 10 to 2000 milliseconds
+",
+    ),
+    (
+        b"race 1\npolicy ::/0 40 1\npolicy ::ffff:0:0/96 40 4\nend\n",
+        Err(CheckFault::Text(TextFault {
+            line: 3,
+            kind: TextKind::Policy(PolicyFault::SharedPrecedence(0, 1)),
+        })),
+        b"",
+        b"  policy ::ffff:0:0/96 40 4
+  ^^^^^^
+rows 0 and 1, on lines 2 and 3, share the precedence 40: one is inside ::ffff:0:0/96, one outside
+",
+    ),
+];
+
+// Whether the check of the row, whose allocator may refuse, ends as it must.
+fn is_right(heap: &Refusing<Global>, alloc: Global, row: &Row) -> bool {
+    let (text, wanted, written, explained) = row;
+    let mut input = FromReader::new(FakeReader::new(text, 16));
+    let mut output = ToWriter::new(FakeWriter::new(alloc));
+    let mut explanation = Vec::new(heap);
+    let ended = check(heap, &mut input, &mut output, &mut explanation);
+    let held = output.writer().held();
+    if ended == Err(CheckFault::Memory) {
+        heap.has_refused() && held.is_empty() && explanation.is_empty()
+    } else {
+        ended == *wanted && held == *written && explanation.as_slice() == *explained
+    }
+}
+
+#[test]
+fn refused_checks_are_told(rt: HostRuntime) {
+    let heap = Refusing::new(rt.alloc());
+    for row in &ROWS {
+        let refused = each_growth_refused(&heap, || {
+            assert!(rt; is_right(&heap, rt.alloc(), row));
+        });
+        assert!(rt; refused > 3);
+    }
+}
