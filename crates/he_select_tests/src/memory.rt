@@ -41,18 +41,21 @@ fn is_host_copied<'h>(heap: &'h Refusing, host: &Host<&'h Refusing>) -> Option<b
     Some(is_same)
 }
 
-// Whether the IPv6 address, which is preferred by the standard table, comes first.
+// An address that is no source of the host.
+const FAR: Ip = Ip::V6(0x2001_0db8_0001_0000_0000_0000_0000_0001);
+
+// Whether the IPv6 addresses, which are preferred by the standard table, come first, and of them the host's own one.
 fn is_sorted<'h>(
     heap: &'h Refusing,
     policy: &Policy<&'h Refusing>,
     host: &Host<&'h Refusing>,
 ) -> Option<bool> {
-    let given = [V4, V6];
+    let given = [V4, FAR, V6];
     if !all_usable(&given) {
         return Some(false);
     }
     let sorted = order(heap, policy, host, &given).ok()?;
-    Some(sorted.as_slice() == [V6, V4].as_slice())
+    Some(sorted.as_slice() == [V6, FAR, V4].as_slice())
 }
 
 // The destination with the host's own address of that family as its source, which is the same address here.
@@ -63,18 +66,22 @@ fn sourced(ip: Ip) -> Sourced {
     }
 }
 
-// The same with the sources.
+// The same with the sources: the one of the other IPv6 address is that on the interface of its route.
 fn is_sorted_with_sources<'h>(
     heap: &'h Refusing,
     policy: &Policy<&'h Refusing>,
     host: &Host<&'h Refusing>,
 ) -> Option<bool> {
-    let given = [V4, V6];
+    let given = [V4, FAR, V6];
     if !all_usable(&given) {
         return Some(false);
     }
     let sorted = order_with_sources(heap, policy, host, &given).ok()?;
-    Some(sorted.as_slice() == [sourced(V6), sourced(V4)].as_slice())
+    let far = Sourced {
+        ip: FAR,
+        source: Some(V6),
+    };
+    Some(sorted.as_slice() == [sourced(V6), far, sourced(V4)].as_slice())
 }
 
 fn is_host_well<'h>(
@@ -145,7 +152,14 @@ fn refused_in_turn(heap: &Refusing, sources: &[Source], routes: &[Route]) -> u64
 #[test]
 fn refused_growths(rt: HostRuntime) {
     let heap = Refusing::new(rt.alloc());
-    let sources = [source(V6, 64, 1), source(V4, 24, 1)];
+    // So many sources that those which tie are kept.
+    let sources = [
+        source(Ip::V6(0x2001_0db8_0001_0000_0000_0000_0000_0002), 64, 2),
+        source(V6, 64, 1),
+        source(V4, 24, 1),
+        source(Ip::V4(0x0a00_0002), 24, 1),
+        source(Ip::V4(0x0a00_0003), 24, 2),
+    ];
     let refused = match (route("::/0", 1), route("0.0.0.0/0", 1)) {
         (Some(v6), Some(v4)) => refused_in_turn(&heap, &sources, &[v6, v4]),
         _ => 0,
