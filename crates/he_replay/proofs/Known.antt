@@ -1,5 +1,6 @@
 -- A fault of the text is the input's own, stands whatever follows, or is that of a policy table at a break.
 use Rattle.std.proofs.Common.{ℕ, ◌≡◌, ◌+◌, ◌++◌, ◌⊎◌, ◌==◌, List, [], ◌∷◌, length, Bool, true, false, Option, Some, None, ap, sym, ◌∙◌, refl, arith, inl, inr, append_assoc}
+use Rattle.std.proofs.lemmas.List.{length-append}
 use Rattle.std.proofs.lemmas.List.Splits.{length-slice_split}
 use Rattle.he_plan.specs.Race.{Race}
 use Rattle.he_text.specs.declared.fault.TextFault.{TextFault}
@@ -46,10 +47,11 @@ table_behind : (lines : ℕ) (rest : List ℕ) (n : ℕ) (kind : TextKind) (faul
 unfolding line_in kind_in
 table_behind lines rest n kind fault told (inl unfinished) =
     let bad : Some (Text fault) ≡ Some Read = told ∙ ap (λ k. Some (fault_behind true lines (n, k))) unfinished in cc
-table_behind lines rest n kind fault told (inr ((table, is), last)) =
+table_behind lines rest n kind fault told (inr ((table, is), (open_line, (whole, parts, last), may))) =
     let same : Some (Text fault) ≡ Some (fault_behind true lines (n, kinds.Policy table)) = told ∙ ap (λ k. Some (fault_behind true lines (n, k))) is in
     let line : fault.line ≡ lines + n = ap line_in same in
     let count : length (lines_of rest) ≡ _ = length-slice_split (λ b. b == 10) rest in
+    let one_more : length (lines_of rest) ≡ length whole + 1 = ap length parts ∙ length-append whole (open_line ∷ []) in
     ((table, ap kind_in same), omega arith)
 
 module _

@@ -6,5 +6,4 @@ pub mod Lines
 pub mod Moved
 pub mod OneOutput
 pub mod Races
-pub mod Sure
 pub mod Told

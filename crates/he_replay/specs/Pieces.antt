@@ -1,10 +1,11 @@
 -- Mirrors the code: pieces of some bytes, which workers take from a board and tell. It helps the proofs; what is written
 -- for an input stands in `Output`.
-use Rattle.std.specs.Prelude.{ℕ, ◌≤◌, List, drop, length}
+use Rattle.std.specs.Prelude.{ℕ, ◌≤◌, List, All, drop, length}
 use Rattle.he_board.specs.declared.board.Board.{Board}
 use Rattle.he_board.specs.declared.pass.Pass.{Pass}
 use Rattle.he_board.specs.Passes.{IsPassOf, jobs_of, notes}
 use Rattle.he_replay.specs.declared.beginning.Begun.{Begun}
+use Rattle.he_replay.specs.declared.pieces.Piece.{Piece}
 use Rattle.he_replay.specs.Output.{IsTranscriptText}
 use Rattle.he_replay.specs.Telling.{IsTelling}
 
@@ -12,6 +13,10 @@ use Rattle.he_replay.specs.Telling.{IsTelling}
 pub record IsPiece (bytes : List ℕ) (from : ℕ) (text : List ℕ) (begun : Begun) : Type 0 where
   pub within : from ≤ length bytes
   pub told : IsTelling IsTranscriptText (drop from bytes) text begun.end begun.count
+
+-- each of them is a piece of the bytes
+abbrev pub ArePieces : {A : Type 0} → List ℕ → List (Piece A) → Type 0
+ArePieces bytes pieces = All (λ piece. IsPiece bytes piece.from piece.text.items piece.begun) pieces
 
 -- so many workers may take so many pieces with the pass
 pub record MayTake {A : Type 0} (board : Board A) (pass : Pass) (count workers : ℕ) : Type 0 where

@@ -27,8 +27,8 @@ pub const FIRST_SHARED_ROOM: usize = 1_048_576;
 /// The most room for a read of which workers share the races, in bytes: their threads are made anew for each read.
 pub const MOST_SHARED_ROOM: usize = 4_194_304;
 
-/// The bytes that the arena has at first in which the calling thread keeps a race. Races of a few addresses need less,
-/// so they take no memory anew.
+/// The bytes that the arena has at first in which a race is kept while it is told: the calling thread has one, and each
+/// worker. Races of a few addresses need less, so they take no memory anew.
 pub const ARENA_BYTES: usize = 65_536;
 
 /// The bytes behind the last whole race that are held before they are looked at for a fault, where more are ready to be

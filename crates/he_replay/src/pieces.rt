@@ -1,13 +1,13 @@
 //! The first races of some bytes, told by workers. The bytes are cut into pieces behind races. Each worker takes pieces
 //! from a board that all share, reads them and writes the transcripts of their races, in a thread of its own; and these
 //! are put together in the order of the races.
-ghost use Rattle.std.specs.Prelude.{◌≡◌, ◌≤◌, ◌<◌, [], All, IfOk, drop, length};
+ghost use Rattle.std.specs.Prelude.{◌≡◌, ◌≤◌, ◌<◌, [], IfOk, drop, length};
 ghost use denote.Param.Send.{Frees, IsSend, IsSync};
 ghost use Rattle.he_board.specs.Passes.{IsPassOf, jobs_of};
 ghost use Rattle.he_pool.specs.declared.limits.TheConstants.{LEAST_WORKERS, MOST_WORKERS};
 ghost use Rattle.he_replay.specs.declared.limits.TheConstants.{MOST_RACES};
 ghost use Rattle.he_replay.specs.Output.{IsTranscriptText};
-ghost use Rattle.he_replay.specs.Pieces.{IsPiece, MayTake};
+ghost use Rattle.he_replay.specs.Pieces.{ArePieces, IsPiece, MayTake};
 ghost use Rattle.he_replay.specs.Telling.{Begins, IsTelling};
 
 use crate::beginning::Begun;
@@ -49,7 +49,7 @@ pub(crate) fn tell_pieces<R: Threads + Sync, A: Allocator + Copy + Send + Sync>(
 ) -> Result<Vec<Piece<A>, A>, AllocError>
     requires some { LEAST_WORKERS ≤ workers }
     requires few { workers ≤ MOST_WORKERS }
-    ensures { IfOk result (λ pieces. All (λ piece. IsPiece bytes.now piece.from piece.text.items piece.begun) pieces.items) }
+    ensures { IfOk result (λ pieces. ArePieces bytes.now pieces.items) }
 {
     match Board::new(alloc, count, 0) {
         Ok((board, pass)) => run_workers(rt, alloc, bytes, &board, pass, count, workers),
@@ -69,7 +69,7 @@ fn run_workers<R: Threads + Sync, A: Allocator + Copy + Send + Sync>(
     workers: u16,
 ) -> Result<Vec<Piece<A>, A>, AllocError>
     requires { MayTake board.now pass count workers }
-    ensures { IfOk result (λ pieces. All (λ piece. IsPiece bytes.now piece.from piece.text.items piece.begun) pieces.items) }
+    ensures { IfOk result (λ pieces. ArePieces bytes.now pieces.items) }
 {
     if workers == LEAST_WORKERS {
         return run_worker(alloc, bytes, board, pass, count);
@@ -99,18 +99,18 @@ fn run_halves<R: Threads + Sync, A: Allocator + Copy + Send + Sync>(
 )
     requires near { MayTake board.now p count near }
     requires far { MayTake board.now q count far }
-    ensures left { IfOk result.0 (λ pieces. All (λ piece. IsPiece bytes.now piece.from piece.text.items piece.begun) pieces.items) }
-    ensures right { IfOk result.1 (λ pieces. All (λ piece. IsPiece bytes.now piece.from piece.text.items piece.begun) pieces.items) }
+    ensures left { IfOk result.0 (λ pieces. ArePieces bytes.now pieces.items) }
+    ensures right { IfOk result.1 (λ pieces. ArePieces bytes.now pieces.items) }
 {
     thread::join(
         rt,
         move || -> Result<Vec<Piece<A>, A>, AllocError>
             requires { IsSync R.row × IsSend A.row × IsSync A.row × Frees A.Allocator A.dealloc_token × MayTake board.now p count near }
-            ensures { IfOk result (λ pieces. All (λ piece. IsPiece bytes.entry.now piece.from piece.text.items piece.begun) pieces.items) }
+            ensures { IfOk result (λ pieces. ArePieces bytes.entry.now pieces.items) }
         { run_workers(rt, alloc, bytes, board, p, count, near) },
         move || -> Result<Vec<Piece<A>, A>, AllocError>
             requires { IsSync R.row × IsSend A.row × IsSync A.row × Frees A.Allocator A.dealloc_token × MayTake board.now q count far }
-            ensures { IfOk result (λ pieces. All (λ piece. IsPiece bytes.entry.now piece.from piece.text.items piece.begun) pieces.items) }
+            ensures { IfOk result (λ pieces. ArePieces bytes.entry.now pieces.items) }
         { run_workers(rt, alloc, bytes, board, q, count, far) },
     )
 }
@@ -121,9 +121,9 @@ fn join_halves<A: Allocator>(
     left: Vec<Piece<A>, A>,
     right: Vec<Piece<A>, A>,
 ) -> Result<Vec<Piece<A>, A>, AllocError>
-    requires left { All (λ piece. IsPiece bytes.now piece.from piece.text.items piece.begun) left.items }
-    requires right { All (λ piece. IsPiece bytes.now piece.from piece.text.items piece.begun) right.items }
-    ensures { IfOk result (λ pieces. All (λ piece. IsPiece bytes.now piece.from piece.text.items piece.begun) pieces.items) }
+    requires left { ArePieces bytes.now left.items }
+    requires right { ArePieces bytes.now right.items }
+    ensures { IfOk result (λ pieces. ArePieces bytes.now pieces.items) }
 {
     let mut pieces = left;
     let mut others = right;
@@ -141,7 +141,7 @@ fn run_worker<A: Allocator + Copy>(
 ) -> Result<Vec<Piece<A>, A>, AllocError>
     requires own { IsPassOf board.now pass }
     requires jobs { count ≤ jobs_of board.now }
-    ensures { IfOk result (λ pieces. All (λ piece. IsPiece bytes.now piece.from piece.text.items piece.begun) pieces.items) }
+    ensures { IfOk result (λ pieces. ArePieces bytes.now pieces.items) }
 {
     let mut pass = pass;
     let mut pieces = Vec::new(alloc);
@@ -233,7 +233,7 @@ pub(crate) fn join_pieces<A: Allocator>(
     text: &mut Vec<u8, A>,
 ) -> Result<Begun, AllocError>
     requires few { races ≤ MOST_RACES }
-    requires told { All (λ piece. IsPiece bytes.now piece.from piece.text.items piece.begun) pieces.now }
+    requires told { ArePieces bytes.now pieces.now }
     requires none { text.old.items ≡ [] }
     ensures { IfOk result (Begins IsTranscriptText races bytes.now text.new.items) }
 {
@@ -256,7 +256,7 @@ fn join_some<A: Allocator>(
     before: Begun,
     text: &mut Vec<u8, A>,
 ) -> Result<Begun, AllocError>
-    requires told { All (λ piece. IsPiece bytes.now piece.from piece.text.items piece.begun) pieces.now }
+    requires told { ArePieces bytes.now pieces.now }
     requires begun { Begins IsTranscriptText races bytes.now text.old.items before }
     ensures { IfOk result (Begins IsTranscriptText races bytes.now text.new.items) }
 {

@@ -1,19 +1,18 @@
 //! The races that stand whole in some bytes, each read and told before the next.
-ghost use Rattle.std.specs.Prelude.{◌≡◌, ◌≢◌, ◌<◌, ◌≤◌, [], Some, true, IfOk, IfSome, MatchOption, length};
+ghost use Rattle.std.specs.Prelude.{◌≡◌, ◌<◌, ◌≤◌, [], Some, true, IfOk, IfSome, MatchOption, length};
 ghost use Rattle.he_text.specs.FaultSearch.{fault_of};
 ghost use Rattle.he_replay.specs.declared.limits.TheConstants.{MOST_RACES};
-ghost use Rattle.he_replay.specs.Output.{IsTextOf, line_count};
+ghost use Rattle.he_replay.specs.Output.{IsTextOf};
 ghost use Rattle.he_replay.specs.Telling.{Begins, IsFound, IsToldStep, Tells};
 ghost use Rattle.he_text.specs.declared.fault.TextKind.TheVariants as kinds;
 
 use crate::beginning::Begun;
 use crate::content::Content;
 use crate::limits::{ARENA_BYTES, MOST_RACES};
-use crate::line_ends::line_count;
 use crate::reading::Step;
 use bumpalo::Bump;
 use he_text::laws::faults_stand;
-use he_text::{TextFault, TextKind, read_race};
+use he_text::{TextFault, TextKind, may_change, read_race};
 use std::alloc::{AllocError, Allocator};
 
 // What is asked of some bytes of an input, which stand behind races that were told before.
@@ -122,18 +121,7 @@ fn fault_of_rest(rest: &[u8], is_last: bool, found: TextFault) -> Option<TextFau
         return Some(found);
     }
     faults_stand();
-    match found.kind {
-        TextKind::Unfinished => None,
-        TextKind::Policy(_) => table_fault(rest, found),
-        _ => Some(found),
-    }
-}
-
-// The fault of a policy table, unless it stands on the last line that has a line end: more rows may follow then.
-fn table_fault(rest: &[u8], found: TextFault) -> Option<TextFault>
-    ensures { MatchOption result (Unit {0}) (λ fault. (fault ≡ found) × (line_count rest.now ≢ found.line)) }
-{
-    if line_count(rest) == found.line {
+    if may_change(rest, found) {
         None
     } else {
         Some(found)
