@@ -4,6 +4,7 @@
 PREFIX ?= /usr/local
 RACE ?= crates/cases/data/ipv6-late-but-within-delay-leads.timeline
 HE ?= crates/he_tool/out/he_tool
+CASES ?= crates/cases/out/cases
 SECONDS ?= 60
 SEED ?= 1
 
@@ -16,7 +17,8 @@ help:
 	@echo '                           completion below DIR/share'
 	@echo 'make examples HE=FILE      runs a built program over all examples'
 	@echo 'make hostile HE=FILE       runs a built program over streams that fail, open pipes, too little memory'
-	@echo 'make refused HE=FILE       refuses each allocation of a built program in turn, also of a live race'
+	@echo 'make refused HE=FILE       refuses each allocation of a built program in turn, also of a live race, and those of'
+	@echo '                           the races that the crate cases runs'
 	@echo 'make hosts HE=FILE         tries tools/host-lines on recorded hosts, and has a built program read its lines'
 	@echo 'make fuzz SECONDS=60 SEED=1 HE=FILE'
 	@echo '                           compares a built program with a plain reading of the rules, on texts that are drawn'
@@ -57,5 +59,8 @@ manual:
 explained:
 	scripts/explained $(HE)
 
-refused:
-	scripts/refused $(HE)
+refused: $(CASES)
+	scripts/refused $(HE) $(CASES)
+
+crates/cases/out/cases:
+	cd crates/cases && rt run

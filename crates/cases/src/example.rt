@@ -2,10 +2,12 @@
 
 use crate::turns::run_turns;
 use he_check::check;
-use he_replay::{explanations, orders, replay};
+use he_replay::limits::{LEAST_WORKERS, MOST_WORKERS};
+use he_replay::{ReplayFault, explanations, orders, replay};
 use he_stream::{FromReader, ToWriter};
-use std::alloc::AllocError;
+use std::alloc::{AllocError, Global};
 use std::fmt::Display;
+use std::io::{Chain, Read};
 use std::mem::drop;
 use std::thread::Threads;
 use std::{fs, io};
@@ -15,6 +17,13 @@ use stream_fakes::{FakeReader, FakeWriter};
 const STEPS: [usize; 3] = [1, 7, usize::MAX];
 
 const WORKERS: [u16; 4] = [1, 2, 7, 64];
+
+// The bytes of the longest text that is run in every cut into two pieces.
+const MOST_CUT_BYTES: usize = 400;
+
+// What is said of a run that was refused memory, and of one whose writer was, which has room for all and fails only
+// then.
+const REFUSED_LINES: [&[u8]; 2] = [b"he: out of memory\n", b"he: cannot write the output\n"];
 
 /// How many runs there were, and how many of them came out otherwise than their files say.
 #[derive(Clone, Copy)]
@@ -45,6 +54,95 @@ impl Counts {
     }
 }
 
+// An example's name and text, and what is said of its fault.
+#[derive(Clone, Copy)]
+struct Example<'a> {
+    name: &'a str,
+    text: &'a [u8],
+    fault: &'a [u8],
+}
+
+// How a text comes: the bytes before the cut and those behind it apart, so many in one read at most.
+#[derive(Clone, Copy)]
+struct Pieces {
+    cut: usize,
+    step: usize,
+}
+
+fn input_of(text: &[u8], pieces: Pieces) -> FromReader<Chain<FakeReader<'_>, FakeReader<'_>>> {
+    let Pieces { cut, step } = pieces;
+    let (before, behind) = text.split_at(cut.min(text.len()));
+    let step = step.max(1);
+    FromReader::new(FakeReader::new(before, step).chain(FakeReader::new(behind, step)))
+}
+
+// In how many ways a text comes, one after the other: in pieces of each step, and a short one in every cut into two.
+fn way_count(text: &[u8]) -> usize {
+    if text.len() > MOST_CUT_BYTES {
+        STEPS.len()
+    } else {
+        STEPS.len().saturating_add(text.len().saturating_sub(1))
+    }
+}
+
+// The way of this number, counted from 0: those of the steps come first.
+fn way(text: &[u8], number: usize) -> Pieces {
+    match STEPS.get(number) {
+        Some(step) => Pieces {
+            cut: text.len(),
+            step: *step,
+        },
+        None => Pieces {
+            cut: number.saturating_sub(STEPS.len()).saturating_add(1),
+            step: usize::MAX,
+        },
+    }
+}
+
+// What is asked for of a text; a transcript with so many workers.
+#[derive(Clone, Copy)]
+enum Asked {
+    Transcript(u16),
+    Order,
+    Explanation,
+}
+
+impl Asked {
+    fn run<R: Threads + Sync>(
+        self,
+        threads: &R,
+        alloc: Global,
+        input: &mut FromReader<Chain<FakeReader<'_>, FakeReader<'_>>>,
+        output: &mut ToWriter<FakeWriter>,
+    ) -> Result<(), ReplayFault> {
+        match self {
+            Asked::Transcript(workers) => {
+                let workers = workers.max(LEAST_WORKERS).min(MOST_WORKERS);
+                replay(threads, alloc, input, output, workers)
+            }
+            Asked::Order => orders(alloc, input, output),
+            Asked::Explanation => explanations(alloc, input, output),
+        }
+    }
+
+    // In how many ways the text comes. More workers than one do not share a text that is cut in two.
+    fn way_count(self, text: &[u8]) -> usize {
+        match self {
+            Asked::Transcript(workers) if workers > LEAST_WORKERS => STEPS.len(),
+            _ => way_count(text),
+        }
+    }
+
+    // What is said of a run that writes something else.
+    fn difference(self) -> &'static str {
+        match self {
+            Asked::Transcript(_) => "the transcript differs",
+            Asked::Order => "the order differs",
+            Asked::Explanation => "the explanation differs",
+        }
+    }
+}
+
 /// Runs the example of this name, and counts its runs.
 ///
 /// # Errors
@@ -58,122 +156,75 @@ pub fn run_example<R: Threads + Sync>(
 ) -> io::Result<()> {
     let text = read_beside(rt, name, "timeline")?.unwrap_or(Vec::new(rt.alloc()));
     let fault = read_beside(rt, name, "fault")?.unwrap_or(Vec::new(rt.alloc()));
-    run_check(rt, name, &text, &fault, counts)?;
-    run_both(rt, threads, name, &text, &fault, counts)
+    let example = Example {
+        name,
+        text: &text,
+        fault: &fault,
+    };
+    run_check(rt, example, counts)?;
+    run_all(rt, threads, example, counts)
 }
 
 // Runs the text through `replay`, `orders` and `explanations`, where what they write stands beside it.
-fn run_both<R: Threads + Sync>(
+fn run_all<R: Threads + Sync>(
     rt: &HostRuntime,
     threads: &R,
-    name: &str,
-    text: &[u8],
-    fault: &[u8],
+    example: Example<'_>,
     counts: &mut Counts,
 ) -> io::Result<()> {
+    let Example { name, text, .. } = example;
     let ran = counts.ran;
     if let Some(transcript) = read_beside(rt, name, "transcript")? {
-        run_replay(rt, threads, name, text, &transcript, fault, counts)?;
+        for workers in WORKERS {
+            let asked = Asked::Transcript(workers);
+            run_asked(rt, threads, example, asked, &transcript, counts)?;
+        }
         let is_same = run_turns(rt.alloc(), text)?.as_slice() == transcript.as_slice();
         counts.count(rt, name, "the transcript by turns differs", is_same)?;
     }
     if let Some(order) = read_beside(rt, name, "order")? {
-        run_asked(rt, name, text, Asked::Order, &order, fault, counts)?;
+        run_asked(rt, threads, example, Asked::Order, &order, counts)?;
     }
     if let Some(explanation) = read_beside(rt, name, "explanation")? {
-        run_asked(
-            rt,
-            name,
-            text,
-            Asked::Explanation,
-            &explanation,
-            fault,
-            counts,
-        )?;
+        let asked = Asked::Explanation;
+        run_asked(rt, threads, example, asked, &explanation, counts)?;
     }
     if counts.ran == ran {
-        counts.count(
-            rt,
-            name,
-            "no transcript, order or explanation stands beside it",
-            false,
-        )?;
+        let what = "no transcript, order or explanation stands beside it";
+        counts.count(rt, name, what, false)?;
     }
     Ok(())
 }
 
-fn run_replay<R: Threads + Sync>(
+fn run_asked<R: Threads + Sync>(
     rt: &HostRuntime,
     threads: &R,
-    name: &str,
-    text: &[u8],
-    wanted: &[u8],
-    fault: &[u8],
-    counts: &mut Counts,
-) -> io::Result<()> {
-    for step in STEPS {
-        for workers in WORKERS {
-            let mut input = FromReader::new(FakeReader::new(text, step));
-            let mut output = ToWriter::new(FakeWriter::new(rt.alloc()));
-            let ended = replay(threads, rt.alloc(), &mut input, &mut output, workers);
-            let is_written = output.writer().held() == wanted;
-            drop(input);
-            drop(output);
-            let is_same = tells(rt, ended, fault)? && is_written;
-            counts.count(rt, name, "the transcript differs", is_same)?;
-        }
-    }
-    Ok(())
-}
-
-// What is asked for of a text that is told on one thread.
-#[derive(Clone, Copy)]
-enum Asked {
-    Order,
-    Explanation,
-}
-
-fn run_asked(
-    rt: &HostRuntime,
-    name: &str,
-    text: &[u8],
+    example: Example<'_>,
     asked: Asked,
     wanted: &[u8],
-    fault: &[u8],
     counts: &mut Counts,
 ) -> io::Result<()> {
-    for step in STEPS {
-        let mut input = FromReader::new(FakeReader::new(text, step));
+    let Example { name, text, fault } = example;
+    for number in 0..asked.way_count(text) {
+        let mut input = input_of(text, way(text, number));
         let mut output = ToWriter::new(FakeWriter::new(rt.alloc()));
-        let ended = match asked {
-            Asked::Order => orders(rt.alloc(), &mut input, &mut output),
-            Asked::Explanation => explanations(rt.alloc(), &mut input, &mut output),
-        };
+        let ended = asked.run(threads, rt.alloc(), &mut input, &mut output);
         let is_written = output.writer().held() == wanted;
         drop(input);
         drop(output);
         let is_same = tells(rt, ended, fault)? && is_written;
-        let what = match asked {
-            Asked::Order => "the order differs",
-            Asked::Explanation => "the explanation differs",
-        };
-        counts.count(rt, name, what, is_same)?;
+        counts.count(rt, name, asked.difference(), is_same)?;
     }
     Ok(())
 }
 
 // Runs the text through `check`, which tells the same fault and writes nothing to the output then. What it says of the
 // fault is what stands beside the example, if that does.
-fn run_check(
-    rt: &HostRuntime,
-    name: &str,
-    text: &[u8],
-    fault: &[u8],
-    counts: &mut Counts,
-) -> io::Result<()> {
+fn run_check(rt: &HostRuntime, example: Example<'_>, counts: &mut Counts) -> io::Result<()> {
+    let Example { name, text, fault } = example;
     let told = read_beside(rt, name, "check")?;
-    for step in STEPS {
-        let mut input = FromReader::new(FakeReader::new(text, step));
+    for number in 0..way_count(text) {
+        let mut input = input_of(text, way(text, number));
         let mut output = ToWriter::new(FakeWriter::new(rt.alloc()));
         let mut explanation = Vec::new(rt.alloc());
         let ended = check(rt.alloc(), &mut input, &mut output, &mut explanation);
@@ -208,7 +259,8 @@ fn read_beside(rt: &HostRuntime, name: &str, ending: &str) -> io::Result<Option<
     }
 }
 
-// Whether this line is printed for how a run ended; no line for one that ended well.
+// Whether this line is printed for how a run ended; no line for one that ended well. Want of memory, which no example
+// asks for, is answered as such: it says nothing of the example.
 fn tells<E: Display + Drop>(
     rt: &HostRuntime,
     ended: Result<(), E>,
@@ -218,5 +270,8 @@ fn tells<E: Display + Drop>(
         Ok(()) => String::new(rt.alloc()),
         Err(fault) => format!(in rt.alloc(); "he: {fault}\n")?,
     };
+    if told.as_bytes() == REFUSED_LINES[0] || told.as_bytes() == REFUSED_LINES[1] {
+        return Err(AllocError);
+    }
     Ok(told.as_bytes() == line)
 }

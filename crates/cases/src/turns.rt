@@ -1,6 +1,8 @@
 //! The races of an example, each run turn by turn as a future.
 
-use he_race::race_one;
+use he_addr::Memory;
+use he_plan::{Timeline, plan};
+use he_race::{race_one, run_attempt};
 use he_replay::limits::MOST_RACES;
 use he_text::{TextKind, read_race, write_transcript};
 use std::alloc::{AllocError, Global};
@@ -31,8 +33,10 @@ fn run_first<'a>(
 ) -> Result<Option<&'a [u8]>, AllocError> {
     match read_race(alloc, text, 0) {
         Ok(Some((timeline, end))) => {
+            let attempts = run_attempts(alloc, &timeline);
             let ran = race_one(alloc, &timeline);
             drop(timeline);
+            attempts.map_err(|_| AllocError)?;
             let transcript = ran.map_err(|_| AllocError)?;
             let appended = write_transcript(&transcript, written);
             drop(transcript);
@@ -45,4 +49,13 @@ fn run_first<'a>(
             _ => Ok(None),
         },
     }
+}
+
+// Runs each attempt of the race's plan alone. What it comes to is proved to be its fate, if memory is granted.
+fn run_attempts(alloc: Global, timeline: &Timeline) -> Result<(), Memory> {
+    let plan = plan(alloc, timeline)?;
+    for place in 0..plan.attempts().len() {
+        run_attempt(alloc, timeline, &plan, place)?;
+    }
+    Ok(())
 }
