@@ -35,7 +35,7 @@ whole_some None x h = cc
 whole_some (Some (y, [])) x h = ap (λ y. Some (y, [])) (same_Some y x h)
 whole_some (Some (y, c ∷ rest)) x h = absurd (none-some x (sym (more_none y c rest) ∙ h))
 
-v4_some : (text octets : List ℕ) → IsDotted text octets → v4_in text ≡ Some (from_be_bytes w32 octets)
+pub v4_some : (text octets : List ℕ) → IsDotted text octets → v4_in text ≡ Some (from_be_bytes w32 octets)
 unfolding v4_in
 v4_some text octets h = rw (sym (ap read_ipv4 (append-nil text)) ∙ read_ipv4_complete text octets [] h (lit≤ tt))
 
@@ -43,7 +43,7 @@ v4_none : (text : List ℕ) → ((octets : List ℕ) → IsDotted text octets �
 unfolding v4_in
 v4_none text h = rw (whole_none (read_ipv4 text) (λ octets read. let (front, split, dotted) = read_ipv4_sound text octets [] read in h octets (subst (λ t. IsDotted t octets) (sym (split ∙ append-nil front)) dotted)))
 
-v6_some : (text groups : List ℕ) → IsColonHex text groups → v6_in text ≡ Some (from_be_bytes w128 (octets_of groups))
+pub v6_some : (text groups : List ℕ) → IsColonHex text groups → v6_in text ≡ Some (from_be_bytes w128 (octets_of groups))
 unfolding v6_in
 v6_some text groups h = rw (sym (ap read_ipv6 (append-nil text)) ∙ read_ipv6_complete text groups [] h EndsGroups-nil)
 
@@ -77,7 +77,7 @@ unfolding ip_in
 ip_in_no_text text h = rw (v4_none text (λ octets dotted. h (addresses.V4 (record { octets = octets })) dotted), v6_none text (λ groups colons. h (addresses.V6 (record { segments = groups })) colons))
 
 -- and what the function answers is what the text spells
-v4_in_some : (text : List ℕ) (n : ℕ) → v4_in text ≡ Some n → Spells text (V4 n)
+pub v4_in_some : (text : List ℕ) (n : ℕ) → v4_in text ≡ Some n → Spells text (V4 n)
 unfolding v4_in ipv4_bits
 v4_in_some text n h = read (whole_value (read_ipv4 text)) refl h
   where
@@ -87,7 +87,7 @@ v4_in_some text n h = read (whole_value (read_ipv4 text)) refl h
         let (front, split, dotted) = read_ipv4_sound text octets [] (whole_some (read_ipv4 text) octets e) in
         (addresses.V4 (record { octets = octets }), subst (λ t. IsDotted t octets) (sym (split ∙ append-nil front)) dotted, ap V4 (sym (same_Some (from_be_bytes w32 octets) n h)))
 
-v6_in_some : (text : List ℕ) (n : ℕ) → v6_in text ≡ Some n → Spells text (V6 n)
+pub v6_in_some : (text : List ℕ) (n : ℕ) → v6_in text ≡ Some n → Spells text (V6 n)
 unfolding v6_in ipv6_bits
 v6_in_some text n h = read (whole_value (read_ipv6 text)) refl h
   where
@@ -123,6 +123,19 @@ v4_in_alone text n h = read (whole_value (read_ipv4 text)) refl h
         let (front, split, dotted) = read_ipv4_sound text octets [] (whole_some (read_ipv4 text) octets e) in
         let whole : IsDotted text octets = subst (λ t. IsDotted t octets) (sym (split ∙ append-nil front)) dotted in
         v6_none text (λ groups colons. IsDotted-not_colon_hex text octets groups whole colons)
+
+-- what the reader of one family finds is the address
+pub ip_in_v4 : (text : List ℕ) (n : ℕ) → v4_in text ≡ Some n → ip_in text ≡ Some (V4 n)
+unfolding ip_in
+ip_in_v4 text n h = rw h
+
+pub ip_in_v6 : (text : List ℕ) (n : ℕ) → v6_in text ≡ Some n → ip_in text ≡ Some (V6 n)
+unfolding ip_in
+ip_in_v6 text n h = four (v4_in text) refl
+  where
+    four : (o : Option ℕ) → v4_in text ≡ o → option_map_or (λ n. Some (V4 n)) o (option_map (λ n. V6 n) (v6_in text)) ≡ Some (V6 n)
+    four None e = ap (option_map (λ n. V6 n)) h
+    four (Some m) e = absurd (none-some n (sym (v4_in_alone text m e) ∙ h))
 
 -- the address of one family is the answer of the reader of that family
 pub of_v4 : (text : List ℕ) → ip_of_in families.V4 text ≡ option_map V4 (v4_in text)

@@ -135,7 +135,7 @@ run_around groups start len run =
     ∙ ap (λ rest. take start groups ++ rest) (sym (take-append-drop len (drop start groups)) ∙ ap (λ zeros. zeros ++ drop len (drop start groups)) run ∙ ap (λ rest. replicate len 0 ++ rest) (drop-drop len start groups))
     ∙ sym (append_assoc (take start groups) (replicate len 0) (drop (start + len) groups))
 
-length_around : (before after : List ℕ) (len : ℕ) → length (before ++ replicate len 0 ++ after) ≡ length before + len + length after
+pub length_around : (before after : List ℕ) (len : ℕ) → length (before ++ replicate len 0 ++ after) ≡ length before + len + length after
 length_around before after len = omega (arith, length-append (before ++ replicate len 0) after, length-append before (replicate len 0), length-replicate {A = ℕ} len 0)
 
 short_spells : (groups : List ℕ) (start len : ℕ) → length groups ≡ 8 → AreGroups groups → 2 ≤ len → IsZeroRun groups start len → IsColonHex (shortened groups start len) groups
@@ -178,7 +178,7 @@ dotted_spells n = record {
   spelled = four_joined (decimal (n / 16777216 % 256)) (decimal (n / 65536 % 256)) (decimal (n / 256 % 256)) (decimal (n % 256));
 }
 
-number_8 : (a b c d e f g h : ℕ) → from_be_bytes w128 (octets_of (a ∷ b ∷ c ∷ d ∷ e ∷ f ∷ g ∷ h ∷ [])) ≡ number_from_digits 65536 (a ∷ b ∷ c ∷ d ∷ e ∷ f ∷ g ∷ h ∷ [])
+pub number_8 : (a b c d e f g h : ℕ) → from_be_bytes w128 (octets_of (a ∷ b ∷ c ∷ d ∷ e ∷ f ∷ g ∷ h ∷ [])) ≡ number_from_digits 65536 (a ∷ b ∷ c ∷ d ∷ e ∷ f ∷ g ∷ h ∷ [])
 number_8 a b c d e f g h = omega arith
 
 -- what is printed spells the address

@@ -2,8 +2,10 @@ pub mod Bits
 pub mod Ip
 pub mod Laws
 pub mod Prefix
+pub mod Prepending
 pub mod Printed
 pub mod Printing
 pub mod Ranges
 pub mod Reading
+pub mod Sides
 pub mod Text

@@ -5,10 +5,11 @@
 //! lies in a prefix, and how long a part a source and a destination have in common.
 //!
 //! Texts are bytes. [`read_ip`], [`read_ip_of`], [`read_prefix`], [`read_source`] and [`read_number`] answer a value
-//! exactly where the whole text spells it, and None for every other text; they allocate nothing. Addresses are read by
-//! `std::net`.
+//! exactly where the whole text spells it, and None for every other text; they allocate nothing. Addresses of the usual
+//! forms have quick readers; what those refuse is read by `std::net`.
 //! [`write_ip`], [`write_prefix`], [`write_source`] and [`write_number`] append to a vector by at most one growth, and
-//! leave it as it was where that is refused ([`Memory`]).
+//! leave it as it was where that is refused ([`Memory`]). [`prepend_ip`], [`prepend_number`], [`prepend_bytes`] and
+//! [`prepend_byte`] make a text in a buffer, from its end to its front.
 //!
 //! Proved, for all texts and values:
 //!
@@ -31,11 +32,14 @@
 
 pub mod common;
 pub mod decimal;
+mod dotted;
+mod groups;
 pub mod ip;
 pub mod laws;
 pub mod memory;
 mod parts;
 pub mod prefix;
+pub mod prepending;
 pub mod printing;
 pub mod reading;
 pub mod writing;
@@ -45,5 +49,7 @@ pub use decimal::{read_number, write_number};
 pub use ip::{Family, Ip};
 pub use memory::Memory;
 pub use prefix::Prefix;
+pub use prepending::{WIDEST_NUMBER, prepend_byte, prepend_bytes, prepend_number};
+pub use printing::prepend_ip;
 pub use reading::{read_ip, read_ip_of, read_prefix, read_source};
 pub use writing::{write_ip, write_prefix, write_source};

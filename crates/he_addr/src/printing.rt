@@ -1,22 +1,20 @@
-// Texts of addresses, made in a buffer of fixed size.
+// Texts of addresses, made in a buffer from its end to its front.
 
-ghost use Rattle.std.specs.Prelude.{◌≡◌, ◌+◌, ◌-◌, ◌*◌, ◌/◌, ◌%◌, ◌^◌, ◌<◌, ◌≤◌, ◌++◌, length, false, [], decimal};
+ghost use Rattle.std.specs.Prelude.{◌≡◌, ◌+◌, ◌-◌, ◌*◌, ◌/◌, ◌%◌, ◌^◌, ◌<◌, ◌≤◌, ◌++◌, ◌∷◌, [], length, false, decimal};
 ghost use Rattle.std.specs.Fmt.{digit_glyph};
-ghost use Rattle.arrayvec.specs.ArrayVec.{array_vec_len};
+ghost use Rattle.he_addr.specs.Prepending.{Prepends};
 ghost use Rattle.he_addr.specs.Printed.{dotted, groups_of, hex, joined};
 ghost use Rattle.he_addr.specs.Printing.{longest, printed, printed_v6, source_text};
 
 use crate::ip::Ip;
-use arrayvec::ArrayVec;
-use itoa::Buffer;
+use crate::prepending::prepend_byte;
+use itoa::write_digits;
 
 /// The most bytes of the text of an address.
 pub const ADDRESS_LEN: usize = 39;
 
 /// The most bytes of the text of a prefix or a source: an address, `/` and three digits.
 pub const PREFIX_LEN: usize = 43;
-
-pub(crate) type Text = ArrayVec<u8, PREFIX_LEN>;
 
 const COLON: u8 = b':';
 
@@ -27,7 +25,10 @@ pub(crate) const SLASH: u8 = b'/';
 // The groups of an IPv6 address.
 const GROUPS: usize = 8;
 
-// The most bytes that a group takes in a text, with the colon before it.
+// The most digits of a group.
+const GROUP_DIGITS: usize = 4;
+
+// The most bytes that a group takes in a text, with the colon behind it.
 const GROUP_LEN: usize = 5;
 
 // The most digits of a number up to 255.
@@ -92,101 +93,104 @@ fn digit(value: u16) -> u8
     }
 }
 
-fn push_group(text: &mut Text, group: u16)
-    requires { array_vec_len text.old + length (hex group) ≤ PREFIX_LEN }
-    ensures { text.new.items ≡ text.old.items ++ hex group }
+// The last digit first, then those before it.
+fn prepend_group(group: u16, buffer: &mut [u8], end: usize) -> usize
+    requires { (length (hex group) ≤ end) × (end ≤ length buffer.old) }
+    ensures { Prepends buffer.old end buffer.new result (hex group) }
 {
-    if group >= 16 {
-        push_group(text, group / 16);
+    let start = prepend_byte(digit(group % 16), buffer, end);
+    if group < 16 {
+        return start;
     }
-    text.push(digit(group % 16));
+    prepend_group(group / 16, buffer, start)
 }
 
 // The groups, parted by colons.
-fn push_groups(text: &mut Text, groups: &[u16])
-    requires { array_vec_len text.old + GROUP_LEN * length groups.now ≤ PREFIX_LEN }
-    ensures joined { text.new.items ≡ text.old.items ++ joined groups.now }
-    ensures short { array_vec_len text.new ≤ array_vec_len text.old + (GROUP_LEN * length groups.now - 1) }
+fn prepend_groups(groups: &[u16], buffer: &mut [u8], end: usize) -> usize
+    requires { (GROUP_LEN * length groups.now - 1 ≤ end) × (end ≤ length buffer.old) }
+    ensures joined { Prepends buffer.old end buffer.new result (joined groups.now) }
+    ensures near { end ≤ result + (GROUP_LEN * length groups.now - 1) }
 {
-    for (place, group) in groups.iter().enumerate() {
-        if place > 0 {
-            text.push(COLON);
+    let mut start = end;
+    for place in (0..groups.len()).rev() {
+        if place + 1 < groups.len() {
+            start = prepend_byte(COLON, buffer, start);
         }
-        push_group(text, *group);
+        start = prepend_group(groups[place], buffer, start);
     }
+    start
 }
 
 // The text of the IPv6 address with this number.
 #[tactic(auto, unfolding(crate::specs::Printing::printed_v6))]
-fn push_v6(text: &mut Text, number: u128)
-    requires { text.old.items ≡ [] }
-    ensures printed { text.new.items ≡ printed_v6 number }
-    ensures short { array_vec_len text.new ≤ ADDRESS_LEN }
+fn prepend_v6(number: u128, buffer: &mut [u8], end: usize) -> usize
+    requires { (ADDRESS_LEN ≤ end) × (end ≤ length buffer.old) }
+    ensures printed { Prepends buffer.old end buffer.new result (printed_v6 number) }
+    ensures near { end ≤ result + ADDRESS_LEN }
 {
     let groups = groups(number);
     let run = longest_run(&groups);
     if run.len < 2 {
-        push_groups(text, &groups);
-        return;
+        return prepend_groups(&groups, buffer, end);
     }
-    push_groups(text, &groups[..run.start]);
-    text.push(COLON);
-    text.push(COLON);
-    push_groups(text, &groups[run.start + run.len..]);
+    let behind = prepend_groups(&groups[run.start + run.len..], buffer, end);
+    let second = prepend_byte(COLON, buffer, behind);
+    let first = prepend_byte(COLON, buffer, second);
+    prepend_groups(&groups[..run.start], buffer, first)
 }
 
-fn push_decimal(text: &mut Text, number: u64)
-    requires { array_vec_len text.old + length (decimal number) ≤ PREFIX_LEN }
-    ensures { text.new.items ≡ text.old.items ++ decimal number }
+// A number up to 255 in decimal.
+fn prepend_small(byte: u8, buffer: &mut [u8], end: usize) -> usize
+    requires { (BYTE_DIGITS ≤ end) × (end ≤ length buffer.old) }
+    ensures written { Prepends buffer.old end buffer.new result (decimal byte) }
+    ensures near { end ≤ result + BYTE_DIGITS }
 {
-    let mut digits = Buffer::new();
-    text.try_extend_from_slice(digits.format(number).as_bytes())
-        .unwrap();
-}
-
-// One of the four numbers of an IPv4 text.
-fn push_byte(text: &mut Text, byte: u8)
-    requires { array_vec_len text.old + BYTE_DIGITS ≤ PREFIX_LEN }
-    ensures written { text.new.items ≡ text.old.items ++ decimal byte }
-    ensures short { array_vec_len text.new ≤ array_vec_len text.old + BYTE_DIGITS }
-{
-    push_decimal(text, u64::from(byte));
+    write_digits(u64::from(byte), buffer, end)
 }
 
 // The text of the IPv4 address with this number.
-fn push_v4(text: &mut Text, number: u32)
-    requires { text.old.items ≡ [] }
-    ensures printed { text.new.items ≡ dotted number }
-    ensures short { array_vec_len text.new ≤ ADDRESS_LEN }
+fn prepend_v4(number: u32, buffer: &mut [u8], end: usize) -> usize
+    requires { (ADDRESS_LEN ≤ end) × (end ≤ length buffer.old) }
+    ensures printed { Prepends buffer.old end buffer.new result (dotted number) }
+    ensures near { end ≤ result + ADDRESS_LEN }
 {
     let [first, second, third, fourth] = number.to_be_bytes();
-    push_byte(text, first);
-    text.push(DOT);
-    push_byte(text, second);
-    text.push(DOT);
-    push_byte(text, third);
-    text.push(DOT);
-    push_byte(text, fourth);
+    let start = prepend_small(fourth, buffer, end);
+    let start = prepend_dotted(third, buffer, start);
+    let start = prepend_dotted(second, buffer, start);
+    prepend_dotted(first, buffer, start)
 }
 
-// The text of an address.
-pub(crate) fn push_ip(text: &mut Text, ip: Ip)
-    requires { text.old.items ≡ [] }
-    ensures printed { text.new.items ≡ printed ip }
-    ensures short { array_vec_len text.new ≤ ADDRESS_LEN }
+// A number up to 255 and the dot behind it.
+fn prepend_dotted(byte: u8, buffer: &mut [u8], end: usize) -> usize
+    requires { (BYTE_DIGITS < end) × (end ≤ length buffer.old) }
+    ensures written { Prepends buffer.old end buffer.new result (decimal byte ++ 46 ∷ []) }
+    ensures near { end ≤ result + (BYTE_DIGITS + 1) }
+{
+    let dot = prepend_byte(DOT, buffer, end);
+    prepend_small(byte, buffer, dot)
+}
+
+/// Puts the text of the address, as [`write_ip`](crate::write_ip) appends it (RFC 5952 section 4), in front of the text
+/// that stands in the buffer from `end` on, where there is room for the longest address, and answers where the text
+/// begins then.
+pub fn prepend_ip(ip: Ip, buffer: &mut [u8], end: usize) -> usize
+    requires { (ADDRESS_LEN ≤ end) × (end ≤ length buffer.old) }
+    ensures written { Prepends buffer.old end buffer.new result (printed ip) }
+    ensures near { end ≤ result + ADDRESS_LEN }
 {
     match ip {
-        Ip::V4(number) => push_v4(text, number),
-        Ip::V6(number) => push_v6(text, number),
+        Ip::V4(number) => prepend_v4(number, buffer, end),
+        Ip::V6(number) => prepend_v6(number, buffer, end),
     }
 }
 
 // The text of an address and a prefix length.
-pub(crate) fn push_source(text: &mut Text, ip: Ip, len: u8)
-    requires { text.old.items ≡ [] }
-    ensures { text.new.items ≡ source_text ip len }
+pub(crate) fn prepend_source(ip: Ip, len: u8, buffer: &mut [u8], end: usize) -> usize
+    requires { (PREFIX_LEN ≤ end) × (end ≤ length buffer.old) }
+    ensures { Prepends buffer.old end buffer.new result (source_text ip len) }
 {
-    push_ip(text, ip);
-    text.push(SLASH);
-    push_byte(text, len);
+    let digits = prepend_small(len, buffer, end);
+    let slash = prepend_byte(SLASH, buffer, digits);
+    prepend_ip(ip, buffer, slash)
 }

@@ -7,6 +7,8 @@ ghost use Rattle.he_addr.specs.Reading.{ip_in, ip_of_in, source_in, prefix_in, v
 ghost use Rattle.he_addr.specs.Text.{Spells, SpellsSource, SpellsPrefix};
 
 use crate::decimal::read_numeral;
+use crate::dotted::read_dotted;
+use crate::groups::read_groups;
 use crate::ip::{Family, Ip};
 use crate::parts::cut;
 use crate::prefix::{MAPPED_LEN, Prefix, V4_BITS, V6_BITS};
@@ -25,6 +27,12 @@ pub fn read_ip(text: &[u8]) -> Option<Ip>
     ensures none { IfNone result ((ip : Ip) → Spells text.now ip → ⊥) }
     ensures range { IfSome result InRange }
 {
+    if let Some(number) = read_dotted(text) {
+        return Some(Ip::V4(number));
+    }
+    if let Some(number) = read_groups(text) {
+        return Some(Ip::V6(number));
+    }
     match IpAddr::parse_ascii(text) {
         Ok(IpAddr::V4(address)) => Some(Ip::V4(address.to_bits())),
         Ok(IpAddr::V6(address)) => Some(Ip::V6(address.to_bits())),
@@ -59,6 +67,9 @@ pub fn read_ip_of(family: Family, text: &[u8]) -> Option<Ip>
 fn read_v4(text: &[u8]) -> Option<u32>
     ensures { result ≡ v4_in text.now }
 {
+    if let Some(number) = read_dotted(text) {
+        return Some(number);
+    }
     match Ipv4Addr::parse_ascii(text) {
         Ok(address) => Some(address.to_bits()),
         Err(_) => None,
@@ -70,6 +81,9 @@ fn read_v4(text: &[u8]) -> Option<u32>
 fn read_v6(text: &[u8]) -> Option<u128>
     ensures { result ≡ v6_in text.now }
 {
+    if let Some(number) = read_groups(text) {
+        return Some(number);
+    }
     match Ipv6Addr::parse_ascii(text) {
         Ok(address) => Some(address.to_bits()),
         Err(_) => None,

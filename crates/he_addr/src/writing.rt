@@ -8,8 +8,7 @@ ghost use Rattle.he_addr.specs.Printing.{printed, source_text, prefix_text};
 use crate::ip::Ip;
 use crate::memory::Memory;
 use crate::prefix::{MAPPED_LEN, Prefix};
-use crate::printing::{push_ip, push_source};
-use arrayvec::ArrayVec;
+use crate::printing::{ADDRESS_LEN, PREFIX_LEN, prepend_ip, prepend_source};
 use std::alloc::Allocator;
 
 /// Appends the text of the address (RFC 5952 section 4): for IPv6 lower case, no leading zeros in a group, `::` for
@@ -19,9 +18,9 @@ pub fn write_ip<A: Allocator + Copy>(ip: Ip, out: &mut Vec<u8, A>) -> Result<(),
     ensures text { IsPrinted ip (printed ip) }
     ensures err { OnErr result (out.new.items ≡ out.old.items) }
 {
-    let mut text = ArrayVec::new();
-    push_ip(&mut text, ip);
-    out.extend_from_slice(text.as_slice())?;
+    let mut buffer = [0; ADDRESS_LEN];
+    let start = prepend_ip(ip, &mut buffer, ADDRESS_LEN);
+    out.extend_from_slice(&buffer[start..])?;
     Ok(())
 }
 
@@ -35,9 +34,9 @@ pub fn write_source<A: Allocator + Copy>(
     ensures text { IsPrintedSource ip len (source_text ip len) }
     ensures err { OnErr result (out.new.items ≡ out.old.items) }
 {
-    let mut text = ArrayVec::new();
-    push_source(&mut text, ip, len);
-    out.extend_from_slice(text.as_slice())?;
+    let mut buffer = [0; PREFIX_LEN];
+    let start = prepend_source(ip, len, &mut buffer, PREFIX_LEN);
+    out.extend_from_slice(&buffer[start..])?;
     Ok(())
 }
 

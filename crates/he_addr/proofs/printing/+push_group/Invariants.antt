@@ -1,4 +1,0 @@
-use Rattle.he_addr.proofs.printing.+push_group.Given as goal
-
-abbrev pub decreases-push_group : goal.decreases-push_group
-decreases-push_group l = l.group
