@@ -251,6 +251,20 @@ impl<A: Allocator + Copy> Host<A> {
 }
 
 impl<A: Allocator> Host<A> {
+    /// The host of these sources and routes, which it keeps as they are: it takes no memory.
+    ///
+    /// # Errors
+    ///
+    /// The first cause that there is, in the order of [`HostFault`]; never `Memory`. The lists are dropped then.
+    pub fn from_lists(sources: Vec<Source, A>, routes: Vec<Route, A>) -> Result<Host<A>, HostFault>
+        ensures { result ≡ host_of sources.items routes.items }
+    {
+        if let Some(fault) = HostFault::find(&sources, &routes) {
+            return Err(fault);
+        }
+        Ok(Host { sources, routes })
+    }
+
     fn has_lists_of(&self, other: &Host<A>) -> bool
         ensures { result ≡ equal_hosts self.now other.now }
     {

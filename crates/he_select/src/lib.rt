@@ -5,16 +5,17 @@
 //! destinations, [`order_with_sources`] tells the source of each as well, [`Host::source`] finds the source of one.
 //!
 //! Proved, for every input: the standard table is that of RFC 6724 section 2.1; rows are a table, and lists a host's,
-//! exactly where the search for what is wrong finds nothing, and what it finds is the first cause in its order, at
-//! the least place ([`laws`]); `Policy::from_rows` and `Host::new` make the table and the host of what they are
-//! given, or answer that cause, and want of memory only where there is none; two tables are equal exactly where their
-//! rows are, two hosts where their lists are; the precedence and the label of an address are those of the longest row
-//! that contains it; its source is the candidate than which none is better by the rules of section 5; each address
-//! that `order` answers stands at the place that equals the number of addresses preferred to it by the rules of
-//! section 6, and `order_with_sources` answers the same list with the source of each. Under an admitted table this
-//! preference is a comparison of keys, one number for each rule, and so a strict total order, usable addresses have
-//! exactly one such list, and the order of some of them is that of all without the others ([`laws`]). Each rule
-//! stands in `specs/` as a definition under its name in the RFC.
+//! exactly where the search for what is wrong finds nothing, and what it finds is the first cause in its order, at the
+//! least place ([`laws`]); `Policy::from_rows` and `Host::new` make the table and the host of what they are given, or
+//! answer that cause, and want of memory only where there is none; `Policy::from_list` and `Host::from_lists` do the
+//! same with lists that they keep, and need no memory; two tables are equal exactly where their rows are, two hosts
+//! where their lists are; the precedence and the label of an address are those of the longest row that contains it;
+//! its source is the candidate than which none is better by the rules of section 5; each address that `order` answers
+//! stands at the place that equals the number of addresses preferred to it by the rules of section 6, and
+//! `order_with_sources` answers the same list with the source of each. Under an admitted table this preference is a
+//! comparison of keys, one number for each rule, and so a strict total order, usable addresses have exactly one such
+//! list, and the order of some of them is that of all without the others ([`laws`]). Each rule stands in `specs/` as a
+//! definition under its name in the RFC.
 //!
 //! Only tested, in he_select_tests: that memory suffices where it is there. The texts of the faults are in no clause.
 #![tactic(auto)]

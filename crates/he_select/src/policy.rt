@@ -229,7 +229,7 @@ impl<A: Allocator + Copy> Policy<A> {
     pub fn standard(alloc: A) -> Result<Policy<A>, Memory>
         ensures { IfOk result (λ policy. policy ≡ standard_rows) }
     {
-        let rows = Vec::from_slice(alloc, &standard_table())?;
+        let rows = Vec::from_array(alloc, standard_table())?;
         Ok(Policy { rows })
     }
 
@@ -252,6 +252,20 @@ impl<A: Allocator + Copy> Policy<A> {
 }
 
 impl<A: Allocator> Policy<A> {
+    /// The table of these rows, which it keeps as they are: it takes no memory.
+    ///
+    /// # Errors
+    ///
+    /// The first cause that there is, in the order of [`PolicyFault`]; never `Memory`. The rows are dropped then.
+    pub fn from_list(rows: Vec<Row, A>) -> Result<Policy<A>, PolicyFault>
+        ensures { result ≡ table_of rows.items }
+    {
+        if let Some(fault) = PolicyFault::find(&rows) {
+            return Err(fault);
+        }
+        Ok(Policy { rows })
+    }
+
     fn has_rows_of(&self, other: &Policy<A>) -> bool
         ensures { result ≡ equal_tables self.now other.now }
     {

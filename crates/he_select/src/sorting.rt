@@ -117,10 +117,11 @@ fn label_sources<A: Allocator + Copy>(
 ) -> Result<Vec<Labelled, A>, AllocError>
     ensures { IfOk result (λ labelled. labelled.items ≡ map (labelled_of rows.now) sources.now) }
 {
-    sources
-        .iter()
-        .map(|source| Labelled::new(rows, source))
-        .collect(alloc)
+    let mut labelled = Vec::with_capacity(alloc, sources.len())?;
+    for source in sources {
+        labelled.push(Labelled::new(rows, source))?;
+    }
+    Ok(labelled)
 }
 
 /// The members of the list at the places of the keys, in the order of the keys.

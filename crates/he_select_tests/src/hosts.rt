@@ -69,6 +69,24 @@ static HOSTS: [(usize, usize, usize, usize, Option<HostFault>); 10] = [
     (8, 10, 1, 3, None),
 ];
 
+// Whether the lists have this fault, both copied and taken as they are.
+fn has_fault(
+    heap: &Refusing,
+    sources: &[Source],
+    routes: &[Route],
+    wanted: Option<HostFault>,
+) -> Option<bool> {
+    let taken = taken_fault(heap, sources, routes)?;
+    let copied = Host::new(heap, sources, routes).err();
+    Some(taken == wanted && copied == wanted)
+}
+
+fn taken_fault(heap: &Refusing, sources: &[Source], routes: &[Route]) -> Option<Option<HostFault>> {
+    let source_list = Vec::from_slice(heap, sources).ok()?;
+    let route_list = Vec::from_slice(heap, routes).ok()?;
+    Some(Host::from_lists(source_list, route_list).err())
+}
+
 // How many hosts are refused as they must be, up to the first that isn't.
 fn right_hosts(heap: &Refusing) -> Option<usize> {
     let sources = sources();
@@ -77,7 +95,7 @@ fn right_hosts(heap: &Refusing) -> Option<usize> {
     for (from, to, first, behind, wanted) in &HOSTS {
         let some_sources = sources.get(*from..*to)?;
         let some_routes = routes.get(*first..*behind)?;
-        if Host::new(heap, some_sources, some_routes).err() != *wanted {
+        if !has_fault(heap, some_sources, some_routes, *wanted)? {
             break;
         }
         right = right.saturating_add(1);

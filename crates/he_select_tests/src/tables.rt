@@ -80,13 +80,21 @@ static TABLES: [(usize, usize, Option<PolicyFault>); 8] = [
     (1, 3, None),
 ];
 
+// Whether the rows have this fault, both copied and taken as they are.
+fn has_fault(heap: &Refusing, table: &[Row], wanted: Option<PolicyFault>) -> Option<bool> {
+    let list = Vec::from_slice(heap, table).ok()?;
+    let taken = Policy::from_list(list).err();
+    let copied = Policy::from_rows(heap, table).err();
+    Some(taken == wanted && copied == wanted)
+}
+
 // How many tables are refused as they must be, up to the first that isn't.
 fn right_tables(heap: &Refusing) -> Option<usize> {
     let rows = rows()?;
     let mut right: usize = 0;
     for (from, to, wanted) in &TABLES {
         let table = rows.get(*from..*to)?;
-        if Policy::from_rows(heap, table).err() != *wanted {
+        if !has_fault(heap, table, *wanted)? {
             break;
         }
         right = right.saturating_add(1);
