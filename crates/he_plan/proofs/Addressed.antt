@@ -18,7 +18,7 @@ pub found_is : (eq : Ip → Ip → Bool) → IsSame eq → (ip : Ip) (ips : List
 found_is eq same ip [] = refl
 found_is eq same ip (x ∷ ips) = rw (same ip x, same_ip-sym ip x, found_is eq same ip ips)
 
-not_by : (b : Bool) → b ≡ false → not b ≡ true
+pub not_by : (b : Bool) → b ≡ false → not b ≡ true
 not_by true e = sym e
 not_by false e = refl
 

@@ -1,5 +1,5 @@
 -- The outcomes of a race, found by address.
-use Rattle.std.proofs.Common.{◌≡◌, ◌++◌, ◌||◌, Bool, true, false, cond, not, List, [], ◌∷◌, Option, Some, None, is_some, option_map, find, refl, ◌∙◌}
+use Rattle.std.proofs.Common.{◌≡◌, ◌++◌, ◌||◌, Bool, true, false, cond, not, List, [], ◌∷◌, Some, option_map, find, refl, ◌∙◌}
 use Rattle.std.specs.Map.{lookup}
 use Rattle.he_addr.specs.Ip.{same_ip}
 use Rattle.he_addr.specs.contracts.ip.IpPartialEq.TheImpl.{eq-value}
@@ -32,23 +32,6 @@ looked_up eq same ip (p ∷ told) = by_test (looked_up eq same ip told) (eq ip p
     by_test rest false false e = rest
     by_test rest true false e = cc
     by_test rest false true e = cc
-
-pub is_there : (eq : Ip → Ip → Bool) → IsSame eq → (ip : Ip) (told : List (Ip × Outcome)) → is_some (lookup (eq ip) told) ≡ has_outcome ip told
-is_there eq same ip [] = refl
-is_there eq same ip (p ∷ told) = by_test (is_there eq same ip told) (eq ip p.0) (same_ip p.0 ip) (same ip p.0 ∙ same_ip-sym ip p.0)
-  where
-    by_test : is_some (lookup (eq ip) told) ≡ has_outcome ip told → (b c : Bool) → b ≡ c → is_some (cond b (Some p.1) (lookup (eq ip) told)) ≡ (c || has_outcome ip told)
-    by_test rest true true e = refl
-    by_test rest false false e = rest
-    by_test rest true false e = cc
-    by_test rest false true e = cc
-
-pub none_there : (eq : Ip → Ip → Bool) → IsSame eq → (ip : Ip) (told : List (Ip × Outcome)) → has_outcome ip told ≡ false → lookup (eq ip) told ≡ None
-none_there eq same ip told h = none (lookup (eq ip) told) (is_there eq same ip told ∙ h)
-  where
-    none : (o : Option Outcome) → is_some o ≡ false → o ≡ None
-    none None h = refl
-    none (Some x) h = cc
 
 -- an address that has an outcome has none before it
 pub none_before : (xs ys : List (Ip × Outcome)) (p : Ip × Outcome) → are_told_once (xs ++ p ∷ ys) ≡ true → has_outcome p.0 xs ≡ false

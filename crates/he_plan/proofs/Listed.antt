@@ -1,7 +1,8 @@
 -- The list of the included answers is a part of the sorted addresses of both.
-use Rattle.std.proofs.Common.{◌≡◌, ℕ, zero, suc, ◌+◌, ◌≤◌, ◌<◌, ◌++◌, Bool, true, false, cond, List, [], ◌∷◌, length, filter, get_or, Option, Some, None, refl, sym, ◌∙◌, ap, arith, length-append}
+use Rattle.std.proofs.Common.{◌≡◌, ℕ, zero, suc, ◌+◌, ◌≤◌, ◌<◌, ◌++◌, Bool, true, false, cond, List, [], ◌∷◌, length, filter, take, drop, get_or, Option, Some, None, refl, sym, ◌∙◌, ap, arith, length-append}
 use Rattle.std.specs.List.{list_all, swap}
 use Rattle.std.specs.Prelude.{All, IsPermutation}
+use Rattle.std.proofs.lemmas.List.{drop_all, take_all}
 use Rattle.std.proofs.lemmas.List.Elements.{filter-append, filter_agree}
 use Rattle.std.proofs.lemmas.List.Sorted.{IsPermutation-keeps}
 use Rattle.he_addr.specs.Ip.{InRange, IsUsable, family_of, is_usable}
@@ -14,7 +15,7 @@ use Rattle.he_select.proofs.Families.{parts_families}
 use Rattle.he_select.proofs.Filtered.{filtered_order}
 use Rattle.he_select.proofs.Ordered.{one_order}
 use Rattle.he_select.specs.Selection.{selection_input}
-use Rattle.he_plan.specs.Alternating.{interlace, interlace_by}
+use Rattle.he_plan.specs.Alternating.{alternate, interlace, interlace_by}
 use Rattle.he_plan.specs.Attempts.{order}
 use Rattle.he_plan.specs.Planning.{interlaced_list, is_of_included, part_of, parts_of}
 use Rattle.he_plan.specs.Race.{Race, Reply, addresses_of}
@@ -168,6 +169,20 @@ moved_one : (xs ys : List Ip) → length xs ≤ 1 → IsPermutation xs ys → ys
 moved_one [] ys short moved = IsPermutation-keeps [] (λ l. l ≡ []) refl swap_none ys moved
 moved_one (x ∷ []) ys short moved = IsPermutation-keeps (x ∷ []) (λ l. l ≡ x ∷ []) refl (swap_one x) ys moved
 moved_one (x ∷ y ∷ xs) ys short moved = absurd (omega arith)
+
+one_and_one : (x y : Ip) (count : ℕ) → 1 ≤ count → take count (x ∷ []) ++ alternate (y ∷ []) (drop count (x ∷ [])) ≡ x ∷ y ∷ []
+one_and_one x y count some = rw (take_all count (x ∷ []) some, drop_all count (x ∷ []) some) refl
+
+-- two addresses stay where they are
+pub alone_two : (ips : List Ip) (count : ℕ) → length ips ≤ 2 → 1 ≤ count → interlace ips count ≡ ips
+alone_two [] count short some = refl
+alone_two (V4 m ∷ []) count short some = alone families.V4 (V4 m ∷ []) count refl
+alone_two (V6 m ∷ []) count short some = alone families.V6 (V6 m ∷ []) count refl
+alone_two (V4 m ∷ V4 n ∷ []) count short some = alone families.V4 (V4 m ∷ V4 n ∷ []) count refl
+alone_two (V6 m ∷ V6 n ∷ []) count short some = alone families.V6 (V6 m ∷ V6 n ∷ []) count refl
+alone_two (V4 m ∷ V6 n ∷ []) count short some = one_and_one (V4 m) (V6 n) count some
+alone_two (V6 m ∷ V4 n ∷ []) count short some = one_and_one (V6 m) (V4 n) count some
+alone_two (x ∷ y ∷ z ∷ ips) count short some = absurd (omega arith)
 
 alone_one : (ips : List Ip) (count : ℕ) → length ips ≤ 1 → interlace ips count ≡ ips
 alone_one [] count short = refl

@@ -18,6 +18,10 @@ pub fn interlace<A: Allocator + Copy>(
     requires { 1 ≤ count }
     ensures { IfOk result (λ v. v.items ≡ interlace ips.now count) }
 {
+    // Of two the first one leads, and the other follows, whichever their families.
+    if ips.len() <= 2 {
+        return Ok(Vec::from_slice(alloc, ips)?);
+    }
     let Some(first) = ips.first() else {
         return Ok(Vec::new(alloc));
     };

@@ -18,7 +18,6 @@ use crate::outcomes::Outcomes;
 use crate::settings::Settings;
 use he_addr::{Family, Ip, Memory};
 use he_select::{Host, Policy};
-use indexmap::map::Slice;
 use std::alloc::{AllocError, Allocator, Global};
 use std::marker::Model;
 
@@ -223,8 +222,8 @@ impl<A: Allocator> Timeline<A> {
     }
 
     /// The addresses that have an outcome, in the order in which they were given; every other one is silent.
-    pub fn outcomes(&self) -> Slice<'_, Ip, Outcome>
-        ensures value { result ≡ self.now.outcomes }
+    pub fn outcomes(&self) -> &[(Ip, Outcome)]
+        ensures value { result.now ≡ self.now.outcomes }
         ensures race { IsRace self.now }
     {
         self.outcomes.as_slice()

@@ -1,21 +1,23 @@
-use Rattle.std.proofs.Common.{◌≡◌, ◌++◌, List, [], ◌∷◌, false, ◌∙◌, ap}
+use Rattle.std.proofs.Common.{◌++◌, List, [], ◌∷◌, inr, sym, ◌∙◌, ap}
+use Rattle.std.specs.Map.{keys_of}
 use Rattle.he_addr.specs.contracts.ip.IpPartialEq.TheImpl.{eq-value}
 use Rattle.he_addr.specs.declared.ip.Ip.{Ip}
 use Rattle.he_plan.specs.declared.outcome.Outcome.{Outcome}
-use Rattle.he_plan.specs.Race.{has_outcome}
-use Rattle.he_plan.proofs.ByAddress.{none_there, same_as}
+use Rattle.he_plan.specs.Timeline.{are_told_once}
+use Rattle.he_plan.proofs.ByAddress.{same_as}
+use Rattle.he_plan.proofs.Placed.{once_before, place_last}
 use Rattle.he_plan.proofs.outcomes.Outcomes.push.Goals as goal
-use Rattle.indexmap.specs.IndexMap.{IndexMap, insert_entry}
-use Rattle.indexmap.proofs.CallerLemmas.{insert_entry-new}
 
--- a new address goes last
-added : {S : Type 0} (map : IndexMap Ip Outcome S) (self now : List (Ip × Outcome)) (ip : Ip) (outcome : Outcome) → now ≡ insert_entry eq-value.it map.entries ip outcome → map.entries ≡ self → has_outcome ip self ≡ false → now ≡ self ++ (ip, outcome) ∷ []
-added map self now ip outcome entries is none =
-    let absent : has_outcome ip map.entries ≡ false = ap (has_outcome ip) is ∙ none in
-    entries
-    ∙ insert_entry-new eq-value.it map ip outcome (none_there eq-value.it same_as ip map.entries absent)
-    ∙ ap (λ told. told ++ (ip, outcome) ∷ []) is
+pub make_places-requires-clause-once : goal.make_places-requires-clause-once
+make_places-requires-clause-once g c =
+    ap are_told_once (c.deref.ensures.value ∙ c.self.view_is) ∙ once_before c.args.self.now ((c.args.ip, c.args.outcome) ∷ []) c.requires
 
-pub returns-clause-ok : goal.returns-clause-ok
-returns-clause-ok g c =
-    added c.self.inside.told c.args.self.now c.insert.new.self.entries c.args.ip c.args.outcome c.in_ok-insert.ensures.entries c.self.view_is c.requires
+pub invariant_of-self-in_default : goal.invariant_of-self-in_default
+invariant_of-self-in_default g c =
+    let told : List (Ip × Outcome) = c.self.inside.told.items in
+    let once = ap (λ (l : List (Ip × Outcome)). are_told_once (l ++ (c.args.ip, c.args.outcome) ∷ [])) c.self.view_is ∙ c.requires in
+    inr (
+    place_last eq-value.it same_as told c.make_places.new.places.keys c.insert.new.self.keys c.args.ip c.args.outcome once
+    (c.in_ok-make_places.ensures.ok ∙ ap keys_of c.deref.ensures.value) c.in_default.ensures.keys
+    ∙ ap keys_of (sym c.in_ok-push-2.ensures.items)
+    )

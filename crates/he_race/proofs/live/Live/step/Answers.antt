@@ -1,6 +1,6 @@
-use Rattle.std.proofs.Common.{◌≤◌, rules}
+use Rattle.std.proofs.Common.{ℕ, ◌+◌, ◌≤◌, ◌∙◌, ap, min, rules}
 use Rattle.he_race.specs.Recording.{floor}
-use Rattle.he_race.proofs.Sweeps.{polled-turn, turn-in_time}
+use Rattle.he_race.proofs.Sweeps.{polled-again, polled-turn, turn-in_time}
 use Rattle.he_race.proofs.live.Live.step.Goals as goal
 
 pub returns-in_default-clause-polled : goal.returns-in_default-clause-polled
@@ -11,3 +11,9 @@ returns-in_default-clause-polled g c =
 pub returns-in_default-clause-in_time : goal.returns-in_default-clause-in_time
 returns-in_default-clause-in_time g c =
     turn-in_time g.C.Connector g.C.Run.Trial c.args.connector.now c.take_turn.new.connector c.args.self c.min-now.result c.take_turn.result c.take_turn.ensures.turned
+
+pub returns-in-Some-clause-polled : goal.returns-in-Some-clause-polled
+returns-in-Some-clause-polled g c =
+    let early : c.min-now.result ≤ c.in-Some.turn = search rules in
+    let same = c.min-now.ensures ∙ ap (λ (n : ℕ). min c.args.now (n + 1)) c.limit-limit.ensures.value in
+    polled-again g.C.Connector g.C.Run.Trial c.args.connector.now c.args.self c.args.now c.min-now.result c.in-Some.turn same c.in-Some.is early
