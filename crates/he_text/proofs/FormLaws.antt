@@ -85,6 +85,11 @@ pub answer_wrong : (family : Family) (tokens : List (List ℕ)) (kind : TextKind
 unfolding take_answer
 answer_wrong family tokens kind race is = ap (λ r. r >>= λ reply. built (add_answer family reply.tick reply.addresses race)) is
 
+-- where one token is left it is the first
+pub only_token : (tokens more : List (List ℕ)) (first : List ℕ) → tokens ≡ first ∷ more → length more + 1 ≡ 1 → tokens ≡ first ∷ []
+only_token tokens [] first is one = is
+only_token tokens (token ∷ more) first is one = absurd (omega arith)
+
 -- a line with another number of tokens than its form has
 pub setting_of_two : (tokens : List (List ℕ)) → (length tokens ≡ 2 → ⊥) → setting_in tokens ≡ Err kinds.Word
 unfolding setting_in

@@ -15,6 +15,7 @@ use Rattle.he_text.specs.Left.{all_but}
 use Rattle.he_text.specs.Parts.{tokens_of}
 use Rattle.he_text.specs.Words.{spelling_of}
 use Rattle.he_text.proofs.FormReads.{word_reads}
+use Rattle.he_text.proofs.PartLaws.{joined_parts}
 
 -- no word has a space
 no_space : (word : Word) → AllByRecursion (λ b. eqb b 32 ≡ false) (spelling_of word)
@@ -31,6 +32,13 @@ no_space words.End = (refl, (refl, (refl, tt)))
 word_first : (word : Word) (tokens : List (List ℕ)) → word_of (spelling_of word ∷ tokens) ≡ Ok (word, tokens)
 unfolding word_of
 word_first word tokens = ap (λ read. ok_or read kinds.Word >>= λ w. Ok (w, tokens)) (word_reads word)
+
+-- a line that is a word alone
+pub word_alone : (word : Word) (line : List ℕ) → line ≡ spelling_of word → word_of (tokens_of line) ≡ Ok (word, [])
+word_alone word line is =
+    ap (λ t. word_of (tokens_of t)) is
+    ∙ ap word_of (joined_parts 32 (spelling_of word) [] (no_space word, tt))
+    ∙ word_first word []
 
 -- a text behind a front that a part of it has too
 behind_front : (behind front : ℕ) (text : List ℕ) → front ≤ length text - behind → drop front (all_but behind text) ≡ all_but behind (drop front text)

@@ -3,7 +3,6 @@ use Rattle.std.specs.Prelude.{ℕ, ◌≡◌, ◌+◌, true, false, List, [], �
 use Rattle.std.specs.List.{flat_map}
 use Rattle.he_addr.specs.Printing.{printed, source_text, prefix_text}
 use Rattle.he_addr.specs.declared.ip.Ip.{Ip}
-use Rattle.he_plan.specs.declared.transcript.Line.{Line}
 use Rattle.he_plan.specs.declared.transcript.Mark.{Mark}
 use Rattle.he_plan.specs.declared.transcript.Mark.TheVariants as marks
 use Rattle.he_select.specs.declared.sorting.Sourced.{Sourced}
@@ -20,32 +19,28 @@ token_text (tokens.Source source) = source_text source.now.ip source.now.plen
 token_text (tokens.Prefix prefix) = prefix_text false prefix.now
 token_text (tokens.Dotted prefix) = prefix_text true prefix.now
 
--- attempt PLACE START
-abbrev pub start_text : ℕ → ℕ → List ℕ
-start_text place tick = (codes "attempt " ++ decimal place) ++ (codes " " ++ decimal tick)
-
--- attempt PLACE START ADDRESS
-abbrev pub try_text : Line → List ℕ
-try_text line = start_text line.place line.tick ++ (codes " " ++ printed line.ip)
-
--- the last number of a line, behind a label
+-- a label, a number and the line's end
 abbrev pub last_text : List ℕ → ℕ → List ℕ
-last_text label number = (label ++ decimal number) ++ 10 ∷ []
+last_text label number = label ++ (decimal number ++ 10 ∷ [])
 
--- MARK TICK, behind a space
+-- MARK TICK, behind a space, and the line's end
 abbrev pub mark_end : Mark → List ℕ
 mark_end (marks.Won tick) = last_text (codes " won ") tick
 mark_end (marks.Failed tick) = last_text (codes " failed ") tick
 mark_end (marks.Cancelled tick) = last_text (codes " cancelled ") tick
 
--- N ADDRESS
-abbrev pub sorted_text : ℕ → Ip → List ℕ
-sorted_text place ip = decimal place ++ (codes " " ++ printed ip)
+-- attempt PLACE START, and the space behind it
+abbrev pub start_text : ℕ → ℕ → List ℕ
+start_text place tick = codes "attempt " ++ (decimal place ++ 32 ∷ (decimal tick ++ 32 ∷ []))
 
--- from SOURCE or from none, behind a space
+-- won PLACE TICK, and the line's end
+abbrev pub won_text : ℕ → ℕ → List ℕ
+won_text place tick = codes "won " ++ (decimal place ++ last_text (codes " ") tick)
+
+-- from SOURCE or from none, behind a space, and the line's end
 abbrev pub origin_text : Option Ip → List ℕ
 origin_text None = codes " from none" ++ 10 ∷ []
-origin_text (Some ip) = (codes " from " ++ printed ip) ++ 10 ∷ []
+origin_text (Some ip) = codes " from " ++ (printed ip ++ 10 ∷ [])
 
 -- the address of a source, or `none`
 abbrev pub source_ip_text : Option Ip → List ℕ

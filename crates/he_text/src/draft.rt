@@ -1,6 +1,6 @@
 // What is known of a race while its lines are read.
 
-ghost use Rattle.std.specs.Prelude.{◌≡◌, ◌⊎◌, ◌≤◌, IsOk, Ok, Err, length, MatchResult};
+ghost use Rattle.std.specs.Prelude.{◌≡◌, ◌⊎◌, ◌≤◌, [], ◌∷◌, IsOk, Ok, Err, length, MatchResult};
 ghost use Rattle.he_plan.specs.declared.limits.TheConstants.{MAX_ADDRESSES};
 ghost use Rattle.he_text.specs.Left.{tokens_left};
 ghost use Rattle.he_text.specs.Reading.{Fails, admit, kind_of, once, put, settings_from, take_answer, take_listed, take_told, order_at_start, none_given};
@@ -150,6 +150,24 @@ fn take_listed<const ROOM: usize, A: Allocator + Copy>(
     built(race.answer(family, given.tick, ips.as_slice()))
 }
 
+// Adds the answer that one token gives to the race. Most answers have one address, and need no list.
+#[inline(always)]
+#[tactic(auto, unfolding(crate::specs::Reading::take_listed, crate::specs::Forms::listed_in, crate::specs::Forms::addresses_in))]
+fn take_only<A: Allocator + Copy>(
+    family: Family,
+    tick: u64,
+    token: &[u8],
+    race: &mut TimelineBuilder<A>,
+) -> Result<(), TextKind>
+    ensures { MatchResult result (λ _. take_listed family tick (token.now ∷ []) race.old ≡ Ok race.new) (λ kind. Fails kind (take_listed family tick (token.now ∷ []) race.old)) }
+{
+    if token == b"none".as_slice() {
+        return built(race.answer(family, tick, &[]));
+    }
+    let ip = forms::address(family, token)?;
+    built(race.answer(family, tick, &[ip]))
+}
+
 #[tactic(auto, using(crate::proofs::FormLaws::answer_taken))]
 fn take_answer<A: Allocator + Copy>(
     family: Family,
@@ -159,7 +177,9 @@ fn take_answer<A: Allocator + Copy>(
     ensures { MatchResult result (λ _. take_answer family (tokens_left tokens.entry) race.old ≡ Ok race.new) (λ kind. Fails kind (take_answer family (tokens_left tokens.entry) race.old)) }
 {
     let given = forms::answer(tokens)?;
-    if given.count <= FEW_ADDRESSES {
+    if given.count == 1 {
+        take_only(family, given.tick, given.first, race)
+    } else if given.count <= FEW_ADDRESSES {
         take_listed::<FEW_ADDRESSES, A>(family, given, race)
     } else {
         take_listed::<MAX_ADDRESSES, A>(family, given, race)

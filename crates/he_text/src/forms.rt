@@ -11,7 +11,7 @@ mod selection;
 use crate::fault::TextKind;
 use crate::parts::Tokens;
 use crate::words::Name;
-pub(crate) use answers::{AnswerLine, FEW_ADDRESSES, IpList, answer, connect, listed};
+pub(crate) use answers::{AnswerLine, FEW_ADDRESSES, IpList, address, answer, connect, listed};
 use he_addr::read_number;
 use he_plan::limits::{
     MAX_ATTEMPT, MAX_COUNT, MAX_LIMIT, MAX_PAUSE_END, MAX_RESOLUTION, MAX_TICK, MIN_ATTEMPT,
@@ -72,6 +72,7 @@ pub(crate) fn setting(tokens: Tokens) -> Result<(Name, u64), TextKind>
 }
 
 // pause FROM TO
+#[inline(always)]
 #[tactic(auto, unfolding(crate::specs::Forms::pause_in))]
 pub(crate) fn pause(tokens: Tokens) -> Result<(u64, u64), TextKind>
     ensures { result ≡ pause_in (tokens_left tokens.entry) }

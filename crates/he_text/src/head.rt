@@ -2,6 +2,7 @@
 
 ghost use Rattle.std.specs.Prelude.{◌≡◌, ◌⊎◌, ◌++◌, [], ◌∷◌, Ok, Err, IsOk, option_map, MatchResult};
 ghost use Rattle.std.specs.Option.{option_map_or};
+ghost use Rattle.he_plan.specs.Building.{empty_race};
 ghost use Rattle.he_select.specs.TableFaults.{table_fault};
 ghost use Rattle.he_text.specs.declared.fault.TextKind.TheVariants as kinds;
 ghost use Rattle.he_text.specs.Left.{tokens_left};
@@ -13,11 +14,20 @@ use crate::forms;
 use crate::parts::Tokens;
 use crate::words::{Name, Word};
 use he_addr::Memory;
-use he_plan::TimelineBuilder;
+use he_plan::Settings;
 use he_select::limits::ROWS;
 use he_select::{Host, Policy, PolicyFault, Route, Row, Source};
 use std::alloc::Allocator;
 use std::marker::Model;
+
+// What a race is made of in which nothing happens yet. The race itself is made where its lines are read: it is large,
+// so it is not handed on from call to call.
+#[derive(Drop)]
+pub(crate) struct Scene<A: Allocator> {
+    pub(crate) settings: Settings,
+    pub(crate) policy: Policy<A>,
+    pub(crate) host: Host<A>,
+}
 
 // The settings, rows, sources and routes that a race gives. The rows are a policy table once no more of them come.
 #[derive(Drop)]
@@ -125,15 +135,19 @@ impl<A: Allocator + Copy> Head<A> {
         }
     }
 
-    // The race in which nothing happens yet.
+    // What the race is made of in which nothing happens yet.
     #[tactic(auto, unfolding(crate::specs::Reading::race_begun))]
-    pub(crate) fn start(self, alloc: A) -> Result<TimelineBuilder<A>, TextKind>
-        ensures { MatchResult result (λ race. race_begun self ≡ Ok race) (λ kind. (kind ≡ kinds.Memory) ⊎ (race_begun self ≡ Err kind)) }
+    pub(crate) fn scene(self, alloc: A) -> Result<Scene<A>, TextKind>
+        ensures { MatchResult result (λ scene. race_begun self ≡ Ok (empty_race scene.settings scene.policy scene.host)) (λ kind. (kind ≡ kinds.Memory) ⊎ (race_begun self ≡ Err kind)) }
     {
         let settings = self.settings.settings()?;
-        let policy = policy(alloc, &self.rows)?;
-        let host = host(alloc, &self.sources, &self.routes)?;
-        Ok(TimelineBuilder::new(alloc, settings, policy, host))
+        let policy = policy(alloc, self.rows)?;
+        let host = host(self.sources, self.routes)?;
+        Ok(Scene {
+            settings,
+            policy,
+            host,
+        })
     }
 }
 
@@ -161,8 +175,8 @@ fn check_table(rows: &[Row], last: Row) -> Result<(), TextKind>
 
 // The table of the rows; where there is no row, the standard one.
 #[tactic(auto, unfolding(crate::specs::Reading::policy_from))]
-fn policy<A: Allocator + Copy>(alloc: A, rows: &[Row]) -> Result<Policy<A>, TextKind>
-    ensures { MatchResult result (λ policy. policy_from rows.now ≡ Ok policy) (λ kind. Fails kind (policy_from rows.now)) }
+fn policy<A: Allocator + Copy>(alloc: A, rows: Vec<Row, A>) -> Result<Policy<A>, TextKind>
+    ensures { MatchResult result (λ policy. policy_from rows.items ≡ Ok policy) (λ kind. Fails kind (policy_from rows.items)) }
 {
     if rows.is_empty() {
         return match Policy::standard(alloc) {
@@ -170,21 +184,17 @@ fn policy<A: Allocator + Copy>(alloc: A, rows: &[Row]) -> Result<Policy<A>, Text
             Err(Memory) => Err(TextKind::Memory),
         };
     }
-    match Policy::from_rows(alloc, rows) {
+    match Policy::from_list(rows) {
         Ok(policy) => Ok(policy),
         Err(fault) => Err(TextKind::from(fault)),
     }
 }
 
 #[tactic(auto, unfolding(crate::specs::Reading::host_from))]
-fn host<A: Allocator + Copy>(
-    alloc: A,
-    sources: &[Source],
-    routes: &[Route],
-) -> Result<Host<A>, TextKind>
-    ensures { MatchResult result (λ host. host_from sources.now routes.now ≡ Ok host) (λ kind. Fails kind (host_from sources.now routes.now)) }
+fn host<A: Allocator>(sources: Vec<Source, A>, routes: Vec<Route, A>) -> Result<Host<A>, TextKind>
+    ensures { MatchResult result (λ host. host_from sources.items routes.items ≡ Ok host) (λ kind. Fails kind (host_from sources.items routes.items)) }
 {
-    match Host::new(alloc, sources, routes) {
+    match Host::from_lists(sources, routes) {
         Ok(host) => Ok(host),
         Err(fault) => Err(TextKind::from(fault)),
     }

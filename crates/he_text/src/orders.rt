@@ -1,21 +1,25 @@
 // Orders of addresses written to texts.
 
-ghost use Rattle.std.specs.Prelude.{◌≡◌, ◌++◌, filter, map, Some, IsTrue, IfOk, OnOk, OnErr};
+ghost use Rattle.std.specs.Prelude.{◌≡◌, ◌+◌, ◌≤◌, ◌++◌, length, filter, map, Some, IsTrue, IfOk, OnOk, OnErr};
 ghost use Rattle.std.specs.List.{list_all};
 ghost use Rattle.he_addr.specs.Ip.{is_usable};
+ghost use Rattle.he_addr.specs.Prepending.{Prepends};
 ghost use Rattle.he_plan.specs.Attempts.{order};
 ghost use Rattle.he_plan.specs.Race.{reply_of, addresses_of};
 ghost use Rattle.he_select.specs.Preference.{sourced_by};
 ghost use Rattle.he_select.specs.Selection.{selection_input};
 ghost use Rattle.he_text.specs.Orders.{order_text, usable_addresses};
-ghost use Rattle.he_text.specs.Writing.{AppendsText, sorted_text, origin_text, sourced_line, sourced_lines};
+ghost use Rattle.he_text.specs.Writing.{AppendsText, origin_text, sourced_line, sourced_lines};
 
-use crate::parts::LINE_END;
-use crate::writing::{write_byte, write_bytes, write_labelled_ip, write_line};
-use he_addr::{Family, Ip, Memory, write_number};
+use crate::parts::{LINE_END, TOKEN_END};
+use crate::writing::{LINE_ROOM, write_bytes, write_line};
+use he_addr::{Family, Ip, Memory, prepend_byte, prepend_bytes, prepend_ip, prepend_number};
 use he_plan::Timeline;
 use he_select::{Sourced, order_with_sources};
 use std::alloc::{AllocError, Allocator};
+
+// The most bytes of what tells the source in a line: ` from `, an address and the line's end.
+const ORIGIN_LEN: usize = 46;
 
 fn push_usable<A: Allocator>(ips: &mut Vec<Ip, A>, addresses: &[Ip]) -> Result<(), AllocError>
     ensures { OnOk result (ips.new.items ≡ ips.old.items ++ filter is_usable addresses.now) }
@@ -55,35 +59,42 @@ fn usable_addresses<A: Allocator + Copy, B: Allocator>(
     Ok(ips)
 }
 
-// The lines of an order are written part by part, as those of attempts are.
+// The lines of an order are made in a buffer, as those of attempts are.
 
-// N ADDRESS
-fn write_sorted<A: Allocator + Copy>(place: u64, ip: Ip, out: &mut Vec<u8, A>) -> Result<(), Memory>
-    ensures { AppendsText result out.old.items out.new.items (sorted_text place ip) }
+// from SOURCE, behind a space, and the line's end.
+fn prepend_from(source: Ip, buffer: &mut [u8], end: usize) -> usize
+    requires { (ORIGIN_LEN ≤ end) × (end ≤ length buffer.old) }
+    ensures written { Prepends buffer.old end buffer.new result (origin_text (Some source)) }
+    ensures near { end ≤ result + ORIGIN_LEN }
 {
-    write_number(place, out)?;
-    write_labelled_ip(b" ", ip, out)
+    let line_end = prepend_byte(LINE_END, buffer, end);
+    let address = prepend_ip(source, buffer, line_end);
+    prepend_bytes(b" from ", buffer, address)
 }
 
-// from SOURCE, behind a space
-fn write_from<A: Allocator + Copy>(source: Ip, out: &mut Vec<u8, A>) -> Result<(), Memory>
-    ensures { AppendsText result out.old.items out.new.items (origin_text (Some source)) }
-{
-    write_labelled_ip(b" from ", source, out)?;
-    write_byte(LINE_END, out)
-}
-
-// from SOURCE or from none, behind a space
-fn write_origin<A: Allocator + Copy>(source: Option<Ip>, out: &mut Vec<u8, A>) -> Result<(), Memory>
-    ensures { AppendsText result out.old.items out.new.items (origin_text source) }
+// from SOURCE or from none, behind a space, and the line's end.
+fn prepend_origin(source: Option<Ip>, buffer: &mut [u8], end: usize) -> usize
+    requires { (ORIGIN_LEN ≤ end) × (end ≤ length buffer.old) }
+    ensures written { Prepends buffer.old end buffer.new result (origin_text source) }
+    ensures near { end ≤ result + ORIGIN_LEN }
 {
     match source {
-        Some(source) => write_from(source, out),
-        None => write_bytes(b" from none\n", out),
+        Some(source) => prepend_from(source, buffer, end),
+        None => prepend_bytes(b" from none\n", buffer, end),
     }
 }
 
 // N ADDRESS from SOURCE, or N ADDRESS from none
+fn prepend_place(place: u64, sourced: Sourced, buffer: &mut [u8], end: usize) -> usize
+    requires { (LINE_ROOM ≤ end) × (end ≤ length buffer.old) }
+    ensures { Prepends buffer.old end buffer.new result (sourced_line place sourced) }
+{
+    let origin = prepend_origin(sourced.source, buffer, end);
+    let address = prepend_ip(sourced.ip, buffer, origin);
+    let space = prepend_byte(TOKEN_END, buffer, address);
+    prepend_number(place, buffer, space)
+}
+
 fn write_place<A: Allocator + Copy>(
     place: usize,
     sourced: Sourced,
@@ -91,8 +102,9 @@ fn write_place<A: Allocator + Copy>(
 ) -> Result<(), Memory>
     ensures { AppendsText result out.old.items out.new.items (sourced_line place sourced) }
 {
-    write_sorted(place as u64, sourced.ip, out)?;
-    write_origin(sourced.source, out)
+    let mut buffer = [0; LINE_ROOM];
+    let start = prepend_place(place as u64, sourced, &mut buffer, LINE_ROOM);
+    write_bytes(&buffer[start..], out)
 }
 
 fn write_places<A: Allocator + Copy>(sorted: &[Sourced], out: &mut Vec<u8, A>) -> Result<(), Memory>

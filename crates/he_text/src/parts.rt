@@ -117,6 +117,22 @@ impl<'t> Line<'t> {
         };
         Some((word, tokens))
     }
+
+    // The word with no tokens, if the line is this word alone.
+    #[inline(always)]
+    pub(crate) fn only_word(self, word: Word, spelled: &[u8]) -> Option<(Word, Tokens<'t>)>
+        requires { spelled.now ≡ spelling_of word }
+        ensures { IfSome result (λ x. word_of (tokens_of (line_bytes self.entry)) ≡ Ok (x.0, tokens_left x.1)) }
+    {
+        if self.bytes() != spelled {
+            return None;
+        }
+        let none = Tokens {
+            rest: None,
+            behind: self.behind,
+        };
+        Some((word, none))
+    }
 }
 
 // The tokens of a line that are still to be read.
@@ -193,7 +209,7 @@ impl<'a> Tokens<'a> {
     }
 
     // The same, by the bytes between them.
-    fn count(&self) -> usize
+    pub(crate) fn count(&self) -> usize
         ensures value { result ≡ length (tokens_left self.now) }
         ensures few { result ≤ 2 ^ 63 }
     {

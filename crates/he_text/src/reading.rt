@@ -1,6 +1,7 @@
 // Reading a race.
 
 ghost use Rattle.std.specs.Prelude.{◌≡◌, ◌+◌, ◌≤◌, ◌<◌, ◌↔◌, ℕ, List, length, drop, slice_range, IfOk, IfSome, IsNone, Some, None, Ok, Err, IfErr, MatchOption, MatchResult};
+ghost use Rattle.he_plan.specs.Building.{empty_race};
 ghost use Rattle.he_plan.specs.Race.{Race};
 ghost use Rattle.he_plan.specs.Timeline.{IsRace};
 ghost use Rattle.he_text.specs.declared.fault.TextKind.TheVariants as kinds;
@@ -15,7 +16,7 @@ ghost use Rattle.he_text.specs.Text.{IsRaceText, IsLineOf, TellsFault};
 
 use crate::draft::{Order, take};
 use crate::fault::{TextFault, TextKind};
-use crate::head::Head;
+use crate::head::{Head, Scene};
 use crate::lines::Lines;
 use crate::parts::{Line, Tokens};
 use crate::words::{HEADER, Word};
@@ -23,21 +24,22 @@ use he_plan::{Timeline, TimelineBuilder};
 use std::alloc::Allocator;
 
 // The word of a line, and the tokens behind it. All words but `end` have tokens behind them, so they are looked for
-// with the space that follows them first: that tells where the other tokens begin.
+// with the space that follows them first: that tells where the other tokens begin. `end` is looked for as a whole
+// line.
 #[inline(always)]
 fn first_word(line: Line<'_>) -> Result<(Word, Tokens<'_>), TextKind>
     ensures { MatchResult result (λ x. word_of (tokens_of (line_bytes line.entry)) ≡ Ok (x.0, tokens_left x.1)) (λ kind. word_of (tokens_of (line_bytes line.entry)) ≡ Err kind) }
 {
-    match spaced_word(line) {
+    match likely_word(line) {
         Some(found) => Ok(found),
-        None => only_word(line),
+        None => any_word(line),
     }
 }
 
-// The word of a line that begins with one and a space. Its first byte leaves two words at most, which are compared:
-// eight comparisons in a row took some thirty instructions more.
+// The word of a line that begins with one and a space, or is `end`. Its first byte leaves two words at most, which are
+// compared: eight comparisons in a row took some thirty instructions more.
 #[inline(always)]
-fn spaced_word(line: Line<'_>) -> Option<(Word, Tokens<'_>)>
+fn likely_word(line: Line<'_>) -> Option<(Word, Tokens<'_>)>
     ensures { IfSome result (λ x. word_of (tokens_of (line_bytes line.entry)) ≡ Ok (x.0, tokens_left x.1)) }
 {
     let [first, ..] = line.bytes() else {
@@ -58,13 +60,14 @@ fn spaced_word(line: Line<'_>) -> Option<(Word, Tokens<'_>)>
             Some(found) => Some(found),
             None => line.behind_word(Word::A, b"a "),
         },
+        b'e' => line.only_word(Word::End, b"end"),
         _ => None,
     }
 }
 
 // The word of a line, whatever stands behind it.
 #[tactic(auto, unfolding(crate::specs::Forms::word_of))]
-fn only_word(line: Line<'_>) -> Result<(Word, Tokens<'_>), TextKind>
+fn any_word(line: Line<'_>) -> Result<(Word, Tokens<'_>), TextKind>
     ensures { MatchResult result (λ x. word_of (tokens_of (line_bytes line.entry)) ≡ Ok (x.0, tokens_left x.1)) (λ kind. word_of (tokens_of (line_bytes line.entry)) ≡ Err kind) }
 {
     let mut tokens = line.tokens();
@@ -78,6 +81,7 @@ fn only_word(line: Line<'_>) -> Result<(Word, Tokens<'_>), TextKind>
 }
 
 // The same, if the word is of the first four groups.
+#[inline(always)]
 #[tactic(auto, unfolding(crate::specs::Reading::head_of))]
 fn head_word(line: Line<'_>) -> Option<(Word, Tokens<'_>)>
     ensures { MatchOption result (head_of (tokens_of (line_bytes line.entry)) ≡ None) (λ x. head_of (tokens_of (line_bytes line.entry)) ≡ Some (x.0, tokens_left x.1)) }
@@ -189,16 +193,18 @@ fn read_told<A: Allocator + Copy>(
 
 // The race that the other lines end.
 fn read_rest<A: Allocator + Copy>(
+    alloc: A,
     first: Order,
-    mut race: TimelineBuilder<A>,
+    scene: Scene<A>,
     lines: &mut Lines,
 ) -> Result<Timeline<A>, TextKind>
     requires { HasRoom lines.old }
     ensures count { IsAmong lines.old lines.new }
-    ensures read { MatchResult result (λ told. read_body lines.old.number first race (lines_left lines.old) ≡ Ok (told, lines_left lines.new)) (λ kind. FailsAt lines.new.number kind (read_body lines.old.number first race (lines_left lines.old))) }
+    ensures read { MatchResult result (λ told. read_body lines.old.number first (empty_race scene.settings scene.policy scene.host) (lines_left lines.old) ≡ Ok (told, lines_left lines.new)) (λ kind. FailsAt lines.new.number kind (read_body lines.old.number first (empty_race scene.settings scene.policy scene.host) (lines_left lines.old))) }
     ensures fits { IfOk result (λ told. IsRace told) }
     ensures shorter { length lines.new.rest.now ≤ length lines.old.rest.now }
 {
+    let mut race = TimelineBuilder::new(alloc, scene.settings, scene.policy, scene.host);
     match read_told(first, &mut race, lines) {
         Ok(()) => Ok(race.finish()),
         Err(kind) => Err(kind),
@@ -206,6 +212,7 @@ fn read_rest<A: Allocator + Copy>(
 }
 
 // The first line.
+#[inline(always)]
 fn read_header(lines: &mut Lines) -> Result<(), TextKind>
     requires room { HasRoom lines.old }
     requires first { lines.old.number ≡ 1 }
@@ -241,18 +248,15 @@ fn read_given<A: Allocator + Copy>(
     read_head(alloc, lines)
 }
 
-// The race in which nothing happens yet. If memory is refused for it, that is told with the last line that was read.
-fn start<A: Allocator + Copy>(
-    alloc: A,
-    head: Head<A>,
-    lines: &Lines,
-) -> Result<TimelineBuilder<A>, TextFault>
+// What the race is made of in which nothing happens yet. If memory is refused for it, that is told with the last line
+// that was read.
+fn start<A: Allocator + Copy>(alloc: A, head: Head<A>, lines: &Lines) -> Result<Scene<A>, TextFault>
     requires { 2 ≤ lines.now.number }
-    ensures read { (order : Order) → MatchResult result (λ race. settle lines.now.number order head (lines_left lines.now) ≡ read_body lines.now.number order race (lines_left lines.now)) (λ fault. FailsAt fault.line fault.kind (settle lines.now.number order head (lines_left lines.now))) }
+    ensures read { (order : Order) → MatchResult result (λ scene. settle lines.now.number order head (lines_left lines.now) ≡ read_body lines.now.number order (empty_race scene.settings scene.policy scene.host) (lines_left lines.now)) (λ fault. FailsAt fault.line fault.kind (settle lines.now.number order head (lines_left lines.now))) }
     ensures line { IfErr result (λ fault. (1 ≤ fault.line) × (fault.line ≤ lines.now.number)) }
 {
-    match head.start(alloc) {
-        Ok(race) => Ok(race),
+    match head.scene(alloc) {
+        Ok(scene) => Ok(scene),
         Err(kind) if kind.is_memory() => Err(TextFault {
             line: lines.number() - 1,
             kind,
@@ -265,6 +269,7 @@ fn start<A: Allocator + Copy>(
 }
 
 // The race with which the text begins, and how many bytes stand behind it.
+#[inline(always)]
 fn read_first<A: Allocator + Copy>(alloc: A, text: &[u8]) -> Result<(Timeline<A>, usize), TextFault>
     ensures read { MatchResult result (λ x. (rest : List ℕ) × (length rest ≡ x.1) × (read_lines (lines_of text.now) ≡ Ok (x.0, lines_of rest))) (λ fault. FailsAt fault.line fault.kind (read_lines (lines_of text.now))) }
     ensures line { IfErr result (λ fault. IsLineOf text.now fault.line) }
@@ -281,8 +286,8 @@ fn read_first<A: Allocator + Copy>(alloc: A, text: &[u8]) -> Result<(Timeline<A>
             });
         }
     };
-    let first = start(alloc, head, &lines)?;
-    match read_rest(order, first, &mut lines) {
+    let scene = start(alloc, head, &lines)?;
+    match read_rest(alloc, order, scene, &mut lines) {
         Ok(race) => Ok((race, lines.len())),
         Err(kind) => Err(TextFault {
             line: lines.number(),

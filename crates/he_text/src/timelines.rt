@@ -205,14 +205,14 @@ fn write_outcome<A: Allocator + Copy>(
     write_line(b"connect", &tokens, out)
 }
 
-fn write_outcomes<A: Allocator + Copy, B: Allocator>(
-    timeline: &Timeline<B>,
+fn write_outcomes<A: Allocator + Copy>(
+    outcomes: &[(Ip, Outcome)],
     out: &mut Vec<u8, A>,
 ) -> Result<(), Memory>
-    ensures { AppendsText result out.old.items out.new.items (flat_map outcome_text timeline.now.outcomes) }
+    ensures { AppendsText result out.old.items out.new.items (flat_map outcome_text outcomes.now) }
 {
-    for (ip, outcome) in timeline.outcomes().iter() {
-        write_outcome((*ip, *outcome), out)?;
+    for told in outcomes {
+        write_outcome(*told, out)?;
     }
     Ok(())
 }
@@ -245,7 +245,7 @@ fn write_told<A: Allocator + Copy, B: Allocator>(
 ) -> Result<(), Memory>
     ensures { AppendsText result out.old.items out.new.items (told_text timeline.now) }
 {
-    write_outcomes(timeline, out)?;
+    write_outcomes(timeline.outcomes(), out)?;
     write_pauses(timeline.pauses(), out)
 }
 

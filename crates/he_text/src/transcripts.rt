@@ -1,82 +1,108 @@
 // Transcripts written to texts.
 
-ghost use Rattle.std.specs.Prelude.{◌≡◌, ◌++◌, ◌∷◌, [], OnOk, OnErr};
-ghost use Rattle.he_text.specs.Writing.{AppendsText, start_text, try_text, last_text, mark_end};
+ghost use Rattle.std.specs.Prelude.{◌≡◌, ◌+◌, ◌≤◌, ◌++◌, length, OnOk, OnErr};
+ghost use Rattle.he_addr.specs.Prepending.{Prepends};
+ghost use Rattle.he_text.specs.Writing.{AppendsText, start_text, last_text, mark_end, won_text};
 ghost use Rattle.he_text.specs.Written.{attempt_text, attempts_text, result_text, transcript_text};
 
-use crate::parts::LINE_END;
-use crate::writing::{Token, write_byte, write_labelled, write_labelled_ip, write_line};
-use he_addr::Memory;
+use crate::parts::{LINE_END, TOKEN_END};
+use crate::writing::{LINE_ROOM, write_bytes};
+use he_addr::{Memory, WIDEST_NUMBER, prepend_byte, prepend_bytes, prepend_ip, prepend_number};
 use he_plan::{Line, Mark, Outcome3, Transcript};
 use std::alloc::Allocator;
 
-// The lines of attempts are most of what is written, so their parts are written one after the other, and not as a
-// list of tokens.
+// The most bytes of what became of an attempt: ` cancelled `, a number and the line's end.
+const MARK_LEN: usize = 32;
 
-// attempt PLACE START
-fn write_start<A: Allocator + Copy>(
-    place: u64,
-    tick: u64,
-    out: &mut Vec<u8, A>,
-) -> Result<(), Memory>
-    ensures { AppendsText result out.old.items out.new.items (start_text place tick) }
+// The most bytes of the beginning of an attempt's line: `attempt `, two numbers, each with a space.
+const START_LEN: usize = 50;
+
+// Lines of attempts are nearly all that is written, so they are not written as lists of tokens: a line is made in a
+// buffer, from its end to its front, and appended at once.
+
+// A label, a number and the line's end.
+#[inline(always)]
+fn prepend_last(label: &[u8], number: u64, buffer: &mut [u8], end: usize) -> usize
+    requires { (length label.now + WIDEST_NUMBER + 1 ≤ end) × (end ≤ length buffer.old) }
+    ensures written { Prepends buffer.old end buffer.new result (last_text label.now number) }
+    ensures near { end ≤ result + (length label.now + WIDEST_NUMBER + 1) }
 {
-    write_labelled(b"attempt ", place, out)?;
-    write_labelled(b" ", tick, out)
+    let line_end = prepend_byte(LINE_END, buffer, end);
+    let digits = prepend_number(number, buffer, line_end);
+    prepend_bytes(label, buffer, digits)
 }
 
-// attempt PLACE START ADDRESS
-fn write_try<A: Allocator + Copy>(line: Line, out: &mut Vec<u8, A>) -> Result<(), Memory>
-    ensures { AppendsText result out.old.items out.new.items (try_text line) }
-{
-    write_start(line.place as u64, line.tick, out)?;
-    write_labelled_ip(b" ", line.ip, out)
-}
-
-// The last number of a line.
-fn write_last<A: Allocator + Copy>(
-    label: &[u8],
-    number: u64,
-    out: &mut Vec<u8, A>,
-) -> Result<(), Memory>
-    ensures { AppendsText result out.old.items out.new.items (last_text label.now number) }
-{
-    write_labelled(label, number, out)?;
-    write_byte(LINE_END, out)
-}
-
-// MARK TICK, behind a space.
-fn write_mark<A: Allocator + Copy>(mark: Mark, out: &mut Vec<u8, A>) -> Result<(), Memory>
-    ensures { AppendsText result out.old.items out.new.items (mark_end mark) }
+// MARK TICK, behind a space, and the line's end.
+fn prepend_mark(mark: Mark, buffer: &mut [u8], end: usize) -> usize
+    requires { (MARK_LEN ≤ end) × (end ≤ length buffer.old) }
+    ensures written { Prepends buffer.old end buffer.new result (mark_end mark) }
+    ensures near { end ≤ result + MARK_LEN }
 {
     match mark {
-        Mark::Won(tick) => write_last(b" won ", tick, out),
-        Mark::Failed(tick) => write_last(b" failed ", tick, out),
-        Mark::Cancelled(tick) => write_last(b" cancelled ", tick, out),
+        Mark::Won(tick) => prepend_last(b" won ", tick, buffer, end),
+        Mark::Failed(tick) => prepend_last(b" failed ", tick, buffer, end),
+        Mark::Cancelled(tick) => prepend_last(b" cancelled ", tick, buffer, end),
     }
+}
+
+// attempt PLACE START, and the space behind it.
+fn prepend_start(place: u64, tick: u64, buffer: &mut [u8], end: usize) -> usize
+    requires { (START_LEN ≤ end) × (end ≤ length buffer.old) }
+    ensures { Prepends buffer.old end buffer.new result (start_text place tick) }
+{
+    let behind = prepend_byte(TOKEN_END, buffer, end);
+    let start = prepend_number(tick, buffer, behind);
+    let space = prepend_byte(TOKEN_END, buffer, start);
+    let digits = prepend_number(place, buffer, space);
+    prepend_bytes(b"attempt ", buffer, digits)
 }
 
 // attempt PLACE START ADDRESS MARK TICK
+fn prepend_attempt(line: Line, buffer: &mut [u8], end: usize) -> usize
+    requires { (LINE_ROOM ≤ end) × (end ≤ length buffer.old) }
+    ensures { Prepends buffer.old end buffer.new result (attempt_text line) }
+{
+    let mark = prepend_mark(line.mark, buffer, end);
+    let address = prepend_ip(line.ip, buffer, mark);
+    prepend_start(line.place as u64, line.tick, buffer, address)
+}
+
 fn write_attempt<A: Allocator + Copy>(line: Line, out: &mut Vec<u8, A>) -> Result<(), Memory>
     ensures { AppendsText result out.old.items out.new.items (attempt_text line) }
 {
-    write_try(line, out)?;
-    write_mark(line.mark, out)
+    let mut buffer = [0; LINE_ROOM];
+    let start = prepend_attempt(line, &mut buffer, LINE_ROOM);
+    write_bytes(&buffer[start..], out)
+}
+
+// won PLACE TICK
+fn prepend_won(place: u64, tick: u64, buffer: &mut [u8], end: usize) -> usize
+    requires { (LINE_ROOM ≤ end) × (end ≤ length buffer.old) }
+    ensures { Prepends buffer.old end buffer.new result (won_text place tick) }
+{
+    let space = prepend_last(b" ", tick, buffer, end);
+    let digits = prepend_number(place, buffer, space);
+    prepend_bytes(b"won ", buffer, digits)
 }
 
 // won PLACE TICK, exhausted TICK or limit TICK
+fn prepend_result(ending: Outcome3, buffer: &mut [u8], end: usize) -> usize
+    requires { (LINE_ROOM ≤ end) × (end ≤ length buffer.old) }
+    ensures { Prepends buffer.old end buffer.new result (result_text ending) }
+{
+    match ending {
+        Outcome3::Won(place, tick) => prepend_won(place as u64, tick, buffer, end),
+        Outcome3::Exhausted(tick) => prepend_last(b"exhausted ", tick, buffer, end),
+        Outcome3::Limit(tick) => prepend_last(b"limit ", tick, buffer, end),
+    }
+}
+
 fn write_result<A: Allocator + Copy>(ending: Outcome3, out: &mut Vec<u8, A>) -> Result<(), Memory>
     ensures { AppendsText result out.old.items out.new.items (result_text ending) }
 {
-    match ending {
-        Outcome3::Won(place, tick) => write_line(
-            b"won",
-            &[Token::Number(place as u64), Token::Number(tick)],
-            out,
-        ),
-        Outcome3::Exhausted(tick) => write_line(b"exhausted", &[Token::Number(tick)], out),
-        Outcome3::Limit(tick) => write_line(b"limit", &[Token::Number(tick)], out),
-    }
+    let mut buffer = [0; LINE_ROOM];
+    let start = prepend_result(ending, &mut buffer, LINE_ROOM);
+    write_bytes(&buffer[start..], out)
 }
 
 fn write_attempts<A: Allocator + Copy>(lines: &[Line], out: &mut Vec<u8, A>) -> Result<(), Memory>

@@ -10,6 +10,11 @@ use he_addr::{Ip, Memory, Prefix, write_ip, write_number, write_prefix, write_so
 use he_select::Source;
 use std::alloc::Allocator;
 
+// The most bytes of a line that is made in a buffer. The longest is that of an attempt, `attempt PLACE START ADDRESS
+// cancelled TICK`: 8 and 11 bytes of words with their spaces, two more spaces, the line's end, three numbers of at most
+// 20 digits and an address of at most 39 bytes are 121. It is cleared for each line, so it has no room to spare.
+pub(crate) const LINE_ROOM: usize = 121;
+
 // A token of a line. What takes more room than two words is borrowed: a line is a list of tokens.
 #[derive(Clone, Copy)]
 pub(crate) enum Token<'t> {
@@ -41,32 +46,6 @@ pub(crate) fn write_byte<A: Allocator + Copy>(byte: u8, out: &mut Vec<u8, A>) ->
     ensures err { OnErr result (out.new.items ≡ out.old.items) }
 {
     out.push(byte).map_err(|_| Memory)
-}
-
-// Bytes, and a number behind them.
-#[inline(always)]
-pub(crate) fn write_labelled<A: Allocator + Copy>(
-    label: &[u8],
-    number: u64,
-    out: &mut Vec<u8, A>,
-) -> Result<(), Memory>
-    ensures { AppendsText result out.old.items out.new.items (label.now ++ decimal number) }
-{
-    write_bytes(label, out)?;
-    write_number(number, out)
-}
-
-// Bytes, and an address behind them.
-#[inline(always)]
-pub(crate) fn write_labelled_ip<A: Allocator + Copy>(
-    label: &[u8],
-    ip: Ip,
-    out: &mut Vec<u8, A>,
-) -> Result<(), Memory>
-    ensures { AppendsText result out.old.items out.new.items (label.now ++ printed ip) }
-{
-    write_bytes(label, out)?;
-    write_ip(ip, out)
 }
 
 #[inline(always)]

@@ -64,7 +64,7 @@ impl<const ROOM: usize> IpList<ROOM> {
 }
 
 // An address of the family.
-fn address(family: Family, token: &[u8]) -> Result<Ip, TextKind>
+pub(crate) fn address(family: Family, token: &[u8]) -> Result<Ip, TextKind>
     ensures { result ≡ address_in family token.now }
 {
     match read_ip_of(family, token) {
@@ -108,35 +108,41 @@ pub(crate) fn listed<const ROOM: usize>(
     }
 }
 
-// What an answer's line gives: the tick, and the tokens that list the addresses, `count` of them.
+// What an answer's line gives: the tick, and the tokens that list the addresses, `count` of them, with the first one
+// of them by itself.
 #[derive(Clone, Copy)]
 pub(crate) struct AnswerLine<'a> {
     pub(crate) tick: u64,
+    pub(crate) first: &'a [u8],
     pub(crate) tokens: Tokens<'a>,
     pub(crate) count: usize,
 }
 
 // aaaa TICK none, aaaa TICK ADDRESS .. and the same of a, but for the addresses themselves
-#[tactic(auto, unfolding(crate::specs::Forms::answer_in))]
+#[inline(always)]
+#[tactic(auto, unfolding(crate::specs::Forms::answer_in), using(crate::proofs::FormLaws::only_token))]
 pub(crate) fn answer(tokens: Tokens<'_>) -> Result<AnswerLine<'_>, TextKind>
     ensures read { (family : Family) → MatchResult result (λ x. answer_in family (tokens_left tokens.entry) ≡ with_tick x.tick (listed_in family (tokens_left x.tokens))) (λ kind. answer_in family (tokens_left tokens.entry) ≡ Err kind) }
     ensures count { IfOk result (λ x. (x.count ≡ length (tokens_left x.tokens)) × (x.count ≤ MAX_ADDRESSES)) }
+    ensures only { IfOk result (λ x. x.count ≡ 1 → tokens_left x.tokens ≡ x.first.now ∷ []) }
 {
     let mut left = tokens;
     let Some(tick) = left.next() else {
         return Err(TextKind::Word);
     };
-    let count = left.len();
-    if count == 0 {
+    let tokens = left;
+    let Some(first) = left.next() else {
         return Err(TextKind::Word);
-    }
+    };
+    let count = left.count() + 1;
     if count > MAX_ADDRESSES {
         return Err(TextKind::TooMany);
     }
     let tick = number(0, MAX_TICK, tick)?;
     Ok(AnswerLine {
         tick,
-        tokens: left,
+        first,
+        tokens,
         count,
     })
 }
@@ -170,6 +176,7 @@ fn succeeds(mark: &[u8]) -> Result<bool, TextKind>
 }
 
 // connect ADDRESS ok N, connect ADDRESS fail N
+#[inline(always)]
 #[tactic(auto, unfolding(crate::specs::Forms::connect_in), using(crate::proofs::FormLaws::connect_of_three))]
 pub(crate) fn connect<A: Allocator + Copy>(
     tokens: Tokens,

@@ -25,6 +25,7 @@ fn short(low: u64, high: u64, token: &[u8]) -> Result<u16, TextKind>
 
 // The prefix that a token spells. Those of all addresses of a family are known by sight: most hosts have two default
 // routes and no other, and the reader takes some 450 instructions for each of them.
+#[inline(always)]
 #[tactic(auto, using(crate::proofs::AllAddresses::all_six, crate::proofs::AllAddresses::all_four))]
 fn spelled_prefix(token: &[u8]) -> Option<Prefix>
     ensures { result ≡ prefix_in token.now }
@@ -94,6 +95,7 @@ fn one_mark(only: &[u8]) -> Result<(bool, bool), TextKind>
 }
 
 // Whether a source is deprecated, and whether it is temporary.
+#[inline(always)]
 #[tactic(auto, unfolding(crate::specs::Forms::source_marks_in))]
 fn source_marks(tokens: Tokens) -> Result<(bool, bool), TextKind>
     ensures { result ≡ source_marks_in (tokens_left tokens.entry) }
@@ -113,6 +115,7 @@ fn source_marks(tokens: Tokens) -> Result<(bool, bool), TextKind>
 }
 
 // source SOURCE INTERFACE [deprecated] [temporary]
+#[inline(always)]
 #[tactic(auto, unfolding(crate::specs::Forms::host_source_in))]
 pub(crate) fn source(tokens: Tokens) -> Result<Source, TextKind>
     ensures { result ≡ host_source_in (tokens_left tokens.entry) }
@@ -140,6 +143,7 @@ pub(crate) fn source(tokens: Tokens) -> Result<Source, TextKind>
 }
 
 // Whether a route is a tunnel.
+#[inline(always)]
 #[tactic(auto, unfolding(crate::specs::Forms::route_marks_in))]
 fn route_marks(tokens: Tokens) -> Result<bool, TextKind>
     ensures { result ≡ route_marks_in (tokens_left tokens.entry) }
@@ -153,6 +157,7 @@ fn route_marks(tokens: Tokens) -> Result<bool, TextKind>
 }
 
 // route PREFIX INTERFACE [tunnel]
+#[inline(always)]
 #[tactic(auto, unfolding(crate::specs::Forms::host_route_in))]
 pub(crate) fn route(tokens: Tokens) -> Result<Route, TextKind>
     ensures { result ≡ host_route_in (tokens_left tokens.entry) }

@@ -1,4 +1,5 @@
 use Rattle.std.proofs.Common.{◌≡◌, ◌⊎◌, ℕ, ◌-◌, Err, sym, ◌∙◌, ap, subst, inl, inr, arith}
+use Rattle.he_plan.specs.Building.{empty_race}
 use Rattle.he_text.specs.declared.fault.TextKind.{TextKind}
 use Rattle.he_text.specs.declared.fault.TextKind.TheVariants as kinds
 use Rattle.he_text.specs.Left.{lines_left}
@@ -7,7 +8,7 @@ use Rattle.he_text.proofs.ReadingLaws.{settle_reads, settle_wrong, refused_befor
 use Rattle.he_text.proofs.reading.start.Goals as goal
 
 pub returns-in-Ok-clause-read : goal.returns-in-Ok-clause-read
-returns-in-Ok-clause-read g c = λ order. settle_reads c.args.lines.now.number order c.args.head (lines_left c.args.lines.now) c.in-Ok.race c.in-Ok.ensures
+returns-in-Ok-clause-read g c = λ order. settle_reads c.args.lines.now.number order c.args.head (lines_left c.args.lines.now) (empty_race c.in-Ok.scene.settings c.in-Ok.scene.policy c.in-Ok.scene.host) c.in-Ok.ensures
 
 pub returns-in-Err-clause-read : goal.returns-in-Err-clause-read
 returns-in-Err-clause-read g c = λ order.
