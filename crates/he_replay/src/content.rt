@@ -5,6 +5,7 @@ ghost use Rattle.he_text.specs.Written.{transcript_text};
 ghost use Rattle.he_replay.specs.Output.{IsOrderText, IsTextOf, IsTranscriptText};
 ghost use Rattle.he_replay.specs.Steps.{WritesRace};
 
+use crate::limits::ORDER_ROOM;
 use he_explain::write_explanation;
 use he_plan::{Timeline, Transcript, transcript_of};
 use he_text::{write_order, write_transcript};
@@ -66,7 +67,7 @@ fn append_order<A: Allocator + Copy, T: Allocator + Copy>(
 ) -> Result<(), AllocError>
     ensures { OnOk result (WritesRace IsOrderText timeline.now text.old.items text.new.items) }
 {
-    let mut order = Vec::new(alloc);
+    let mut order = Vec::with_capacity(alloc, ORDER_ROOM)?;
     write_order(alloc, timeline, &mut order).map_err(|_| AllocError)?;
     text.extend_from_slice(&order)
 }

@@ -12,8 +12,7 @@ use crate::beginning::{Begun, begin_alone};
 use crate::content::Content;
 use crate::fault::ReplayFault;
 use crate::limits::{
-    FIRST_SHARED_ROOM, LEAST_WORKERS, MOST_RACES, MOST_SHARED_ROOM, MOST_WORKERS,
-    PIECES_OF_A_WORKER,
+    FIRST_ROOM, LEAST_WORKERS, MOST_RACES, MOST_SHARED_ROOM, MOST_WORKERS, PIECES_OF_A_WORKER,
 };
 use crate::pieces::{join_pieces, piece_count, tell_pieces};
 use crate::streaming::{Held, end_held, next_room, tell_held};
@@ -39,7 +38,7 @@ pub(crate) fn stream_shared<
         (PutsInRounds O.contents O.puts O.flushes output.old output.new) result }
 {
     let content = Content::Transcript;
-    let mut held = Held::new(alloc, FIRST_SHARED_ROOM);
+    let mut held = Held::new(alloc, FIRST_ROOM);
     let mut text = Vec::new(alloc);
     for _steps in 0..MOST_READS {
         match take_piece(input, &mut held.bytes, held.filled, held.room)? {

@@ -35,7 +35,8 @@ static LINES: [(&[u8], &[u8], &[u8]); 4] = [
 
 static DIGITS: &[u8] = b"0123456789abcdef";
 
-// So many races that workers share those of two steps, and some are left; and so many that two workers share one step.
+// So many races that workers share those of some steps, and some are left; and so many that two workers share the
+// first of two steps.
 const RACES: usize = 200;
 
 const FEW_RACES: usize = 24;
@@ -108,12 +109,13 @@ fn workers_share_long_texts(rt: HostRuntime) -> Result<(), Fail> {
 }
 
 // Whether two workers whose allocator may refuse tell want of memory only where it has refused, and have then written
-// nothing of the one step, and tell and write all else.
+// the transcripts of some first races, each like this one, and tell and write all else.
 fn is_right<R: Threads + Sync>(
     rt: &R,
     heap: &Refusing<Global>,
     alloc: Global,
     text: &[u8],
+    transcript: &[u8],
     wanted: &[u8],
 ) -> bool {
     let mut input = FromReader::new(FakeReader::new(text, STEP));
@@ -121,7 +123,8 @@ fn is_right<R: Threads + Sync>(
     let result = replay(rt, heap, &mut input, &mut output, 2);
     let held = output.writer().held();
     if result == Err(ReplayFault::Memory) {
-        heap.has_refused() && (held.is_empty() || held == wanted)
+        let is_whole = held.is_empty() || held.ends_with(transcript);
+        heap.has_refused() && wanted.starts_with(held) && is_whole
     } else {
         result == fault_in(text) && held == wanted
     }
@@ -130,11 +133,15 @@ fn is_right<R: Threads + Sync>(
 #[test]
 fn refused_growths_of_workers_are_told(rt: HostRuntime) -> Result<(), Fail> {
     let heap = Refusing::new(rt.alloc());
+    let alone = text_of(rt.alloc(), 1)?;
     let text = text_of(rt.alloc(), FEW_RACES)?;
     assert!(rt; text.len() >= 2 * PIECES_OF_A_WORKER * PIECE_BYTES);
-    let (_, written) = replayed(&rt, rt.alloc(), &text, 1);
+    let (_, one) = replayed(&rt, rt.alloc(), &alone, 1);
+    let (_, all) = replayed(&rt, rt.alloc(), &text, 1);
+    let (transcript, wanted) = (one.writer().held(), all.writer().held());
+    assert!(rt; wanted.starts_with(transcript) && !transcript.is_empty());
     let refused = each_growth_refused(&heap, || {
-        assert!(rt; is_right(&rt, &heap, rt.alloc(), &text, written.writer().held()));
+        assert!(rt; is_right(&rt, &heap, rt.alloc(), &text, transcript, wanted));
     });
     assert!(rt; refused > 3);
     Ok(())
