@@ -8,8 +8,8 @@ use Rattle.std.specs.Cmp.{IsTotalOrder, bool_cmp_total}
 use Rattle.std.specs.declared.cmp.Ordering.{Ordering}
 use Rattle.std.specs.declared.cmp.Ordering.TheVariants.{Less, Equal, Greater}
 use Rattle.std.specs.Ordering.{bool_cmp, is_lt, nat_cmp, ordering_reverse, ordering_then}
-use Rattle.std.proofs.lemmas.Bool.{cases_Bool}
-use Rattle.std.proofs.lemmas.List.Folds.{list_all-append}
+use Rattle.std.proofs.lemmas.Bool.{both_ways, cases_Bool}
+use Rattle.std.proofs.lemmas.List.Folds.{list_all-append, list_all_at}
 use Rattle.std.proofs.lemmas.Cmp.{alike_right, nat_cmp_total, on_total, then_total, tied_back, tied_itself}
 use Rattle.he_addr.specs.Ip.{is_v6, same_ip}
 use Rattle.he_addr.specs.Prefix.{common_of}
@@ -275,3 +275,10 @@ kind_found to tied kinds seen place kind d sources same all inside alike is =
 
 pub none_met : {K : Type 0} (P : K → Type 0) (kinds : List K) → kinds ≡ [] → All P kinds
 none_met P kinds is = subst (All P) (sym is) (λ k d inside. absurd (omega arith))
+
+pub sound_at : (sources : List Labelled) (place : ℕ) (d : Labelled) → place < length sources → list_all (λ l. is_sound_source l.source) sources ≡ true → is_sound_source (get_or sources place d).source ≡ true
+sound_at sources place d inside all =
+    elim (cases_Bool (is_sound_source (get_or sources place d).source)) [
+      | inl sound ↦ sound
+      | inr unsound ↦ absurd (both_ways (list_all (λ l. is_sound_source l.source) sources) (list_all_at (λ l. is_sound_source l.source) sources place d inside unsound) all)
+    ]

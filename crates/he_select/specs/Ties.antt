@@ -5,6 +5,7 @@ use Rattle.std.specs.Bool.{beq}
 use Rattle.std.specs.declared.cmp.Ordering.{Ordering}
 use Rattle.std.specs.declared.cmp.Ordering.TheVariants.{Less, Equal, Greater}
 use Rattle.std.specs.Ordering.{is_lt}
+use Rattle.he_addr.specs.declared.ip.Ip.{Ip}
 use Rattle.he_addr.specs.Ip.{is_v6}
 use Rattle.he_addr.specs.Prefix.{common_of}
 use Rattle.he_select.specs.declared.selection.Destination.{Destination}
@@ -49,9 +50,9 @@ is_alike a b = beq (is_v6 a.ip) (is_v6 b.ip) && a.scope == b.scope && a.label ==
 abbrev pub tied_of : Destination → List Labelled → List Labelled
 tied_of destination labelled = tied_from (admits destination) (first_of (kind_rules destination)) [] labelled
 
-abbrev pub is_closer : Destination → Labelled → Labelled → Bool
-is_closer destination a b = is_lt (higher_first (λ labelled. common_of labelled.source.ip labelled.source.plen destination.ip) a b)
+abbrev pub is_closer : Ip → Labelled → Labelled → Bool
+is_closer ip a b = is_lt (higher_first (λ labelled. common_of labelled.source.ip labelled.source.plen ip) a b)
 
 -- the first of those that have the longest prefix in common with the destination
 abbrev pub closest_of : Destination → List Labelled → Option Labelled
-closest_of destination tied = walk_fitting (λ _. true) (is_closer destination) None tied
+closest_of destination tied = walk_fitting (λ _. true) (is_closer destination.ip) None tied

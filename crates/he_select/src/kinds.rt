@@ -1,16 +1,18 @@
 // The sources among which the longest common prefix decides, kept for each kind of destination.
 
-ghost use Rattle.std.specs.Prelude.{◌≡◌, ◌==◌, ◌<◌, All, None, length, option_map, IsTrue, IfOk, IfSome, OnOk};
+ghost use Rattle.std.specs.Prelude.{◌≡◌, ◌==◌, ◌<◌, All, None, Some, true, cond, nat_lt, length, IsTrue, IfOk, IfSome, OnOk};
 ghost use Rattle.std.specs.List.{list_all, list_any, HoldsAt};
 ghost use Rattle.he_addr.specs.Ip.{same_ip};
+ghost use Rattle.he_addr.specs.Prefix.{common_of};
 ghost use Rattle.he_select.specs.HostFaults.{is_sound_source};
 ghost use Rattle.he_select.specs.LabelledRules.{admits, is_better_labelled};
 ghost use Rattle.he_select.specs.Rules.{first_of};
 ghost use Rattle.he_select.specs.Selection.{by_appropriate_scope};
 ghost use Rattle.he_select.specs.Ties.{closest_of, is_alike, is_closer, keep_tied, kind_rules, tied_of};
-ghost use Rattle.he_select.specs.Walking.{keep_better, walk_fitting};
+ghost use Rattle.he_select.specs.Walking.{walk_fitting};
 
 use crate::selection::{Destination, Labelled};
+use he_addr::{Ip, common_len};
 use std::alloc::{AllocError, Allocator};
 use std::cmp::Ordering;
 
@@ -171,27 +173,60 @@ impl Destination {
         ensures closest { result ≡ closest_of self.now tied.now }
         ensures sound { IfSome result (λ labelled. IsTrue (is_sound_source labelled.source)) }
     {
-        let mut best = None;
-        for labelled in tied {
-            best = self.keep_closer(best, labelled);
+        let (first, others) = tied.split_first()?;
+        // A loop for each family: none of its turns asks for the destination's.
+        Some(match self.ip {
+            Ip::V4(number) => closest_to(Ip::v4(number), first, others),
+            Ip::V6(number) => closest_to(Ip::v6(number), first, others),
+        })
+    }
+}
+
+/// The first of those sources that have the longest prefix in common with the address.
+#[inline(always)]
+fn closest_to(ip: Ip, first: &Labelled, others: &[Labelled]) -> Labelled
+    requires first { IsTrue (is_sound_source first.now.source) }
+    requires others { IsTrue (list_all (λ labelled. is_sound_source labelled.source) others.now) }
+    ensures closest { Some result ≡ walk_fitting (λ _. true) (is_closer ip) (Some first.now) others.now }
+    ensures sound { IsTrue (is_sound_source result.source) }
+{
+    let mut closest = Closeness::new(ip, first);
+    for labelled in others {
+        closest = closest.keep(Closeness::new(ip, labelled));
+    }
+    *closest.labelled
+}
+
+/// A source and the length of the prefix that it has in common with an address.
+#[derive(Clone, Copy)]
+struct Closeness<'a> {
+    labelled: &'a Labelled,
+    common: u8,
+}
+
+impl<'a> Closeness<'a> {
+    #[inline(always)]
+    fn new(ip: Ip, labelled: &'a Labelled) -> Closeness<'a>
+        requires { IsTrue (is_sound_source labelled.now.source) }
+        ensures labelled { result.labelled.now ≡ labelled.now }
+        ensures common { result.common ≡ common_of labelled.now.source.ip labelled.now.source.plen ip }
+    {
+        Closeness {
+            labelled,
+            common: common_len(labelled.source.ip, labelled.source.plen, ip),
         }
-        best.copied()
     }
 
+    /// The closer one of two, this one where they are as close.
     #[inline(always)]
-    fn keep_closer<'a>(
-        &self,
-        best: Option<&'a Labelled>,
-        labelled: &'a Labelled,
-    ) -> Option<&'a Labelled>
-        requires sound { IsTrue (is_sound_source labelled.now.source) }
-        requires best { IfSome best (λ kept. IsTrue (is_sound_source kept.now.source)) }
-        ensures kept { option_map (λ kept. kept.now) result ≡ keep_better (is_closer self.now) (option_map (λ kept. kept.now) best.entry) labelled.now }
-        ensures sound { IfSome result (λ kept. IsTrue (is_sound_source kept.now.source)) }
+    fn keep(self, other: Closeness<'a>) -> Closeness<'a>
+        ensures labelled { result.labelled.now ≡ cond (nat_lt self.entry.common other.entry.common) other.entry.labelled.now self.entry.labelled.now }
+        ensures common { result.common ≡ cond (nat_lt self.entry.common other.entry.common) other.entry.common self.entry.common }
     {
-        match best {
-            Some(kept) if self.common(labelled) <= self.common(kept) => best,
-            _ => Some(labelled),
+        if other.common > self.common {
+            other
+        } else {
+            self
         }
     }
 }
