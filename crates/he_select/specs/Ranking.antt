@@ -1,9 +1,11 @@
 -- Mirrors the code: what it computes of a destination, and the key that it makes of it.
-use Rattle.std.specs.Prelude.{ℕ, ◌==◌, false, not, List, None, Option, is_some, option_and_then, option_map}
+use Rattle.std.specs.Prelude.{ℕ, ◌==◌, ◌&&◌, Bool, false, not, List, None, Option, is_some, option_and_then, option_map}
+use Rattle.std.specs.Bool.{beq}
 use Rattle.std.specs.Option.{option_map_or}
 use Rattle.he_addr.specs.declared.ip.Ip.{Ip}
+use Rattle.he_addr.specs.Bits.{agrees}
 use Rattle.he_addr.specs.Ip.{scope_of}
-use Rattle.he_addr.specs.Prefix.{common_of}
+use Rattle.he_addr.specs.Prefix.{common_of, is_inside_mapped}
 use Rattle.he_select.specs.declared.host.Route.{Route}
 use Rattle.he_select.specs.declared.policy.Row.{Row}
 use Rattle.he_select.specs.declared.selection.Labelled.{Labelled}
@@ -16,6 +18,10 @@ use Rattle.he_select.specs.Preference.{Member}
 use Rattle.he_select.specs.Selection.{longest_route}
 use Rattle.he_select.specs.Tables.{label_of, precedence_of}
 use Rattle.he_select.specs.Walking.{walk_fitting}
+
+-- a route serves the address with this mapped number, of this family
+abbrev pub serves_number : ℕ → Bool → Route → Bool
+serves_number number v4 route = agrees 128 number route.prefix.bits route.prefix.len && beq (is_inside_mapped route.prefix) v4
 
 -- what the rules look at of a destination, with no regard to sources
 abbrev pub attributes_of : List Row → List Route → Ip → Attributes

@@ -1,8 +1,10 @@
 // The row of an address in a policy table, and its route: the longest prefix that contains it.
 
-ghost use Rattle.std.specs.Prelude.{◌≡◌, Option, None, option_map};
+ghost use Rattle.std.specs.Prelude.{◌≡◌, Option, None, not, option_map};
 ghost use Rattle.he_addr.specs.Bits.{agrees};
-ghost use Rattle.he_select.specs.Selection.{is_longer_route, longest_route, serves};
+ghost use Rattle.he_addr.specs.Ip.{is_v6};
+ghost use Rattle.he_select.specs.Ranking.{serves_number};
+ghost use Rattle.he_select.specs.Selection.{is_longer_route, longest_route};
 ghost use Rattle.he_select.specs.Tables.{row_of, label_of, is_longer_row};
 ghost use Rattle.he_select.specs.Walking.{keep_fitting, walk_fitting};
 
@@ -54,18 +56,36 @@ pub(crate) fn find_label(rows: &[Row], ip: Ip) -> u16
 pub(crate) fn find_route(routes: &[Route], ip: Ip) -> Option<Route>
     ensures { result ≡ longest_route routes.now ip }
 {
+    longest_serving(routes, ip.mapped(), is_v4(ip))
+}
+
+fn is_v4(ip: Ip) -> bool
+    ensures { result ≡ not (is_v6 ip) }
+{
+    ip.family() == Family::V4
+}
+
+#[inline(always)]
+fn longest_serving(routes: &[Route], number: u128, is_v4: bool) -> Option<Route>
+    ensures { result ≡ walk_fitting (serves_number number is_v4) is_longer_route None routes.now }
+{
     let mut best = None;
     for route in routes {
-        best = keep_route(best, route, ip);
+        best = keep_route(best, route, number, is_v4);
     }
     best.copied()
 }
 
 #[inline(always)]
-fn keep_route<'a>(best: Option<&'a Route>, route: &'a Route, ip: Ip) -> Option<&'a Route>
-    ensures { option_map (λ kept. kept.now) result ≡ keep_fitting (serves ip) is_longer_route (option_map (λ kept. kept.now) best.entry) route.now }
+fn keep_route<'a>(
+    best: Option<&'a Route>,
+    route: &'a Route,
+    number: u128,
+    is_v4: bool,
+) -> Option<&'a Route>
+    ensures { option_map (λ kept. kept.now) result ≡ keep_fitting (serves_number number is_v4) is_longer_route (option_map (λ kept. kept.now) best.entry) route.now }
 {
-    if !serves(route, ip) {
+    if !serves(route, number, is_v4) {
         return best;
     }
     match best {
@@ -74,10 +94,10 @@ fn keep_route<'a>(best: Option<&'a Route>, route: &'a Route, ip: Ip) -> Option<&
     }
 }
 
-/// Whether the route contains the address and is of its family.
+/// Whether the route contains the address with this number and is of its family.
 #[inline(always)]
-fn serves(route: &Route, ip: Ip) -> bool
-    ensures { result ≡ serves ip route.now }
+fn serves(route: &Route, number: u128, is_v4: bool) -> bool
+    ensures { result ≡ serves_number number is_v4 route.now }
 {
-    route.prefix.contains(ip) && route.prefix.is_v4() == (ip.family() == Family::V4)
+    route.prefix.begins(number) && route.prefix.is_v4() == is_v4
 }
