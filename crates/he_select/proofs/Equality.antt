@@ -42,7 +42,7 @@ decides_by {A} E x y same self = (same, λ e. subst (λ (z : A). E x z ≡ true)
 pub eq_from : (m n : ℕ) → (m == n) ≡ true → m ≡ n
 eq_from m n h = (Decides-eqb m n).0 h
 
-eq_self : (n : ℕ) → (n == n) ≡ true
+pub eq_self : (n : ℕ) → (n == n) ≡ true
 eq_self n = (Decides-eqb n n).1 refl
 
 pub ip_from : (x y : Ip) → same_ip x y ≡ true → x ≡ y

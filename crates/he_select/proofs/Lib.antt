@@ -14,6 +14,7 @@ pub mod LawsOfOrder
 pub mod Least
 pub mod Listing
 pub mod LookUps
+pub mod Numbered
 pub mod Ordered
 pub mod Orders
 pub mod Picked

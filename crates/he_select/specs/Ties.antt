@@ -1,19 +1,28 @@
 -- Mirrors the code: the sources that tie for a kind of destination, and the closest of them. A law in proofs/ ties them
 -- to the loop over all sources.
-use Rattle.std.specs.Prelude.{◌==◌, ◌&&◌, ◌++◌, Bool, true, not, cond, List, [], ◌∷◌, Option, None}
+use Rattle.std.specs.Prelude.{ℕ, ◌==◌, ◌<◌, ◌&&◌, ◌++◌, Bool, true, not, cond, List, [], ◌∷◌, length, map, Option, None, IsPermutation, IsSorted}
 use Rattle.std.specs.Bool.{beq}
 use Rattle.std.specs.declared.cmp.Ordering.{Ordering}
 use Rattle.std.specs.declared.cmp.Ordering.TheVariants.{Less, Equal, Greater}
-use Rattle.std.specs.Ordering.{is_lt}
+use Rattle.std.specs.Ordering.{is_lt, nat_cmp}
 use Rattle.he_addr.specs.declared.ip.Ip.{Ip}
-use Rattle.he_addr.specs.Ip.{is_v6}
+use Rattle.he_addr.specs.Ip.{is_v6, mapped_of}
 use Rattle.he_addr.specs.Prefix.{common_of}
+use Rattle.he_select.specs.declared.kinds.TheConstants.{FEW_SOURCES}
 use Rattle.he_select.specs.declared.selection.Destination.{Destination}
 use Rattle.he_select.specs.declared.selection.Labelled.{Labelled}
 use Rattle.he_select.specs.LabelledRules.{admits}
 use Rattle.he_select.specs.Rules.{Rule, first_of, higher_first, yes_first}
 use Rattle.he_select.specs.Selection.{by_appropriate_scope}
 use Rattle.he_select.specs.Walking.{walk_fitting}
+
+-- the mapped number of a source's address
+abbrev pub number_of : Labelled → ℕ
+number_of labelled = mapped_of labelled.source.ip
+
+-- the numbers of the sources in ascending order, where there are more than a few sources
+abbrev pub AreNumbers : List Labelled → List ℕ → Type 0
+AreNumbers sources numbers = FEW_SOURCES < length sources → IsPermutation (map number_of sources) numbers × IsSorted nat_cmp numbers
 
 -- the members that tie, with one more that compares so to each of them
 abbrev pub join_by : {X : Type 0} → Ordering → List X → X → List X

@@ -1,14 +1,15 @@
 // The sources among which the longest common prefix decides, kept for each kind of destination.
 
-ghost use Rattle.std.specs.Prelude.{◌≡◌, ◌==◌, ◌<◌, All, None, Some, true, cond, nat_lt, length, IsTrue, IfOk, IfSome, OnOk};
+ghost use Rattle.std.specs.Prelude.{◌≡◌, ◌==◌, ◌<◌, All, None, Some, [], true, cond, map, nat_lt, length, IsFalse, IsPermutation, IsSorted, IsTrue, IfOk, IfSome, OnOk};
 ghost use Rattle.std.specs.List.{list_all, list_any, HoldsAt};
+ghost use Rattle.std.specs.Ordering.{nat_cmp};
 ghost use Rattle.he_addr.specs.Ip.{same_ip};
 ghost use Rattle.he_addr.specs.Prefix.{common_of};
 ghost use Rattle.he_select.specs.HostFaults.{is_sound_source};
 ghost use Rattle.he_select.specs.LabelledRules.{admits, is_better_labelled};
 ghost use Rattle.he_select.specs.Rules.{first_of};
 ghost use Rattle.he_select.specs.Selection.{by_appropriate_scope};
-ghost use Rattle.he_select.specs.Ties.{closest_of, is_alike, is_closer, keep_tied, kind_rules, tied_of};
+ghost use Rattle.he_select.specs.Ties.{AreNumbers, closest_of, is_alike, is_closer, keep_tied, kind_rules, number_of, tied_of};
 ghost use Rattle.he_select.specs.Walking.{walk_fitting};
 
 use crate::selection::{Destination, Labelled};
@@ -17,7 +18,7 @@ use std::alloc::{AllocError, Allocator};
 use std::cmp::Ordering;
 
 /// Of so few sources to ask each one costs less than to keep which of them tie.
-const FEW_SOURCES: usize = 4;
+pub(crate) const FEW_SOURCES: usize = 4;
 
 /// The sources that tie for a destination by rules 2 to 7. These look at its family, scope, label and interface alone,
 /// and a list of addresses has few such kinds.
@@ -29,30 +30,93 @@ pub(crate) struct Kind<A: Allocator> {
     pub(crate) tied: Vec<Labelled, A>,
 }
 
+/// What is kept of the sources from one destination to the next.
+#[derive(Drop)]
+pub(crate) struct Met<A: Allocator> {
+    /// The numbers of the sources in ascending order, where there are more than a few.
+    pub(crate) numbers: Vec<u128, A>,
+
+    /// The kinds of the destinations so far.
+    pub(crate) kinds: Vec<Kind<A>, A>,
+}
+
+impl<A: Allocator + Copy> Met<A> {
+    /// Before the first destination.
+    pub(crate) fn new(alloc: A, sources: &[Labelled]) -> Result<Met<A>, AllocError>
+        ensures numbers { IfOk result (λ met. AreNumbers sources.now met.numbers.items) }
+        ensures kinds { IfOk result (λ met. met.kinds.items ≡ []) }
+    {
+        let numbers = if sources.len() > FEW_SOURCES {
+            sorted_numbers(alloc, sources)?
+        } else {
+            Vec::new(alloc)
+        };
+        Ok(Met {
+            numbers,
+            kinds: Vec::new(alloc),
+        })
+    }
+}
+
+fn sorted_numbers<A: Allocator + Copy>(
+    alloc: A,
+    sources: &[Labelled],
+) -> Result<Vec<u128, A>, AllocError>
+    ensures permutation { IfOk result (λ numbers. IsPermutation (map number_of sources.now) numbers.items) }
+    ensures sorted { IfOk result (λ numbers. IsSorted nat_cmp numbers.items) }
+{
+    let mut numbers = numbers_of(alloc, sources)?;
+    numbers.sort_unstable();
+    Ok(numbers)
+}
+
+fn numbers_of<A: Allocator + Copy>(
+    alloc: A,
+    sources: &[Labelled],
+) -> Result<Vec<u128, A>, AllocError>
+    ensures { IfOk result (λ numbers. numbers.items ≡ map number_of sources.now) }
+{
+    let mut numbers = Vec::with_capacity(alloc, sources.len())?;
+    for labelled in sources {
+        numbers.push(labelled.source.ip.mapped())?;
+    }
+    Ok(numbers)
+}
+
+/// Whether a search tells that the number is none of these.
+fn lacks(numbers: &[u128], number: u128) -> bool
+    requires { IsSorted nat_cmp numbers.now }
+    ensures { IsTrue result → IsFalse (list_any (λ other. other == number) numbers.now) }
+{
+    numbers.binary_search(&number).is_err()
+}
+
 /// The best of the sources that may be used for the destination, by the kinds met before; a kind that is met first is
 /// kept with them.
 pub(crate) fn choose<A: Allocator + Copy>(
     alloc: A,
-    kinds: &mut Vec<Kind<A>, A>,
+    met: &mut Met<A>,
     sources: &[Labelled],
     destination: &Destination,
 ) -> Result<Option<Labelled>, AllocError>
     requires sound { IsTrue (list_all (λ labelled. is_sound_source labelled.source) sources.now) }
-    requires kinds { All (λ kind. kind.tied.items ≡ tied_of kind.destination sources.now) kinds.old.items }
+    requires numbers { AreNumbers sources.now met.old.numbers.items }
+    requires kinds { All (λ kind. kind.tied.items ≡ tied_of kind.destination sources.now) met.old.kinds.items }
     ensures best { IfOk result (λ best. best ≡ walk_fitting (admits destination.now) (is_better_labelled destination.now) None sources.now) }
     ensures sound { IfOk result (λ best. IfSome best (λ labelled. IsTrue (is_sound_source labelled.source))) }
-    ensures kinds { OnOk result (All (λ kind. kind.tied.items ≡ tied_of kind.destination sources.now) kinds.new.items) }
+    ensures numbers { OnOk result (AreNumbers sources.now met.new.numbers.items) }
+    ensures kinds { OnOk result (All (λ kind. kind.tied.items ≡ tied_of kind.destination sources.now) met.new.kinds.items) }
 {
     // Rule 1, prefer same address, is asked of one destination alone, and seldom decides.
-    if sources.len() <= FEW_SOURCES || destination.has_source(sources) {
+    if sources.len() <= FEW_SOURCES || destination.is_source(sources, &met.numbers) {
         return Ok(destination.best_of(sources));
     }
-    if let Some(place) = place_of(kinds, destination) {
-        return Ok(destination.closest_of(&kinds[place].tied));
+    if let Some(place) = place_of(&met.kinds, destination) {
+        return Ok(destination.closest_of(&met.kinds[place].tied));
     }
     let tied = destination.tie(alloc, sources)?;
     let best = destination.closest_of(&tied);
-    kinds.push(Kind {
+    met.kinds.push(Kind {
         destination: *destination,
         tied,
     })?;
@@ -83,7 +147,19 @@ impl Destination {
             && self.interface == other.interface
     }
 
-    /// Whether a source has this destination's address.
+    /// Whether a source has this destination's address, for most destinations told by a search of the sources' numbers.
+    fn is_source(&self, sources: &[Labelled], numbers: &[u128]) -> bool
+        requires permutation { IsPermutation (map number_of sources.now) numbers.now }
+        requires sorted { IsSorted nat_cmp numbers.now }
+        ensures { result ≡ list_any (λ labelled. same_ip labelled.source.ip self.now.ip) sources.now }
+    {
+        if lacks(numbers, self.ip.mapped()) {
+            return false;
+        }
+        self.has_source(sources)
+    }
+
+    /// Whether a source has this destination's address, with a look at each.
     fn has_source(&self, sources: &[Labelled]) -> bool
         ensures { result ≡ list_any (λ labelled. same_ip labelled.source.ip self.now.ip) sources.now }
     {

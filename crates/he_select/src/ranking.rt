@@ -11,10 +11,10 @@ ghost use Rattle.he_addr.specs.Prefix.{common_of};
 ghost use Rattle.he_select.specs.KeyOrder.{key_order, key_order_total, late_key_cmp};
 ghost use Rattle.he_select.specs.Ranking.{attributes_of, chosen_by, key_by, ranked_from};
 ghost use Rattle.he_select.specs.HostFaults.{is_sound_source};
-ghost use Rattle.he_select.specs.Ties.{tied_of};
+ghost use Rattle.he_select.specs.Ties.{AreNumbers, tied_of};
 
 use crate::host::Route;
-use crate::kinds::{Kind, choose};
+use crate::kinds::{Met, choose};
 use crate::lookup::{find_route, find_row};
 use crate::policy::Row;
 use crate::selection::{Destination, Labelled};
@@ -137,18 +137,20 @@ pub(crate) fn rank<A: Allocator + Copy>(
     rows: &[Row],
     routes: &[Route],
     sources: &[Labelled],
-    kinds: &mut Vec<Kind<A>, A>,
+    met: &mut Met<A>,
     ip: Ip,
     place: usize,
 ) -> Result<Ranked, AllocError>
     requires sound { IsTrue (list_all (λ labelled. is_sound_source labelled.source) sources.now) }
-    requires kinds { All (λ kind. kind.tied.items ≡ tied_of kind.destination sources.now) kinds.old.items }
+    requires numbers { AreNumbers sources.now met.old.numbers.items }
+    requires kinds { All (λ kind. kind.tied.items ≡ tied_of kind.destination sources.now) met.old.kinds.items }
     ensures ranked { IfOk result (λ ranked. ranked ≡ ranked_from rows.now routes.now sources.now (record { ip = ip; place = place })) }
-    ensures kinds { OnOk result (All (λ kind. kind.tied.items ≡ tied_of kind.destination sources.now) kinds.new.items) }
+    ensures numbers { OnOk result (AreNumbers sources.now met.new.numbers.items) }
+    ensures kinds { OnOk result (All (λ kind. kind.tied.items ≡ tied_of kind.destination sources.now) met.new.kinds.items) }
     ensures range { InRange ip }
 {
     let goal = Attributes::new(rows, routes, ip);
-    let chosen = goal.choose_source(alloc, kinds, sources)?;
+    let chosen = goal.choose_source(alloc, met, sources)?;
     let source = chosen.map(|labelled| labelled.source.ip);
     Ok(Ranked {
         key: goal.key(chosen, place),
@@ -178,19 +180,21 @@ impl Attributes {
     fn choose_source<A: Allocator + Copy>(
         &self,
         alloc: A,
-        kinds: &mut Vec<Kind<A>, A>,
+        met: &mut Met<A>,
         sources: &[Labelled],
     ) -> Result<Option<Labelled>, AllocError>
         requires sound { IsTrue (list_all (λ labelled. is_sound_source labelled.source) sources.now) }
-        requires kinds { All (λ kind. kind.tied.items ≡ tied_of kind.destination sources.now) kinds.old.items }
+        requires numbers { AreNumbers sources.now met.old.numbers.items }
+        requires kinds { All (λ kind. kind.tied.items ≡ tied_of kind.destination sources.now) met.old.kinds.items }
         ensures chosen { IfOk result (λ chosen. chosen ≡ chosen_by self.now sources.now) }
         ensures sound { IfOk result (λ chosen. IfSome chosen (λ labelled. IsTrue (is_sound_source labelled.source))) }
-        ensures kinds { OnOk result (All (λ kind. kind.tied.items ≡ tied_of kind.destination sources.now) kinds.new.items) }
+        ensures numbers { OnOk result (AreNumbers sources.now met.new.numbers.items) }
+        ensures kinds { OnOk result (All (λ kind. kind.tied.items ≡ tied_of kind.destination sources.now) met.new.kinds.items) }
     {
         match self.route {
             Some(route) => {
                 let destination = Destination::new(self.ip, self.label, &route);
-                choose(alloc, kinds, sources, &destination)
+                choose(alloc, met, sources, &destination)
             }
             None => Ok(None),
         }

@@ -12,6 +12,7 @@ ghost use Rattle.he_select.specs.Selection.{selection_input};
 ghost use Rattle.he_select.specs.Tables.{IsAdmitted};
 
 use crate::host::{Host, Route, Source};
+use crate::kinds::Met;
 use crate::policy::{Policy, Row};
 use crate::ranking::{Key, rank};
 use crate::selection::Labelled;
@@ -170,10 +171,10 @@ fn rank_all<A: Allocator + Copy>(
     ensures keys { IfOk result (λ keys. keys.items ≡ map (key_from rows.now routes.now sources.now) (members_from 0 addresses.now)) }
     ensures range { OnOk result (All InRange addresses.now) }
 {
-    let mut kinds = Vec::new(alloc);
+    let mut met = Met::new(alloc, sources)?;
     let mut keys = Vec::with_capacity(alloc, addresses.len())?;
     for (place, ip) in addresses.iter().enumerate() {
-        let ranked = rank(alloc, rows, routes, sources, &mut kinds, *ip, place)?;
+        let ranked = rank(alloc, rows, routes, sources, &mut met, *ip, place)?;
         keys.push(ranked.key)?;
     }
     Ok(keys)
@@ -192,11 +193,11 @@ fn rank_with_sources<A: Allocator + Copy>(
     ensures sourced { IfOk result (λ made. made.1.items ≡ map (sourced_from rows.now routes.now sources.now) addresses.now) }
     ensures range { OnOk result (All InRange addresses.now) }
 {
-    let mut kinds = Vec::new(alloc);
+    let mut met = Met::new(alloc, sources)?;
     let mut keys = Vec::with_capacity(alloc, addresses.len())?;
     let mut sourced = Vec::with_capacity(alloc, addresses.len())?;
     for (place, ip) in addresses.iter().enumerate() {
-        let ranked = rank(alloc, rows, routes, sources, &mut kinds, *ip, place)?;
+        let ranked = rank(alloc, rows, routes, sources, &mut met, *ip, place)?;
         keys.push(ranked.key)?;
         sourced.push(ranked.sourced)?;
     }

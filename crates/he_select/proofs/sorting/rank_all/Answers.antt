@@ -16,6 +16,7 @@ loop-place-preserved g c = (
   one_more_of_members (key_from c.args.rows.now c.args.routes.now c.args.sources.now) c.args.addresses.now c.loop-place.place _ c.loop-place.keys.items _ _ c.in_ok-ranked.ranked.key
       c.loop-place-test.true c.loop-place.invariant.0 c.in_ok-push.ensures.items (ap (λ (r : Ranked). r.key) c.in_ok-ranked.ensures.ranked),
   one_more_within InRange c.args.addresses.now c.loop-place.place _ c.loop-place-test.true c.loop-place.invariant.1 c.in_ok-ranked.ensures.range,
+  c.in_ok-ranked.ensures.numbers,
   c.in_ok-ranked.ensures.kinds,
 )
 
@@ -23,7 +24,8 @@ pub loop-place-init : goal.loop-place-init
 loop-place-init g c = (
   ap (λ (l : List Key). l ++ map (key_from c.args.rows.now c.args.routes.now c.args.sources.now) (members_from 0 c.args.addresses.now)) c.in_ok-keys.ensures.items,
   AllWithin-none InRange c.args.addresses.now 0,
-  none_met (λ (kind : Kind g.row.A.Denot). kind.tied.items ≡ tied_of kind.destination c.args.sources.now) c.new-kinds.result.items c.new-kinds.ensures.items,
+  c.in_ok-met.ensures.numbers,
+  none_met (λ (kind : Kind g.row.A.Denot). kind.tied.items ≡ tied_of kind.destination c.args.sources.now) c.in_ok-met.met.kinds.items c.in_ok-met.ensures.kinds,
 )
 
 pub returns : goal.returns

@@ -3,7 +3,7 @@ use Rattle.std.specs.List.{AllWithin}
 use Rattle.he_addr.specs.Ip.{InRange}
 use Rattle.he_select.specs.Ranking.{key_from, sourced_from}
 use Rattle.he_select.specs.Preference.{members_from}
-use Rattle.he_select.specs.Ties.{tied_of}
+use Rattle.he_select.specs.Ties.{AreNumbers, tied_of}
 use Rattle.he_select.proofs.sorting.rank_with_sources.Given as goal
 
 abbrev pub invariant-loop-place : goal.invariant-loop-place
@@ -11,4 +11,5 @@ invariant-loop-place g l =
     (l.keys.items ++ map (key_from l.rows l.routes l.sources) (members_from l.place (drop l.place l.addresses)) ≡ map (key_from l.rows l.routes l.sources) (members_from 0 l.addresses))
     × (l.sourced.items ++ map (sourced_from l.rows l.routes l.sources) (drop l.place l.addresses) ≡ map (sourced_from l.rows l.routes l.sources) l.addresses)
     × AllWithin InRange l.addresses 0 l.place
-    × All (λ kind. kind.tied.items ≡ tied_of kind.destination l.sources) l.kinds.items
+    × AreNumbers l.sources l.met.numbers.items
+    × All (λ kind. kind.tied.items ≡ tied_of kind.destination l.sources) l.met.kinds.items
