@@ -8,7 +8,6 @@ use Rattle.std.specs.Ordering.{is_lt, nat_cmp}
 use Rattle.he_addr.specs.declared.ip.Ip.{Ip}
 use Rattle.he_addr.specs.Ip.{is_v6, mapped_of}
 use Rattle.he_addr.specs.Prefix.{common_of}
-use Rattle.he_select.specs.declared.kinds.TheConstants.{FEW_SOURCES}
 use Rattle.he_select.specs.declared.selection.Destination.{Destination}
 use Rattle.he_select.specs.declared.selection.Labelled.{Labelled}
 use Rattle.he_select.specs.LabelledRules.{admits}
@@ -20,9 +19,9 @@ use Rattle.he_select.specs.Walking.{walk_fitting}
 abbrev pub number_of : Labelled → ℕ
 number_of labelled = mapped_of labelled.source.ip
 
--- the numbers of the sources in ascending order, where there are more than a few sources
+-- the numbers of the sources in ascending order, or none
 abbrev pub AreNumbers : List Labelled → List ℕ → Type 0
-AreNumbers sources numbers = FEW_SOURCES < length sources → IsPermutation (map number_of sources) numbers × IsSorted nat_cmp numbers
+AreNumbers sources numbers = 0 < length numbers → IsPermutation (map number_of sources) numbers × IsSorted nat_cmp numbers
 
 -- the members that tie, with one more that compares so to each of them
 abbrev pub join_by : {X : Type 0} → Ordering → List X → X → List X

@@ -18,7 +18,11 @@ use std::alloc::{AllocError, Allocator};
 use std::cmp::Ordering;
 
 /// Of so few sources to ask each one costs less than to keep which of them tie.
-pub(crate) const FEW_SOURCES: usize = 4;
+const FEW_SOURCES: usize = 4;
+
+/// With more sources and more destinations than these, to sort the sources' numbers and search them costs less than to
+/// look at each source for each destination.
+const FEW_TO_SEARCH: usize = 8;
 
 /// The sources that tie for a destination by rules 2 to 7. These look at its family, scope, label and interface alone,
 /// and a list of addresses has few such kinds.
@@ -33,7 +37,7 @@ pub(crate) struct Kind<A: Allocator> {
 /// What is kept of the sources from one destination to the next.
 #[derive(Drop)]
 pub(crate) struct Met<A: Allocator> {
-    /// The numbers of the sources in ascending order, where there are more than a few.
+    /// The numbers of the sources in ascending order; none where a look at each source costs less than a search.
     pub(crate) numbers: Vec<u128, A>,
 
     /// The kinds of the destinations so far.
@@ -41,12 +45,16 @@ pub(crate) struct Met<A: Allocator> {
 }
 
 impl<A: Allocator + Copy> Met<A> {
-    /// Before the first destination.
-    pub(crate) fn new(alloc: A, sources: &[Labelled]) -> Result<Met<A>, AllocError>
+    /// Before the first of so many destinations.
+    pub(crate) fn new(
+        alloc: A,
+        sources: &[Labelled],
+        destinations: usize,
+    ) -> Result<Met<A>, AllocError>
         ensures numbers { IfOk result (λ met. AreNumbers sources.now met.numbers.items) }
         ensures kinds { IfOk result (λ met. met.kinds.items ≡ []) }
     {
-        let numbers = if sources.len() > FEW_SOURCES {
+        let numbers = if sources.len() > FEW_TO_SEARCH && destinations > FEW_TO_SEARCH {
             sorted_numbers(alloc, sources)?
         } else {
             Vec::new(alloc)
@@ -147,13 +155,12 @@ impl Destination {
             && self.interface == other.interface
     }
 
-    /// Whether a source has this destination's address, for most destinations told by a search of the sources' numbers.
+    /// Whether a source has this destination's address. The sources' numbers are searched first, since few have it.
     fn is_source(&self, sources: &[Labelled], numbers: &[u128]) -> bool
-        requires permutation { IsPermutation (map number_of sources.now) numbers.now }
-        requires sorted { IsSorted nat_cmp numbers.now }
+        requires { AreNumbers sources.now numbers.now }
         ensures { result ≡ list_any (λ labelled. same_ip labelled.source.ip self.now.ip) sources.now }
     {
-        if lacks(numbers, self.ip.mapped()) {
+        if !numbers.is_empty() && lacks(numbers, self.ip.mapped()) {
             return false;
         }
         self.has_source(sources)

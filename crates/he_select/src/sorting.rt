@@ -171,7 +171,7 @@ fn rank_all<A: Allocator + Copy>(
     ensures keys { IfOk result (λ keys. keys.items ≡ map (key_from rows.now routes.now sources.now) (members_from 0 addresses.now)) }
     ensures range { OnOk result (All InRange addresses.now) }
 {
-    let mut met = Met::new(alloc, sources)?;
+    let mut met = Met::new(alloc, sources, addresses.len())?;
     let mut keys = Vec::with_capacity(alloc, addresses.len())?;
     for (place, ip) in addresses.iter().enumerate() {
         let ranked = rank(alloc, rows, routes, sources, &mut met, *ip, place)?;
@@ -193,7 +193,7 @@ fn rank_with_sources<A: Allocator + Copy>(
     ensures sourced { IfOk result (λ made. made.1.items ≡ map (sourced_from rows.now routes.now sources.now) addresses.now) }
     ensures range { OnOk result (All InRange addresses.now) }
 {
-    let mut met = Met::new(alloc, sources)?;
+    let mut met = Met::new(alloc, sources, addresses.len())?;
     let mut keys = Vec::with_capacity(alloc, addresses.len())?;
     let mut sourced = Vec::with_capacity(alloc, addresses.len())?;
     for (place, ip) in addresses.iter().enumerate() {
