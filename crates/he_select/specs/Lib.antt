@@ -6,6 +6,7 @@ pub mod Hosts
 pub mod KeyOrder
 pub mod LabelledRules
 pub mod Laws
+pub mod Numbers
 pub mod Places
 pub mod Preference
 pub mod Ranges

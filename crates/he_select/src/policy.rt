@@ -3,12 +3,13 @@
 ghost use Rattle.std.specs.Prelude.{◌≡◌, ℕ, ◌+◌, ◌≤◌, drop, length, IfOk, IfErr, IsOk, IsOkUnless};
 ghost use Rattle.std.specs.List.{list_any, position_from};
 ghost use Rattle.he_select.specs.Equality.{equal_tables};
+ghost use Rattle.he_select.specs.Numbers.{prefix_number, same_prefix_number};
 ghost use Rattle.he_select.specs.TableFaults.{has_row, shared_from, table_fault, table_of};
 ghost use Rattle.he_select.specs.Tables.{precedence_of, label_of, same_row, any_address, any_v4_address, shares_precedence, IsAdmitted};
 ghost use Rattle.he_addr.specs.Prefix.{IsPrefix};
 ghost use Rattle.he_select.specs.Standard.{standard_rows};
 
-use crate::distinct::{Distinct, first_repeated, stands_in};
+use crate::distinct::{Distinct, first_repeated, prefix_number, stands_in};
 use crate::limits::ROWS;
 use crate::lookup::{find_label, find_row};
 use he_addr::{Ip, Memory, Prefix};
@@ -48,8 +49,16 @@ impl Row {
 impl Distinct for Row {
     ghost same = { same_row };
 
+    ghost number_of = { λ row. prefix_number row.prefix };
+
+    ghost same_number = { λ a b same. same_prefix_number a.prefix b.prefix same };
+
     fn is_same(&self, other: &Row) -> bool {
         self.prefix == other.prefix
+    }
+
+    fn number(&self) -> u128 {
+        prefix_number(self.prefix)
     }
 }
 
