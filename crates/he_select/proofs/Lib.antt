@@ -16,6 +16,7 @@ pub mod Listing
 pub mod LookUps
 pub mod Ordered
 pub mod Orders
+pub mod Parted
 pub mod Picked
 pub mod Repeats
 pub mod Sources

@@ -14,6 +14,7 @@ pub mod Ranking
 pub mod Refusals
 pub mod Rules
 pub mod Selection
+pub mod Sides
 pub mod Standard
 pub mod TableFaults
 pub mod Tables

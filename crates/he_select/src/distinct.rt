@@ -9,7 +9,7 @@ ghost use Rattle.he_select.specs.Refusals.{first_repeat};
 use he_addr::Prefix;
 
 /// Lists of no more members than these are looked at pair by pair, which costs less than to sort them.
-const FEW: usize = 12;
+pub(crate) const FEW: usize = 12;
 
 /// Lists of more members than these are looked at pair by pair as well. The limits of the crate allow none.
 const MOST: usize = 64;
@@ -51,8 +51,8 @@ pub(crate) fn stands_in<T: Distinct>(item: &T, earlier: &[T]) -> bool
 
 /// The least place at which a member is the same as an earlier one.
 ///
-/// In most lists no member is. To sort the members' numbers tells that of a long list in less time than to look at each
-/// pair of members, which only a list with two equal numbers needs.
+/// In most lists no member is. To sort the members' numbers tells that of a long list in less time than to look at
+/// each pair of members, which only a list with two equal numbers needs.
 pub(crate) fn first_repeated<T: Distinct>(items: &[T]) -> Option<usize>
     ensures { result ≡ first_repeat T.same items.now }
 {
