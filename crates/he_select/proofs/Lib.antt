@@ -17,6 +17,7 @@ pub mod LookUps
 pub mod Numbered
 pub mod Ordered
 pub mod Orders
+pub mod Parted
 pub mod Picked
 pub mod Repeats
 pub mod Sources

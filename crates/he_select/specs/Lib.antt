@@ -6,6 +6,7 @@ pub mod Hosts
 pub mod KeyOrder
 pub mod LabelledRules
 pub mod Laws
+pub mod Numbers
 pub mod Places
 pub mod Preference
 pub mod Ranges
@@ -13,6 +14,7 @@ pub mod Ranking
 pub mod Refusals
 pub mod Rules
 pub mod Selection
+pub mod Sides
 pub mod Standard
 pub mod TableFaults
 pub mod Tables

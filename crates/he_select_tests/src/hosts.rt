@@ -1,6 +1,6 @@
-// The faults of a host's lists (`host-faults`).
+// The faults of a host's lists (`host-faults`), long ones too.
 
-use he_addr::{Ip, read_prefix};
+use he_addr::{Ip, Prefix, read_prefix};
 use he_select::limits::SOURCES;
 use he_select::{Host, HostFault, Route, Source};
 use refusing::Refusing;
@@ -8,6 +8,9 @@ use refusing::Refusing;
 pub const V4: Ip = Ip::V4(0x0a00_0001);
 
 pub const V6: Ip = Ip::V6(0x2001_0db8_0000_0000_0000_0000_0000_0002);
+
+// `V4` as a mapped address, which no source may have.
+const MAPPED: Ip = Ip::V6(0xffff_0a00_0001);
 
 const MULTICAST: Ip = Ip::V6(0xff02_0000_0000_0000_0000_0000_0000_0001);
 
@@ -103,6 +106,78 @@ fn right_hosts(heap: &Refusing) -> Option<usize> {
     Some(right)
 }
 
+// Lists of so many sources or routes are not looked at pair by pair at once.
+const MANY: usize = 40;
+
+// Sources with no fault. Where the last one is the first one's address as a mapped one, both have one number.
+fn long_sources(last: Ip) -> [Source; MANY] {
+    let mut sources = [source(V4, 24, 1); MANY];
+    for i in 1..MANY - 1 {
+        sources[i].ip = Ip::V6(0x2001_0db8_0001_0000_0000_0000_0000_0000 + i as u128);
+    }
+    sources[MANY - 1].ip = last;
+    sources
+}
+
+// Routes with no fault. `::/0` and `::80/128` are those that differ and share a number, where both stand here.
+fn long_routes(last: &str) -> Option<[Route; MANY]> {
+    let mut routes = [route("::/0", 1)?; MANY];
+    for i in 1..MANY - 1 {
+        routes[i].prefix = Prefix::try_new(i as u128, 128)?;
+    }
+    routes[MANY - 1] = route(last, 1)?;
+    Some(routes)
+}
+
+// Whether the source at this place is refused where it has the address of an earlier one.
+fn is_source_refused(
+    heap: &Refusing,
+    all: &[Source],
+    earlier: usize,
+    place: usize,
+) -> Option<bool> {
+    let mut sources = Vec::from_slice(heap, all).ok()?;
+    sources.get_mut(place)?.ip = all.get(earlier)?.ip;
+    has_fault(heap, &sources, &[], Some(HostFault::RepeatedSource(place)))
+}
+
+// Whether the route at this place is refused where it has the prefix of an earlier one.
+fn is_route_refused(heap: &Refusing, all: &[Route], earlier: usize, place: usize) -> Option<bool> {
+    let mut routes = Vec::from_slice(heap, all).ok()?;
+    routes.get_mut(place)?.prefix = all.get(earlier)?.prefix;
+    has_fault(heap, &[], &routes, Some(HostFault::RepeatedRoute(place)))
+}
+
+// At how many places sources and routes are refused that repeat the first ones, and those before them, up to the first
+// place where they aren't.
+fn right_places(heap: &Refusing, sources: &[Source], routes: &[Route]) -> Option<usize> {
+    let mut right: usize = 0;
+    for place in 1..MANY {
+        let first = is_source_refused(heap, sources, 0, place)?
+            && is_route_refused(heap, routes, 0, place)?;
+        let before = is_source_refused(heap, sources, place - 1, place)?
+            && is_route_refused(heap, routes, place - 1, place)?;
+        if !first || !before {
+            break;
+        }
+        right = right.saturating_add(1);
+    }
+    Some(right)
+}
+
+// Whether long lists have this fault, and at how many places repeats are refused in them.
+fn long_lists(
+    heap: &Refusing,
+    last: Ip,
+    route: &str,
+    fault: Option<HostFault>,
+) -> Option<(bool, usize)> {
+    let sources = long_sources(last);
+    let routes = long_routes(route)?;
+    let whole = has_fault(heap, &sources, &routes, fault)?;
+    Some((whole, right_places(heap, &sources, &routes)?))
+}
+
 // Whether a source on no interface is refused, and one source more than there may be, each the same.
 fn are_others_refused(heap: &Refusing) -> bool {
     let nowhere = Host::new(heap, &[source(V4, 24, 0)], &[]).err();
@@ -115,4 +190,18 @@ fn host_faults(rt: HostRuntime) {
     let heap = Refusing::new(rt.alloc());
     assert!(rt; right_hosts(&heap) == Some(HOSTS.len()));
     assert!(rt; are_others_refused(&heap));
+}
+
+#[test]
+fn long_hosts(rt: HostRuntime) {
+    let heap = Refusing::new(rt.alloc());
+    let apart = long_lists(&heap, V6, "::81/128", None);
+    let alike = long_lists(
+        &heap,
+        MAPPED,
+        "::80/128",
+        Some(HostFault::BadSource(MANY - 1)),
+    );
+    assert!(rt; apart == Some((true, MANY - 1)));
+    assert!(rt; alike == Some((true, MANY - 1)));
 }

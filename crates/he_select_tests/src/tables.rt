@@ -1,6 +1,6 @@
-// Policy tables: the standard one (`default-table`) and the faults of others (`table-faults`).
+// Policy tables: the standard one (`default-table`) and the faults of others (`table-faults`), long ones too.
 
-use he_addr::{read_ip, read_prefix};
+use he_addr::{Prefix, read_ip, read_prefix};
 use he_select::limits::ROWS;
 use he_select::{Policy, PolicyFault, Row};
 use refusing::Refusing;
@@ -102,6 +102,64 @@ fn right_tables(heap: &Refusing) -> Option<usize> {
     Some(right)
 }
 
+// A table of so many rows is not looked at pair by pair at once.
+const MANY: usize = 40;
+
+// Rows with no fault. `::/0` and `::80/128` are those that differ and share a number, where both stand here.
+fn long_table(third: &str) -> Option<[Row; MANY]> {
+    let mut table = [row("::/0", 40)?; MANY];
+    table[1] = row("::ffff:0:0/96", 35)?;
+    table[2] = row(third, 40)?;
+    for i in 3..MANY {
+        table[i].prefix = Prefix::try_new(i as u128, 128)?;
+    }
+    Some(table)
+}
+
+// Whether the table is refused where the row at this place has the prefix of an earlier row.
+fn is_repeat_refused(heap: &Refusing, table: &[Row], earlier: usize, place: usize) -> Option<bool> {
+    let mut rows = Vec::from_slice(heap, table).ok()?;
+    rows.get_mut(place)?.prefix = table.get(earlier)?.prefix;
+    has_fault(heap, &rows, Some(PolicyFault::Repeated(place)))
+}
+
+// Whether the table is refused where the row at this place has the precedence of the row `::ffff:0:0/96`.
+fn is_sharing_refused(heap: &Refusing, table: &[Row], place: usize) -> Option<bool> {
+    let mut rows = Vec::from_slice(heap, table).ok()?;
+    rows.get_mut(place)?.precedence = 35;
+    let fault = if place == 0 {
+        PolicyFault::SharedPrecedence(0, 1)
+    } else {
+        PolicyFault::SharedPrecedence(1, place)
+    };
+    has_fault(heap, &rows, Some(fault))
+}
+
+// How many rows of a long table are refused as they must be where they repeat the first row, the one before them, or a
+// precedence, up to the first that isn't.
+fn right_rows(heap: &Refusing, third: &str) -> Option<usize> {
+    let table = long_table(third)?;
+    let mut right: usize = 0;
+    for place in 2..MANY {
+        let first = is_repeat_refused(heap, &table, 0, place)?;
+        let before = is_repeat_refused(heap, &table, place - 1, place)?;
+        if !first || !before || !is_sharing_refused(heap, &table, place)? {
+            break;
+        }
+        right = right.saturating_add(1);
+    }
+    Some(right)
+}
+
+// Whether a long table has no fault, and is refused where its second row repeats the first one, and where the first row
+// has the second one's precedence.
+fn is_long_table_right(heap: &Refusing, third: &str) -> Option<bool> {
+    let table = long_table(third)?;
+    let whole = has_fault(heap, &table, None)?;
+    let shared = is_sharing_refused(heap, &table, 0)?;
+    Some(whole && shared && is_repeat_refused(heap, &table, 0, 1)?)
+}
+
 // A table of one row more than there may be, each the same.
 fn is_crowd_refused(heap: &Refusing) -> bool {
     match row("::/0", 40) {
@@ -121,4 +179,13 @@ fn table_faults(rt: HostRuntime) {
     let heap = Refusing::new(rt.alloc());
     assert!(rt; right_tables(&heap) == Some(TABLES.len()));
     assert!(rt; is_crowd_refused(&heap));
+}
+
+#[test]
+fn long_tables(rt: HostRuntime) {
+    let heap = Refusing::new(rt.alloc());
+    for third in ["::80/128", "::81/128"] {
+        assert!(rt; is_long_table_right(&heap, third) == Some(true));
+        assert!(rt; right_rows(&heap, third) == Some(MANY - 2));
+    }
 }
