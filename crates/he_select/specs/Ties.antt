@@ -1,5 +1,5 @@
--- Mirrors the code: the sources that tie for a kind of destination, and the closest of them. A law in proofs/ ties them
--- to the loop over all sources.
+-- Mirrors the code: the sources that tie for a kind of destination, the closest of them, and the sources' numbers. Laws in
+-- proofs/ tie them to the loop over all sources.
 use Rattle.std.specs.Prelude.{ℕ, ◌==◌, ◌<◌, ◌&&◌, ◌++◌, Bool, true, not, cond, List, [], ◌∷◌, length, map, Option, None, IsPermutation, IsSorted}
 use Rattle.std.specs.Bool.{beq}
 use Rattle.std.specs.declared.cmp.Ordering.{Ordering}
