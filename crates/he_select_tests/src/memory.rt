@@ -50,12 +50,12 @@ fn is_sorted<'h>(
     policy: &Policy<&'h Refusing>,
     host: &Host<&'h Refusing>,
 ) -> Option<bool> {
-    let given = [V4, FAR, V6];
+    let given = [V4, FAR, V6, V4, FAR, V6, V4, FAR, V6];
     if !all_usable(&given) {
         return Some(false);
     }
     let sorted = order(heap, policy, host, &given).ok()?;
-    Some(sorted.as_slice() == [V6, FAR, V4].as_slice())
+    Some(sorted.as_slice() == [V6, V6, V6, FAR, FAR, FAR, V4, V4, V4].as_slice())
 }
 
 // The destination with the host's own address of that family as its source, which is the same address here.
@@ -72,7 +72,7 @@ fn is_sorted_with_sources<'h>(
     policy: &Policy<&'h Refusing>,
     host: &Host<&'h Refusing>,
 ) -> Option<bool> {
-    let given = [V4, FAR, V6];
+    let given = [V4, FAR, V6, V4, FAR, V6, V4, FAR, V6];
     if !all_usable(&given) {
         return Some(false);
     }
@@ -81,7 +81,8 @@ fn is_sorted_with_sources<'h>(
         ip: FAR,
         source: Some(V6),
     };
-    Some(sorted.as_slice() == [sourced(V6), far, sourced(V4)].as_slice())
+    let (v6, v4) = (sourced(V6), sourced(V4));
+    Some(sorted.as_slice() == [v6, v6, v6, far, far, far, v4, v4, v4].as_slice())
 }
 
 fn is_host_well<'h>(
@@ -152,13 +153,17 @@ fn refused_in_turn(heap: &Refusing, sources: &[Source], routes: &[Route]) -> u64
 #[test]
 fn refused_growths(rt: HostRuntime) {
     let heap = Refusing::new(rt.alloc());
-    // So many sources that those which tie are kept.
+    // So many sources, for as many addresses, that those which tie are kept, and the numbers of all are sorted.
     let sources = [
         source(Ip::V6(0x2001_0db8_0001_0000_0000_0000_0000_0002), 64, 2),
         source(V6, 64, 1),
         source(V4, 24, 1),
         source(Ip::V4(0x0a00_0002), 24, 1),
         source(Ip::V4(0x0a00_0003), 24, 2),
+        source(Ip::V4(0x0a00_0004), 24, 2),
+        source(Ip::V4(0x0a00_0005), 24, 2),
+        source(Ip::V4(0x0a00_0006), 24, 2),
+        source(Ip::V4(0x0a00_0007), 24, 2),
     ];
     let refused = match (route("::/0", 1), route("0.0.0.0/0", 1)) {
         (Some(v6), Some(v4)) => refused_in_turn(&heap, &sources, &[v6, v4]),
