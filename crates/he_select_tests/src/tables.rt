@@ -151,8 +151,8 @@ fn right_rows(heap: &Refusing, third: &str) -> Option<usize> {
     Some(right)
 }
 
-// Whether a long table has no fault, and is refused where its second row repeats the first one, and where the first row
-// has the second one's precedence.
+// Whether a long table has no fault, and is refused where its second row repeats the first one, and where the first
+// row has the second one's precedence.
 fn is_long_table_right(heap: &Refusing, third: &str) -> Option<bool> {
     let table = long_table(third)?;
     let whole = has_fault(heap, &table, None)?;
