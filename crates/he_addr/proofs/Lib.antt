@@ -3,6 +3,7 @@ mod AddressTexts
 mod Between
 mod Bounds
 pub mod Common_bits
+mod FirstBits
 mod HexDigits
 mod JoinedTexts
 mod NetTexts
