@@ -16,7 +16,7 @@ use Rattle.he_select.specs.Ties.{number_of}
 use Rattle.he_select.proofs.Equality.{eq_from, eq_self, ip_from}
 use Rattle.he_select.proofs.Walks.{any_follows}
 
-any_number : {X : Type 0} (number : X → ℕ) (k : ℕ) (xs : List X) → list_any (λ n. n == k) (map number xs) ≡ list_any (λ x. number x == k) xs
+pub any_number : {X : Type 0} (number : X → ℕ) (k : ℕ) (xs : List X) → list_any (λ n. n == k) (map number xs) ≡ list_any (λ x. number x == k) xs
 any_number number k [] = refl
 any_number number k (x ∷ xs) = ap (λ r. (number x == k) || r) (any_number number k xs)
 

@@ -3,7 +3,7 @@ use Rattle.std.proofs.Common.{◌≡◌, ℕ, ◌<◌, ◌==◌, ◌&&◌, ◌||
 use Rattle.std.specs.Prelude.{⊤, Option, None, Some, nat_eq, nat_lt}
 use Rattle.std.specs.Bool.{beq}
 use Rattle.std.specs.Int.{abs_diff}
-use Rattle.std.specs.List.{HoldsAt, list_all, list_any}
+use Rattle.std.specs.List.{list_all, list_any}
 use Rattle.std.specs.Cmp.{IsTotalOrder, bool_cmp_total}
 use Rattle.std.specs.declared.cmp.Ordering.{Ordering}
 use Rattle.std.specs.declared.cmp.Ordering.TheVariants.{Less, Equal, Greater}
@@ -112,6 +112,24 @@ tied_all {X = X} p fits cmp tied (x ∷ xs) h k =
     kept : (f : Bool) → list_all p (cond f (join_tied cmp tied x) tied) ≡ true
     kept true = more tied h
     kept false = h
+
+-- what ties fits
+pub tied_fit : {X : Type 0} (fits : X → Bool) (cmp : X → X → Ordering) (tied xs : List X) → list_all fits tied ≡ true → list_all fits (tied_from fits cmp tied xs) ≡ true
+tied_fit fits cmp tied [] h = h
+tied_fit {X = X} fits cmp tied (x ∷ xs) h =
+    elim (cases_Bool (fits x)) [
+      | inl fit ↦ rw fit (tied_fit fits cmp (join_tied cmp tied x) xs (joins fit tied h))
+      | inr unfit ↦ rw unfit (tied_fit fits cmp tied xs h)
+    ]
+  where
+    by : fits x ≡ true → (c : Ordering) (ts : List X) → list_all fits ts ≡ true → list_all fits (join_by c ts x) ≡ true
+    by fit Less ts g = and_both (fits x) true fit refl
+    by fit Equal ts g = list_all-append fits ts (x ∷ []) ∙ and_both (list_all fits ts) (list_all fits (x ∷ [])) g (and_both (fits x) true fit refl)
+    by fit Greater ts g = g
+
+    joins : fits x ≡ true → (ts : List X) → list_all fits ts ≡ true → list_all fits (join_tied cmp ts x) ≡ true
+    joins fit [] g = and_both (fits x) true fit refl
+    joins fit (t ∷ ts) g = by fit (cmp x t) (t ∷ ts) g
 
 lift : (o p q r : Ordering) → p ≡ ordering_then q r → ordering_then o p ≡ ordering_then (ordering_then o q) r
 lift Less p q r e = refl
@@ -258,20 +276,13 @@ alike_tied a b sources h =
     ∙ ap (λ l. tied_by (is_v6 b.ip) b.scope l a.interface sources) label
     ∙ ap (λ i. tied_by (is_v6 b.ip) b.scope b.label i sources) interface
 
+-- sources that tie may be used
+pub tied_admitted : (d : Destination) (sources : List Labelled) → list_all (admits d) (tied_of d sources) ≡ true
+tied_admitted d sources = tied_fit (admits d) (first_of (kind_rules d)) [] sources refl
+
 -- sources that tie are sound as all are
 pub tied_sound : (d : Destination) (sources : List Labelled) → list_all (λ l. is_sound_source l.source) sources ≡ true → list_all (λ l. is_sound_source l.source) (tied_of d sources) ≡ true
 tied_sound d sources h = tied_all (λ l. is_sound_source l.source) (admits d) (first_of (kind_rules d)) [] sources refl h
-
--- the kind that was found has the sources that tie for the destination
-pub kind_found : {K : Type 0} (to : K → Destination) (tied : K → List Labelled) (kinds seen : List K) (place : ℕ) (kind : K) (d : Destination) (sources : List Labelled)
-    → seen ≡ kinds → All (λ k. tied k ≡ tied_of (to k) sources) kinds
-    → place < length seen → HoldsAt (λ k. is_alike (to k) d ≡ true) seen place → kind ≡ get_or kinds place kind → tied kind ≡ tied_of d sources
-kind_found to tied kinds seen place kind d sources same all inside alike is =
-    let own : tied kind ≡ tied_of (to kind) sources =
-    subst (λ k. tied k ≡ tied_of (to k) sources) (sym is) (all place kind (subst (λ l. place < length l) same inside)) in
-    let like : is_alike (to kind) d ≡ true =
-    subst (λ k. is_alike (to k) d ≡ true) (sym is) (subst (λ l. is_alike (to (get_or l place kind)) d ≡ true) same (alike kind)) in
-    own ∙ alike_tied (to kind) d sources like
 
 pub none_met : {K : Type 0} (P : K → Type 0) (kinds : List K) → kinds ≡ [] → All P kinds
 none_met P kinds is = subst (All P) (sym is) (λ k d inside. absurd (omega arith))

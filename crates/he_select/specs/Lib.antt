@@ -1,3 +1,5 @@
+pub mod Ascending
+pub mod Closest
 pub mod DestinationKeys
 pub mod Equality
 pub mod Faults
@@ -6,7 +8,9 @@ pub mod Hosts
 pub mod KeyOrder
 pub mod LabelledRules
 pub mod Laws
+pub mod Longest
 pub mod Numbers
+pub mod Pieces
 pub mod Places
 pub mod Preference
 pub mod Ranges

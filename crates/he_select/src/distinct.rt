@@ -12,10 +12,10 @@ use he_addr::Prefix;
 pub(crate) const FEW: usize = 12;
 
 /// Lists of more members than these are looked at pair by pair as well. The limits of the crate allow none.
-const MOST: usize = 64;
+pub(crate) const MOST: usize = 64;
 
 /// What may stand only once in a list.
-pub(crate) trait Distinct {
+pub trait Distinct {
     ghost same: { Self → Self → Bool };
 
     ghost number_of: { Self → ℕ };
@@ -86,7 +86,7 @@ fn are_apart<T: Distinct>(items: &[T]) -> bool
     are_different(numbers)
 }
 
-fn write_numbers<T: Distinct>(items: &[T], numbers: &mut [u128])
+pub(crate) fn write_numbers<T: Distinct>(items: &[T], numbers: &mut [u128])
     requires { length items.now ≡ length numbers.old }
     ensures { numbers.new ≡ map T.number_of items.now }
 {

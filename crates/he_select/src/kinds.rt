@@ -1,19 +1,19 @@
 // The sources among which the longest common prefix decides, kept for each kind of destination.
 
-ghost use Rattle.std.specs.Prelude.{◌≡◌, ◌==◌, ◌<◌, All, None, Some, [], true, cond, map, nat_lt, length, IsFalse, IsPermutation, IsSorted, IsTrue, IfOk, IfSome, OnOk};
+ghost use Rattle.std.specs.Prelude.{◌≡◌, ◌==◌, ◌<◌, ◌/◌, max, All, None, [], map, length, IsFalse, IsPermutation, IsSorted, IsTrue, IfOk, IfSome, OnOk};
 ghost use Rattle.std.specs.List.{list_all, list_any, HoldsAt};
 ghost use Rattle.std.specs.Ordering.{nat_cmp};
-ghost use Rattle.he_addr.specs.Ip.{same_ip};
-ghost use Rattle.he_addr.specs.Prefix.{common_of};
+ghost use Rattle.he_addr.specs.Ip.{is_v6, same_ip};
+ghost use Rattle.he_select.specs.Closest.{ArePlaces, IsKept};
 ghost use Rattle.he_select.specs.HostFaults.{is_sound_source};
 ghost use Rattle.he_select.specs.LabelledRules.{admits, is_better_labelled};
 ghost use Rattle.he_select.specs.Rules.{first_of};
 ghost use Rattle.he_select.specs.Selection.{by_appropriate_scope};
-ghost use Rattle.he_select.specs.Ties.{AreNumbers, closest_of, is_alike, is_closer, keep_tied, kind_rules, number_of, tied_of};
+ghost use Rattle.he_select.specs.Ties.{AreNumbers, closest_of, is_alike, keep_tied, kind_rules, number_of, tied_of};
 ghost use Rattle.he_select.specs.Walking.{walk_fitting};
 
+use crate::pieces::Pieces;
 use crate::selection::{Destination, Labelled};
-use he_addr::{Ip, common_len};
 use std::alloc::{AllocError, Allocator};
 use std::cmp::Ordering;
 
@@ -24,6 +24,14 @@ const FEW_SOURCES: usize = 4;
 /// look at each source for each destination.
 const FEW_TO_SEARCH: usize = 8;
 
+/// With more sources that tie than these, and more destinations than `FEW_DESTINATIONS`, the closest one is searched:
+/// to make the places takes some 450 instructions for each source that ties and a search some 70, a look at a source
+/// 14 (IPv4) to 24 (IPv6).
+const FEW_TIED: usize = 8;
+
+/// Half of so many are one family's; for fewer of it, to make the places costs more than it saves.
+const FEW_DESTINATIONS: usize = 48;
+
 /// The sources that tie for a destination by rules 2 to 7. These look at its family, scope, label and interface alone,
 /// and a list of addresses has few such kinds.
 #[derive(Drop)]
@@ -32,6 +40,49 @@ pub(crate) struct Kind<A: Allocator> {
     pub(crate) destination: Destination,
 
     pub(crate) tied: Vec<Labelled, A>,
+
+    /// At the number of each address of the kind's family, the place of the closest one of them; None where a look at
+    /// each of them costs less than a search.
+    pub(crate) places: Option<Pieces<usize, A>>,
+}
+
+impl<A: Allocator + Copy> Kind<A> {
+    /// The kind of this destination.
+    fn new(
+        alloc: A,
+        sources: &[Labelled],
+        destination: &Destination,
+        destinations: usize,
+    ) -> Result<Kind<A>, AllocError>
+        requires { IsTrue (list_all (λ labelled. is_sound_source labelled.source) sources.now) }
+        ensures destination { IfOk result (λ kind. kind.destination ≡ destination.now) }
+        ensures kept { IfOk result (IsKept sources.now) }
+    {
+        let tied = destination.tie(alloc, sources)?;
+        let places = if tied.len() > FEW_TIED && destinations > FEW_DESTINATIONS {
+            Some(destination.closest_places(alloc, &tied)?)
+        } else {
+            None
+        };
+        Ok(Kind {
+            destination: *destination,
+            tied,
+            places,
+        })
+    }
+
+    /// The closest one of the sources that tie, for a destination of this kind.
+    fn closest(&self, destination: &Destination) -> Option<Labelled>
+        requires sound { IsTrue (list_all (λ labelled. is_sound_source labelled.source) self.now.tied.items) }
+        requires places { IfSome self.now.places (ArePlaces (is_v6 destination.now.ip) self.now.tied.items self.now.tied.items) }
+        ensures closest { result ≡ closest_of destination.now self.now.tied.items }
+        ensures sound { IfSome result (λ labelled. IsTrue (is_sound_source labelled.source)) }
+    {
+        match &self.places {
+            Some(places) => self.tied.get(places.at(destination.ip.mapped())).copied(),
+            None => destination.closest_of(&self.tied),
+        }
+    }
 }
 
 /// What is kept of the sources from one destination to the next.
@@ -42,6 +93,9 @@ pub(crate) struct Met<A: Allocator> {
 
     /// The kinds of the destinations so far.
     pub(crate) kinds: Vec<Kind<A>, A>,
+
+    /// How many destinations there are in all.
+    pub(crate) destinations: usize,
 }
 
 impl<A: Allocator + Copy> Met<A> {
@@ -62,7 +116,18 @@ impl<A: Allocator + Copy> Met<A> {
         Ok(Met {
             numbers,
             kinds: Vec::new(alloc),
+            destinations,
         })
+    }
+}
+
+impl<A: Allocator> Met<A> {
+    /// How many destinations a further kind may be thought to have: the more kinds were met, the fewer each has, and
+    /// the less is saved by what is made for one.
+    fn share(&self) -> usize
+        ensures { result ≡ self.now.destinations / max 1 (length self.now.kinds.items) }
+    {
+        self.destinations / self.kinds.len().max(1)
     }
 }
 
@@ -109,25 +174,22 @@ pub(crate) fn choose<A: Allocator + Copy>(
 ) -> Result<Option<Labelled>, AllocError>
     requires sound { IsTrue (list_all (λ labelled. is_sound_source labelled.source) sources.now) }
     requires numbers { AreNumbers sources.now met.old.numbers.items }
-    requires kinds { All (λ kind. kind.tied.items ≡ tied_of kind.destination sources.now) met.old.kinds.items }
+    requires kinds { All (IsKept sources.now) met.old.kinds.items }
     ensures best { IfOk result (λ best. best ≡ walk_fitting (admits destination.now) (is_better_labelled destination.now) None sources.now) }
     ensures sound { IfOk result (λ best. IfSome best (λ labelled. IsTrue (is_sound_source labelled.source))) }
     ensures numbers { OnOk result (AreNumbers sources.now met.new.numbers.items) }
-    ensures kinds { OnOk result (All (λ kind. kind.tied.items ≡ tied_of kind.destination sources.now) met.new.kinds.items) }
+    ensures kinds { OnOk result (All (IsKept sources.now) met.new.kinds.items) }
 {
     // Rule 1, prefer same address, is asked of one destination alone, and seldom decides.
     if sources.len() <= FEW_SOURCES || destination.is_source(sources, &met.numbers) {
         return Ok(destination.best_of(sources));
     }
     if let Some(place) = place_of(&met.kinds, destination) {
-        return Ok(destination.closest_of(&met.kinds[place].tied));
+        return Ok(met.kinds[place].closest(destination));
     }
-    let tied = destination.tie(alloc, sources)?;
-    let best = destination.closest_of(&tied);
-    met.kinds.push(Kind {
-        destination: *destination,
-        tied,
-    })?;
+    let kind = Kind::new(alloc, sources, destination, met.share())?;
+    let best = kind.closest(destination);
+    met.kinds.push(kind)?;
     Ok(best)
 }
 
@@ -247,69 +309,6 @@ impl Destination {
             Ordering::Greater
         } else {
             Ordering::Equal
-        }
-    }
-
-    /// The first of those sources that have the longest prefix in common with this destination.
-    fn closest_of(&self, tied: &[Labelled]) -> Option<Labelled>
-        requires { IsTrue (list_all (λ labelled. is_sound_source labelled.source) tied.now) }
-        ensures closest { result ≡ closest_of self.now tied.now }
-        ensures sound { IfSome result (λ labelled. IsTrue (is_sound_source labelled.source)) }
-    {
-        let (first, others) = tied.split_first()?;
-        // A loop for each family: none of its turns asks for the destination's.
-        Some(match self.ip {
-            Ip::V4(number) => closest_to(Ip::v4(number), first, others),
-            Ip::V6(number) => closest_to(Ip::v6(number), first, others),
-        })
-    }
-}
-
-/// The first of those sources that have the longest prefix in common with the address.
-#[inline(always)]
-fn closest_to(ip: Ip, first: &Labelled, others: &[Labelled]) -> Labelled
-    requires first { IsTrue (is_sound_source first.now.source) }
-    requires others { IsTrue (list_all (λ labelled. is_sound_source labelled.source) others.now) }
-    ensures closest { Some result ≡ walk_fitting (λ _. true) (is_closer ip) (Some first.now) others.now }
-    ensures sound { IsTrue (is_sound_source result.source) }
-{
-    let mut closest = Closeness::new(ip, first);
-    for labelled in others {
-        closest = closest.keep(Closeness::new(ip, labelled));
-    }
-    *closest.labelled
-}
-
-/// A source and the length of the prefix that it has in common with an address.
-#[derive(Clone, Copy)]
-struct Closeness<'a> {
-    labelled: &'a Labelled,
-    common: u8,
-}
-
-impl<'a> Closeness<'a> {
-    #[inline(always)]
-    fn new(ip: Ip, labelled: &'a Labelled) -> Closeness<'a>
-        requires { IsTrue (is_sound_source labelled.now.source) }
-        ensures labelled { result.labelled.now ≡ labelled.now }
-        ensures common { result.common ≡ common_of labelled.now.source.ip labelled.now.source.plen ip }
-    {
-        Closeness {
-            labelled,
-            common: common_len(labelled.source.ip, labelled.source.plen, ip),
-        }
-    }
-
-    /// The closer one of two, this one where they are as close.
-    #[inline(always)]
-    fn keep(self, other: Closeness<'a>) -> Closeness<'a>
-        ensures labelled { result.labelled.now ≡ cond (nat_lt self.entry.common other.entry.common) other.entry.labelled.now self.entry.labelled.now }
-        ensures common { result.common ≡ cond (nat_lt self.entry.common other.entry.common) other.entry.common self.entry.common }
-    {
-        if other.common > self.common {
-            other
-        } else {
-            self
         }
     }
 }

@@ -8,14 +8,15 @@ ghost use Rattle.std.specs.Ordering.{as_partial_cmp, eq_by_cmp};
 ghost use Rattle.std.proofs.Common.{refl};
 ghost use Rattle.he_addr.specs.Ip.{InRange};
 ghost use Rattle.he_addr.specs.Prefix.{common_of};
+ghost use Rattle.he_select.specs.Closest.{IsKept};
 ghost use Rattle.he_select.specs.KeyOrder.{key_order, key_order_total, late_key_cmp};
-ghost use Rattle.he_select.specs.Ranking.{attributes_of, chosen_by, key_by, ranked_from};
+ghost use Rattle.he_select.specs.Ranking.{attributes_by, chosen_by, key_by, ranked_by};
 ghost use Rattle.he_select.specs.HostFaults.{is_sound_source};
-ghost use Rattle.he_select.specs.Ties.{AreNumbers, tied_of};
+ghost use Rattle.he_select.specs.Ties.{AreNumbers};
 
 use crate::host::Route;
 use crate::kinds::{Met, choose};
-use crate::lookup::{find_route, find_row};
+use crate::lookup::find_row;
 use crate::policy::Row;
 use crate::selection::{Destination, Labelled};
 use crate::sorting::Sourced;
@@ -131,11 +132,11 @@ struct Attributes {
     route: Option<Route>,
 }
 
-/// The destination that stands at this place of the list, with its source and its key.
+/// The destination with this route that stands at this place of the list, with its source and its key.
 pub(crate) fn rank<A: Allocator + Copy>(
     alloc: A,
     rows: &[Row],
-    routes: &[Route],
+    route: Option<Route>,
     sources: &[Labelled],
     met: &mut Met<A>,
     ip: Ip,
@@ -143,13 +144,13 @@ pub(crate) fn rank<A: Allocator + Copy>(
 ) -> Result<Ranked, AllocError>
     requires sound { IsTrue (list_all (λ labelled. is_sound_source labelled.source) sources.now) }
     requires numbers { AreNumbers sources.now met.old.numbers.items }
-    requires kinds { All (λ kind. kind.tied.items ≡ tied_of kind.destination sources.now) met.old.kinds.items }
-    ensures ranked { IfOk result (λ ranked. ranked ≡ ranked_from rows.now routes.now sources.now (record { ip = ip; place = place })) }
+    requires kinds { All (IsKept sources.now) met.old.kinds.items }
+    ensures ranked { IfOk result (λ ranked. ranked ≡ ranked_by rows.now route sources.now (record { ip = ip; place = place })) }
     ensures numbers { OnOk result (AreNumbers sources.now met.new.numbers.items) }
-    ensures kinds { OnOk result (All (λ kind. kind.tied.items ≡ tied_of kind.destination sources.now) met.new.kinds.items) }
+    ensures kinds { OnOk result (All (IsKept sources.now) met.new.kinds.items) }
     ensures range { InRange ip }
 {
-    let goal = Attributes::new(rows, routes, ip);
+    let goal = Attributes::new(rows, route, ip);
     let chosen = goal.choose_source(alloc, met, sources)?;
     let source = chosen.map(|labelled| labelled.source.ip);
     Ok(Ranked {
@@ -160,8 +161,8 @@ pub(crate) fn rank<A: Allocator + Copy>(
 
 impl Attributes {
     #[tactic(auto, unfolding(crate::specs::Tables::precedence_of, crate::specs::Tables::label_of))]
-    fn new(rows: &[Row], routes: &[Route], ip: Ip) -> Attributes
-        ensures { result ≡ attributes_of rows.now routes.now ip }
+    fn new(rows: &[Row], route: Option<Route>, ip: Ip) -> Attributes
+        ensures { result ≡ attributes_by rows.now route ip }
     {
         let (precedence, label) = match find_row(rows, ip) {
             Some(row) => (row.precedence, row.label),
@@ -172,7 +173,7 @@ impl Attributes {
             scope: ip.scope(),
             precedence,
             label,
-            route: find_route(routes, ip),
+            route,
         }
     }
 
@@ -185,11 +186,11 @@ impl Attributes {
     ) -> Result<Option<Labelled>, AllocError>
         requires sound { IsTrue (list_all (λ labelled. is_sound_source labelled.source) sources.now) }
         requires numbers { AreNumbers sources.now met.old.numbers.items }
-        requires kinds { All (λ kind. kind.tied.items ≡ tied_of kind.destination sources.now) met.old.kinds.items }
+        requires kinds { All (IsKept sources.now) met.old.kinds.items }
         ensures chosen { IfOk result (λ chosen. chosen ≡ chosen_by self.now sources.now) }
         ensures sound { IfOk result (λ chosen. IfSome chosen (λ labelled. IsTrue (is_sound_source labelled.source))) }
         ensures numbers { OnOk result (AreNumbers sources.now met.new.numbers.items) }
-        ensures kinds { OnOk result (All (λ kind. kind.tied.items ≡ tied_of kind.destination sources.now) met.new.kinds.items) }
+        ensures kinds { OnOk result (All (IsKept sources.now) met.new.kinds.items) }
     {
         match self.route {
             Some(route) => {

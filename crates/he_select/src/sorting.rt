@@ -15,6 +15,7 @@ use crate::host::{Host, Route, Source};
 use crate::kinds::Met;
 use crate::policy::{Policy, Row};
 use crate::ranking::{Key, rank};
+use crate::routes::RouteFinder;
 use crate::selection::Labelled;
 use he_addr::{Ip, Memory};
 use std::alloc::{AllocError, Allocator};
@@ -171,10 +172,12 @@ fn rank_all<A: Allocator + Copy>(
     ensures keys { IfOk result (λ keys. keys.items ≡ map (key_from rows.now routes.now sources.now) (members_from 0 addresses.now)) }
     ensures range { OnOk result (All InRange addresses.now) }
 {
+    let finder = RouteFinder::new(alloc, routes, addresses.len())?;
     let mut met = Met::new(alloc, sources, addresses.len())?;
     let mut keys = Vec::with_capacity(alloc, addresses.len())?;
     for (place, ip) in addresses.iter().enumerate() {
-        let ranked = rank(alloc, rows, routes, sources, &mut met, *ip, place)?;
+        let route = finder.find(routes, *ip);
+        let ranked = rank(alloc, rows, route, sources, &mut met, *ip, place)?;
         keys.push(ranked.key)?;
     }
     Ok(keys)
@@ -193,11 +196,13 @@ fn rank_with_sources<A: Allocator + Copy>(
     ensures sourced { IfOk result (λ made. made.1.items ≡ map (sourced_from rows.now routes.now sources.now) addresses.now) }
     ensures range { OnOk result (All InRange addresses.now) }
 {
+    let finder = RouteFinder::new(alloc, routes, addresses.len())?;
     let mut met = Met::new(alloc, sources, addresses.len())?;
     let mut keys = Vec::with_capacity(alloc, addresses.len())?;
     let mut sourced = Vec::with_capacity(alloc, addresses.len())?;
     for (place, ip) in addresses.iter().enumerate() {
-        let ranked = rank(alloc, rows, routes, sources, &mut met, *ip, place)?;
+        let route = finder.find(routes, *ip);
+        let ranked = rank(alloc, rows, route, sources, &mut met, *ip, place)?;
         keys.push(ranked.key)?;
         sourced.push(ranked.sourced)?;
     }

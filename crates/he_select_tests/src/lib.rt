@@ -5,6 +5,8 @@
 #[cfg(test)]
 mod hosts;
 #[cfg(test)]
+mod lists;
+#[cfg(test)]
 mod memory;
 #[cfg(test)]
 mod tables;

@@ -4,7 +4,7 @@ use Rattle.he_addr.specs.Prefix.{common_of}
 use Rattle.he_select.specs.HostFaults.{is_sound_source}
 use Rattle.he_select.specs.Ties.{is_closer}
 use Rattle.he_select.specs.Walking.{walk_fitting}
-use Rattle.he_select.proofs.kinds.closest_to.Given as goal
+use Rattle.he_select.proofs.closest.closest_to.Given as goal
 
 abbrev pub invariant-loop-labelled : goal.invariant-loop-labelled
 invariant-loop-labelled l =
