@@ -1,7 +1,6 @@
 -- The closest of the sources that tie is the source that a loop over all sources finds.
-use Rattle.std.proofs.Common.{◌≡◌, ℕ, ◌<◌, ◌==◌, ◌&&◌, ◌||◌, ◌++◌, Bool, true, false, not, cond, List, [], ◌∷◌, length, get_or, refl, sym, ◌∙◌, ap, subst, inl, inr, All, arith}
+use Rattle.std.proofs.Common.{◌≡◌, ℕ, ◌<◌, ◌==◌, ◌||◌, ◌++◌, Bool, true, false, not, cond, List, [], ◌∷◌, length, get_or, refl, sym, ◌∙◌, ap, subst, inl, inr, All, arith}
 use Rattle.std.specs.Prelude.{⊤, Option, None, Some, nat_eq, nat_lt}
-use Rattle.std.specs.Bool.{beq}
 use Rattle.std.specs.Int.{abs_diff}
 use Rattle.std.specs.List.{list_all, list_any}
 use Rattle.std.specs.Cmp.{IsTotalOrder, bool_cmp_total}
@@ -11,25 +10,25 @@ use Rattle.std.specs.Ordering.{bool_cmp, is_lt, nat_cmp, ordering_reverse, order
 use Rattle.std.proofs.lemmas.Bool.{both_ways, cases_Bool}
 use Rattle.std.proofs.lemmas.List.Folds.{list_all-append, list_all_at}
 use Rattle.std.proofs.lemmas.Cmp.{alike_right, nat_cmp_total, on_total, then_total, tied_back, tied_itself}
-use Rattle.he_addr.specs.Ip.{is_v6, same_ip}
+use Rattle.he_addr.specs.Ip.{same_ip}
 use Rattle.he_addr.specs.Prefix.{common_of}
 use Rattle.he_select.specs.declared.selection.Destination.{Destination}
 use Rattle.he_select.specs.declared.selection.Labelled.{Labelled}
 use Rattle.he_select.specs.HostFaults.{is_sound_source}
 use Rattle.he_select.specs.LabelledRules.{admits, is_better_labelled, labelled_rules, late_rules}
 use Rattle.he_select.specs.Rules.{Rule, first_of, yes_first}
-use Rattle.he_select.specs.Selection.{by_appropriate_scope, link_scope}
-use Rattle.he_select.specs.Ties.{closest_of, is_alike, join_by, join_tied, keep_tied, kind_rules, tied_from, tied_of}
+use Rattle.he_select.specs.Selection.{by_appropriate_scope}
+use Rattle.he_select.specs.Ties.{closest_of, join_by, join_tied, keep_tied, kind_rules, tied_from, tied_of}
 use Rattle.he_select.specs.Walking.{keep_better, walk_fitting}
-use Rattle.he_select.proofs.Equality.{and_both, and_left, and_right, eq_from, flag_from}
-use Rattle.he_select.proofs.Orders.{no_as_less, scope_then, then_equal, then_regrouped, then_same, yes_as_less}
+use Rattle.he_select.proofs.Equality.{and_both, and_left, and_right}
+use Rattle.he_select.proofs.Orders.{no_as_less, scope_then, then_equal, then_same, yes_as_less}
 
 -- each compares as equal to t
-abbrev Level : {X : Type 0} → (X → X → Ordering) → X → List X → Type 0
+abbrev pub Level : {X : Type 0} → (X → X → Ordering) → X → List X → Type 0
 Level cmp t [] = ⊤
 Level cmp t (y ∷ ys) = (cmp t y ≡ Equal) × Level cmp t ys
 
-abbrev AllTie : {X : Type 0} → (X → X → Ordering) → List X → Type 0
+abbrev pub AllTie : {X : Type 0} → (X → X → Ordering) → List X → Type 0
 AllTie cmp [] = ⊤
 AllTie cmp (t ∷ ts) = Level cmp t ts
 
@@ -79,7 +78,7 @@ module _ {X : Type 0} (fits : X → Bool) (cmp : X → X → Ordering) (o : IsTo
   still_by t ts x h Equal e = level_more cmp t ts x h (tied_back o x t e)
   still_by t ts x h Greater e = h
 
-  still : (tied : List X) (x : X) → AllTie cmp tied → AllTie cmp (join_tied cmp tied x)
+  pub still : (tied : List X) (x : X) → AllTie cmp tied → AllTie cmp (join_tied cmp tied x)
   still [] x h = tt
   still (t ∷ ts) x h = still_by t ts x h (cmp x t) refl
 
@@ -131,22 +130,12 @@ tied_fit {X = X} fits cmp tied (x ∷ xs) h =
     joins fit [] g = and_both (fits x) true fit refl
     joins fit (t ∷ ts) g = by fit (cmp x t) (t ∷ ts) g
 
-lift : (o p q r : Ordering) → p ≡ ordering_then q r → ordering_then o p ≡ ordering_then (ordering_then o q) r
+pub lift : (o p q r : Ordering) → p ≡ ordering_then q r → ordering_then o p ≡ ordering_then (ordering_then o q) r
 lift Less p q r e = refl
 lift Equal p q r e = e
 lift Greater p q r e = refl
 
--- five rules, one after another
-nested : (s a b c d : Ordering)
-    → ordering_then (ordering_then (ordering_then (ordering_then s a) b) c) d
-    ≡ ordering_then s (ordering_then a (ordering_then b (ordering_then c (ordering_then d Equal))))
-nested s a b c d =
-    then_regrouped (ordering_then (ordering_then s a) b) c d
-    ∙ then_regrouped (ordering_then s a) b (ordering_then c d)
-    ∙ then_regrouped s a (ordering_then b (ordering_then c d))
-    ∙ ap (λ t. ordering_then s (ordering_then a (ordering_then b (ordering_then c t)))) (sym (then_equal d))
-
-total_alike : {X : Type 0} (R S : X → X → Ordering) → ((a b : X) → R a b ≡ S a b) → IsTotalOrder S → IsTotalOrder R
+pub total_alike : {X : Type 0} (R S : X → X → Ordering) → ((a b : X) → R a b ≡ S a b) → IsTotalOrder S → IsTotalOrder R
 total_alike R S e o = record {
   antisymm = λ x y. e x y ∙ o.antisymm x y ∙ ap ordering_reverse (sym (e y x));
   trans = λ x y z h k. e x z ∙ o.trans x y z (sym (e x y) ∙ h) (sym (e y z) ∙ k);
@@ -245,36 +234,9 @@ module _ (d : Destination) where
         | inr unfit ↦ rw unfit (without_same (Some b) xs h parts.1)
       ]
 
-  -- the order in which the code asks the rules from 2 to 7
-  pub compared : (a b : Labelled) (o : Ordering)
-      → o ≡ ordering_then (ordering_then (ordering_then (ordering_then (by_appropriate_scope d.scope a.scope b.scope) (bool_cmp (not b.source.deprecated) (not a.source.deprecated))) (bool_cmp (nat_eq b.source.interface d.interface) (nat_eq a.source.interface d.interface))) (bool_cmp (nat_eq b.label d.label) (nat_eq a.label d.label))) (bool_cmp b.source.temporary a.source.temporary)
-      → o ≡ first_of (kind_rules d) a b
-  unfolding kind_rules
-  compared a b o is =
-      is ∙ nested (by_appropriate_scope d.scope a.scope b.scope) (bool_cmp (not b.source.deprecated) (not a.source.deprecated)) (bool_cmp (nat_eq b.source.interface d.interface) (nat_eq a.source.interface d.interface)) (bool_cmp (nat_eq b.label d.label) (nat_eq a.label d.label)) (bool_cmp b.source.temporary a.source.temporary)
-
   pub closest_is : (sources : List Labelled) → list_any is_same sources ≡ false → closest_of d (tied_of d sources) ≡ walk_fitting (admits d) (is_better_labelled d) None sources
   closest_is sources none =
       sym (without_same None sources refl none ∙ tied_walk (admits d) (first_of (kind_rules d)) kind_total by_common [] sources tt)
-
--- destinations that are alike have the same sources that tie
-abbrev tied_by : Bool → ℕ → ℕ → ℕ → List Labelled → List Labelled
-tied_by v6 scope label interface sources =
-    tied_from (λ l. beq (is_v6 l.source.ip) v6 && (not (scope == link_scope) || l.source.interface == interface)) (first_of ((λ a b. by_appropriate_scope scope a.scope b.scope) ∷ yes_first (λ l. not l.source.deprecated) ∷ yes_first (λ l. l.source.interface == interface) ∷ yes_first (λ l. l.label == label) ∷ yes_first (λ l. l.source.temporary) ∷ [])) [] sources
-
-pub alike_tied : (a b : Destination) (sources : List Labelled) → is_alike a b ≡ true → tied_of a sources ≡ tied_of b sources
-unfolding kind_rules
-alike_tied a b sources h =
-    let early = and_left _ _ h in
-    let first = and_left _ _ early in
-    let family = flag_from (is_v6 a.ip) (is_v6 b.ip) (and_left _ _ first) in
-    let scope = eq_from a.scope b.scope (and_right _ _ first) in
-    let label = eq_from a.label b.label (and_right _ _ early) in
-    let interface = eq_from a.interface b.interface (and_right _ _ h) in
-    ap (λ v. tied_by v a.scope a.label a.interface sources) family
-    ∙ ap (λ s. tied_by (is_v6 b.ip) s a.label a.interface sources) scope
-    ∙ ap (λ l. tied_by (is_v6 b.ip) b.scope l a.interface sources) label
-    ∙ ap (λ i. tied_by (is_v6 b.ip) b.scope b.label i sources) interface
 
 -- sources that tie may be used
 pub tied_admitted : (d : Destination) (sources : List Labelled) → list_all (admits d) (tied_of d sources) ≡ true

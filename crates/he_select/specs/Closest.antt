@@ -1,15 +1,13 @@
--- Mirrors the code: what is kept of a kind of destination, and where the closest of the sources that tie for it is
--- searched.
-use Rattle.std.specs.Prelude.{ℕ, ◌≡◌, ◌^◌, ◌<◌, Bool, cond, true, List, None, IfSome}
+-- Mirrors the code: where the closest of the sources of a group is searched.
+use Rattle.std.specs.Prelude.{ℕ, ◌≡◌, ◌^◌, ◌<◌, Bool, cond, true, List, None}
 use Rattle.std.specs.List.{slice_get}
 use Rattle.he_addr.specs.declared.ip.Ip.{Ip}
 use Rattle.he_addr.specs.Ip.{is_v6, mapped_of}
 use Rattle.he_addr.specs.Ranges.{mapped_len}
-use Rattle.he_select.specs.declared.kinds.Kind.{Kind}
 use Rattle.he_select.specs.declared.pieces.Pieces.{Pieces}
 use Rattle.he_select.specs.declared.selection.Labelled.{Labelled}
 use Rattle.he_select.specs.Pieces.{AreAscending, value_at}
-use Rattle.he_select.specs.Ties.{is_closer, tied_of}
+use Rattle.he_select.specs.Ties.{is_closer}
 use Rattle.he_select.specs.Walking.{walk_fitting}
 
 -- how many bits of a mapped number stand before those of an address of this family
@@ -23,8 +21,3 @@ TellClosest v6 list these place_at =
 
 abbrev pub ArePlaces : {A : Type 0} → Bool → List Labelled → List Labelled → Pieces ℕ A → Type 0
 ArePlaces v6 list these places = AreAscending places.pieces.items × TellClosest v6 list these (value_at places.first places.pieces.items)
-
--- a kind has the sources that tie for it, and the places are those of the closest ones of them
-abbrev pub IsKept : {A : Type 0} → List Labelled → Kind A → Type 0
-IsKept sources kind =
-    (kind.tied.items ≡ tied_of kind.destination sources) × IfSome kind.places (λ places. ArePlaces (is_v6 kind.destination.ip) kind.tied.items kind.tied.items places)

@@ -3,6 +3,7 @@ pub mod Closest
 pub mod DestinationKeys
 pub mod Equality
 pub mod Faults
+pub mod Groups
 pub mod HostFaults
 pub mod Hosts
 pub mod KeyOrder
@@ -18,6 +19,7 @@ pub mod Ranking
 pub mod Refusals
 pub mod Rules
 pub mod Selection
+pub mod Shortlists
 pub mod Sides
 pub mod Standard
 pub mod TableFaults

@@ -1,13 +1,13 @@
--- Mirrors the code: the sources that tie for a kind of destination, the closest of them, and the sources' numbers. Laws in
--- proofs/ tie them to the loop over all sources.
-use Rattle.std.specs.Prelude.{ℕ, ◌==◌, ◌<◌, ◌&&◌, ◌++◌, Bool, true, not, cond, List, [], ◌∷◌, length, map, Option, None, IsPermutation, IsSorted}
-use Rattle.std.specs.Bool.{beq}
+-- Mirrors the code: the sources that tie for a destination, the closest of them, and the sources' numbers. Laws in proofs/ tie
+-- them to the loop over all sources.
+use Rattle.std.specs.Prelude.{ℕ, ◌+◌, ◌==◌, ◌<◌, ◌≢◌, ◌++◌, AllPairs, Bool, Contains, true, not, cond, List, [], ◌∷◌, length, Option, None, IsPermutation, IsSorted, IsTrue}
 use Rattle.std.specs.declared.cmp.Ordering.{Ordering}
 use Rattle.std.specs.declared.cmp.Ordering.TheVariants.{Less, Equal, Greater}
-use Rattle.std.specs.Ordering.{is_lt, nat_cmp}
+use Rattle.std.specs.Ordering.{is_lt, nat_cmp, ordering_then}
 use Rattle.he_addr.specs.declared.ip.Ip.{Ip}
-use Rattle.he_addr.specs.Ip.{is_v6, mapped_of}
+use Rattle.he_addr.specs.Ip.{mapped_of, same_ip}
 use Rattle.he_addr.specs.Prefix.{common_of}
+use Rattle.he_select.specs.declared.numbers.Numbered.{Numbered}
 use Rattle.he_select.specs.declared.selection.Destination.{Destination}
 use Rattle.he_select.specs.declared.selection.Labelled.{Labelled}
 use Rattle.he_select.specs.LabelledRules.{admits}
@@ -19,9 +19,26 @@ use Rattle.he_select.specs.Walking.{walk_fitting}
 abbrev pub number_of : Labelled → ℕ
 number_of labelled = mapped_of labelled.source.ip
 
--- the numbers of the sources in ascending order, or none
-abbrev pub AreNumbers : List Labelled → List ℕ → Type 0
-AreNumbers sources numbers = 0 < length numbers → IsPermutation (map number_of sources) numbers × IsSorted nat_cmp numbers
+-- the numbers of the sources with their places, counted from `place`
+abbrev pub numbered_from : ℕ → List Labelled → List Numbered
+numbered_from place [] = []
+numbered_from place (labelled ∷ more) = record { number = number_of labelled; place = place } ∷ numbered_from (place + 1) more
+
+-- the lesser number goes before, of equal ones that of the earlier source
+abbrev pub numbered_cmp : Numbered → Numbered → Ordering
+numbered_cmp a b = ordering_then (nat_cmp a.number b.number) (nat_cmp a.place b.place)
+
+-- these numbers in ascending order, each with its source's place; or none
+abbrev pub AreNumbers : List Labelled → List Numbered → Type 0
+AreNumbers sources numbers = 0 < length numbers → IsPermutation (numbered_from 0 sources) numbers × IsSorted numbered_cmp numbers
+
+-- no two sources have one address
+abbrev pub SourcesDiffer : List Labelled → Type 0
+SourcesDiffer sources = AllPairs (λ a b. a.source.ip ≢ b.source.ip) sources
+
+-- one of the sources, with the destination's address
+abbrev pub IsOwn : Destination → List Labelled → Labelled → Type 0
+IsOwn destination sources own = Contains sources own × IsTrue (same_ip own.source.ip destination.ip)
 
 -- the members that tie, with one more that compares so to each of them
 abbrev pub join_by : {X : Type 0} → Ordering → List X → X → List X
@@ -49,10 +66,6 @@ kind_rules destination =
     ∷ yes_first (λ labelled. labelled.label == destination.label)
     ∷ yes_first (λ labelled. labelled.source.temporary)
     ∷ []
-
--- the rules from 2 to 7, and which sources may be used, are the same for both
-abbrev pub is_alike : Destination → Destination → Bool
-is_alike a b = beq (is_v6 a.ip) (is_v6 b.ip) && a.scope == b.scope && a.label == b.label && a.interface == b.interface
 
 -- the sources that may be used and than which none is better by these rules
 abbrev pub tied_of : Destination → List Labelled → List Labelled

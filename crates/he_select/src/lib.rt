@@ -25,16 +25,18 @@
 pub(crate) mod closest;
 pub mod distinct;
 pub mod distinct_list;
+pub(crate) mod groups;
 pub mod host;
-pub(crate) mod kinds;
 pub mod laws;
 pub mod limits;
 pub(crate) mod lookup;
+pub(crate) mod numbers;
 pub(crate) mod pieces;
 pub mod policy;
 pub(crate) mod ranking;
 pub(crate) mod routes;
 pub(crate) mod selection;
+pub(crate) mod shortlists;
 pub mod sorting;
 
 pub use distinct_list::{DistinctList, ListFault};

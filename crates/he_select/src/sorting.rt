@@ -1,6 +1,6 @@
 // Destinations in the order of preference (RFC 6724 section 6).
 
-ghost use Rattle.std.specs.Prelude.{◌≡◌, ◌++◌, [], map, filter_map, slice_get, All, IsPermutation, IsSorted, IsTrue, IfOk, OnOk};
+ghost use Rattle.std.specs.Prelude.{◌≡◌, ◌≢◌, ◌++◌, [], map, filter_map, slice_get, All, AllPairs, IsPermutation, IsSorted, IsTrue, IfOk, OnOk};
 ghost use Rattle.std.specs.List.{cons_option, list_all};
 ghost use Rattle.he_addr.specs.Ip.{InRange, is_usable};
 ghost use Rattle.he_select.specs.DestinationKeys.{key_cmp};
@@ -10,13 +10,14 @@ ghost use Rattle.he_select.specs.LabelledRules.{labelled_of};
 ghost use Rattle.he_select.specs.Preference.{IsOrder, members_from, order_of, sourced_by};
 ghost use Rattle.he_select.specs.Selection.{selection_input};
 ghost use Rattle.he_select.specs.Tables.{IsAdmitted};
+ghost use Rattle.he_select.specs.Ties.{SourcesDiffer};
 
 use crate::host::{Host, Route, Source};
-use crate::kinds::Met;
 use crate::policy::{Policy, Row};
 use crate::ranking::{Key, rank};
 use crate::routes::RouteFinder;
 use crate::selection::Labelled;
+use crate::shortlists::Met;
 use he_addr::{Ip, Memory};
 use std::alloc::{AllocError, Allocator};
 
@@ -84,6 +85,7 @@ fn sort_addresses<A: Allocator + Copy>(
 ) -> Result<Vec<Ip, A>, AllocError>
     requires admitted { IsAdmitted rows.now }
     requires sound { IsTrue (list_all is_sound_source sources.now) }
+    requires different { AllPairs (λ a b. a.ip ≢ b.ip) sources.now }
     requires usable { IsTrue (list_all is_usable addresses.now) }
     ensures order { IfOk result (λ sorted. IsOrder (record { rows = rows.now; sources = sources.now; routes = routes.now }) addresses.now sorted.items) }
     ensures value { IfOk result (λ sorted. sorted.items ≡ order_of (record { rows = rows.now; sources = sources.now; routes = routes.now }) addresses.now) }
@@ -103,6 +105,7 @@ fn sort_sourced<A: Allocator + Copy>(
 ) -> Result<Vec<Sourced, A>, AllocError>
     requires admitted { IsAdmitted rows.now }
     requires sound { IsTrue (list_all is_sound_source sources.now) }
+    requires different { AllPairs (λ a b. a.ip ≢ b.ip) sources.now }
     requires usable { IsTrue (list_all is_usable addresses.now) }
     ensures { IfOk result (λ sorted. sorted.items ≡ map (sourced_by (record { rows = rows.now; sources = sources.now; routes = routes.now })) (order_of (record { rows = rows.now; sources = sources.now; routes = routes.now }) addresses.now)) }
 {
@@ -168,7 +171,8 @@ fn rank_all<A: Allocator + Copy>(
     sources: &[Labelled],
     addresses: &[Ip],
 ) -> Result<Vec<Key, A>, AllocError>
-    requires { IsTrue (list_all (λ labelled. is_sound_source labelled.source) sources.now) }
+    requires sound { IsTrue (list_all (λ labelled. is_sound_source labelled.source) sources.now) }
+    requires different { SourcesDiffer sources.now }
     ensures keys { IfOk result (λ keys. keys.items ≡ map (key_from rows.now routes.now sources.now) (members_from 0 addresses.now)) }
     ensures range { OnOk result (All InRange addresses.now) }
 {
@@ -191,7 +195,8 @@ fn rank_with_sources<A: Allocator + Copy>(
     sources: &[Labelled],
     addresses: &[Ip],
 ) -> Result<(Vec<Key, A>, Vec<Sourced, A>), AllocError>
-    requires { IsTrue (list_all (λ labelled. is_sound_source labelled.source) sources.now) }
+    requires sound { IsTrue (list_all (λ labelled. is_sound_source labelled.source) sources.now) }
+    requires different { SourcesDiffer sources.now }
     ensures keys { IfOk result (λ made. made.0.items ≡ map (key_from rows.now routes.now sources.now) (members_from 0 addresses.now)) }
     ensures sourced { IfOk result (λ made. made.1.items ≡ map (sourced_from rows.now routes.now sources.now) addresses.now) }
     ensures range { OnOk result (All InRange addresses.now) }

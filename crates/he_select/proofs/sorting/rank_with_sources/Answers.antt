@@ -8,8 +8,8 @@ use Rattle.he_select.specs.Preference.{members_from}
 use Rattle.he_select.specs.Ranking.{key_from, sourced_from}
 use Rattle.he_select.proofs.Chosen.{ranked_by_found}
 use Rattle.he_select.proofs.Stepping.{all_of_addresses, all_of_members, all_within, one_more_of_addresses, one_more_of_members, one_more_within}
-use Rattle.he_select.specs.declared.kinds.Kind.{Kind}
-use Rattle.he_select.specs.Closest.{IsKept}
+use Rattle.he_select.specs.declared.shortlists.Shortlist.{Shortlist}
+use Rattle.he_select.specs.Shortlists.{IsShortlist}
 use Rattle.he_select.proofs.Ties.{none_met}
 use Rattle.he_select.proofs.sorting.rank_with_sources.Goals as goal
 
@@ -22,7 +22,7 @@ loop-place-preserved g c =
           c.loop-place-test.true c.loop-place.invariant.1 c.in_ok-push-2.ensures.items (ap (λ (r : Ranked). r.sourced) ranked),
       one_more_within InRange c.args.addresses.now c.loop-place.place _ c.loop-place-test.true c.loop-place.invariant.2 c.in_ok-ranked.ensures.range,
       c.in_ok-ranked.ensures.numbers,
-      c.in_ok-ranked.ensures.kinds,
+      c.in_ok-ranked.ensures.shortlists,
     )
 
 pub loop-place-init : goal.loop-place-init
@@ -31,7 +31,7 @@ loop-place-init g c = (
   ap (λ (l : List Sourced). l ++ map (sourced_from c.args.rows.now c.args.routes.now c.args.sources.now) c.args.addresses.now) c.in_ok-sourced.ensures.items,
   AllWithin-none InRange c.args.addresses.now 0,
   c.in_ok-met.ensures.numbers,
-  none_met (λ (kind : Kind g.row.A.Denot). IsKept c.args.sources.now kind) c.in_ok-met.met.kinds.items c.in_ok-met.ensures.kinds,
+  none_met (λ (shortlist : Shortlist g.row.A.Denot). IsShortlist c.args.sources.now shortlist) c.in_ok-met.met.shortlists.items c.in_ok-met.ensures.shortlists,
 )
 
 pub returns : goal.returns

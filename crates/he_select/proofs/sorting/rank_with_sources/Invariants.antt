@@ -3,7 +3,7 @@ use Rattle.std.specs.List.{AllWithin}
 use Rattle.he_addr.specs.Ip.{InRange}
 use Rattle.he_select.specs.Ranking.{key_from, sourced_from}
 use Rattle.he_select.specs.Preference.{members_from}
-use Rattle.he_select.specs.Closest.{IsKept}
+use Rattle.he_select.specs.Shortlists.{IsShortlist}
 use Rattle.he_select.specs.Ties.{AreNumbers}
 use Rattle.he_select.proofs.sorting.rank_with_sources.Given as goal
 
@@ -13,4 +13,4 @@ invariant-loop-place g l =
     × (l.sourced.items ++ map (sourced_from l.rows l.routes l.sources) (drop l.place l.addresses) ≡ map (sourced_from l.rows l.routes l.sources) l.addresses)
     × AllWithin InRange l.addresses 0 l.place
     × AreNumbers l.sources l.met.numbers.items
-    × All (IsKept l.sources) l.met.kinds.items
+    × All (IsShortlist l.sources) l.met.shortlists.items
