@@ -14,6 +14,7 @@ pub mod Inserted
 pub mod Keyed
 pub mod LawsOfOrder
 pub mod Least
+pub mod Linked
 pub mod Listing
 pub mod LookUps
 pub mod Narrowed

@@ -1,25 +1,26 @@
 -- The sources that tie by rules 2 to 7 are what rules 5 to 7 leave of the shortlist, and these are the group that the destination
 -- looks at.
 use Rattle.std.proofs.Common.{◌≡◌, ℕ, ◌==◌, ◌&&◌, ◌||◌, ◌++◌, Bool, true, false, not, cond, List, [], ◌∷◌, refl, sym, ◌∙◌, ap, inl, inr}
-use Rattle.std.specs.Prelude.{None, Some, filter, nat_lt}
+use Rattle.std.specs.Prelude.{None, Option, Some, filter, nat_lt}
 use Rattle.std.specs.Bool.{beq}
 use Rattle.std.specs.Int.{abs_diff}
 use Rattle.std.specs.List.{list_all, list_any}
 use Rattle.std.specs.Cmp.{IsTotalOrder, bool_cmp_total}
 use Rattle.std.specs.declared.cmp.Ordering.{Ordering}
 use Rattle.std.specs.declared.cmp.Ordering.TheVariants.{Less, Equal, Greater}
-use Rattle.std.specs.Ordering.{bool_cmp, nat_cmp, ordering_then}
+use Rattle.std.specs.Ordering.{bool_cmp, is_lt, nat_cmp, ordering_then}
 use Rattle.std.proofs.lemmas.Bool.{both_ways, cases_Bool}
 use Rattle.std.proofs.lemmas.List.{append-nil, append_assoc}
 use Rattle.std.proofs.lemmas.Cmp.{alike_right, nat_cmp_total, on_total, then_total, tied_itself}
 use Rattle.he_addr.specs.Ip.{is_v6}
+use Rattle.he_addr.specs.Prefix.{common_of}
 use Rattle.he_select.specs.declared.groups.GroupBy.{GroupBy}
 use Rattle.he_select.specs.declared.groups.GroupBy.TheVariants.{InterfaceAndLabel, Interface, Label, Nothing}
 use Rattle.he_select.specs.declared.selection.Destination.{Destination}
 use Rattle.he_select.specs.declared.selection.Labelled.{Labelled}
 use Rattle.he_select.specs.Groups.{group_of, left_of, matches, prefer}
 use Rattle.he_select.specs.HostFaults.{is_sound_source}
-use Rattle.he_select.specs.LabelledRules.{admits}
+use Rattle.he_select.specs.LabelledRules.{admits, is_better_late, late_rules}
 use Rattle.he_select.specs.Rules.{first_of, yes_first}
 use Rattle.he_select.specs.Selection.{by_appropriate_scope, link_scope}
 use Rattle.he_select.specs.Shortlists.{shares_shortlist, shortlist_of, shortlist_rules}
@@ -27,7 +28,7 @@ use Rattle.he_select.specs.Ties.{closest_of, is_closer, join_by, join_tied, keep
 use Rattle.he_select.specs.Walking.{walk_fitting}
 use Rattle.he_select.proofs.Equality.{and_left, and_right, eq_from, flag_from}
 use Rattle.he_select.proofs.Orders.{no_as_less, scope_then, then_equal, yes_as_less}
-use Rattle.he_select.proofs.Ties.{AllTie, Level, lift, still, tied_all, tied_fit, total_alike}
+use Rattle.he_select.proofs.Ties.{AllTie, Level, lift, still, tied_all, tied_fit, tied_walk, total_alike}
 use Rattle.he_select.proofs.Walks.{any_follows}
 
 -- a member at the end of the list is looked at last
@@ -202,6 +203,35 @@ module _ (d : Destination) where
       ∙ staged (admits d) (first_of (shortlist_rules d)) shortlist_total last_three [] sources tt
       ∙ last_left (shortlist_of d sources)
 
+-- loops by equal comparisons find the same
+walk_same : {X : Type 0} (better other : X → X → Bool) → ((a b : X) → better a b ≡ other a b) → (best : Option X) (xs : List X)
+    → walk_fitting (λ _. true) better best xs ≡ walk_fitting (λ _. true) other best xs
+walk_same better other e best [] = refl
+walk_same better other e None (x ∷ xs) = walk_same better other e (Some x) xs
+walk_same better other e (Some b) (x ∷ xs) =
+    ap (λ w. walk_fitting (λ _. true) better (Some (cond w x b)) xs) (e x b) ∙ walk_same better other e (Some (cond (other x b) x b)) xs
+
+module _ (d : Destination) where
+  abbrev by_common : Labelled → Labelled → Ordering
+  by_common a b = nat_cmp (common_of b.source.ip b.source.plen d.ip) (common_of a.source.ip a.source.plen d.ip)
+
+  -- the rules from 5 on are the last three and then the longest common prefix
+  late_parted : (a b : Labelled) → first_of (late_rules d) a b ≡ ordering_then (last_three d a b) (by_common a b)
+  unfolding late_rules
+  late_parted a b =
+      lift (yes_first (is_outgoing d) a b) _ _ _
+      (lift (yes_first (has_label d) a b) _ _ _ (ap (λ r. ordering_then (yes_first (is_temporary d) a b) r) (then_equal (by_common a b))))
+
+  three_total : IsTotalOrder (last_three d)
+  three_total = then_total (yes_total (is_outgoing d)) (then_total (yes_total (has_label d)) (yes_total (is_temporary d)))
+
+  -- so the best one by them is the closest of those that rules 5 to 7 leave
+  pub late_left : (list : List Labelled) → walk_fitting (λ _. true) (is_better_late d) None list ≡ closest_of d (left_of d list)
+  late_left list =
+      walk_same (is_better_late d) (λ a b. is_lt (ordering_then (last_three d a b) (by_common a b))) (λ a b. ap is_lt (late_parted a b)) None list
+      ∙ tied_walk (λ _. true) (last_three d) three_total by_common [] list tt
+      ∙ ap (closest_of d) (last_left d list)
+
 module _ {X : Type 0} (p : X → Bool) where
   prefer_some : (xs : List X) → list_any p xs ≡ true → prefer p xs ≡ filter p xs
   prefer_some xs h = ap (λ b. cond b (filter p xs) xs) h
@@ -313,7 +343,7 @@ group_some by d list l h =
 pub shared_family : (a b : Destination) → shares_shortlist a b ≡ true → is_v6 a.ip ≡ is_v6 b.ip
 shared_family a b h = flag_from (is_v6 a.ip) (is_v6 b.ip) (and_left _ _ (and_left _ _ h))
 
-shared_scope : (a b : Destination) → shares_shortlist a b ≡ true → a.scope ≡ b.scope
+pub shared_scope : (a b : Destination) → shares_shortlist a b ≡ true → a.scope ≡ b.scope
 shared_scope a b h = eq_from a.scope b.scope (and_right _ _ (and_left _ _ h))
 
 -- the interface counts only where the scope is the link's

@@ -1,5 +1,5 @@
 -- Where no two sources have one address, the source that has the destination's is the best, if it may be used.
-use Rattle.std.proofs.Common.{◌≡◌, ℕ, zero, suc, ◌<◌, ◌⊎◌, ◌||◌, Bool, true, false, List, [], ◌∷◌, length, map, get_or, refl, sym, ◌∙◌, ap, subst, inl, inr, arith}
+use Rattle.std.proofs.Common.{◌≡◌, ℕ, zero, suc, ◌<◌, ◌⊎◌, ◌&&◌, ◌||◌, Bool, true, false, List, [], ◌∷◌, length, map, get_or, refl, sym, ◌∙◌, ap, subst, inl, inr, arith}
 use Rattle.std.specs.Prelude.{◌≢◌, AllPairs, Option, None, Some}
 use Rattle.std.specs.List.{list_all, list_any}
 use Rattle.std.proofs.lemmas.Bool.{cases_Bool}
@@ -12,14 +12,22 @@ use Rattle.he_select.specs.declared.selection.Destination.{Destination}
 use Rattle.he_select.specs.declared.selection.Labelled.{Labelled}
 use Rattle.he_select.specs.HostFaults.{is_sound_source}
 use Rattle.he_select.specs.LabelledRules.{admits, is_better_labelled, labelled_of, labelled_rules}
-use Rattle.he_select.specs.Ties.{IsOwn, SourcesDiffer}
+use Rattle.he_select.specs.Ties.{IsOwn, SourcesDiffer, is_usable_own}
 use Rattle.he_select.specs.Walking.{walk_fitting}
 use Rattle.he_select.proofs.Equality.{ip_from}
-use Rattle.he_select.proofs.Ties.{sound_at}
+use Rattle.he_select.proofs.Ties.{no_more, sound_at}
 
-no_more : (p q : Bool) → (p || q) ≡ false → (p ≡ false) × (q ≡ false)
-no_more false q h = (refl, h)
-no_more true q h = cc
+neither : (p q : Bool) → p ≡ false → q ≡ false → (p || q) ≡ false
+neither false q h k = k
+neither true q h k = h
+
+no_part : (p q : Bool) → p ≡ false → (p && q) ≡ false
+no_part false q h = refl
+no_part true q h = cc
+
+no_other_part : (p q : Bool) → q ≡ false → (p && q) ≡ false
+no_other_part false q h = refl
+no_other_part true q h = h
 
 fewer_differ : (x : Labelled) (xs : List Labelled) → SourcesDiffer (x ∷ xs) → SourcesDiffer xs
 fewer_differ x xs differ i j d before inside = differ (suc i) (suc j) d (omega arith) (omega arith)
@@ -108,6 +116,24 @@ module _ (d : Destination) where
   pub own_best : (sources : List Labelled) (own : Labelled) → SourcesDiffer sources → IsOwn d sources own → admits d own ≡ true
       → walk_fitting (admits d) (is_better_labelled d) None sources ≡ Some own
   own_best sources own differ is fit = becomes own None sources is.1 fit tt (only_at own sources is.0.0 differ is.0.1 is.0.2 is.1)
+
+  -- where no source has the destination's address, none has it and may be used
+  pub none_usable : (xs : List Labelled) → list_any is_same xs ≡ false → list_any (is_usable_own d) xs ≡ false
+  none_usable [] none = refl
+  none_usable (x ∷ xs) none =
+      let parts = no_more (is_same x) (list_any is_same xs) none in
+      neither (is_usable_own d x) (list_any (is_usable_own d) xs) (no_part (is_same x) (admits d x) parts.0) (none_usable xs parts.1)
+
+  -- nor where the one that has it may not be used
+  none_beside : (own : Labelled) (xs : List Labelled) → admits d own ≡ false → Only own xs → list_any (is_usable_own d) xs ≡ false
+  none_beside own [] unfit only = absurd only
+  none_beside own (x ∷ xs) unfit (inl here) =
+      neither (is_usable_own d x) (list_any (is_usable_own d) xs) (no_other_part (is_same x) (admits d x) (ap (admits d) here.0 ∙ unfit)) (none_usable xs here.1)
+  none_beside own (x ∷ xs) unfit (inr later) =
+      neither (is_usable_own d x) (list_any (is_usable_own d) xs) (no_part (is_same x) (admits d x) later.0) (none_beside own xs unfit later.1)
+
+  pub own_unusable : (sources : List Labelled) (own : Labelled) → SourcesDiffer sources → IsOwn d sources own → admits d own ≡ false → list_any (is_usable_own d) sources ≡ false
+  own_unusable sources own differ is unfit = none_beside own sources unfit (only_at own sources is.0.0 differ is.0.1 is.0.2 is.1)
 
   pub own_sound : (sources : List Labelled) (own : Labelled) → list_all (λ l. is_sound_source l.source) sources ≡ true → IsOwn d sources own → is_sound_source own.source ≡ true
   own_sound sources own sound is = subst (λ (l : Labelled). is_sound_source l.source ≡ true) is.0.2 (sound_at sources is.0.0 own is.0.1 sound)

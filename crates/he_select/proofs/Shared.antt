@@ -2,7 +2,7 @@
 use Rattle.std.proofs.Common.{◌≡◌, ℕ, ◌<◌, All, Bool, true, false, List, length, get_or, sym, ◌∙◌, ap, subst}
 use Rattle.std.specs.Prelude.{None, Option, Vec}
 use Rattle.std.specs.List.{HoldsAt, list_all, list_any}
-use Rattle.he_addr.specs.Ip.{is_v6, same_ip}
+use Rattle.he_addr.specs.Ip.{is_v6}
 use Rattle.he_select.specs.declared.selection.Destination.{Destination}
 use Rattle.he_select.specs.declared.selection.Labelled.{Labelled}
 use Rattle.he_select.specs.declared.shortlists.Shortlist.{Shortlist}
@@ -10,7 +10,7 @@ use Rattle.he_select.specs.Groups.{left_of}
 use Rattle.he_select.specs.HostFaults.{is_sound_source}
 use Rattle.he_select.specs.LabelledRules.{admits, is_better_labelled}
 use Rattle.he_select.specs.Shortlists.{HasGroups, IsShortlist, shares_shortlist, shortlist_of}
-use Rattle.he_select.specs.Ties.{closest_of}
+use Rattle.he_select.specs.Ties.{closest_of, is_usable_own}
 use Rattle.he_select.specs.Walking.{walk_fitting}
 use Rattle.he_select.proofs.Narrowed.{shared_family, shared_shortlist, shortlist_admitted, shortlist_sound, tied_left}
 use Rattle.he_select.proofs.Ties.{closest_is}
@@ -53,8 +53,8 @@ module _ {A : Type 0} (sources : List Labelled) (d : Destination) (shortlist : S
   pub admitted : Fits → list_all (admits d) shortlist.sources.items ≡ true
   admitted fits = ap (list_all (admits d)) fits.same ∙ shortlist_admitted d sources
 
-  -- where no source has the destination's address, the closest of those that are left is the best of all
-  pub best_is : Fits → list_any (λ l. same_ip l.source.ip d.ip) sources ≡ false → (best : Option Labelled) → best ≡ closest_of d (left_of d shortlist.sources.items)
+  -- where no source that may be used has the destination's address, the closest of those that are left is the best of all
+  pub best_is : Fits → list_any (is_usable_own d) sources ≡ false → (best : Option Labelled) → best ≡ closest_of d (left_of d shortlist.sources.items)
       → best ≡ walk_fitting (admits d) (is_better_labelled d) None sources
   best_is fits other best is = is ∙ ap (λ (l : List Labelled). closest_of d (left_of d l)) fits.same ∙ ap (closest_of d) (sym (tied_left d sources)) ∙ closest_is d sources other
 

@@ -1,5 +1,5 @@
 -- The closest of the sources that tie is the source that a loop over all sources finds.
-use Rattle.std.proofs.Common.{◌≡◌, ℕ, ◌<◌, ◌==◌, ◌||◌, ◌++◌, Bool, true, false, not, cond, List, [], ◌∷◌, length, get_or, refl, sym, ◌∙◌, ap, subst, inl, inr, All, arith}
+use Rattle.std.proofs.Common.{◌≡◌, ℕ, ◌<◌, ◌==◌, ◌&&◌, ◌||◌, ◌++◌, Bool, true, false, not, cond, List, [], ◌∷◌, length, get_or, refl, sym, ◌∙◌, ap, subst, inl, inr, All, arith}
 use Rattle.std.specs.Prelude.{⊤, Option, None, Some, nat_eq, nat_lt}
 use Rattle.std.specs.Int.{abs_diff}
 use Rattle.std.specs.List.{list_all, list_any}
@@ -18,7 +18,7 @@ use Rattle.he_select.specs.HostFaults.{is_sound_source}
 use Rattle.he_select.specs.LabelledRules.{admits, is_better_labelled, labelled_rules, late_rules}
 use Rattle.he_select.specs.Rules.{Rule, first_of, yes_first}
 use Rattle.he_select.specs.Selection.{by_appropriate_scope}
-use Rattle.he_select.specs.Ties.{closest_of, join_by, join_tied, keep_tied, kind_rules, tied_from, tied_of}
+use Rattle.he_select.specs.Ties.{closest_of, is_usable_own, join_by, join_tied, keep_tied, kind_rules, tied_from, tied_of}
 use Rattle.he_select.specs.Walking.{keep_better, walk_fitting}
 use Rattle.he_select.proofs.Equality.{and_both, and_left, and_right}
 use Rattle.he_select.proofs.Orders.{no_as_less, scope_then, then_equal, then_same, yes_as_less}
@@ -82,7 +82,7 @@ module _ {X : Type 0} (fits : X → Bool) (cmp : X → X → Ordering) (o : IsTo
   still [] x h = tt
   still (t ∷ ts) x h = still_by t ts x h (cmp x t) refl
 
-  tied_walk : (tied xs : List X) → AllTie cmp tied → walk_fitting fits better (walk None tied) xs ≡ walk None (tied_from fits cmp tied xs)
+  pub tied_walk : (tied xs : List X) → AllTie cmp tied → walk_fitting fits better (walk None tied) xs ≡ walk None (tied_from fits cmp tied xs)
   tied_walk tied [] h = refl
   tied_walk tied (x ∷ xs) h =
       elim (cases_Bool (fits x)) [
@@ -142,6 +142,10 @@ total_alike R S e o = record {
   congr = λ x y z h. e x z ∙ o.congr x y z (sym (e x y) ∙ h) ∙ sym (e y z);
 }
 
+pub no_more : (p q : Bool) → (p || q) ≡ false → (p ≡ false) × (q ≡ false)
+no_more false q h = (refl, h)
+no_more true q h = cc
+
 module _ (d : Destination) where
   abbrev by_numbers : Labelled → Labelled → Ordering
   by_numbers a b =
@@ -197,10 +201,6 @@ module _ (d : Destination) where
       rest : List (Rule Labelled)
       rest = (λ x y. by_appropriate_scope d.scope x.scope y.scope) ∷ yes_first (λ l. not l.source.deprecated) ∷ late_rules d
 
-  no_more : (p q : Bool) → (p || q) ≡ false → (p ≡ false) × (q ≡ false)
-  no_more false q h = (refl, h)
-  no_more true q h = cc
-
   abbrev kept_same : Option Labelled → Bool
   kept_same None = false
   kept_same (Some l) = is_same l
@@ -208,24 +208,30 @@ module _ (d : Destination) where
   abbrev by_rules : Labelled → Labelled → Bool
   by_rules a b = is_lt (by_others a b)
 
-  -- no source has the destination's address: the first rule never decides
-  without_same : (best : Option Labelled) (xs : List Labelled) → kept_same best ≡ false → list_any is_same xs ≡ false
+  differs : (p q : Bool) → (p && q) ≡ false → q ≡ true → p ≡ false
+  differs false q none fit = refl
+  differs true q none fit = sym fit ∙ none
+
+  -- no source that may be used has the destination's address: the first rule never decides
+  without_same : (best : Option Labelled) (xs : List Labelled) → kept_same best ≡ false → list_any (is_usable_own d) xs ≡ false
       → walk_fitting (admits d) (is_better_labelled d) best xs ≡ walk_fitting (admits d) by_rules best xs
   without_same best [] h none = refl
   without_same None (x ∷ xs) h none =
-      let parts = no_more (is_same x) (list_any is_same xs) none in
+      let parts = no_more (is_usable_own d x) (list_any (is_usable_own d) xs) none in
       elim (cases_Bool (admits d x)) [
-        | inl fit ↦ rw fit (without_same (Some x) xs parts.0 parts.1)
+        | inl fit ↦ rw fit (without_same (Some x) xs (differs (is_same x) (admits d x) parts.0 fit) parts.1)
         | inr unfit ↦ rw unfit (without_same None xs h parts.1)
       ]
   without_same (Some b) (x ∷ xs) h none =
-      let parts = no_more (is_same x) (list_any is_same xs) none in
+      let parts = no_more (is_usable_own d x) (list_any (is_usable_own d) xs) none in
       elim (cases_Bool (admits d x)) [
-        | inl fit ↦ rw fit (
-            ap (λ o. walk_fitting (admits d) (is_better_labelled d) (Some (cond (is_lt o) x b)) xs) (others x b parts.0 h)
+        | inl fit ↦
+            let differ : is_same x ≡ false = differs (is_same x) (admits d x) parts.0 fit in
+            rw fit (
+            ap (λ o. walk_fitting (admits d) (is_better_labelled d) (Some (cond (is_lt o) x b)) xs) (others x b differ h)
             ∙ elim (cases_Bool (by_rules x b)) [
               | inl won ↦ ap (λ w. walk_fitting (admits d) (is_better_labelled d) (Some (cond w x b)) xs) won
-                  ∙ without_same (Some x) xs parts.0 parts.1
+                  ∙ without_same (Some x) xs differ parts.1
                   ∙ ap (λ w. walk_fitting (admits d) by_rules (Some (cond w x b)) xs) (sym won)
               | inr lost ↦ ap (λ w. walk_fitting (admits d) (is_better_labelled d) (Some (cond w x b)) xs) lost
                   ∙ without_same (Some b) xs h parts.1
@@ -234,17 +240,9 @@ module _ (d : Destination) where
         | inr unfit ↦ rw unfit (without_same (Some b) xs h parts.1)
       ]
 
-  pub closest_is : (sources : List Labelled) → list_any is_same sources ≡ false → closest_of d (tied_of d sources) ≡ walk_fitting (admits d) (is_better_labelled d) None sources
+  pub closest_is : (sources : List Labelled) → list_any (is_usable_own d) sources ≡ false → closest_of d (tied_of d sources) ≡ walk_fitting (admits d) (is_better_labelled d) None sources
   closest_is sources none =
       sym (without_same None sources refl none ∙ tied_walk (admits d) (first_of (kind_rules d)) kind_total by_common [] sources tt)
-
--- sources that tie may be used
-pub tied_admitted : (d : Destination) (sources : List Labelled) → list_all (admits d) (tied_of d sources) ≡ true
-tied_admitted d sources = tied_fit (admits d) (first_of (kind_rules d)) [] sources refl
-
--- sources that tie are sound as all are
-pub tied_sound : (d : Destination) (sources : List Labelled) → list_all (λ l. is_sound_source l.source) sources ≡ true → list_all (λ l. is_sound_source l.source) (tied_of d sources) ≡ true
-tied_sound d sources h = tied_all (λ l. is_sound_source l.source) (admits d) (first_of (kind_rules d)) [] sources refl h
 
 pub none_met : {K : Type 0} (P : K → Type 0) (kinds : List K) → kinds ≡ [] → All P kinds
 none_met P kinds is = subst (All P) (sym is) (λ k d inside. absurd (omega arith))

@@ -9,7 +9,9 @@ pub mod Hosts
 pub mod KeyOrder
 pub mod LabelledRules
 pub mod Laws
+pub mod Links
 pub mod Longest
+pub mod Met
 pub mod Numbers
 pub mod Pieces
 pub mod Places

@@ -1,6 +1,6 @@
 -- Mirrors the code: the sources that tie for a destination, the closest of them, and the sources' numbers. Laws in proofs/ tie
 -- them to the loop over all sources.
-use Rattle.std.specs.Prelude.{ℕ, ◌+◌, ◌==◌, ◌<◌, ◌≢◌, ◌++◌, AllPairs, Bool, Contains, true, not, cond, List, [], ◌∷◌, length, Option, None, IsPermutation, IsSorted, IsTrue}
+use Rattle.std.specs.Prelude.{ℕ, ◌+◌, ◌==◌, ◌&&◌, ◌<◌, ◌≢◌, ◌++◌, AllPairs, Bool, Contains, true, not, cond, List, [], ◌∷◌, length, Option, None, IsPermutation, IsSorted, IsTrue}
 use Rattle.std.specs.declared.cmp.Ordering.{Ordering}
 use Rattle.std.specs.declared.cmp.Ordering.TheVariants.{Less, Equal, Greater}
 use Rattle.std.specs.Ordering.{is_lt, nat_cmp, ordering_then}
@@ -39,6 +39,10 @@ SourcesDiffer sources = AllPairs (λ a b. a.source.ip ≢ b.source.ip) sources
 -- one of the sources, with the destination's address
 abbrev pub IsOwn : Destination → List Labelled → Labelled → Type 0
 IsOwn destination sources own = Contains sources own × IsTrue (same_ip own.source.ip destination.ip)
+
+-- the source has the destination's address and may be used
+abbrev pub is_usable_own : Destination → Labelled → Bool
+is_usable_own destination labelled = same_ip labelled.source.ip destination.ip && admits destination labelled
 
 -- the members that tie, with one more that compares so to each of them
 abbrev pub join_by : {X : Type 0} → Ordering → List X → X → List X

@@ -44,6 +44,7 @@ pub(crate) struct GroupKey {
 }
 
 impl GroupBy {
+    #[inline(always)]
     fn key(self, interface: u16, label: u16, lasting: bool) -> GroupKey
         ensures { result ≡ key_by self interface label lasting }
     {
@@ -60,6 +61,7 @@ impl GroupBy {
         }
     }
 
+    #[inline(always)]
     fn key_of(self, labelled: &Labelled) -> GroupKey
         ensures { result ≡ key_of self labelled.now }
     {
@@ -68,6 +70,37 @@ impl GroupBy {
             labelled.label,
             !labelled.source.temporary,
         )
+    }
+
+    /// Whether a source's key goes before this one. Fields are compared one by one, which costs less than the derived
+    /// order.
+    #[inline(always)]
+    fn precedes(self, labelled: &Labelled, key: GroupKey) -> bool
+        ensures { result ≡ is_lt (group_cmp (key_of self labelled.now) key) }
+    {
+        let own = self.key_of(labelled);
+        if own.interface != key.interface {
+            return own.interface < key.interface;
+        }
+        if own.label != key.label {
+            return own.label < key.label;
+        }
+        !own.lasting && key.lasting
+    }
+
+    /// Whether a source's key is this one or goes before it.
+    #[inline(always)]
+    fn reaches(self, labelled: &Labelled, key: GroupKey) -> bool
+        ensures { result ≡ is_le (group_cmp (key_of self labelled.now) key) }
+    {
+        let own = self.key_of(labelled);
+        if own.interface != key.interface {
+            return own.interface < key.interface;
+        }
+        if own.label != key.label {
+            return own.label < key.label;
+        }
+        !own.lasting || key.lasting
     }
 
     /// Whether a source has the destination's interface and label, as far as they are looked at.
@@ -209,7 +242,7 @@ impl<A: Allocator> Groups<A> {
         self.sources.partition_point(
             |labelled|
                 ensures { result ≡ is_lt (group_cmp (key_of by labelled.now) key) }
-            { by.key_of(labelled) < key },
+            { by.precedes(labelled, key) },
         )
     }
 
@@ -224,12 +257,13 @@ impl<A: Allocator> Groups<A> {
         self.sources.partition_point(
             |labelled|
                 ensures { result ≡ is_le (group_cmp (key_of by labelled.now) key) }
-            { by.key_of(labelled) <= key },
+            { by.reaches(labelled, key) },
         )
     }
 }
 
 /// The sources of the shortlist in the order of their keys, those of one key in the order of the shortlist.
+#[inline(never)]
 fn sorted<A: Allocator>(
     alloc: A,
     by: GroupBy,
@@ -248,6 +282,7 @@ fn sorted<A: Allocator>(
 
 /// The closest one of the sources of a group that begins at this place, by the places that are kept there, or else are
 /// made.
+#[inline(never)]
 fn search<A: Allocator + Copy>(
     alloc: A,
     places: &mut Vec<Option<Pieces<usize, A>>, A>,
@@ -286,7 +321,7 @@ fn closest_at<A: Allocator>(
 }
 
 /// Keeps what was made of a group at the place where it begins.
-fn keep<T: Drop, A: Allocator>(
+pub(crate) fn keep<T: Drop, A: Allocator>(
     list: &mut Vec<Option<T>, A>,
     place: usize,
     made: T,

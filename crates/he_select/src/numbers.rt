@@ -1,13 +1,13 @@
 // The numbers of a host's sources in ascending order, by which the source that has a destination's address is found.
 
-ghost use Rattle.std.specs.Prelude.{◌≡◌, ◌==◌, ◌<◌, ◌≤◌, None, false, IsPermutation, IsSorted, IsTrue, IfOk, IfSome};
+ghost use Rattle.std.specs.Prelude.{◌≡◌, ◌==◌, ◌<◌, ◌≤◌, None, Some, false, IsPermutation, IsSorted, IsTrue, IfOk, IfSome};
 ghost use Rattle.std.specs.List.{list_all, list_any};
 ghost use Rattle.std.specs.List.Sorted.{IsPartitionPoint};
 ghost use Rattle.std.specs.Option.{IfNone};
 ghost use Rattle.he_addr.specs.Ip.{same_ip};
 ghost use Rattle.he_select.specs.HostFaults.{is_sound_source};
 ghost use Rattle.he_select.specs.LabelledRules.{admits, is_better_labelled};
-ghost use Rattle.he_select.specs.Ties.{AreNumbers, IsOwn, SourcesDiffer, numbered_cmp, numbered_from};
+ghost use Rattle.he_select.specs.Ties.{AreNumbers, IsOwn, SourcesDiffer, is_usable_own, numbered_cmp, numbered_from};
 ghost use Rattle.he_select.specs.Walking.{walk_fitting};
 
 use crate::selection::{Destination, Labelled};
@@ -77,25 +77,39 @@ fn first_from(numbers: &[Numbered], number: u128) -> usize
 }
 
 impl Destination {
-    /// The source that has this destination's address, if one has.
+    /// The source that has this destination's address, if one has that and may be used: by rule 1 it is the best.
     pub(crate) fn own_source(&self, sources: &[Labelled], numbers: &[Numbered]) -> Option<Labelled>
+        requires sound { IsTrue (list_all (λ labelled. is_sound_source labelled.source) sources.now) }
+        requires different { SourcesDiffer sources.now }
+        requires numbers { AreNumbers sources.now numbers.now }
+        ensures best { IfSome result (λ own. Some own ≡ walk_fitting (admits self.now) (is_better_labelled self.now) None sources.now) }
+        ensures sound { IfSome result (λ labelled. IsTrue (is_sound_source labelled.source)) }
+        ensures none { IfNone result (list_any (is_usable_own self.now) sources.now ≡ false) }
+    {
+        let own = self.find_own(sources, numbers)?;
+        // Rule 1: prefer same address.
+        if self.admits(&own) { Some(own) } else { None }
+    }
+
+    /// The source that has this destination's address, if one has.
+    fn find_own(&self, sources: &[Labelled], numbers: &[Numbered]) -> Option<Labelled>
         requires { AreNumbers sources.now numbers.now }
         ensures own { IfSome result (IsOwn self.now sources.now) }
         ensures none { IfNone result (list_any (λ labelled. same_ip labelled.source.ip self.now.ip) sources.now ≡ false) }
     {
         if numbers.is_empty() {
-            return self.find_own(sources);
+            return self.look_for_own(sources);
         }
         let numbered = search(numbers, self.ip.mapped())?;
         match sources.get(numbered.place) {
             Some(own) if own.source.ip == self.ip => Some(*own),
             // No two usable addresses have one number.
-            _ => self.find_own(sources),
+            _ => self.look_for_own(sources),
         }
     }
 
     /// The same with a look at each source.
-    fn find_own(&self, sources: &[Labelled]) -> Option<Labelled>
+    fn look_for_own(&self, sources: &[Labelled]) -> Option<Labelled>
         ensures own { IfSome result (IsOwn self.now sources.now) }
         ensures none { IfNone result (list_any (λ labelled. same_ip labelled.source.ip self.now.ip) sources.now ≡ false) }
     {
@@ -105,21 +119,5 @@ impl Destination {
             }
         }
         None
-    }
-
-    /// The best of the sources, of which this one has the destination's address.
-    pub(crate) fn best_beside(&self, sources: &[Labelled], own: Labelled) -> Option<Labelled>
-        requires sound { IsTrue (list_all (λ labelled. is_sound_source labelled.source) sources.now) }
-        requires different { SourcesDiffer sources.now }
-        requires own { IsOwn self.now sources.now own }
-        ensures best { result ≡ walk_fitting (admits self.now) (is_better_labelled self.now) None sources.now }
-        ensures sound { IfSome result (λ labelled. IsTrue (is_sound_source labelled.source)) }
-    {
-        // Rule 1: prefer same address.
-        if self.admits(&own) {
-            Some(own)
-        } else {
-            self.best_of(sources)
-        }
     }
 }

@@ -8,17 +8,17 @@ ghost use Rattle.std.specs.Ordering.{as_partial_cmp, eq_by_cmp};
 ghost use Rattle.std.proofs.Common.{refl};
 ghost use Rattle.he_addr.specs.Ip.{InRange};
 ghost use Rattle.he_addr.specs.Prefix.{common_of};
-ghost use Rattle.he_select.specs.Shortlists.{IsShortlist};
 ghost use Rattle.he_select.specs.KeyOrder.{key_order, key_order_total, late_key_cmp};
 ghost use Rattle.he_select.specs.Ranking.{attributes_by, chosen_by, key_by, ranked_by};
 ghost use Rattle.he_select.specs.HostFaults.{is_sound_source};
-ghost use Rattle.he_select.specs.Ties.{AreNumbers, SourcesDiffer};
+ghost use Rattle.he_select.specs.Met.{IsMet};
+ghost use Rattle.he_select.specs.Ties.{SourcesDiffer};
 
 use crate::host::Route;
 use crate::lookup::find_row;
+use crate::met::{Met, choose};
 use crate::policy::Row;
 use crate::selection::{Destination, Labelled};
-use crate::shortlists::{Met, choose};
 use crate::sorting::Sourced;
 use he_addr::{Ip, common_len};
 use std::alloc::{AllocError, Allocator};
@@ -144,11 +144,9 @@ pub(crate) fn rank<A: Allocator + Copy>(
 ) -> Result<Ranked, AllocError>
     requires sound { IsTrue (list_all (λ labelled. is_sound_source labelled.source) sources.now) }
     requires different { SourcesDiffer sources.now }
-    requires numbers { AreNumbers sources.now met.old.numbers.items }
-    requires shortlists { All (IsShortlist sources.now) met.old.shortlists.items }
+    requires met { IsMet sources.now met.old }
     ensures ranked { IfOk result (λ ranked. ranked ≡ ranked_by rows.now route sources.now (record { ip = ip; place = place })) }
-    ensures numbers { OnOk result (AreNumbers sources.now met.new.numbers.items) }
-    ensures shortlists { OnOk result (All (IsShortlist sources.now) met.new.shortlists.items) }
+    ensures met { OnOk result (IsMet sources.now met.new) }
     ensures range { InRange ip }
 {
     let goal = Attributes::new(rows, route, ip);
@@ -187,12 +185,10 @@ impl Attributes {
     ) -> Result<Option<Labelled>, AllocError>
         requires sound { IsTrue (list_all (λ labelled. is_sound_source labelled.source) sources.now) }
         requires different { SourcesDiffer sources.now }
-        requires numbers { AreNumbers sources.now met.old.numbers.items }
-        requires shortlists { All (IsShortlist sources.now) met.old.shortlists.items }
+        requires met { IsMet sources.now met.old }
         ensures chosen { IfOk result (λ chosen. chosen ≡ chosen_by self.now sources.now) }
         ensures sound { IfOk result (λ chosen. IfSome chosen (λ labelled. IsTrue (is_sound_source labelled.source))) }
-        ensures numbers { OnOk result (AreNumbers sources.now met.new.numbers.items) }
-        ensures shortlists { OnOk result (All (IsShortlist sources.now) met.new.shortlists.items) }
+        ensures met { OnOk result (IsMet sources.now met.new) }
     {
         match self.route {
             Some(route) => {

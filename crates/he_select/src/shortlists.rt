@@ -1,30 +1,24 @@
-// What is kept of the sources from one destination to the next: for each family and scope those that rules 2 and 3 leave.
+// What rules 2 and 3 leave of the sources.
 
-ghost use Rattle.std.specs.Prelude.{◌≡◌, ◌<◌, All, None, [], length, IsTrue, IfOk, IfSome, OnOk};
-ghost use Rattle.std.specs.List.{list_all, HoldsAt};
+ghost use Rattle.std.specs.Prelude.{◌≡◌, IsTrue, IfOk, IfSome, OnOk};
+ghost use Rattle.std.specs.List.{list_all};
 ghost use Rattle.he_addr.specs.Ip.{is_v6};
 ghost use Rattle.he_select.specs.Groups.{left_of};
 ghost use Rattle.he_select.specs.HostFaults.{is_sound_source};
-ghost use Rattle.he_select.specs.LabelledRules.{admits, is_better_labelled};
+ghost use Rattle.he_select.specs.LabelledRules.{admits};
 ghost use Rattle.he_select.specs.Rules.{first_of};
 ghost use Rattle.he_select.specs.Selection.{by_appropriate_scope};
 ghost use Rattle.he_select.specs.Shortlists.{HasGroups, IsShortlist, shares_shortlist, shortlist_of, shortlist_rules};
-ghost use Rattle.he_select.specs.Ties.{AreNumbers, SourcesDiffer, closest_of, keep_tied};
-ghost use Rattle.he_select.specs.Walking.{walk_fitting};
+ghost use Rattle.he_select.specs.Ties.{closest_of, keep_tied};
 
 use crate::groups::{GroupBy, Groups};
-use crate::numbers::{Numbered, sorted_numbers};
 use crate::selection::{Destination, Labelled};
 use he_addr::ip::LINK_LOCAL_SCOPE;
 use std::alloc::{AllocError, Allocator};
 use std::cmp::Ordering;
 
-/// Of so few sources to ask each one costs less than to keep which of them rules 2 and 3 leave.
-const FEW_SOURCES: usize = 4;
-
-/// With more sources and more destinations than these, to sort the sources' numbers and search them costs less than to
-/// look at each source for each destination.
-const FEW_TO_SEARCH: usize = 8;
+/// To look at each of so few sources costs less than to find a group of them.
+const FEW_SHORTLISTED: usize = 8;
 
 /// The sources that rules 2 and 3 leave for a destination. These look at its family and scope alone, of link scope at
 /// its interface as well, and a list of addresses has few such.
@@ -49,7 +43,7 @@ pub(crate) struct Shortlist<A: Allocator> {
 }
 
 impl<A: Allocator + Copy> Shortlist<A> {
-    fn new(
+    pub(crate) fn new(
         alloc: A,
         sources: &[Labelled],
         destination: &Destination,
@@ -68,7 +62,30 @@ impl<A: Allocator + Copy> Shortlist<A> {
     }
 
     /// The closest one of the sources that rules 5 to 7 leave, for a destination that has this shortlist.
-    fn closest(
+    pub(crate) fn closest(
+        &mut self,
+        alloc: A,
+        destination: &Destination,
+        destinations: usize,
+    ) -> Result<Option<Labelled>, AllocError>
+        requires sound { IsTrue (list_all (λ labelled. is_sound_source labelled.source) self.old.sources.items) }
+        requires admitted { IsTrue (list_all (admits destination.now) self.old.sources.items) }
+        requires groups { HasGroups (is_v6 destination.now.ip) self.old }
+        ensures closest { IfOk result (λ best. best ≡ closest_of destination.now (left_of destination.now self.old.sources.items)) }
+        ensures sound { IfOk result (λ best. IfSome best (λ labelled. IsTrue (is_sound_source labelled.source))) }
+        ensures destination { self.new.destination ≡ self.old.destination }
+        ensures sources { self.new.sources ≡ self.old.sources }
+        ensures groups { OnOk result (HasGroups (is_v6 destination.now.ip) self.new) }
+    {
+        if self.sources.len() <= FEW_SHORTLISTED {
+            return Ok(destination.best_late(&self.sources));
+        }
+        self.closest_in_groups(alloc, destination, destinations)
+    }
+
+    /// The same by groups of them.
+    #[inline(never)]
+    fn closest_in_groups(
         &mut self,
         alloc: A,
         destination: &Destination,
@@ -107,91 +124,9 @@ impl<A: Allocator + Copy> Shortlist<A> {
     }
 }
 
-/// What is kept of the sources from one destination to the next.
-#[derive(Drop)]
-pub(crate) struct Met<A: Allocator> {
-    /// The numbers of the sources in ascending order; none where a look at each source costs less than a search.
-    pub(crate) numbers: Vec<Numbered, A>,
-
-    /// The shortlists of the destinations so far.
-    pub(crate) shortlists: Vec<Shortlist<A>, A>,
-
-    /// How many destinations there are in all.
-    pub(crate) destinations: usize,
-}
-
-impl<A: Allocator + Copy> Met<A> {
-    /// Before the first of so many destinations.
-    pub(crate) fn new(
-        alloc: A,
-        sources: &[Labelled],
-        destinations: usize,
-    ) -> Result<Met<A>, AllocError>
-        ensures numbers { IfOk result (λ met. AreNumbers sources.now met.numbers.items) }
-        ensures shortlists { IfOk result (λ met. met.shortlists.items ≡ []) }
-    {
-        let numbers = if sources.len() > FEW_TO_SEARCH && destinations > FEW_TO_SEARCH {
-            sorted_numbers(alloc, sources)?
-        } else {
-            Vec::new(alloc)
-        };
-        Ok(Met {
-            numbers,
-            shortlists: Vec::new(alloc),
-            destinations,
-        })
-    }
-}
-
-/// The best of the sources that may be used for the destination, by the shortlists of the destinations before; one that
-/// is met first is kept with them.
-pub(crate) fn choose<A: Allocator + Copy>(
-    alloc: A,
-    met: &mut Met<A>,
-    sources: &[Labelled],
-    destination: &Destination,
-) -> Result<Option<Labelled>, AllocError>
-    requires sound { IsTrue (list_all (λ labelled. is_sound_source labelled.source) sources.now) }
-    requires different { SourcesDiffer sources.now }
-    requires numbers { AreNumbers sources.now met.old.numbers.items }
-    requires shortlists { All (IsShortlist sources.now) met.old.shortlists.items }
-    ensures best { IfOk result (λ best. best ≡ walk_fitting (admits destination.now) (is_better_labelled destination.now) None sources.now) }
-    ensures sound { IfOk result (λ best. IfSome best (λ labelled. IsTrue (is_sound_source labelled.source))) }
-    ensures numbers { OnOk result (AreNumbers sources.now met.new.numbers.items) }
-    ensures shortlists { OnOk result (All (IsShortlist sources.now) met.new.shortlists.items) }
-{
-    if sources.len() <= FEW_SOURCES {
-        return Ok(destination.best_of(sources));
-    }
-    if let Some(own) = destination.own_source(sources, &met.numbers) {
-        return Ok(destination.best_beside(sources, own));
-    }
-    let destinations = met.destinations;
-    if let Some(place) = place_of(&met.shortlists, destination) {
-        return met.shortlists[place].closest(alloc, destination, destinations);
-    }
-    let mut shortlist = Shortlist::new(alloc, sources, destination)?;
-    let best = shortlist.closest(alloc, destination, destinations)?;
-    met.shortlists.push(shortlist)?;
-    Ok(best)
-}
-
-/// The place of this destination's shortlist, where one was met before that has it.
-fn place_of<A: Allocator>(shortlists: &[Shortlist<A>], destination: &Destination) -> Option<usize>
-    ensures inside { IfSome result (λ place. place < length shortlists.now) }
-    ensures shared { IfSome result (λ place. HoldsAt (λ shortlist. IsTrue (shares_shortlist shortlist.destination destination.now)) shortlists.now place) }
-{
-    for place in 0..shortlists.len() {
-        if shortlists[place].destination.shares_shortlist(destination) {
-            return Some(place);
-        }
-    }
-    None
-}
-
 impl Destination {
     /// Whether rules 2 and 3 say the same of any two sources for both destinations, and the same sources may be used.
-    fn shares_shortlist(&self, other: &Destination) -> bool
+    pub(crate) fn shares_shortlist(&self, other: &Destination) -> bool
         ensures { result ≡ shares_shortlist self.now other.now }
     {
         self.ip.family() == other.ip.family()

@@ -13,11 +13,11 @@ ghost use Rattle.he_select.specs.Tables.{IsAdmitted};
 ghost use Rattle.he_select.specs.Ties.{SourcesDiffer};
 
 use crate::host::{Host, Route, Source};
+use crate::met::Met;
 use crate::policy::{Policy, Row};
 use crate::ranking::{Key, rank};
 use crate::routes::RouteFinder;
 use crate::selection::Labelled;
-use crate::shortlists::Met;
 use he_addr::{Ip, Memory};
 use std::alloc::{AllocError, Allocator};
 

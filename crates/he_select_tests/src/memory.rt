@@ -108,6 +108,28 @@ fn is_sorted_with_sources<'h>(
     Some(sorted.as_slice() == in_order(sourced(V6), far, sourced(V4)).as_slice())
 }
 
+// An address of link scope.
+const LINK: Ip = Ip::V6(0xfe80_0000_0000_0000_0000_0000_0000_0001);
+
+// Whether it has the first of the sources on the interface of its route, none of which has a bit in common with it: when
+// it is met first, and again.
+fn is_sourced_on_link<'h>(
+    heap: &'h Refusing,
+    policy: &Policy<&'h Refusing>,
+    host: &Host<&'h Refusing>,
+) -> Option<bool> {
+    let given = [LINK; 2];
+    if !all_usable(&given) {
+        return Some(false);
+    }
+    let sorted = order_with_sources(heap, policy, host, &given).ok()?;
+    let wanted = Sourced {
+        ip: LINK,
+        source: Some(V6),
+    };
+    Some(sorted.as_slice() == [wanted; 2].as_slice())
+}
+
 fn is_host_well<'h>(
     heap: &'h Refusing,
     policy: &Policy<&'h Refusing>,
@@ -116,7 +138,8 @@ fn is_host_well<'h>(
     Some(
         is_host_copied(heap, host)?
             && is_sorted(heap, policy, host)?
-            && is_sorted_with_sources(heap, policy, host)?,
+            && is_sorted_with_sources(heap, policy, host)?
+            && is_sourced_on_link(heap, policy, host)?,
     )
 }
 

@@ -1,16 +1,18 @@
-use Rattle.std.proofs.Common.{◌≡◌, ℕ, ◌==◌, ◌<◌, false, length, subst, arith}
-use Rattle.std.proofs.lemmas.Grind.{common_steps}
-use Rattle.std.specs.List.{list_any}
-use Rattle.he_addr.specs.Ip.{same_ip}
-use Rattle.he_select.specs.declared.numbers.Numbered.{Numbered}
-use Rattle.he_select.specs.declared.selection.Labelled.{Labelled}
-use Rattle.he_select.proofs.Numbered.{none_same}
+use Rattle.std.proofs.Common.{sym, ◌∙◌}
+use Rattle.he_select.proofs.Own.{none_usable, own_best, own_sound, own_unusable}
 use Rattle.he_select.proofs.selection.Destination.own_source.Goals as goal
 
-pub returns-in_err-numbered-clause-none : goal.returns-in_err-numbered-clause-none
-returns-in_err-numbered-clause-none c =
-    let some : 0 < length c.args.numbers.now = grind (arith, common_steps, c.if-is_empty.ensures) in
-    let none : list_any (λ (n : Numbered). n.number == c.mapped.result) c.args.numbers.now ≡ false = c.in_err-numbered.ensures in
-    let apart : list_any (λ (l : Labelled). same_ip l.source.ip c.args.self.now.ip) c.args.sources.now ≡ false =
-    none_same c.args.sources.now c.args.numbers.now c.args.self.now.ip (c.requires some).0 (subst (λ (k : ℕ). list_any (λ (n : Numbered). n.number == k) c.args.numbers.now ≡ false) c.mapped.ensures none) in
-    rw c.from_residual.ensures apart
+pub returns-in_err-own-clause-none : goal.returns-in_err-own-clause-none
+returns-in_err-own-clause-none c =
+    let none = none_usable c.args.self.now c.args.sources.now c.in_err-own.ensures.none in
+    rw c.from_residual.ensures none
+
+pub returns-then-admits-clause-best : goal.returns-then-admits-clause-best
+returns-then-admits-clause-best c =
+    sym (own_best c.args.self.now c.args.sources.now c.in_ok-own.own c.requires.different c.in_ok-own.ensures.own (sym c.admits.ensures ∙ c.if-admits.true))
+
+pub returns-then-admits-clause-sound : goal.returns-then-admits-clause-sound
+returns-then-admits-clause-sound c = own_sound c.args.self.now c.args.sources.now c.in_ok-own.own c.requires.sound c.in_ok-own.ensures.own
+
+pub returns-else-admits-clause-none : goal.returns-else-admits-clause-none
+returns-else-admits-clause-none c = own_unusable c.args.self.now c.args.sources.now c.in_ok-own.own c.requires.different c.in_ok-own.ensures.own (sym c.admits.ensures ∙ c.if-admits.false)

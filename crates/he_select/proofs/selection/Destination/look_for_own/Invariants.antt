@@ -1,7 +1,7 @@
 use Rattle.std.proofs.Common.{◌≡◌, drop}
 use Rattle.std.specs.List.{list_any}
 use Rattle.he_addr.specs.Ip.{same_ip}
-use Rattle.he_select.proofs.selection.Destination.find_own.Given as goal
+use Rattle.he_select.proofs.selection.Destination.look_for_own.Given as goal
 
 abbrev pub invariant-loop-labelled : goal.invariant-loop-labelled
 invariant-loop-labelled l =
