@@ -1,5 +1,7 @@
 // Where a fault stands: a line, and the lines of its race before it.
 
+use memchr::memchr;
+
 // The byte behind each line.
 pub(crate) const LINE_END: u8 = b'\n';
 
@@ -51,7 +53,7 @@ pub(crate) fn find_line(input: &[u8], number: u64) -> Place<'_> {
 
 // The bytes up to the first line end, and those behind it.
 fn cut_line(text: &[u8]) -> (&[u8], &[u8]) {
-    match text.iter().position(|byte| *byte == LINE_END) {
+    match memchr(LINE_END, text) {
         Some(at) => (&text[..at], &text[at + 1..]),
         None => (text, b"".as_slice()),
     }
