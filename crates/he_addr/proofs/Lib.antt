@@ -3,7 +3,6 @@ mod AddressTexts
 mod Between
 mod Bounds
 pub mod Common_bits
-mod FirstBits
 mod HexDigits
 mod JoinedTexts
 mod NetTexts

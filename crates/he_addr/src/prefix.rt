@@ -1,9 +1,9 @@
 // Address prefixes and the common part of two addresses.
 
-ghost use Rattle.std.specs.Prelude.{◌≡◌, ℕ, ◌-◌, ◌*◌, ◌/◌, ◌%◌, ◌^◌, ◌≤◌, ◌==◌, ◌&&◌, nat_le, IfSome, IfNone};
+ghost use Rattle.std.specs.Prelude.{◌≡◌, ◌-◌, ◌%◌, ◌^◌, ◌≤◌, ◌==◌, IfSome, IfNone};
 ghost use Rattle.he_addr.specs.Bits.{agrees};
 ghost use Rattle.he_addr.specs.Ip.{family_of, is_v6};
-ghost use Rattle.he_addr.specs.Prefix.{PrefixBits, IsPrefix, contains, is_inside_mapped, last_of};
+ghost use Rattle.he_addr.specs.Prefix.{PrefixBits, IsPrefix, contains, is_inside_mapped};
 
 use crate::ip::Ip;
 use std::marker::Model;
@@ -77,15 +77,6 @@ impl Prefix {
         Some(Prefix::new(bits, len))
     }
 
-    /// The prefix of the first `len` bits of the number, at most 128.
-    pub fn of(number: u128, len: u8) -> Prefix
-        requires { len ≤ V6_BITS }
-        ensures value { result ≡ record { bits = number / 2 ^ (128 - len) * 2 ^ (128 - len); len = len } }
-        ensures begins { (other : ℕ) → agrees 128 other result.bits result.len ≡ agrees 128 other number len }
-    {
-        Prefix::new(number & !free_ones(len), len)
-    }
-
     /// The bits, the first one the highest.
     pub fn bits(self) -> u128
         ensures { result ≡ self.bits }
@@ -99,15 +90,6 @@ impl Prefix {
         ensures prefix { IsPrefix self.bits self.len }
     {
         self.len
-    }
-
-    /// The last number that begins with this prefix; its bits are the first one.
-    pub fn last(self) -> u128
-        ensures last { result ≡ last_of self.bits self.len }
-        ensures between { (n : ℕ) → agrees 128 n self.bits self.len ≡ (nat_le self.bits n && nat_le n result) }
-        ensures range { self.bits ≤ result }
-    {
-        self.last
     }
 
     /// Whether the address, an IPv4 address as its mapped one, begins with this prefix.

@@ -88,14 +88,14 @@ admitted_from rows h =
     let n = none_stands (table_causes rows) h in
     record {
       size = size_fits (length rows) (not_caused (length rows == 0 || nat_lt ROWS (length rows)) faults.Size n.0);
-      different = apart (λ (row : Row). row.prefix) same_row row_itself rows (no_repeat same_row rows (none_is _ (unmapped faults.Repeated (first_repeat same_row rows) n.1.0)));
+      different = apart (λ (row : Row). row.prefix) same_row row_equal row_itself rows (no_repeat same_row rows (none_is _ (unmapped faults.Repeated (first_repeat same_row rows) n.1.0)));
       default = has_from rows any_address (not_no _ (not_caused (not (has_row rows any_address)) faults.NoDefault n.1.1.0));
       mapped = has_from rows any_v4_address (not_no _ (not_caused (not (has_row rows any_v4_address)) faults.NoMapped n.1.1.1.0));
       parted = none_shared rows (none_is _ (unmapped (λ (pair : ℕ × ℕ). faults.SharedPrecedence pair.0 pair.1) (shared_from 0 rows) n.1.1.1.1.0));
     }
 
 no_repeat_from : (rows : List Row) → PrefixesDiffer rows → first_repeat same_row rows ≡ None
-no_repeat_from rows pairs = never_repeats (λ (row : Row). row.prefix) same_row row_equal rows pairs
+no_repeat_from rows pairs = never_repeats (λ (row : Row). row.prefix) same_row row_equal row_itself rows pairs
 
 sides : (a b : Row) → PrecedencesApart a b → PrecedencesApart b a → shares_precedence a b ≡ true → ⊥
 sides a b one other h = by_sides (is_inside_mapped a.prefix) (is_inside_mapped b.prefix) refl refl (and_right _ _ h)
@@ -162,7 +162,7 @@ sized : (rows : List Row) → size_cause rows ≡ None → HasTableSize rows
 sized rows e = size_fits (length rows) (cause_none (length rows == 0 || nat_lt ROWS (length rows)) faults.Size e)
 
 different : (rows : List Row) → repeat_cause rows ≡ None → PrefixesDiffer rows
-different rows e = apart (λ (row : Row). row.prefix) same_row row_itself rows (no_repeat same_row rows (map_none faults.Repeated (first_repeat same_row rows) e))
+different rows e = apart (λ (row : Row). row.prefix) same_row row_equal row_itself rows (no_repeat same_row rows (map_none faults.Repeated (first_repeat same_row rows) e))
 
 has_prefix : (rows : List Row) (prefix : PrefixBits) (fault : PolicyFault) → prefix_cause rows prefix fault ≡ None → HasPrefix rows prefix
 has_prefix rows prefix fault e = has_from rows prefix (not_no (has_row rows prefix) (cause_none (not (has_row rows prefix)) fault e))

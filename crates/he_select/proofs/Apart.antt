@@ -1,29 +1,22 @@
 -- Members that a test of a field tells apart, and members that pass a test, by place.
-use Rattle.std.proofs.Common.{◌≡◌, ◌≢◌, ℕ, ◌<◌, Bool, true, false, not, List, [], ◌∷◌, length, take, refl, sym, ◌∙◌, ap, subst, inl, inr, arith, get_or, get_or-take, length-take, map, eqb}
+use Rattle.std.proofs.Common.{◌≡◌, ◌≢◌, ℕ, ◌<◌, Bool, true, false, not, List, [], ◌∷◌, length, take, refl, sym, ◌∙◌, ap, subst, inl, inr, arith, get_or, get_or-take, length-take}
 use Rattle.std.specs.Prelude.{Option, None, Some, All, AllPairs}
-use Rattle.std.specs.List.{IsDistinct, list_any, position_from}
-use Rattle.std.specs.List.Sorted.{IsPermutation, IsStrictlyIncreasing}
+use Rattle.std.specs.List.{list_any, position_from}
 use Rattle.std.proofs.lemmas.Bool.{cases_Bool, false≢true, both_ways}
-use Rattle.std.proofs.lemmas.Bool.Decides.{Decides-eqb, nat_tests}
-use Rattle.std.proofs.lemmas.List.{get_or-map, get_or_default, length-map}
+use Rattle.std.proofs.lemmas.List.{get_or_default}
 use Rattle.std.proofs.lemmas.List.Folds.{Any-from_list_any, list_any_at}
-use Rattle.std.proofs.lemmas.List.Kept.{AllPairs-from_increasing}
-use Rattle.std.proofs.lemmas.List.Sorted.{IsPermutation-sym}
-use Rattle.std.proofs.lemmas.Map.Keys.{IsDistinct-IsPermutation}
-use Rattle.std.proofs.lemmas.Map.Made.{AllPairs-from_IsDistinct, IsDistinct-from_AllPairs}
 use Rattle.he_select.specs.Places.{FailsFirst, passes_at, repeats_at}
 use Rattle.he_select.specs.Refusals.{first_repeat}
 use Rattle.he_select.proofs.Least.{first_repeat_least, passes_inside, passes_is, position_none, position_some}
 
 -- members that a test of equal fields tells apart, by place
-module _ {X K : Type 0} (key : X → K) (same : X → X → Bool) (itself : (x y : X) → key x ≡ key y → same x y ≡ true) where
+module _ {X K : Type 0} (key : X → K) (same : X → X → Bool) (equal : (x y : X) → same x y ≡ true → key x ≡ key y) (itself : (x y : X) → key x ≡ key y → same x y ≡ true) where
   pub apart : (xs : List X) → ((n : ℕ) → repeats_at same xs n ≡ false) → AllPairs (λ a b. key a ≢ key b) xs
   apart xs none i j d lt inside e =
       let seen : list_any (same (get_or xs j d)) (take j xs) ≡ true =
       list_any_at (same (get_or xs j d)) (take j xs) i d (omega (arith, length-take j xs)) (ap (same (get_or xs j d)) (get_or-take j xs i d lt) ∙ itself (get_or xs j d) (get_or xs i d) (sym e)) in
       both_ways (repeats_at same xs j) (none j) (passes_is (λ x. list_any (same x) (take j xs)) xs j d inside ∙ seen)
 
-module _ {X K : Type 0} (key : X → K) (same : X → X → Bool) (equal : (x y : X) → same x y ≡ true → key x ≡ key y) where
   pub repeats_none : (xs : List X) → AllPairs (λ a b. key a ≢ key b) xs → (n : ℕ) → repeats_at same xs n ≡ false
   repeats_none xs pairs n = elim (cases_Bool (repeats_at same xs n)) [ inl here ↦ absurd (impossible here) | inr gone ↦ gone ]
     where
@@ -50,22 +43,6 @@ module _ {X K : Type 0} (key : X → K) (same : X → X → Bool) (equal : (x y 
       by_found : (o : Option ℕ) → first_repeat same xs ≡ o → first_repeat same xs ≡ None
       by_found None e = e
       by_found (Some k) e = absurd (both_ways (repeats_at same xs k) (repeats_none xs pairs k) (first_repeat_least same xs k e).holds)
-
--- numbers that rise when they are sorted are pairwise different
-pub different_if_sorted_rise : (numbers sorted : List ℕ) → IsPermutation numbers sorted → IsStrictlyIncreasing sorted → AllPairs (λ a b. a ≢ b) numbers
-different_if_sorted_rise numbers sorted moved rise =
-    let distinct : IsDistinct eqb sorted =
-    IsDistinct-from_AllPairs Decides-eqb sorted (λ i j d lt inside e. let below = AllPairs-from_increasing sorted rise i j d lt inside in omega (arith, below, e)) in
-    AllPairs-from_IsDistinct Decides-eqb numbers
-    (IsDistinct-IsPermutation eqb (λ x y. grind (arith, nat_tests)) sorted numbers (IsPermutation-sym numbers sorted moved) distinct)
-
--- members whose numbers are pairwise different
-pub no_repeat_by_numbers : {X : Type 0} (number : X → ℕ) (same : X → X → Bool) → ((x y : X) → same x y ≡ true → number x ≡ number y)
-    → (xs : List X) → AllPairs (λ a b. a ≢ b) (map number xs) → first_repeat same xs ≡ None
-no_repeat_by_numbers number same equal xs pairs =
-    never_repeats number same equal xs
-    (λ i j d lt inside e. pairs i j (number d) lt (omega (arith, inside, length-map xs number))
-    (get_or-map number xs i d (number d) (omega (arith, lt, inside)) ∙ e ∙ sym (get_or-map number xs j d (number d) inside)))
 
 was_yes : (b : Bool) → not b ≡ false → b ≡ true
 was_yes true h = refl

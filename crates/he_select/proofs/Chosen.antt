@@ -10,11 +10,10 @@ use Rattle.he_select.specs.declared.host.Source.{Source}
 use Rattle.he_select.specs.declared.host.Route.{Route}
 use Rattle.he_select.specs.declared.policy.Row.{Row}
 use Rattle.he_select.specs.declared.ranking.Key.{Key}
-use Rattle.he_select.specs.declared.ranking.Ranked.{Ranked}
 use Rattle.he_select.specs.declared.selection.Labelled.{Labelled}
 use Rattle.he_select.specs.DestinationKeys.{destination_key}
 use Rattle.he_select.specs.declared.sorting.Sourced.{Sourced}
-use Rattle.he_select.specs.Ranking.{attributes_of, chosen_by, key_by, key_from, ranked_by, sourced_from}
+use Rattle.he_select.specs.Ranking.{attributes_of, chosen_by, key_by, key_from, sourced_from}
 use Rattle.he_select.specs.HostFaults.{is_sound_source}
 use Rattle.he_select.specs.LabelledRules.{admits, is_better_labelled, labelled_of}
 use Rattle.he_select.specs.Preference.{Member, members_from, sourced_by}
@@ -114,8 +113,3 @@ pub all_sourced : (input : SelectionInput) (ips : List Ip) (labelled : List Labe
 all_sourced input ips labelled sourced by_label is =
     is ∙ ap (λ l. map (sourced_from input.rows input.routes l) ips) by_label
     ∙ map-same (sourced_from input.rows input.routes (map (labelled_of input.rows) input.sources)) (sourced_by input) (sourced_is input) ips
-
--- a destination is ranked by the route that it has
-pub ranked_by_found : (rows : List Row) (labelled : List Labelled) (m : Member) (route found : Option Route) (ranked : Ranked) → ranked ≡ ranked_by rows route labelled m → route ≡ found
-    → ranked ≡ ranked_by rows found labelled m
-ranked_by_found rows labelled m route found ranked is same = is ∙ ap (λ (r : Option Route). ranked_by rows r labelled m) same

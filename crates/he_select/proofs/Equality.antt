@@ -39,10 +39,10 @@ and_both false b h k = h
 decides_by : {A : Type 0} (E : A → A → Bool) (x y : A) → (E x y ≡ true → x ≡ y) → E x x ≡ true → Decides (E x y) (x ≡ y)
 decides_by {A} E x y same self = (same, λ e. subst (λ (z : A). E x z ≡ true) e self)
 
-pub eq_from : (m n : ℕ) → (m == n) ≡ true → m ≡ n
+eq_from : (m n : ℕ) → (m == n) ≡ true → m ≡ n
 eq_from m n h = (Decides-eqb m n).0 h
 
-pub eq_self : (n : ℕ) → (n == n) ≡ true
+eq_self : (n : ℕ) → (n == n) ≡ true
 eq_self n = (Decides-eqb n n).1 refl
 
 pub ip_from : (x y : Ip) → same_ip x y ≡ true → x ≡ y
@@ -55,7 +55,7 @@ pub ip_self : (x : Ip) → same_ip x x ≡ true
 ip_self (V4 m) = eq_self m
 ip_self (V6 m) = eq_self m
 
-pub flag_from : (x y : Bool) → beq x y ≡ true → x ≡ y
+flag_from : (x y : Bool) → beq x y ≡ true → x ≡ y
 flag_from true true h = refl
 flag_from false false h = refl
 flag_from true false h = absurd (no (sym h))

@@ -97,7 +97,7 @@ module _ {X : Type 0} where
       (some.0, is, passed.0, none_passes (λ w. better w some.0) (y ∷ ys) x (not-true _ passed.1) h)
 
 -- agreeing in more leading bits, two numbers agree in fewer
-pub fewer : (a b m n : ℕ) → m ≤ n → nat_eq (a / 2 ^ (128 - n)) (b / 2 ^ (128 - n)) ≡ true → a / 2 ^ (128 - m) ≡ b / 2 ^ (128 - m)
+fewer : (a b m n : ℕ) → m ≤ n → nat_eq (a / 2 ^ (128 - n)) (b / 2 ^ (128 - n)) ≡ true → a / 2 ^ (128 - m) ≡ b / 2 ^ (128 - m)
 fewer a b m n le e =
     let more : ℕ = (128 - m) - (128 - n) in
     let split : 128 - m ≡ (128 - n) + ((128 - m) - (128 - n)) = omega arith in

@@ -97,8 +97,8 @@ unfolding host_fault
 no_fault_from host h =
     none_of_five (size_cause host) (source_cause host) (route_cause host) (bad_source_cause host) (bad_route_cause host)
     (ap (λ b. cause_if b faults.TooMany) (from_few (length host.sources) (length host.routes) h.size))
-    (ap (option_map faults.RepeatedSource) (never_repeats (λ (source : Source). source.ip) same_source source_equal host.sources h.different_sources))
-    (ap (option_map faults.RepeatedRoute) (never_repeats (λ (route : Route). route.prefix) same_route route_equal host.routes h.different_routes))
+    (ap (option_map faults.RepeatedSource) (never_repeats (λ (source : Source). source.ip) same_source source_equal source_itself host.sources h.different_sources))
+    (ap (option_map faults.RepeatedRoute) (never_repeats (λ (route : Route). route.prefix) same_route route_equal route_itself host.routes h.different_routes))
     (ap (option_map faults.BadSource) (all_pass IsSoundSource is_sound_source source_sound sound_source host.sources h.sound_sources))
     (ap (option_map faults.BadRoute) (all_pass IsSoundRoute is_sound_route route_sound sound_route host.routes h.sound_routes))
 
@@ -106,10 +106,10 @@ sized : (host : HostLists) → size_cause host ≡ None → HasHostSize host
 sized host e = few_from (length host.sources) (length host.routes) (cause_none (is_much host) faults.TooMany e)
 
 addresses_differ : (host : HostLists) → source_cause host ≡ None → AddressesDiffer host
-addresses_differ host e = apart (λ (source : Source). source.ip) same_source source_itself host.sources (no_repeat same_source host.sources (map_none faults.RepeatedSource (first_repeat same_source host.sources) e))
+addresses_differ host e = apart (λ (source : Source). source.ip) same_source source_equal source_itself host.sources (no_repeat same_source host.sources (map_none faults.RepeatedSource (first_repeat same_source host.sources) e))
 
 routes_differ : (host : HostLists) → route_cause host ≡ None → RoutesDiffer host
-routes_differ host e = apart (λ (route : Route). route.prefix) same_route route_itself host.routes (no_repeat same_route host.routes (map_none faults.RepeatedRoute (first_repeat same_route host.routes) e))
+routes_differ host e = apart (λ (route : Route). route.prefix) same_route route_equal route_itself host.routes (no_repeat same_route host.routes (map_none faults.RepeatedRoute (first_repeat same_route host.routes) e))
 
 sources_sound : (host : HostLists) → bad_source_cause host ≡ None → All IsSoundSource host.sources
 sources_sound host e = none_failing IsSoundSource is_sound_source source_sound sound_source host.sources (map_none faults.BadSource (position_from (λ source. not (is_sound_source source)) 0 host.sources) e)

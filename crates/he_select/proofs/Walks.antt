@@ -32,7 +32,7 @@ second_follows : (a b r : Bool) → (b ≡ true → a ≡ true) → (a || (b || 
 second_follows a false r h = refl
 second_follows a true r h = rw (h refl) refl
 
-pub any_follows : {X : Type 0} (p q : X → Bool) → ((x : X) → p x ≡ true → q x ≡ true) → (xs : List X) → list_any p xs ≡ true → list_any q xs ≡ true
+any_follows : {X : Type 0} (p q : X → Bool) → ((x : X) → p x ≡ true → q x ≡ true) → (xs : List X) → list_any p xs ≡ true → list_any q xs ≡ true
 any_follows p q h [] e = e
 any_follows p q h (x ∷ xs) e =
     elim (cases_Bool (p x)) [

@@ -46,6 +46,3 @@ labelled_rules destination =
 
 abbrev pub is_better_labelled : Destination → Labelled → Labelled → Bool
 is_better_labelled destination a b = is_lt (first_of (labelled_rules destination) a b)
-
-abbrev pub is_better_late : Destination → Labelled → Labelled → Bool
-is_better_late destination a b = is_lt (first_of (late_rules destination) a b)

@@ -23,18 +23,15 @@ use Rattle.he_select.specs.Walking.{walk_fitting}
 abbrev pub serves_number : ℕ → Bool → Route → Bool
 serves_number number v4 route = agrees 128 number route.prefix.bits route.prefix.len && beq (is_inside_mapped route.prefix) v4
 
--- what the rules look at of a destination with this route, with no regard to sources
-abbrev pub attributes_by : List Row → Option Route → Ip → Attributes
-attributes_by rows route ip = record {
+-- what the rules look at of a destination, with no regard to sources
+abbrev pub attributes_of : List Row → List Route → Ip → Attributes
+attributes_of rows routes ip = record {
   ip = ip;
   scope = scope_of ip;
   precedence = precedence_of rows ip;
   label = label_of rows ip;
-  route = route;
+  route = longest_route routes ip;
 }
-
-abbrev pub attributes_of : List Row → List Route → Ip → Attributes
-attributes_of rows routes ip = attributes_by rows (longest_route routes ip) ip
 
 -- what the code computes of them: the source that its loop finds ..
 unfoldable pub chosen_by : Attributes → List Labelled → Option Labelled
@@ -65,9 +62,5 @@ key_from rows routes labelled m =
 abbrev pub sourced_from : List Row → List Route → List Labelled → Ip → Sourced
 sourced_from rows routes labelled ip = record { ip = ip; source = option_map (λ c. c.source.ip) (chosen_by (attributes_of rows routes ip) labelled) }
 
--- the same of a destination with this route
-abbrev pub ranked_by : List Row → Option Route → List Labelled → Member → Ranked
-ranked_by rows route labelled m =
-    let goal = attributes_by rows route m.ip in
-    let chosen = chosen_by goal labelled in
-    record { key = key_by goal chosen m.place; sourced = record { ip = m.ip; source = option_map (λ c. c.source.ip) chosen } }
+abbrev pub ranked_from : List Row → List Route → List Labelled → Member → Ranked
+ranked_from rows routes labelled m = record { key = key_from rows routes labelled m; sourced = sourced_from rows routes labelled m.ip }

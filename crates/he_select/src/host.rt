@@ -1,16 +1,14 @@
 // A host's sources and routes.
 
 ghost use Rattle.std.specs.Prelude.{◌≡◌, not, option_map, IsTrue, IfOk, IfErr, IsOk, IsOkUnless};
-ghost use Rattle.he_addr.specs.Ip.{mapped_of};
 ghost use Rattle.he_addr.specs.Prefix.{width_of};
 ghost use Rattle.std.specs.List.{list_all, list_any, position_from};
 ghost use Rattle.he_select.specs.Equality.{equal_hosts};
 ghost use Rattle.he_select.specs.HostFaults.{is_sound_source, is_sound_route, host_fault, host_of};
 ghost use Rattle.he_select.specs.Hosts.{same_source, same_route, IsHost};
-ghost use Rattle.he_select.specs.Numbers.{prefix_number, same_ip_number, same_prefix_number};
 ghost use Rattle.he_select.specs.Selection.{source_of, selection_input};
 
-use crate::distinct::{Distinct, first_repeated, prefix_number, stands_in};
+use crate::distinct::{Distinct, first_repeated, stands_in};
 use crate::limits::{NO_INTERFACE, ROUTES, SOURCES};
 use crate::lookup::{find_label, find_route};
 use crate::policy::{Policy, Row};
@@ -124,32 +122,16 @@ pub enum HostFault {
 impl Distinct for Source {
     ghost same = { same_source };
 
-    ghost number_of = { λ source. mapped_of source.ip };
-
-    ghost same_number = { λ a b same. same_ip_number a.ip b.ip same };
-
     fn is_same(&self, other: &Source) -> bool {
         self.ip == other.ip
-    }
-
-    fn number(&self) -> u128 {
-        self.ip.mapped()
     }
 }
 
 impl Distinct for Route {
     ghost same = { same_route };
 
-    ghost number_of = { λ route. prefix_number route.prefix };
-
-    ghost same_number = { λ a b same. same_prefix_number a.prefix b.prefix same };
-
     fn is_same(&self, other: &Route) -> bool {
         self.prefix == other.prefix
-    }
-
-    fn number(&self) -> u128 {
-        prefix_number(self.prefix)
     }
 }
 

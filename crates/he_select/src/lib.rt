@@ -3,15 +3,13 @@
 //!
 //! A [`Policy`] is an admitted policy table, a [`Host`] a list of sources and one of routes. [`order`] sorts
 //! destinations, [`order_with_sources`] tells the source of each as well, [`Host::source`] finds the source of one.
-//! Rows, sources and routes that come one by one are gathered in a [`DistinctList`].
 //!
 //! Proved, for every input: the standard table is that of RFC 6724 section 2.1; rows are a table, and lists a host's,
 //! exactly where the search for what is wrong finds nothing, and what it finds is the first cause in its order, at the
 //! least place ([`laws`]); `Policy::from_rows` and `Host::new` make the table and the host of what they are given, or
 //! answer that cause, and want of memory only where there is none; `Policy::from_list` and `Host::from_lists` do the
 //! same with lists that they keep, and need no memory; two tables are equal exactly where their rows are, two hosts
-//! where their lists are; a `DistinctList` takes no item that is the same as one of its own, and refuses another one
-//! for want of memory alone; the precedence and the label of an address are those of the longest row that contains it;
+//! where their lists are; the precedence and the label of an address are those of the longest row that contains it;
 //! its source is the candidate than which none is better by the rules of section 5; each address that `order` answers
 //! stands at the place that equals the number of addresses preferred to it by the rules of section 6, and
 //! `order_with_sources` answers the same list with the source of each. Under an admitted table this preference is a
@@ -22,26 +20,16 @@
 //! Only tested, in he_select_tests: that memory suffices where it is there. The texts of the faults are in no clause.
 #![tactic(auto)]
 
-pub(crate) mod closest;
-pub mod distinct;
-pub mod distinct_list;
-pub(crate) mod groups;
+pub(crate) mod distinct;
 pub mod host;
 pub mod laws;
 pub mod limits;
-pub(crate) mod links;
 pub(crate) mod lookup;
-pub(crate) mod met;
-pub(crate) mod numbers;
-pub(crate) mod pieces;
 pub mod policy;
 pub(crate) mod ranking;
-pub(crate) mod routes;
 pub(crate) mod selection;
-pub(crate) mod shortlists;
 pub mod sorting;
 
-pub use distinct_list::{DistinctList, ListFault};
 pub use host::{Host, HostFault, Route, Source};
 pub use policy::{Policy, PolicyFault, Row};
 pub use sorting::{Sourced, order, order_with_sources};

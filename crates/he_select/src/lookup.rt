@@ -59,7 +59,7 @@ pub(crate) fn find_route(routes: &[Route], ip: Ip) -> Option<Route>
     longest_serving(routes, ip.mapped(), is_v4(ip))
 }
 
-pub(crate) fn is_v4(ip: Ip) -> bool
+fn is_v4(ip: Ip) -> bool
     ensures { result ≡ not (is_v6 ip) }
 {
     ip.family() == Family::V4

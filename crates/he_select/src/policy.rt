@@ -1,16 +1,14 @@
 // Policy tables (RFC 6724 section 2.1).
 
-ghost use Rattle.std.specs.Prelude.{◌≡◌, ℕ, ◌+◌, ◌≤◌, drop, length, map, None, IsTrue, IfOk, IfErr, IsOk, IsOkUnless};
-ghost use Rattle.std.specs.List.{AllAdjacentBelow, IsDistinct, list_any, position_from};
+ghost use Rattle.std.specs.Prelude.{◌≡◌, ℕ, ◌+◌, ◌≤◌, drop, length, IfOk, IfErr, IsOk, IsOkUnless};
+ghost use Rattle.std.specs.List.{list_any, position_from};
 ghost use Rattle.he_select.specs.Equality.{equal_tables};
-ghost use Rattle.he_select.specs.Numbers.{prefix_number, same_prefix_number};
 ghost use Rattle.he_select.specs.TableFaults.{has_row, shared_from, table_fault, table_of};
 ghost use Rattle.he_select.specs.Tables.{precedence_of, label_of, same_row, any_address, any_v4_address, shares_precedence, IsAdmitted};
-ghost use Rattle.he_select.specs.Sides.{IsParted, side_of, sides_meet};
 ghost use Rattle.he_addr.specs.Prefix.{IsPrefix};
 ghost use Rattle.he_select.specs.Standard.{standard_rows};
 
-use crate::distinct::{Distinct, FEW, first_repeated, prefix_number, stands_in};
+use crate::distinct::{Distinct, first_repeated, stands_in};
 use crate::limits::ROWS;
 use crate::lookup::{find_label, find_row};
 use he_addr::{Ip, Memory, Prefix};
@@ -45,29 +43,13 @@ impl Row {
     {
         self.precedence == other.precedence && self.prefix.is_v4() != other.prefix.is_v4()
     }
-
-    /// A number for the precedence and the side of `::ffff:0:0/96` on which the row has it: twice the precedence, and
-    /// one more inside.
-    fn side(&self) -> u32
-        ensures { result ≡ side_of self.now }
-    {
-        2 * self.precedence as u32 + self.prefix.is_v4() as u32
-    }
 }
 
 impl Distinct for Row {
     ghost same = { same_row };
 
-    ghost number_of = { λ row. prefix_number row.prefix };
-
-    ghost same_number = { λ a b same. same_prefix_number a.prefix b.prefix same };
-
     fn is_same(&self, other: &Row) -> bool {
         self.prefix == other.prefix
-    }
-
-    fn number(&self) -> u128 {
-        prefix_number(self.prefix)
     }
 }
 
@@ -144,60 +126,7 @@ fn has_prefix(rows: &[Row], prefix: Prefix) -> bool
 }
 
 /// The first row that shares its precedence with a later one, and the first such later one.
-///
-/// In most tables no rows share one. To sort the rows' sides tells that of many rows in less time than to look at each
-/// pair of rows.
 fn shared_precedence(rows: &[Row]) -> Option<(usize, usize)>
-    ensures { result ≡ shared_from 0 rows.now }
-{
-    if FEW < rows.len() && are_parted(rows) {
-        return None;
-    }
-    first_sharing_pair(rows)
-}
-
-/// Whether no two rows share a precedence; never of more than [`ROWS`] rows.
-fn are_parted(rows: &[Row]) -> bool
-    ensures { IsTrue result → shared_from 0 rows.now ≡ None }
-{
-    if ROWS < rows.len() {
-        return false;
-    }
-    let mut room = [0; ROWS];
-    let sides = &mut room[..rows.len()];
-    write_sides(rows, sides);
-    no_sides_meet(sides)
-}
-
-fn write_sides(rows: &[Row], sides: &mut [u32])
-    requires { length rows.now ≡ length sides.old }
-    ensures { sides.new ≡ map side_of rows.now }
-{
-    for i in 0..rows.len() {
-        sides[i] = rows[i].side();
-    }
-}
-
-/// Whether no precedence has both its sides here. Sorts them, so that the two sides would be neighbours.
-fn no_sides_meet(sides: &mut [u32]) -> bool
-    ensures { IsTrue result → IsDistinct sides_meet sides.old }
-{
-    sides.sort_unstable();
-    no_neighbours_meet(sides)
-}
-
-fn no_neighbours_meet(sides: &[u32]) -> bool
-    ensures { IsTrue result → AllAdjacentBelow IsParted sides.now (length sides.now) }
-{
-    for i in 1..sides.len() {
-        if sides[i] != sides[i - 1] && sides[i] / 2 <= sides[i - 1] / 2 {
-            return false;
-        }
-    }
-    true
-}
-
-fn first_sharing_pair(rows: &[Row]) -> Option<(usize, usize)>
     ensures { result ≡ shared_from 0 rows.now }
 {
     for i in 0..rows.len() {

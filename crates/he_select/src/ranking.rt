@@ -1,6 +1,6 @@
 // The key of a destination (RFC 6724 section 6).
 
-ghost use Rattle.std.specs.Prelude.{◌≡◌, All, Option, IsTrue, IfOk, IfSome, OnOk};
+ghost use Rattle.std.specs.Prelude.{◌≡◌, Option, IsTrue, IfSome};
 ghost use Rattle.std.specs.List.{list_all};
 ghost use Rattle.std.specs.Option.{option_map_or};
 ghost use Rattle.std.specs.Cmp.{eq_by_cmp_equiv, partial_equiv_from_equiv, partial_order_from_total};
@@ -9,19 +9,15 @@ ghost use Rattle.std.proofs.Common.{refl};
 ghost use Rattle.he_addr.specs.Ip.{InRange};
 ghost use Rattle.he_addr.specs.Prefix.{common_of};
 ghost use Rattle.he_select.specs.KeyOrder.{key_order, key_order_total, late_key_cmp};
-ghost use Rattle.he_select.specs.Ranking.{attributes_by, chosen_by, key_by, ranked_by};
+ghost use Rattle.he_select.specs.Ranking.{attributes_of, chosen_by, key_by, ranked_from};
 ghost use Rattle.he_select.specs.HostFaults.{is_sound_source};
-ghost use Rattle.he_select.specs.Met.{IsMet};
-ghost use Rattle.he_select.specs.Ties.{SourcesDiffer};
 
 use crate::host::Route;
-use crate::lookup::find_row;
-use crate::met::{Met, choose};
+use crate::lookup::{find_route, find_row};
 use crate::policy::Row;
 use crate::selection::{Destination, Labelled};
 use crate::sorting::Sourced;
 use he_addr::{Ip, common_len};
-use std::alloc::{AllocError, Allocator};
 use std::cmp::{Ordering, Reverse};
 
 /// A number for each rule, in the rules' order; the preferred destination has the least key.
@@ -132,36 +128,31 @@ struct Attributes {
     route: Option<Route>,
 }
 
-/// The destination with this route that stands at this place of the list, with its source and its key.
-pub(crate) fn rank<A: Allocator + Copy>(
-    alloc: A,
+/// The destination that stands at this place of the list, with its source and its key.
+pub(crate) fn rank(
     rows: &[Row],
-    route: Option<Route>,
+    routes: &[Route],
     sources: &[Labelled],
-    met: &mut Met<A>,
     ip: Ip,
     place: usize,
-) -> Result<Ranked, AllocError>
-    requires sound { IsTrue (list_all (λ labelled. is_sound_source labelled.source) sources.now) }
-    requires different { SourcesDiffer sources.now }
-    requires met { IsMet sources.now met.old }
-    ensures ranked { IfOk result (λ ranked. ranked ≡ ranked_by rows.now route sources.now (record { ip = ip; place = place })) }
-    ensures met { OnOk result (IsMet sources.now met.new) }
+) -> Ranked
+    requires { IsTrue (list_all (λ labelled. is_sound_source labelled.source) sources.now) }
+    ensures ranked { result ≡ ranked_from rows.now routes.now sources.now (record { ip = ip; place = place }) }
     ensures range { InRange ip }
 {
-    let goal = Attributes::new(rows, route, ip);
-    let chosen = goal.choose_source(alloc, met, sources)?;
+    let goal = Attributes::new(rows, routes, ip);
+    let chosen = goal.choose_source(sources);
     let source = chosen.map(|labelled| labelled.source.ip);
-    Ok(Ranked {
+    Ranked {
         key: goal.key(chosen, place),
         sourced: Sourced { ip, source },
-    })
+    }
 }
 
 impl Attributes {
     #[tactic(auto, unfolding(crate::specs::Tables::precedence_of, crate::specs::Tables::label_of))]
-    fn new(rows: &[Row], route: Option<Route>, ip: Ip) -> Attributes
-        ensures { result ≡ attributes_by rows.now route ip }
+    fn new(rows: &[Row], routes: &[Route], ip: Ip) -> Attributes
+        ensures { result ≡ attributes_of rows.now routes.now ip }
     {
         let (precedence, label) = match find_row(rows, ip) {
             Some(row) => (row.precedence, row.label),
@@ -172,31 +163,18 @@ impl Attributes {
             scope: ip.scope(),
             precedence,
             label,
-            route,
+            route: find_route(routes, ip),
         }
     }
 
     #[tactic(auto, unfolding(crate::specs::Ranking::chosen_by))]
-    fn choose_source<A: Allocator + Copy>(
-        &self,
-        alloc: A,
-        met: &mut Met<A>,
-        sources: &[Labelled],
-    ) -> Result<Option<Labelled>, AllocError>
-        requires sound { IsTrue (list_all (λ labelled. is_sound_source labelled.source) sources.now) }
-        requires different { SourcesDiffer sources.now }
-        requires met { IsMet sources.now met.old }
-        ensures chosen { IfOk result (λ chosen. chosen ≡ chosen_by self.now sources.now) }
-        ensures sound { IfOk result (λ chosen. IfSome chosen (λ labelled. IsTrue (is_sound_source labelled.source))) }
-        ensures met { OnOk result (IsMet sources.now met.new) }
+    fn choose_source(&self, sources: &[Labelled]) -> Option<Labelled>
+        requires { IsTrue (list_all (λ labelled. is_sound_source labelled.source) sources.now) }
+        ensures chosen { result ≡ chosen_by self.now sources.now }
+        ensures sound { IfSome result (λ labelled. IsTrue (is_sound_source labelled.source)) }
     {
-        match self.route {
-            Some(route) => {
-                let destination = Destination::new(self.ip, self.label, &route);
-                choose(alloc, met, sources, &destination)
-            }
-            None => Ok(None),
-        }
+        let route = self.route?;
+        Destination::new(self.ip, self.label, &route).best_of(sources)
     }
 
     #[tactic(auto, unfolding(crate::specs::Ranking::key_by))]

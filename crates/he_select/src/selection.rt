@@ -1,11 +1,12 @@
 // The source that the host uses for a destination (RFC 6724 section 5).
 
-ghost use Rattle.std.specs.Prelude.{◌≡◌, None, Some, true, map, option_map, IsTrue, IfSome};
+ghost use Rattle.std.specs.Prelude.{◌≡◌, None, map, option_map, IsTrue, IfSome};
 ghost use Rattle.std.specs.List.{list_all};
 ghost use Rattle.std.specs.Ordering.{is_lt};
 ghost use Rattle.he_addr.specs.Prefix.{common_of};
 ghost use Rattle.he_select.specs.HostFaults.{is_sound_source};
-ghost use Rattle.he_select.specs.LabelledRules.{admits, destination_of, is_better_labelled, is_better_late, labelled_of};
+ghost use Rattle.he_select.specs.LabelledRules.{admits, destination_of, is_better_labelled, labelled_of, late_rules};
+ghost use Rattle.he_select.specs.Rules.{first_of};
 ghost use Rattle.he_select.specs.Selection.{by_appropriate_scope};
 ghost use Rattle.he_select.specs.Walking.{keep_fitting, walk_fitting};
 
@@ -71,32 +72,6 @@ impl Destination {
         best.copied()
     }
 
-    /// The best of those sources by the rules from 5 on.
-    pub(crate) fn best_late(&self, sources: &[Labelled]) -> Option<Labelled>
-        requires { IsTrue (list_all (λ labelled. is_sound_source labelled.source) sources.now) }
-        ensures best { result ≡ walk_fitting (λ _. true) (is_better_late self.now) None sources.now }
-        ensures sound { IfSome result (λ labelled. IsTrue (is_sound_source labelled.source)) }
-    {
-        let (first, others) = sources.split_first()?;
-        Some(self.best_late_of(first, others))
-    }
-
-    /// The same of one source and others.
-    fn best_late_of(&self, first: &Labelled, others: &[Labelled]) -> Labelled
-        requires first { IsTrue (is_sound_source first.now.source) }
-        requires others { IsTrue (list_all (λ labelled. is_sound_source labelled.source) others.now) }
-        ensures best { Some result ≡ walk_fitting (λ _. true) (is_better_late self.now) (Some first.now) others.now }
-        ensures sound { IsTrue (is_sound_source result.source) }
-    {
-        let mut best = first;
-        for labelled in others {
-            if self.is_better_late(labelled, best) {
-                best = labelled;
-            }
-        }
-        *best
-    }
-
     /// The better one of the best so far and a source, if that may be used at all.
     #[inline(always)]
     pub(crate) fn keep<'a>(
@@ -131,7 +106,7 @@ impl Destination {
     /// Whether the source may be used: one of the destination's family, for a destination of link scope only one on
     /// the route's interface.
     #[inline(always)]
-    pub(crate) fn admits(&self, labelled: &Labelled) -> bool
+    fn admits(&self, labelled: &Labelled) -> bool
         ensures { result ≡ admits self.now labelled.now }
     {
         labelled.source.ip.family() == self.ip.family()
@@ -169,7 +144,7 @@ impl Destination {
     fn is_better_late(&self, this: &Labelled, other: &Labelled) -> bool
         requires this { IsTrue (is_sound_source this.now.source) }
         requires other { IsTrue (is_sound_source other.now.source) }
-        ensures { result ≡ is_better_late self.now this.now other.now }
+        ensures { result ≡ is_lt (first_of (late_rules self.now) this.now other.now) }
     {
         // Rule 5: prefer outgoing interface. Rule 5.5 is left out: no host tells the next hop's prefixes.
         let is_outgoing = this.source.interface == self.interface;
@@ -191,7 +166,7 @@ impl Destination {
 
     /// Of two scopes the smaller one, unless it is smaller than the destination's; then the larger.
     #[inline(always)]
-    pub(crate) fn prefers_scope(&self, this: u8, other: u8) -> bool
+    fn prefers_scope(&self, this: u8, other: u8) -> bool
         ensures { result ≡ is_lt (by_appropriate_scope self.now.scope this other) }
     {
         if this < other {
@@ -202,7 +177,7 @@ impl Destination {
     }
 
     #[inline(always)]
-    pub(crate) fn common(&self, labelled: &Labelled) -> u8
+    fn common(&self, labelled: &Labelled) -> u8
         requires { IsTrue (is_sound_source labelled.now.source) }
         ensures { result ≡ common_of labelled.now.source.ip labelled.now.source.plen self.now.ip }
     {

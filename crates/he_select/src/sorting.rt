@@ -1,6 +1,6 @@
 // Destinations in the order of preference (RFC 6724 section 6).
 
-ghost use Rattle.std.specs.Prelude.{◌≡◌, ◌≢◌, ◌++◌, [], map, filter_map, slice_get, All, AllPairs, IsPermutation, IsSorted, IsTrue, IfOk, OnOk};
+ghost use Rattle.std.specs.Prelude.{◌≡◌, ◌++◌, [], map, filter_map, slice_get, All, IsPermutation, IsSorted, IsTrue, IfOk, OnOk};
 ghost use Rattle.std.specs.List.{cons_option, list_all};
 ghost use Rattle.he_addr.specs.Ip.{InRange, is_usable};
 ghost use Rattle.he_select.specs.DestinationKeys.{key_cmp};
@@ -10,13 +10,10 @@ ghost use Rattle.he_select.specs.LabelledRules.{labelled_of};
 ghost use Rattle.he_select.specs.Preference.{IsOrder, members_from, order_of, sourced_by};
 ghost use Rattle.he_select.specs.Selection.{selection_input};
 ghost use Rattle.he_select.specs.Tables.{IsAdmitted};
-ghost use Rattle.he_select.specs.Ties.{SourcesDiffer};
 
 use crate::host::{Host, Route, Source};
-use crate::met::Met;
 use crate::policy::{Policy, Row};
 use crate::ranking::{Key, rank};
-use crate::routes::RouteFinder;
 use crate::selection::Labelled;
 use he_addr::{Ip, Memory};
 use std::alloc::{AllocError, Allocator};
@@ -85,7 +82,6 @@ fn sort_addresses<A: Allocator + Copy>(
 ) -> Result<Vec<Ip, A>, AllocError>
     requires admitted { IsAdmitted rows.now }
     requires sound { IsTrue (list_all is_sound_source sources.now) }
-    requires different { AllPairs (λ a b. a.ip ≢ b.ip) sources.now }
     requires usable { IsTrue (list_all is_usable addresses.now) }
     ensures order { IfOk result (λ sorted. IsOrder (record { rows = rows.now; sources = sources.now; routes = routes.now }) addresses.now sorted.items) }
     ensures value { IfOk result (λ sorted. sorted.items ≡ order_of (record { rows = rows.now; sources = sources.now; routes = routes.now }) addresses.now) }
@@ -105,7 +101,6 @@ fn sort_sourced<A: Allocator + Copy>(
 ) -> Result<Vec<Sourced, A>, AllocError>
     requires admitted { IsAdmitted rows.now }
     requires sound { IsTrue (list_all is_sound_source sources.now) }
-    requires different { AllPairs (λ a b. a.ip ≢ b.ip) sources.now }
     requires usable { IsTrue (list_all is_usable addresses.now) }
     ensures { IfOk result (λ sorted. sorted.items ≡ map (sourced_by (record { rows = rows.now; sources = sources.now; routes = routes.now })) (order_of (record { rows = rows.now; sources = sources.now; routes = routes.now }) addresses.now)) }
 {
@@ -171,18 +166,13 @@ fn rank_all<A: Allocator + Copy>(
     sources: &[Labelled],
     addresses: &[Ip],
 ) -> Result<Vec<Key, A>, AllocError>
-    requires sound { IsTrue (list_all (λ labelled. is_sound_source labelled.source) sources.now) }
-    requires different { SourcesDiffer sources.now }
+    requires { IsTrue (list_all (λ labelled. is_sound_source labelled.source) sources.now) }
     ensures keys { IfOk result (λ keys. keys.items ≡ map (key_from rows.now routes.now sources.now) (members_from 0 addresses.now)) }
     ensures range { OnOk result (All InRange addresses.now) }
 {
-    let finder = RouteFinder::new(alloc, routes, addresses.len())?;
-    let mut met = Met::new(alloc, sources, addresses.len())?;
     let mut keys = Vec::with_capacity(alloc, addresses.len())?;
     for (place, ip) in addresses.iter().enumerate() {
-        let route = finder.find(routes, *ip);
-        let ranked = rank(alloc, rows, route, sources, &mut met, *ip, place)?;
-        keys.push(ranked.key)?;
+        keys.push(rank(rows, routes, sources, *ip, place).key)?;
     }
     Ok(keys)
 }
@@ -195,19 +185,15 @@ fn rank_with_sources<A: Allocator + Copy>(
     sources: &[Labelled],
     addresses: &[Ip],
 ) -> Result<(Vec<Key, A>, Vec<Sourced, A>), AllocError>
-    requires sound { IsTrue (list_all (λ labelled. is_sound_source labelled.source) sources.now) }
-    requires different { SourcesDiffer sources.now }
+    requires { IsTrue (list_all (λ labelled. is_sound_source labelled.source) sources.now) }
     ensures keys { IfOk result (λ made. made.0.items ≡ map (key_from rows.now routes.now sources.now) (members_from 0 addresses.now)) }
     ensures sourced { IfOk result (λ made. made.1.items ≡ map (sourced_from rows.now routes.now sources.now) addresses.now) }
     ensures range { OnOk result (All InRange addresses.now) }
 {
-    let finder = RouteFinder::new(alloc, routes, addresses.len())?;
-    let mut met = Met::new(alloc, sources, addresses.len())?;
     let mut keys = Vec::with_capacity(alloc, addresses.len())?;
     let mut sourced = Vec::with_capacity(alloc, addresses.len())?;
     for (place, ip) in addresses.iter().enumerate() {
-        let route = finder.find(routes, *ip);
-        let ranked = rank(alloc, rows, route, sources, &mut met, *ip, place)?;
+        let ranked = rank(rows, routes, sources, *ip, place);
         keys.push(ranked.key)?;
         sourced.push(ranked.sourced)?;
     }

@@ -107,7 +107,7 @@ fn right_hosts(heap: &Refusing) -> Option<usize> {
 }
 
 // Lists of so many sources or routes are not looked at pair by pair at once.
-pub const MANY: usize = 40;
+const MANY: usize = 40;
 
 // Sources with no fault. Where the last one is the first one's address as a mapped one, both have one number.
 fn long_sources(last: Ip) -> [Source; MANY] {
@@ -120,7 +120,7 @@ fn long_sources(last: Ip) -> [Source; MANY] {
 }
 
 // Routes with no fault. `::/0` and `::80/128` are those that differ and share a number, where both stand here.
-pub fn long_routes(last: &str) -> Option<[Route; MANY]> {
+fn long_routes(last: &str) -> Option<[Route; MANY]> {
     let mut routes = [route("::/0", 1)?; MANY];
     for i in 1..MANY - 1 {
         routes[i].prefix = Prefix::try_new(i as u128, 128)?;

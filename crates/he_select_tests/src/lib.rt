@@ -5,8 +5,6 @@
 #[cfg(test)]
 mod hosts;
 #[cfg(test)]
-mod lists;
-#[cfg(test)]
 mod memory;
 #[cfg(test)]
 mod tables;

@@ -4,7 +4,7 @@ ghost use Rattle.std.specs.Prelude.{◌≡◌, IsTrue};
 ghost use Rattle.std.specs.List.{list_all};
 ghost use Rattle.he_addr.specs.Ip.{is_usable};
 
-use crate::hosts::{V4, V6, long_routes, source};
+use crate::hosts::{V4, V6, route, source};
 use he_addr::Ip;
 use he_select::{Host, Policy, Route, Source, Sourced, order, order_with_sources};
 use refusing::{MOST_RUNS, Refusing};
@@ -44,41 +44,18 @@ fn is_host_copied<'h>(heap: &'h Refusing, host: &Host<&'h Refusing>) -> Option<b
 // An address that is no source of the host.
 const FAR: Ip = Ip::V6(0x2001_0db8_0001_0000_0000_0000_0000_0001);
 
-// How often each address is given: so often that their routes, too, are searched for.
-const TIMES: usize = 24;
-
-// The three of them in turn, so often.
-fn given() -> [Ip; 3 * TIMES] {
-    let mut given = [V4; 3 * TIMES];
-    for i in 0..TIMES {
-        given[3 * i + 1] = FAR;
-        given[3 * i + 2] = V6;
-    }
-    given
-}
-
-// The three of them as often, one after the other.
-fn in_order<T: Copy>(first: T, second: T, third: T) -> [T; 3 * TIMES] {
-    let mut list = [first; 3 * TIMES];
-    for i in TIMES..2 * TIMES {
-        list[i] = second;
-        list[i + TIMES] = third;
-    }
-    list
-}
-
 // Whether the IPv6 addresses, which are preferred by the standard table, come first, and of them the host's own one.
 fn is_sorted<'h>(
     heap: &'h Refusing,
     policy: &Policy<&'h Refusing>,
     host: &Host<&'h Refusing>,
 ) -> Option<bool> {
-    let given = given();
+    let given = [V4, FAR, V6, V4, FAR, V6, V4, FAR, V6];
     if !all_usable(&given) {
         return Some(false);
     }
     let sorted = order(heap, policy, host, &given).ok()?;
-    Some(sorted.as_slice() == in_order(V6, FAR, V4).as_slice())
+    Some(sorted.as_slice() == [V6, V6, V6, FAR, FAR, FAR, V4, V4, V4].as_slice())
 }
 
 // The destination with the host's own address of that family as its source, which is the same address here.
@@ -89,14 +66,13 @@ fn sourced(ip: Ip) -> Sourced {
     }
 }
 
-// The same with the sources: the one of the other IPv6 address is on the interface of its route, and of those there the
-// closest one.
+// The same with the sources: the one of the other IPv6 address is that on the interface of its route.
 fn is_sorted_with_sources<'h>(
     heap: &'h Refusing,
     policy: &Policy<&'h Refusing>,
     host: &Host<&'h Refusing>,
 ) -> Option<bool> {
-    let given = given();
+    let given = [V4, FAR, V6, V4, FAR, V6, V4, FAR, V6];
     if !all_usable(&given) {
         return Some(false);
     }
@@ -105,29 +81,8 @@ fn is_sorted_with_sources<'h>(
         ip: FAR,
         source: Some(V6),
     };
-    Some(sorted.as_slice() == in_order(sourced(V6), far, sourced(V4)).as_slice())
-}
-
-// An address of link scope.
-const LINK: Ip = Ip::V6(0xfe80_0000_0000_0000_0000_0000_0000_0001);
-
-// Whether it has the first of the sources on the interface of its route, none of which has a bit in common with it: when
-// it is met first, and again.
-fn is_sourced_on_link<'h>(
-    heap: &'h Refusing,
-    policy: &Policy<&'h Refusing>,
-    host: &Host<&'h Refusing>,
-) -> Option<bool> {
-    let given = [LINK; 2];
-    if !all_usable(&given) {
-        return Some(false);
-    }
-    let sorted = order_with_sources(heap, policy, host, &given).ok()?;
-    let wanted = Sourced {
-        ip: LINK,
-        source: Some(V6),
-    };
-    Some(sorted.as_slice() == [wanted; 2].as_slice())
+    let (v6, v4) = (sourced(V6), sourced(V4));
+    Some(sorted.as_slice() == [v6, v6, v6, far, far, far, v4, v4, v4].as_slice())
 }
 
 fn is_host_well<'h>(
@@ -138,8 +93,7 @@ fn is_host_well<'h>(
     Some(
         is_host_copied(heap, host)?
             && is_sorted(heap, policy, host)?
-            && is_sorted_with_sources(heap, policy, host)?
-            && is_sourced_on_link(heap, policy, host)?,
+            && is_sorted_with_sources(heap, policy, host)?,
     )
 }
 
@@ -196,27 +150,24 @@ fn refused_in_turn(heap: &Refusing, sources: &[Source], routes: &[Route]) -> u64
     0
 }
 
-// So many sources, for so many addresses, that those which tie are kept, the closest one of them is searched, and the
-// numbers of all are sorted. All but the first two differ from `FAR` in an earlier bit than `V6` does.
-fn many_sources() -> [Source; 30] {
-    let mut sources = [source(V6, 64, 1); 30];
-    sources[0] = source(Ip::V6(0x2001_0db8_0001_0000_0000_0000_0000_0002), 64, 2);
-    for i in 2..25 {
-        sources[i].ip = Ip::V6(0x2a00_0db8_0000_0000_0000_0000_0000_0000 + i as u128);
-    }
-    sources[25] = source(V4, 24, 1);
-    for i in 26..30 {
-        sources[i] = source(Ip::V4(0x0a00_0000 + i as u32), 24, 2);
-    }
-    sources
-}
-
 #[test]
 fn refused_growths(rt: HostRuntime) {
     let heap = Refusing::new(rt.alloc());
-    let refused = match long_routes("0.0.0.0/0") {
-        Some(routes) => refused_in_turn(&heap, &many_sources(), &routes),
-        None => 0,
+    // So many sources, for as many addresses, that those which tie are kept, and the numbers of all are sorted.
+    let sources = [
+        source(Ip::V6(0x2001_0db8_0001_0000_0000_0000_0000_0002), 64, 2),
+        source(V6, 64, 1),
+        source(V4, 24, 1),
+        source(Ip::V4(0x0a00_0002), 24, 1),
+        source(Ip::V4(0x0a00_0003), 24, 2),
+        source(Ip::V4(0x0a00_0004), 24, 2),
+        source(Ip::V4(0x0a00_0005), 24, 2),
+        source(Ip::V4(0x0a00_0006), 24, 2),
+        source(Ip::V4(0x0a00_0007), 24, 2),
+    ];
+    let refused = match (route("::/0", 1), route("0.0.0.0/0", 1)) {
+        (Some(v6), Some(v4)) => refused_in_turn(&heap, &sources, &[v6, v4]),
+        _ => 0,
     };
     assert!(rt; refused > 0);
 }

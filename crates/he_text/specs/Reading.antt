@@ -13,8 +13,6 @@ use Rattle.he_plan.specs.declared.limits.TheConstants.{DEFAULT_RESOLUTION, DEFAU
 use Rattle.he_plan.specs.Building.{add_answer, add_outcome, add_pause, empty_race}
 use Rattle.he_plan.specs.Race.{Race, Reply, is_in_answer}
 use Rattle.he_plan.specs.Settings.{SettingValues, settings_of}
-use Rattle.he_select.specs.declared.distinct_list.ListFault.{ListFault}
-use Rattle.he_select.specs.declared.distinct_list.ListFault.TheVariants as lists
 use Rattle.he_select.specs.declared.policy.Row.{Row}
 use Rattle.he_select.specs.declared.policy.PolicyFault.{PolicyFault}
 use Rattle.he_select.specs.declared.policy.PolicyFault.TheVariants as tables
@@ -141,11 +139,7 @@ take_given more words.Source tokens head = host_source_in tokens >>= λ source. 
 take_given more words.Route tokens head = host_route_in tokens >>= λ route. add_route route head
 take_given more _ tokens head = Err kinds.Word
 
--- how it is told that an item isn't added to a list, and the faults of a policy table and of a host
-abbrev pub list_kind : ListFault → TextKind
-list_kind lists.Repeated = kinds.Repeated
-list_kind lists.Memory = kinds.Memory
-
+-- how the faults of a policy table and of a host are told
 abbrev pub table_kind : PolicyFault → TextKind
 table_kind tables.Size = kinds.TooMany
 table_kind (tables.Repeated place) = kinds.Repeated

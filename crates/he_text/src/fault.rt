@@ -2,10 +2,10 @@
 
 ghost use Rattle.std.specs.Prelude.{◌≡◌, ◌↔◌, IsTrue};
 ghost use Rattle.he_text.specs.declared.fault.TextKind.TheVariants as kinds;
-ghost use Rattle.he_text.specs.Reading.{kind_of, list_kind, table_kind, host_kind};
+ghost use Rattle.he_text.specs.Reading.{kind_of, table_kind, host_kind};
 
 use he_plan::{BuildFault, Range};
-use he_select::{HostFault, ListFault, PolicyFault};
+use he_select::{HostFault, PolicyFault};
 use std::alloc::{AllocError, AllocFailed};
 use thiserror::Error;
 
@@ -97,17 +97,6 @@ impl From<PolicyFault> for TextKind {
             PolicyFault::Repeated(_) => TextKind::Repeated,
             PolicyFault::Memory => TextKind::Memory,
             _ => TextKind::Policy(fault),
-        }
-    }
-}
-
-impl From<ListFault> for TextKind {
-    ghost from_gives = { λ fault kind. kind ≡ list_kind fault };
-
-    fn from(fault: ListFault) -> TextKind {
-        match fault {
-            ListFault::Repeated => TextKind::Repeated,
-            ListFault::Memory => TextKind::Memory,
         }
     }
 }

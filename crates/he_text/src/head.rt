@@ -16,7 +16,7 @@ use crate::words::{Name, Word};
 use he_addr::Memory;
 use he_plan::Settings;
 use he_select::limits::ROWS;
-use he_select::{DistinctList, Host, Policy, PolicyFault, Route, Row, Source};
+use he_select::{Host, Policy, PolicyFault, Route, Row, Source};
 use std::alloc::Allocator;
 use std::marker::Model;
 
@@ -33,9 +33,9 @@ pub(crate) struct Scene<A: Allocator> {
 #[derive(Drop)]
 pub(crate) struct Head<A: Allocator> {
     settings: Given,
-    rows: DistinctList<Row, A>,
-    sources: DistinctList<Source, A>,
-    routes: DistinctList<Route, A>,
+    rows: Vec<Row, A>,
+    sources: Vec<Source, A>,
+    routes: Vec<Route, A>,
 }
 
 impl<A: Allocator> Model for Head<A> {
@@ -43,7 +43,7 @@ impl<A: Allocator> Model for Head<A> {
 
     ghost Value = { HeadGiven };
 
-    ghost view = { λ h. record { settings = h.settings; rows = h.rows; sources = h.sources; routes = h.routes } };
+    ghost view = { λ h. record { settings = h.settings; rows = h.rows.items; sources = h.sources.items; routes = h.routes.items } };
 }
 
 impl<A: Allocator + Copy> Head<A> {
@@ -52,9 +52,9 @@ impl<A: Allocator + Copy> Head<A> {
     {
         Head {
             settings: Given::none(),
-            rows: DistinctList::new(alloc),
-            sources: DistinctList::new(alloc),
-            routes: DistinctList::new(alloc),
+            rows: Vec::new(alloc),
+            sources: Vec::new(alloc),
+            routes: Vec::new(alloc),
         }
     }
 
@@ -71,27 +71,42 @@ impl<A: Allocator + Copy> Head<A> {
     fn add_row(&mut self, row: Row, more: bool) -> Result<(), TextKind>
         ensures { MatchResult result (λ _. add_row more row self.old ≡ Ok self.new) (λ kind. Fails kind (add_row more row self.old)) }
     {
-        if !more && !self.rows.has(&row) {
-            check_table(self.rows.as_slice(), row)?;
+        if row.repeats(&self.rows) {
+            return Err(TextKind::Repeated);
         }
-        self.rows.add(row)?;
-        Ok(())
+        if !more {
+            check_table(&self.rows, row)?;
+        }
+        match self.rows.push(row) {
+            Ok(()) => Ok(()),
+            Err(_) => Err(TextKind::Memory),
+        }
     }
 
     #[tactic(auto, unfolding(crate::specs::Reading::add_source))]
     fn add_source(&mut self, source: Source) -> Result<(), TextKind>
         ensures { MatchResult result (λ _. add_source source self.old ≡ Ok self.new) (λ kind. Fails kind (add_source source self.old)) }
     {
-        self.sources.add(source)?;
-        Ok(())
+        if source.repeats(&self.sources) {
+            return Err(TextKind::Repeated);
+        }
+        match self.sources.push(source) {
+            Ok(()) => Ok(()),
+            Err(_) => Err(TextKind::Memory),
+        }
     }
 
     #[tactic(auto, unfolding(crate::specs::Reading::add_route))]
     fn add_route(&mut self, route: Route) -> Result<(), TextKind>
         ensures { MatchResult result (λ _. add_route route self.old ≡ Ok self.new) (λ kind. Fails kind (add_route route self.old)) }
     {
-        self.routes.add(route)?;
-        Ok(())
+        if route.repeats(&self.routes) {
+            return Err(TextKind::Repeated);
+        }
+        match self.routes.push(route) {
+            Ok(()) => Ok(()),
+            Err(_) => Err(TextKind::Memory),
+        }
     }
 
     // Adds what a line of the first four groups gives, behind its word. Whether more rows follow it is told for a row.
@@ -126,8 +141,8 @@ impl<A: Allocator + Copy> Head<A> {
         ensures { MatchResult result (λ scene. race_begun self ≡ Ok (empty_race scene.settings scene.policy scene.host)) (λ kind. (kind ≡ kinds.Memory) ⊎ (race_begun self ≡ Err kind)) }
     {
         let settings = self.settings.settings()?;
-        let policy = policy(alloc, self.rows.into_items())?;
-        let host = host(self.sources.into_items(), self.routes.into_items())?;
+        let policy = policy(alloc, self.rows)?;
+        let host = host(self.sources, self.routes)?;
         Ok(Scene {
             settings,
             policy,

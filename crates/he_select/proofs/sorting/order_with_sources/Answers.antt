@@ -1,7 +1,5 @@
 use Rattle.std.proofs.Common.{◌≡◌, map, sym, ◌∙◌, ap, subst}
-use Rattle.std.specs.Prelude.{◌≢◌, AllPairs}
 use Rattle.std.specs.List.{list_all}
-use Rattle.he_select.specs.declared.host.Source.{Source}
 use Rattle.he_select.specs.HostFaults.{is_sound_source}
 use Rattle.he_select.specs.Preference.{order_of, sourced_by}
 use Rattle.he_select.specs.Selection.{SelectionInput, selection_input}
@@ -13,7 +11,6 @@ pub sort_sourced-requires : goal.sort_sourced-requires
 sort_sourced-requires g c = record {
   admitted = subst IsAdmitted (sym c.rows.ensures.rows) c.rows.ensures.admitted;
   sound = ap (list_all is_sound_source) c.sources.ensures.sources ∙ all_sound c.args.host.now c.sources.ensures.host;
-  different = subst (AllPairs (λ (a : Source) (b : Source). a.ip ≢ b.ip)) (sym c.sources.ensures.sources) c.sources.ensures.host.different_sources;
   usable = c.requires;
 }
 

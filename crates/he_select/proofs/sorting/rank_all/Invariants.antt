@@ -3,11 +3,9 @@ use Rattle.std.specs.List.{AllWithin}
 use Rattle.he_addr.specs.Ip.{InRange}
 use Rattle.he_select.specs.Ranking.{key_from}
 use Rattle.he_select.specs.Preference.{members_from}
-use Rattle.he_select.specs.Met.{IsMet}
 use Rattle.he_select.proofs.sorting.rank_all.Given as goal
 
 abbrev pub invariant-loop-place : goal.invariant-loop-place
 invariant-loop-place g l =
     (l.keys.items ++ map (key_from l.rows l.routes l.sources) (members_from l.place (drop l.place l.addresses)) ≡ map (key_from l.rows l.routes l.sources) (members_from 0 l.addresses))
     × AllWithin InRange l.addresses 0 l.place
-    × IsMet l.sources l.met

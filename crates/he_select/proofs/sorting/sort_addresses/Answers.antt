@@ -12,24 +12,19 @@ use Rattle.he_select.specs.HostFaults.{is_sound_source}
 use Rattle.he_select.specs.LabelledRules.{labelled_of}
 use Rattle.he_select.specs.Preference.{IsOrder, members_from, order_of}
 use Rattle.he_select.specs.Selection.{SelectionInput}
-use Rattle.he_select.specs.Ties.{SourcesDiffer}
 use Rattle.he_select.proofs.Arranged.{each_usable}
 use Rattle.he_select.proofs.Chosen.{all_keys, labelled_sound}
 use Rattle.he_select.proofs.Counting.{Each}
 use Rattle.he_select.proofs.Families.{parts_families}
 use Rattle.he_select.proofs.Keyed.{PartsFamilies}
 use Rattle.he_select.proofs.Listing.{written_back}
-use Rattle.he_select.proofs.Own.{labelled_differ}
 use Rattle.he_select.proofs.Picked.{picked, picked_is, picked_order}
 use Rattle.he_select.proofs.sorting.sort_addresses.Goals as goal
 
 pub rank_all-requires : goal.rank_all-requires
 rank_all-requires g c =
     let items : c.deref.result.now ≡ map (labelled_of c.args.rows.now) c.args.sources.now = c.deref.ensures.value ∙ c.in_ok-labelled.ensures in
-    record {
-      sound = ap (list_all (λ (labelled : Labelled). is_sound_source labelled.source)) items ∙ sym (labelled_sound c.args.rows.now c.args.sources.now) ∙ c.requires.sound;
-      different = subst SourcesDiffer (sym items) (labelled_differ c.args.rows.now c.args.sources.now c.requires.different);
-    }
+    ap (list_all (λ (labelled : Labelled). is_sound_source labelled.source)) items ∙ sym (labelled_sound c.args.rows.now c.args.sources.now) ∙ c.requires.sound
 
 pub returns : goal.returns
 returns g c =
