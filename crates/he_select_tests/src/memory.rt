@@ -6,7 +6,9 @@ ghost use Rattle.he_addr.specs.Ip.{is_usable};
 
 use crate::hosts::{V4, V6, route, source};
 use he_addr::Ip;
-use he_select::{Host, Policy, Route, Source, Sourced, order, order_with_sources};
+use he_select::{
+    Host, Policy, Route, Source, Sourced, order, order_with_sources, order_with_standings,
+};
 use refusing::{MOST_RUNS, Refusing};
 use std::mem::drop;
 
@@ -85,6 +87,32 @@ fn is_sorted_with_sources<'h>(
     Some(sorted.as_slice() == [v6, v6, v6, far, far, far, v4, v4, v4].as_slice())
 }
 
+// The same with what the rules look at: precedence and label of the standard table, and the sources' scope.
+fn is_sorted_with_standings<'h>(
+    heap: &'h Refusing,
+    policy: &Policy<&'h Refusing>,
+    host: &Host<&'h Refusing>,
+) -> Option<bool> {
+    let given = [V4, FAR, V6];
+    if !all_usable(&given) {
+        return Some(false);
+    }
+    let sorted = order_with_standings(heap, policy, host, &given).ok()?;
+    let mut is_right = sorted.len() == given.len();
+    for (standing, (ip, precedence, label)) in sorted
+        .iter()
+        .zip([(V6, 40, 1), (FAR, 40, 1), (V4, 35, 4)])
+    {
+        is_right &= standing.ip == ip
+            && standing.precedence == precedence
+            && standing.label == label
+            && standing
+                .source
+                .map_or(false, |source| source.label == label);
+    }
+    Some(is_right)
+}
+
 fn is_host_well<'h>(
     heap: &'h Refusing,
     policy: &Policy<&'h Refusing>,
@@ -93,7 +121,8 @@ fn is_host_well<'h>(
     Some(
         is_host_copied(heap, host)?
             && is_sorted(heap, policy, host)?
-            && is_sorted_with_sources(heap, policy, host)?,
+            && is_sorted_with_sources(heap, policy, host)?
+            && is_sorted_with_standings(heap, policy, host)?,
     )
 }
 
@@ -153,7 +182,7 @@ fn refused_in_turn(heap: &Refusing, sources: &[Source], routes: &[Route]) -> u64
 #[test]
 fn refused_growths(rt: HostRuntime) {
     let heap = Refusing::new(rt.alloc());
-    // So many sources, for as many addresses, that those which tie are kept, and the numbers of all are sorted.
+    // More sources than the addresses use, of both families and on two interfaces.
     let sources = [
         source(Ip::V6(0x2001_0db8_0001_0000_0000_0000_0000_0002), 64, 2),
         source(V6, 64, 1),
