@@ -17,7 +17,6 @@
 
 pub mod cause;
 pub mod course;
-pub mod deciding;
 mod events;
 pub mod explanation;
 mod interlaced;
@@ -25,11 +24,10 @@ pub mod laws;
 mod listing;
 pub mod reasons;
 mod sorted;
-mod traits;
 mod writing;
 
 pub use cause::{Cause, cause_of, is_held};
 pub use course::write_course;
-pub use deciding::DestinationRule;
 pub use explanation::write_explanation;
+pub use he_select::DestinationRule;
 pub use reasons::write_order_reasons;

@@ -5,11 +5,11 @@ ghost use Rattle.std.specs.List.{list_all};
 ghost use Rattle.he_addr.specs.Ip.{is_usable};
 ghost use Rattle.he_plan.specs.Race.{reply_of, addresses_of};
 ghost use Rattle.he_text.specs.Orders.{usable_addresses};
-ghost use Rattle.he_explain.specs.Sorting.{sorted_of};
+ghost use Rattle.he_explain.specs.Reasons.{standings_of};
 
 use he_addr::{Family, Ip, Memory};
 use he_plan::Timeline;
-use he_select::{Sourced, order_with_sources};
+use he_select::{Standing, order_with_standings};
 use std::alloc::{AllocError, Allocator};
 
 fn push_usable<A: Allocator>(ips: &mut Vec<Ip, A>, addresses: &[Ip]) -> Result<(), AllocError>
@@ -50,13 +50,13 @@ fn usable_addresses<A: Allocator + Copy, B: Allocator>(
     Ok(ips)
 }
 
-// The usable addresses in sorted order, each with the source that the host uses for it.
-pub(crate) fn sorted_addresses<A: Allocator + Copy, B: Allocator>(
+// What the rules look at of the usable addresses, in sorted order.
+pub(crate) fn sorted_standings<A: Allocator + Copy, B: Allocator>(
     alloc: A,
     timeline: &Timeline<B>,
-) -> Result<Vec<Sourced, A>, Memory>
-    ensures { IfOk result (λ sorted. sorted.items ≡ sorted_of timeline.now) }
+) -> Result<Vec<Standing, A>, Memory>
+    ensures { IfOk result (λ sorted. sorted.items ≡ standings_of timeline.now) }
 {
     let usable = usable_addresses(alloc, timeline)?;
-    order_with_sources(alloc, timeline.policy(), timeline.host(), &usable)
+    order_with_standings(alloc, timeline.policy(), timeline.host(), &usable)
 }
