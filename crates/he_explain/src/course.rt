@@ -8,7 +8,8 @@ ghost use Rattle.he_explain.specs.Course.{cause_text, course_text, event_text, h
 ghost use Rattle.he_explain.specs.Reasons.{standings_of};
 
 use crate::cause::Cause;
-use crate::events::{Event, EventKind, Start, collect_events, end_tick};
+use crate::collecting::{collect_events, end_tick};
+use crate::events::{Event, EventKind, Start};
 use crate::listing::{Listed, Turn};
 use crate::sorted::sorted_standings;
 use crate::writing::{write_bytes, write_labelled, write_labelled_ip, write_values};
@@ -38,13 +39,10 @@ fn events_until<'a, A: Allocator>(
 ) -> Result<Vec<&'a Event, A>, AllocError>
     ensures { IfOk result (λ kept. map (λ event. event.now) kept.items ≡ filter (λ event. nat_le event.tick end) events.now) }
 {
-    let mut kept = Vec::with_capacity(alloc, events.len())?;
-    for event in events {
-        if event.tick <= end {
-            kept.push(event)?;
-        }
-    }
-    Ok(kept)
+    events
+        .iter()
+        .filter(|event| event.tick <= end)
+        .collect(alloc)
 }
 
 fn sort_by_tick<'a, A: Allocator>(events: &mut Vec<&'a Event, A>) -> Result<(), AllocError>

@@ -101,13 +101,11 @@ fn included<A: Allocator>(
 ) -> Result<Vec<Ip, A>, AllocError>
     ensures { IfOk result (λ ips. ips.items ≡ filter (is_of_included v6 v4) (map (λ standing. standing.ip) sorted.now)) }
 {
-    let mut ips = Vec::with_capacity(alloc, sorted.len())?;
-    for standing in sorted {
-        if is_included(v6, v4, standing.ip) {
-            ips.push(standing.ip)?;
-        }
-    }
-    Ok(ips)
+    sorted
+        .iter()
+        .map(|standing| standing.ip)
+        .filter(|ip| is_included(v6, v4, *ip))
+        .collect(alloc)
 }
 
 fn is_included(v6: bool, v4: bool, ip: Ip) -> bool

@@ -16,6 +16,7 @@
 #![tactic(auto)]
 
 pub mod cause;
+mod collecting;
 pub mod course;
 mod events;
 pub mod explanation;
@@ -29,5 +30,4 @@ mod writing;
 pub use cause::{Cause, cause_of, is_held};
 pub use course::write_course;
 pub use explanation::write_explanation;
-pub use he_select::DestinationRule;
 pub use reasons::write_order_reasons;

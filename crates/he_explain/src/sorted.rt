@@ -3,7 +3,6 @@
 ghost use Rattle.std.specs.Prelude.{◌≡◌, ◌++◌, filter, IsTrue, IfOk, OnOk};
 ghost use Rattle.std.specs.List.{list_all};
 ghost use Rattle.he_addr.specs.Ip.{is_usable};
-ghost use Rattle.he_plan.specs.Race.{reply_of, addresses_of};
 ghost use Rattle.he_text.specs.Orders.{usable_addresses};
 ghost use Rattle.he_explain.specs.Reasons.{standings_of};
 
@@ -23,20 +22,7 @@ fn push_usable<A: Allocator>(ips: &mut Vec<Ip, A>, addresses: &[Ip]) -> Result<(
     Ok(())
 }
 
-// The addresses of a family's answer that can be connected to, whatever its tick.
-fn push_answer<A: Allocator, B: Allocator>(
-    ips: &mut Vec<Ip, A>,
-    timeline: &Timeline<B>,
-    family: Family,
-) -> Result<(), AllocError>
-    ensures { OnOk result (ips.new.items ≡ ips.old.items ++ filter is_usable (addresses_of (reply_of timeline.now family))) }
-{
-    match timeline.answer(family) {
-        Some((_, addresses)) => push_usable(ips, addresses),
-        None => Ok(()),
-    }
-}
-
+// The addresses of both answers that can be connected to, whatever their ticks.
 fn usable_addresses<A: Allocator + Copy, B: Allocator>(
     alloc: A,
     timeline: &Timeline<B>,
@@ -45,8 +31,8 @@ fn usable_addresses<A: Allocator + Copy, B: Allocator>(
     ensures usable { IfOk result (λ ips. IsTrue (list_all is_usable ips.items)) }
 {
     let mut ips = Vec::new(alloc);
-    push_answer(&mut ips, timeline, Family::V6)?;
-    push_answer(&mut ips, timeline, Family::V4)?;
+    push_usable(&mut ips, timeline.answered(Family::V6))?;
+    push_usable(&mut ips, timeline.answered(Family::V4))?;
     Ok(ips)
 }
 

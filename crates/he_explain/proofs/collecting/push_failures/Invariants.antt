@@ -1,7 +1,7 @@
 use Rattle.std.proofs.Common.{◌≡◌, ◌++◌, drop}
 use Rattle.std.specs.List.{flat_map}
 use Rattle.he_explain.specs.Events.{failed_by}
-use Rattle.he_explain.proofs.events.push_failures.Given as goal
+use Rattle.he_explain.proofs.collecting.push_failures.Given as goal
 
 abbrev pub invariant-loop-line : goal.invariant-loop-line
 invariant-loop-line g l =

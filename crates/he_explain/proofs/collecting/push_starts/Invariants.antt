@@ -2,7 +2,7 @@ use Rattle.std.proofs.Common.{◌≡◌, ◌++◌, drop}
 use Rattle.std.specs.Prelude.{None}
 use Rattle.he_plan.specs.Planning.{interlaced_list}
 use Rattle.he_explain.specs.Events.{start_events}
-use Rattle.he_explain.proofs.events.push_starts.Given as goal
+use Rattle.he_explain.proofs.collecting.push_starts.Given as goal
 
 abbrev pub invariant-loop-line : goal.invariant-loop-line
 invariant-loop-line g l =

@@ -1,6 +1,6 @@
 use Rattle.std.proofs.Common.{refl}
 use Rattle.he_explain.proofs.InterlacedLaws.{first_list}
-use Rattle.he_explain.proofs.events.push_starts.Goals as goal
+use Rattle.he_explain.proofs.collecting.push_starts.Goals as goal
 
 pub loop-line-init : goal.loop-line-init
 loop-line-init g c = (
