@@ -1,6 +1,6 @@
 -- The destination rules by keys, and that keys are in a total order.
-use Rattle.std.proofs.Common.{◌≡◌, ℕ, Bool, true, false, refl, sym, List}
-use Rattle.std.specs.Prelude.{Option, None, Some, is_some}
+use Rattle.std.proofs.Common.{◌≡◌, ℕ, Bool, true, false, cond, refl, sym, ◌∙◌, ap, List}
+use Rattle.std.specs.Prelude.{Option, option_map, ◌==◌}
 use Rattle.std.specs.Bool.{beq}
 use Rattle.std.specs.Option.{option_map_or}
 use Rattle.std.specs.Cmp.{IsTotalOrder}
@@ -13,13 +13,16 @@ use Rattle.he_addr.specs.Prefix.{common_of}
 use Rattle.he_select.specs.declared.host.Source.{Source}
 use Rattle.he_select.specs.declared.policy.Row.{Row}
 use Rattle.he_select.specs.declared.ranking.Key.{Key}
+use Rattle.he_select.specs.declared.selection.LabelledSource.{LabelledSource}
 use Rattle.he_select.specs.DestinationKeys.{destination_key, key_cmp}
 use Rattle.he_select.specs.KeyOrder.{key_order_total}
-use Rattle.he_select.specs.Preference.{Member, common_with_source, destination_rules, has_current_source, has_like_label, has_like_scope, is_native}
+use Rattle.he_select.specs.LabelledRules.{labelled_of}
+use Rattle.he_select.specs.Preference.{Member, destination_rules}
 use Rattle.he_select.specs.Rules.{first_of}
-use Rattle.he_select.specs.Selection.{SelectionInput, is_reachable, source_of}
-use Rattle.he_select.specs.Tables.{precedence_of}
-use Rattle.he_select.proofs.Orders.{alike, sourced, sourced_common, step, then_equal, tied_numbers, yes_as_less}
+use Rattle.he_select.specs.Selection.{SelectionInput, route_of, source_of}
+use Rattle.he_select.specs.Tables.{label_of, precedence_of}
+use Rattle.he_select.proofs.Orders.{step, then_equal, tied_numbers}
+use Rattle.he_select.proofs.Standings.{avoided, closer, matching, native, reached}
 
 pub keys_total : IsTotalOrder key_cmp
 unfolding key_cmp
@@ -48,10 +51,6 @@ same_place a b e =
 abbrev pub PartsFamilies : List Row → Type 0
 PartsFamilies rows = (x y : Ip) → IsUsable x → IsUsable y → precedence_of rows x ≡ precedence_of rows y → is_v6 x ≡ is_v6 y
 
-nothing_common : (o : Option Source) (f : Source → ℕ) → is_some o ≡ false → option_map_or f o 0 ≡ 0
-nothing_common None f e = refl
-nothing_common (Some source) f e = cc
-
 same_family : (x y : Bool) → x ≡ y → beq x y ≡ true
 same_family true true e = refl
 same_family true false e = cc
@@ -62,18 +61,19 @@ pub by_keys : (input : SelectionInput) → PartsFamilies input.rows → (a b : M
     → first_of (destination_rules input) a b ≡ key_cmp (destination_key input a) (destination_key input b)
 unfolding destination_rules destination_key key_cmp
 by_keys input parts a b ua ub =
-    let ra : Bool = is_reachable input a.ip in
-    let rb : Bool = is_reachable input b.ip in
-    step (yes_as_less ra rb) (λ tied.
-    let both : ra ≡ rb = alike ra rb tied in
-    step (sourced ra rb (has_like_scope input a.ip) (has_like_scope input b.ip) both) (λ _.
-    step (sourced ra rb (has_current_source input a.ip) (has_current_source input b.ip) both) (λ _.
-    step (sourced ra rb (has_like_label input a.ip) (has_like_label input b.ip) both) (λ _.
+    let x : Option Source = source_of input a.ip in
+    let y : Option Source = source_of input b.ip in
+    let f : Source → LabelledSource = labelled_of input.rows in
+    step (reached x y f) (λ tied.
+    step (matching x y f (λ l. l.scope == scope_of a.ip) (λ l. l.scope == scope_of b.ip) tied) (λ _.
+    step (avoided x y f (λ l. l.source.deprecated) tied) (λ _.
+    step (matching x y f (λ l. l.label == label_of input.rows a.ip) (λ l. l.label == label_of input.rows b.ip) tied) (λ _.
     step {o = nat_cmp (precedence_of input.rows b.ip) (precedence_of input.rows a.ip)} refl (λ even.
-    step (yes_as_less (is_native input a.ip) (is_native input b.ip)) (λ _.
+    step (native (route_of input a.ip) (route_of input b.ip)) (λ _.
     step {o = nat_cmp (scope_of a.ip) (scope_of b.ip)} refl (λ _.
-    step (sourced_common ra rb (beq (is_v6 a.ip) (is_v6 b.ip)) (common_with_source input a.ip) (common_with_source input b.ip) both
-    (same_family (is_v6 a.ip) (is_v6 b.ip) (parts a.ip b.ip ua ub (sym (tied_numbers _ _ even))))
-    (nothing_common (source_of input a.ip) (λ s. common_of s.ip s.plen a.ip))
-    (nothing_common (source_of input b.ip) (λ s. common_of s.ip s.plen b.ip))) (λ _.
+    let near : LabelledSource → ℕ = λ l. common_of l.source.ip l.source.plen a.ip in
+    let far : LabelledSource → ℕ = λ l. common_of l.source.ip l.source.plen b.ip in
+    step (closer x y f (beq (is_v6 a.ip) (is_v6 b.ip)) near far tied
+    ∙ ap (λ family. cond family (nat_cmp (option_map_or far (option_map f y) 0) (option_map_or near (option_map f x) 0)) Equal)
+    (same_family (is_v6 a.ip) (is_v6 b.ip) (parts a.ip b.ip ua ub (sym (tied_numbers _ _ even))))) (λ _.
     then_equal (nat_cmp a.place b.place)))))))))

@@ -20,5 +20,6 @@ pub mod Picked
 pub mod Repeats
 pub mod Sources
 pub mod Standards
+pub mod Standings
 pub mod Stepping
 pub mod Walks

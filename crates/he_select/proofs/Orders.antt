@@ -46,28 +46,6 @@ step {o} {p} {q} {r} e more = ap (λ t. ordering_then t q) e ∙ later p (λ tie
     later Equal h = h refl
     later Greater h = refl
 
-pub alike : (x y : Bool) → bool_cmp y x ≡ Equal → x ≡ y
-alike true true e = refl
-alike true false e = cc
-alike false true e = cc
-alike false false e = refl
-
--- a rule about the source, as a number that is 0 where there is no source
-pub sourced : (r s x y : Bool) → r ≡ s → cond (r && s) (bool_cmp y x) Equal ≡ bool_cmp (r && not x) (s && not y)
-sourced true true x y e = yes_as_less x y
-sourced true false x y e = cc
-sourced false true x y e = cc
-sourced false false x y e = refl
-
--- the rule about the common prefix: within one family, and 0 where there is no source
-pub sourced_common : (r s f : Bool) (m n : ℕ) → r ≡ s → f ≡ true → (r ≡ false → m ≡ 0) → (s ≡ false → n ≡ 0)
-    → cond f (cond (r && s) (nat_cmp n m) Equal) Equal ≡ nat_cmp n m
-sourced_common true true true m n e f hm hn = refl
-sourced_common false false true m n e f hm hn = rw (hm refl, hn refl) refl
-sourced_common true false f m n e g hm hn = cc
-sourced_common false true f m n e g hm hn = cc
-sourced_common r s false m n e g hm hn = cc
-
 pub tied_numbers : (m n : ℕ) → nat_cmp m n ≡ Equal → m ≡ n
 tied_numbers m n e = grind (arith, nat_tests)
 

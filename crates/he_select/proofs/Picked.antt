@@ -1,17 +1,15 @@
 -- The members of a list at the places of its sorted keys are in the order of preference.
-use Rattle.std.proofs.Common.{◌≡◌, ℕ, zero, suc, ◌+◌, ◌<◌, List, [], ◌∷◌, ◌++◌, length, take, map, refl, sym, ◌∙◌, ap, subst, arith, slice_get}
+use Rattle.std.proofs.Common.{◌≡◌, ℕ, suc, ◌+◌, List, [], ◌∷◌, map, refl, sym, ◌∙◌, ap, subst, arith, slice_get}
 use Rattle.std.specs.Prelude.{Option, None, Some, option_map, filter_map, IsPermutation, IsSorted}
-use Rattle.std.specs.List.{cons_option, slice_index_or}
-use Rattle.std.proofs.Math.Numerals.{add-one}
+use Rattle.std.specs.List.{cons_option}
 use Rattle.std.proofs.lemmas.List.Sorted.{IsPermutation-map}
 use Rattle.std.proofs.lemmas.Option.{slice_get-map}
 use Rattle.he_addr.specs.declared.ip.Ip.{Ip}
 use Rattle.he_addr.specs.declared.ip.Ip.TheVariants.{V4}
 use Rattle.he_addr.specs.Ip.{IsUsable}
 use Rattle.he_select.specs.declared.ranking.Key.{Key}
-use Rattle.he_select.specs.declared.sorting.Sourced.{Sourced}
 use Rattle.he_select.specs.DestinationKeys.{Keyed, destination_key, key_cmp, keyed_of}
-use Rattle.he_select.specs.Preference.{IsOrder, Member, members_from, order_of, sourced_by}
+use Rattle.he_select.specs.Preference.{IsOrder, Member, members_from, order_of}
 use Rattle.he_select.specs.Selection.{SelectionInput}
 use Rattle.he_select.proofs.Arranged.{each-permutation, is_order, keyed}
 use Rattle.he_select.proofs.Counting.{Each, Rising, rising}
@@ -31,19 +29,6 @@ with_ip ips key = record { key = key; ip = or_any (slice_get ips key.place) }
 
 abbrev IsThere : List Ip → Key → Type 0
 IsThere ips key = slice_get ips key.place ≡ Some (or_any (slice_get ips key.place))
-
-cons_append : {X : Type 0} (o : Option X) (xs ys : List X) → cons_option o (xs ++ ys) ≡ cons_option o xs ++ ys
-cons_append None xs ys = refl
-cons_append (Some x) xs ys = refl
-
--- one key more picks one member more
-pub picked_next : {X : Type 0} (list : List X) (keys : List Key) (n : ℕ) (d : Key) → n < length keys
-    → picked list (take (suc n) keys) ≡ picked list (take n keys) ++ cons_option (slice_get list (slice_index_or keys n d).place) []
-picked_next list [] n d lt = absurd (omega arith)
-picked_next list (key ∷ keys) zero d lt = refl
-picked_next list (key ∷ keys) (suc n) d lt =
-    ap (λ l. cons_option (slice_get list key.place) l) (picked_next list keys n d (omega arith))
-    ∙ cons_append (slice_get list key.place) (picked list (take n keys)) (cons_option (slice_get list (slice_index_or keys n d).place) [])
 
 picked_ips : (ips : List Ip) (keys : List Key) → Each (IsThere ips) keys → picked ips keys ≡ map (λ (r : Keyed). r.ip) (map (with_ip ips) keys)
 picked_ips ips [] each = refl
@@ -106,15 +91,5 @@ module _ (input : SelectionInput) where
     pub picked_is : picked ips keys ≡ order_of input ips
     picked_is = is_order_of input parts ips usable (map (with_ip ips) keys) all_moved up (picked ips keys) picked_order
 
-    pub picked_sourced : (sourced : List Sourced) → sourced ≡ map (sourced_by input) ips → picked sourced keys ≡ map (sourced_by input) (order_of input ips)
-    picked_sourced sourced is = ap (λ l. picked l keys) is ∙ picked-map (sourced_by input) ips keys ∙ ap (map (sourced_by input)) picked_is
-
--- the same of a list that is being made
-pub picked_one_more : {X : Type 0} (list : List X) (keys : List Key) (n : ℕ) (d : Key) (made more : List X) (found : Option X) → n < length keys
-    → more ≡ made ++ cons_option found [] → made ≡ picked list (take n keys) → found ≡ slice_get list (slice_index_or keys n d).place
-    → more ≡ picked list (take (n + 1) keys)
-picked_one_more list keys n d made more found inside is kept found_at =
-    is
-    ∙ ap (λ l. l ++ cons_option found []) kept
-    ∙ ap (λ o. picked list (take n keys) ++ cons_option o []) found_at
-    ∙ sym (ap (λ (k : ℕ). picked list (take k keys)) (add-one n) ∙ picked_next list keys n d inside)
+    pub picked_mapped : {X : Type 0} (f : Ip → X) (list : List X) → list ≡ map f ips → picked list keys ≡ map f (order_of input ips)
+    picked_mapped f list is = ap (λ l. picked l keys) is ∙ picked-map f ips keys ∙ ap (map f) picked_is

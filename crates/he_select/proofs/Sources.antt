@@ -14,7 +14,7 @@ use Rattle.he_addr.specs.Prefix.{common_of}
 use Rattle.he_select.specs.declared.host.Source.{Source}
 use Rattle.he_select.specs.declared.host.Route.{Route}
 use Rattle.he_select.specs.declared.selection.Destination.{Destination}
-use Rattle.he_select.specs.declared.selection.Labelled.{Labelled}
+use Rattle.he_select.specs.declared.selection.LabelledSource.{LabelledSource}
 use Rattle.he_select.specs.LabelledRules.{admits, destination_of, is_better_labelled, labelled_of, labelled_rules, late_rules}
 use Rattle.he_select.specs.Rules.{best_by, first_of, yes_first}
 use Rattle.he_select.specs.Selection.{SelectionInput, avoids_deprecated, candidates, is_better, is_candidate, prefers_appropriate_scope, prefers_longest_match, prefers_matching_label, prefers_same_address, prefers_temporary, route_of, source_of, source_rules}
@@ -35,7 +35,7 @@ pub record SourceKey : Type 0 where
   pub lasting : Bool
   pub common : ℕ
 
-unfoldable pub source_key : Destination → Labelled → SourceKey
+unfoldable pub source_key : Destination → LabelledSource → SourceKey
 source_key destination labelled = record {
   other_address = not (same_ip labelled.source.ip destination.ip);
   narrow = nat_lt labelled.scope destination.scope;
@@ -70,7 +70,7 @@ source_keys_total =
     (then_total (on_total (λ (k : SourceKey). k.lasting) bool_cmp_total)
     (back_total (on_total (λ (k : SourceKey). k.common) nat_cmp_total))))))))
 
-pub labelled_by_keys : (destination : Destination) (a b : Labelled)
+pub labelled_by_keys : (destination : Destination) (a b : LabelledSource)
     → first_of (labelled_rules destination) a b ≡ source_key_cmp (source_key destination a) (source_key destination b)
 unfolding labelled_rules late_rules source_key source_key_cmp
 labelled_by_keys destination a b =
@@ -115,9 +115,9 @@ pub source_walked : (input : SelectionInput) (ip : Ip) (route : Route) → route
     ≡ option_map (labelled_of input.rows) (source_of input ip)
 unfolding source_of candidates
 source_walked input ip route e =
-    let to : Source → Labelled = labelled_of input.rows in
-    let fits : Labelled → Bool = admits (destined input ip route) in
-    let better : Labelled → Labelled → Bool = is_better_labelled (destined input ip route) in
+    let to : Source → LabelledSource = labelled_of input.rows in
+    let fits : LabelledSource → Bool = admits (destined input ip route) in
+    let better : LabelledSource → LabelledSource → Bool = is_better_labelled (destined input ip route) in
     best_fitting better (labelled_rank (destined input ip route)) fits (map to input.sources)
     ∙ ap (best_by better) (filter-map to fits input.sources)
     ∙ best_by-map to better (filter (is_candidate route ip) input.sources)
@@ -129,13 +129,13 @@ pub no_source : (input : SelectionInput) (ip : Ip) → route_of input ip ≡ Non
 unfolding source_of candidates
 no_source input ip e = ap (λ o. best_by (is_better input ip) (option_map_or (λ r. filter (is_candidate r ip) input.sources) o [])) e
 
-pub labelled_ip : (input : SelectionInput) (o : Option Source) → option_map (λ (l : Labelled). l.source.ip) (option_map (labelled_of input.rows) o) ≡ option_map (λ (s : Source). s.ip) o
+pub labelled_ip : (input : SelectionInput) (o : Option Source) → option_map (λ (l : LabelledSource). l.source.ip) (option_map (labelled_of input.rows) o) ≡ option_map (λ (s : Source). s.ip) o
 labelled_ip input None = refl
 labelled_ip input (Some source) = refl
 
 -- the address of what the loop finds
-pub walked_ip : (input : SelectionInput) (ip : Ip) (route : Route) → route_of input ip ≡ Some route → (best : Option Labelled)
+pub walked_ip : (input : SelectionInput) (ip : Ip) (route : Route) → route_of input ip ≡ Some route → (best : Option LabelledSource)
     → best ≡ walk_fitting (admits (destined input ip route)) (is_better_labelled (destined input ip route)) None (map (labelled_of input.rows) input.sources)
-    → option_map (λ (l : Labelled). l.source.ip) best ≡ option_map (λ (s : Source). s.ip) (source_of input ip)
+    → option_map (λ (l : LabelledSource). l.source.ip) best ≡ option_map (λ (s : Source). s.ip) (source_of input ip)
 walked_ip input ip route e best is =
-    ap (option_map (λ (l : Labelled). l.source.ip)) (is ∙ source_walked input ip route e) ∙ labelled_ip input (source_of input ip)
+    ap (option_map (λ (l : LabelledSource). l.source.ip)) (is ∙ source_walked input ip route e) ∙ labelled_ip input (source_of input ip)

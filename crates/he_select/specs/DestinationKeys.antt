@@ -1,27 +1,35 @@
 -- The keys by which destinations are sorted: one number for each rule, the least key is preferred.
-use Rattle.std.specs.Prelude.{◌&&◌, not}
+use Rattle.std.specs.Prelude.{ℕ, ◌+◌, List, [], ◌∷◌, is_none}
 use Rattle.std.specs.declared.cmp.Ordering.{Ordering}
 use Rattle.std.specs.Ordering.{nat_cmp, bool_cmp, ordering_then}
 use Rattle.he_addr.specs.declared.ip.Ip.{Ip}
-use Rattle.he_addr.specs.Ip.{scope_of}
 use Rattle.he_select.specs.declared.ranking.Key.{Key}
-use Rattle.he_select.specs.Preference.{Member, common_with_source, has_current_source, has_like_label, has_like_scope, is_native}
-use Rattle.he_select.specs.Selection.{SelectionInput, is_reachable}
-use Rattle.he_select.specs.Tables.{precedence_of}
+use Rattle.he_select.specs.declared.standing.Standing.{Standing}
+use Rattle.he_select.specs.Preference.{Member}
+use Rattle.he_select.specs.Selection.{SelectionInput}
+use Rattle.he_select.specs.Standing.{has_deprecated, has_other_label, has_other_scope, standing_of}
 
 -- the destination rules as numbers; 0 in those about the source, where there is none
-unfoldable pub destination_key : SelectionInput → Member → Key
-destination_key input m = record {
-  unreachable = not (is_reachable input m.ip);
-  other_scope = is_reachable input m.ip && not (has_like_scope input m.ip);
-  deprecated = is_reachable input m.ip && not (has_current_source input m.ip);
-  other_label = is_reachable input m.ip && not (has_like_label input m.ip);
-  precedence = record { 0 = precedence_of input.rows m.ip };
-  tunnel = not (is_native input m.ip);
-  scope = scope_of m.ip;
-  common = record { 0 = common_with_source input m.ip };
-  place = m.place;
+abbrev pub key_of : Standing → ℕ → Key
+key_of s place = record {
+  unreachable = is_none s.source;
+  other_scope = has_other_scope s;
+  deprecated = has_deprecated s;
+  other_label = has_other_label s;
+  precedence = record { 0 = s.precedence };
+  tunnel = s.tunnel;
+  scope = s.scope;
+  common = record { 0 = s.common };
+  place = place;
 }
+
+unfoldable pub destination_key : SelectionInput → Member → Key
+destination_key input m = key_of (standing_of input m.ip) m.place
+
+-- the keys of a list, counted from `place`
+abbrev pub keys_of : ℕ → List Standing → List Key
+keys_of place [] = []
+keys_of place (s ∷ more) = key_of s place ∷ keys_of (place + 1) more
 
 -- a destination with its key
 pub record Keyed : Type 0 where

@@ -1,3 +1,4 @@
+pub mod Deciding
 pub mod DestinationKeys
 pub mod Equality
 pub mod Faults
@@ -9,11 +10,11 @@ pub mod Laws
 pub mod Places
 pub mod Preference
 pub mod Ranges
-pub mod Ranking
 pub mod Refusals
 pub mod Rules
 pub mod Selection
 pub mod Standard
+pub mod Standing
 pub mod TableFaults
 pub mod Tables
 pub mod Walking

@@ -3,7 +3,7 @@
 ghost use Rattle.std.specs.Prelude.{◌≡◌, Option, None, not, option_map};
 ghost use Rattle.he_addr.specs.Bits.{agrees};
 ghost use Rattle.he_addr.specs.Ip.{is_v6};
-ghost use Rattle.he_select.specs.Ranking.{serves_number};
+ghost use Rattle.he_select.specs.Standing.{serves_number};
 ghost use Rattle.he_select.specs.Selection.{is_longer_route, longest_route};
 ghost use Rattle.he_select.specs.Tables.{row_of, label_of, is_longer_row};
 ghost use Rattle.he_select.specs.Walking.{keep_fitting, walk_fitting};

@@ -1,23 +1,14 @@
 // The key of a destination (RFC 6724 section 6).
 
-ghost use Rattle.std.specs.Prelude.{◌≡◌, Option, IsTrue, IfSome};
-ghost use Rattle.std.specs.List.{list_all};
-ghost use Rattle.std.specs.Option.{option_map_or};
+ghost use Rattle.std.specs.Prelude.{◌≡◌, Option};
 ghost use Rattle.std.specs.Cmp.{eq_by_cmp_equiv, partial_equiv_from_equiv, partial_order_from_total};
 ghost use Rattle.std.specs.Ordering.{as_partial_cmp, eq_by_cmp};
 ghost use Rattle.std.proofs.Common.{refl};
-ghost use Rattle.he_addr.specs.Ip.{InRange};
-ghost use Rattle.he_addr.specs.Prefix.{common_of};
+ghost use Rattle.he_select.specs.DestinationKeys.{key_of};
 ghost use Rattle.he_select.specs.KeyOrder.{key_order, key_order_total, late_key_cmp};
-ghost use Rattle.he_select.specs.Ranking.{attributes_of, chosen_by, key_by, ranked_from};
-ghost use Rattle.he_select.specs.HostFaults.{is_sound_source};
+ghost use Rattle.he_select.specs.Standing.{has_deprecated, has_other_label, has_other_scope};
 
-use crate::host::Route;
-use crate::lookup::{find_route, find_row};
-use crate::policy::Row;
-use crate::selection::{Destination, Labelled};
-use crate::sorting::Sourced;
-use he_addr::{Ip, common_len};
+use crate::standing::Standing;
 use std::cmp::{Ordering, Reverse};
 
 /// A number for each rule, in the rules' order; the preferred destination has the least key.
@@ -111,108 +102,54 @@ impl Key {
     }
 }
 
-/// A destination with its source and its key.
-#[derive(Clone, Copy)]
-pub(crate) struct Ranked {
-    pub(crate) key: Key,
-    pub(crate) sourced: Sourced,
-}
-
-/// What the rules look at of a destination, with no regard to sources.
-#[derive(Clone, Copy)]
-struct Attributes {
-    ip: Ip,
-    scope: u8,
-    precedence: u16,
-    label: u16,
-    route: Option<Route>,
-}
-
-/// The destination that stands at this place of the list, with its source and its key.
-pub(crate) fn rank(
-    rows: &[Row],
-    routes: &[Route],
-    sources: &[Labelled],
-    ip: Ip,
-    place: usize,
-) -> Ranked
-    requires { IsTrue (list_all (λ labelled. is_sound_source labelled.source) sources.now) }
-    ensures ranked { result ≡ ranked_from rows.now routes.now sources.now (record { ip = ip; place = place }) }
-    ensures range { InRange ip }
-{
-    let goal = Attributes::new(rows, routes, ip);
-    let chosen = goal.choose_source(sources);
-    let source = chosen.map(|labelled| labelled.source.ip);
-    Ranked {
-        key: goal.key(chosen, place),
-        sourced: Sourced { ip, source },
-    }
-}
-
-impl Attributes {
-    #[tactic(auto, unfolding(crate::specs::Tables::precedence_of, crate::specs::Tables::label_of))]
-    fn new(rows: &[Row], routes: &[Route], ip: Ip) -> Attributes
-        ensures { result ≡ attributes_of rows.now routes.now ip }
-    {
-        let (precedence, label) = match find_row(rows, ip) {
-            Some(row) => (row.precedence, row.label),
-            None => (0, 0),
-        };
-        Attributes {
-            ip,
-            scope: ip.scope(),
-            precedence,
-            label,
-            route: find_route(routes, ip),
-        }
-    }
-
-    #[tactic(auto, unfolding(crate::specs::Ranking::chosen_by))]
-    fn choose_source(&self, sources: &[Labelled]) -> Option<Labelled>
-        requires { IsTrue (list_all (λ labelled. is_sound_source labelled.source) sources.now) }
-        ensures chosen { result ≡ chosen_by self.now sources.now }
-        ensures sound { IfSome result (λ labelled. IsTrue (is_sound_source labelled.source)) }
-    {
-        let route = self.route?;
-        Destination::new(self.ip, self.label, &route).best_of(sources)
-    }
-
-    #[tactic(auto, unfolding(crate::specs::Ranking::key_by))]
-    fn key(&self, source: Option<Labelled>, place: usize) -> Key
-        requires { IfSome source (λ labelled. IsTrue (is_sound_source labelled.source)) }
-        ensures { result ≡ key_by self.now source place }
+impl Standing {
+    /// The key of the destination that stands at this place of the list.
+    pub(crate) fn key(&self, place: usize) -> Key
+        ensures { result ≡ key_of self.now place }
     {
         Key {
             // Rule 1: avoid unusable destinations.
-            unreachable: source.is_none(),
+            unreachable: self.source.is_none(),
             // Rule 2: prefer matching scope.
-            other_scope: source.map_or(false, |chosen| chosen.scope != self.scope),
+            other_scope: self.has_other_scope(),
             // Rule 3: avoid deprecated addresses. Rule 4 is left out: there are no home addresses here.
-            deprecated: source.map_or(false, |chosen| chosen.source.deprecated),
+            deprecated: self.has_deprecated(),
             // Rule 5: prefer matching label.
-            other_label: source.map_or(false, |chosen| chosen.label != self.label),
+            other_label: self.has_other_label(),
             // Rule 6: prefer higher precedence.
             precedence: Reverse(self.precedence),
             // Rule 7: prefer native transport.
-            tunnel: self.route.map_or(false, |route| route.tunnel),
+            tunnel: self.tunnel,
             // Rule 8: prefer smaller scope.
             scope: self.scope,
             // Rule 9: use longest matching prefix. Needs no test of the family: an admitted table's precedences part
             // the families.
-            common: Reverse(self.common(source)),
+            common: Reverse(self.common),
             // Rule 10: otherwise, leave the order unchanged.
             place,
         }
     }
 
-    /// The common prefix length of the address and its source, 0 without a source.
-    fn common(&self, source: Option<Labelled>) -> u8
-        requires { IfSome source (λ labelled. IsTrue (is_sound_source labelled.source)) }
-        ensures { result ≡ option_map_or (λ chosen. common_of chosen.source.ip chosen.source.plen self.now.ip) source 0 }
+    /// Whether its source has another scope.
+    pub(crate) fn has_other_scope(&self) -> bool
+        ensures { result ≡ has_other_scope self.now }
     {
-        match source {
-            Some(chosen) => common_len(chosen.source.ip, chosen.source.plen, self.ip),
-            None => 0,
-        }
+        self.source
+            .map_or(false, |source| source.scope != self.scope)
+    }
+
+    /// Whether its source is deprecated.
+    pub(crate) fn has_deprecated(&self) -> bool
+        ensures { result ≡ has_deprecated self.now }
+    {
+        self.source.map_or(false, |source| source.source.deprecated)
+    }
+
+    /// Whether its source has another label.
+    pub(crate) fn has_other_label(&self) -> bool
+        ensures { result ≡ has_other_label self.now }
+    {
+        self.source
+            .map_or(false, |source| source.label != self.label)
     }
 }

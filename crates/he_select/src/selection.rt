@@ -28,18 +28,18 @@ pub(crate) struct Destination {
 }
 
 /// A source with what the rules look at of it for every destination.
-#[derive(Clone, Copy)]
-pub(crate) struct Labelled {
-    pub(crate) source: Source,
-    pub(crate) scope: u8,
-    pub(crate) label: u16,
+#[derive(Clone, Copy, Debug, PartialEq, Eq)]
+pub struct LabelledSource {
+    pub source: Source,
+    pub scope: u8,
+    pub label: u16,
 }
 
-impl Labelled {
-    pub(crate) fn new(rows: &[Row], source: &Source) -> Labelled
+impl LabelledSource {
+    pub(crate) fn new(rows: &[Row], source: &Source) -> LabelledSource
         ensures { result ≡ labelled_of rows.now source.now }
     {
-        Labelled {
+        LabelledSource {
             source: *source,
             scope: source.ip.scope(),
             label: find_label(rows, source.ip),
@@ -60,7 +60,7 @@ impl Destination {
     }
 
     /// The best of the sources that may be used for this destination.
-    pub(crate) fn best_of(&self, sources: &[Labelled]) -> Option<Labelled>
+    pub(crate) fn best_of(&self, sources: &[LabelledSource]) -> Option<LabelledSource>
         requires { IsTrue (list_all (λ labelled. is_sound_source labelled.source) sources.now) }
         ensures best { result ≡ walk_fitting (admits self.now) (is_better_labelled self.now) None sources.now }
         ensures sound { IfSome result (λ labelled. IsTrue (is_sound_source labelled.source)) }
@@ -76,9 +76,9 @@ impl Destination {
     #[inline(always)]
     pub(crate) fn keep<'a>(
         &self,
-        best: Option<&'a Labelled>,
-        labelled: &'a Labelled,
-    ) -> Option<&'a Labelled>
+        best: Option<&'a LabelledSource>,
+        labelled: &'a LabelledSource,
+    ) -> Option<&'a LabelledSource>
         requires sound { IsTrue (is_sound_source labelled.now.source) }
         requires best { IfSome best (λ kept. IsTrue (is_sound_source kept.now.source)) }
         ensures kept { option_map (λ kept. kept.now) result ≡ keep_fitting (admits self.now) (is_better_labelled self.now) (option_map (λ kept. kept.now) best.entry) labelled.now }
@@ -94,7 +94,11 @@ impl Destination {
     }
 
     /// The same of a source that is at hand only for now.
-    fn keep_copy(&self, best: Option<Labelled>, labelled: Labelled) -> Option<Labelled>
+    fn keep_copy(
+        &self,
+        best: Option<LabelledSource>,
+        labelled: LabelledSource,
+    ) -> Option<LabelledSource>
         requires sound { IsTrue (is_sound_source labelled.source) }
         requires best { IfSome best (λ kept. IsTrue (is_sound_source kept.source)) }
         ensures kept { result ≡ keep_fitting (admits self.now) (is_better_labelled self.now) best labelled }
@@ -106,7 +110,7 @@ impl Destination {
     /// Whether the source may be used: one of the destination's family, for a destination of link scope only one on
     /// the route's interface.
     #[inline(always)]
-    fn admits(&self, labelled: &Labelled) -> bool
+    fn admits(&self, labelled: &LabelledSource) -> bool
         ensures { result ≡ admits self.now labelled.now }
     {
         labelled.source.ip.family() == self.ip.family()
@@ -117,7 +121,7 @@ impl Destination {
     /// by one, since most pairs are told apart early.
     #[inline(always)]
     #[tactic(auto, unfolding(crate::specs::LabelledRules::labelled_rules))]
-    fn is_better(&self, this: &Labelled, other: &Labelled) -> bool
+    fn is_better(&self, this: &LabelledSource, other: &LabelledSource) -> bool
         requires this { IsTrue (is_sound_source this.now.source) }
         requires other { IsTrue (is_sound_source other.now.source) }
         ensures { result ≡ is_better_labelled self.now this.now other.now }
@@ -141,7 +145,7 @@ impl Destination {
     /// The same by the rules from 5 on.
     #[inline(always)]
     #[tactic(auto, unfolding(crate::specs::LabelledRules::late_rules))]
-    fn is_better_late(&self, this: &Labelled, other: &Labelled) -> bool
+    fn is_better_late(&self, this: &LabelledSource, other: &LabelledSource) -> bool
         requires this { IsTrue (is_sound_source this.now.source) }
         requires other { IsTrue (is_sound_source other.now.source) }
         ensures { result ≡ is_lt (first_of (late_rules self.now) this.now other.now) }
@@ -177,7 +181,7 @@ impl Destination {
     }
 
     #[inline(always)]
-    fn common(&self, labelled: &Labelled) -> u8
+    fn common(&self, labelled: &LabelledSource) -> u8
         requires { IsTrue (is_sound_source labelled.now.source) }
         ensures { result ≡ common_of labelled.now.source.ip labelled.now.source.plen self.now.ip }
     {
@@ -190,13 +194,13 @@ pub(crate) fn best_source(
     rows: &[Row],
     sources: &[Source],
     destination: &Destination,
-) -> Option<Labelled>
+) -> Option<LabelledSource>
     requires { IsTrue (list_all is_sound_source sources.now) }
     ensures { result ≡ walk_fitting (admits destination.now) (is_better_labelled destination.now) None (map (labelled_of rows.now) sources.now) }
 {
     let mut best = None;
     for source in sources {
-        best = destination.keep_copy(best, Labelled::new(rows, source));
+        best = destination.keep_copy(best, LabelledSource::new(rows, source));
     }
     best
 }

@@ -1,6 +1,6 @@
 use Rattle.std.proofs.Common.{◌≡◌, option_map, None, Some, rules, sym, ◌∙◌, ap}
 use Rattle.he_select.specs.declared.host.Source.{Source}
-use Rattle.he_select.specs.declared.selection.Labelled.{Labelled}
+use Rattle.he_select.specs.declared.selection.LabelledSource.{LabelledSource}
 use Rattle.he_select.specs.Selection.{SelectionInput, longest_route}
 use Rattle.he_select.proofs.Sources.{no_source, walked_ip}
 use Rattle.he_select.proofs.host.source_ip.Goals as goal
@@ -16,5 +16,5 @@ pub returns : goal.returns
 returns c =
     let input : SelectionInput = record { rows = c.args.rows.now; sources = c.args.sources.now; routes = c.args.routes.now } in
     let some : longest_route c.args.routes.now c.args.ip ≡ Some c.in_ok-route.route = sym c.find_route.ensures ∙ c.in_ok-route.was in
-    let given : c.map.result ≡ option_map (λ (b : Labelled). b.source.ip) c.best_source.result = search rules in
+    let given : c.map.result ≡ option_map (λ (b : LabelledSource). b.source.ip) c.best_source.result = search rules in
     given ∙ walked_ip input c.args.ip c.in_ok-route.route some c.best_source.result (rw (c.new-destination.ensures, c.find_label.ensures) at c.best_source.ensures)

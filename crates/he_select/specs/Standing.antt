@@ -1,0 +1,86 @@
+-- What the rules look at of an address: `standing_of`. The rest mirrors the code: what it computes of an address, and the
+-- rule that it finds between two.
+use Rattle.std.specs.Prelude.{ℕ, ◌==◌, ◌&&◌, Bool, false, not, cond, List, [], ◌∷◌, None, Option, is_none, option_and_then, option_map}
+use Rattle.std.specs.Bool.{beq}
+use Rattle.std.specs.Option.{option_map_or}
+use Rattle.std.specs.declared.cmp.Ordering.TheVariants.{Equal}
+use Rattle.std.specs.Ordering.{bool_cmp, nat_cmp}
+use Rattle.he_addr.specs.declared.ip.Ip.{Ip}
+use Rattle.he_addr.specs.Bits.{agrees}
+use Rattle.he_addr.specs.Ip.{is_v6, scope_of}
+use Rattle.he_addr.specs.Prefix.{common_of, is_inside_mapped}
+use Rattle.he_select.specs.declared.deciding.DestinationRule.{DestinationRule}
+use Rattle.he_select.specs.declared.host.Route.{Route}
+use Rattle.he_select.specs.declared.policy.Row.{Row}
+use Rattle.he_select.specs.declared.selection.LabelledSource.{LabelledSource}
+use Rattle.he_select.specs.declared.sorting.Sourced.{Sourced}
+use Rattle.he_select.specs.declared.standing.Standing.{Standing}
+use Rattle.he_select.specs.Deciding.{first_deciding, late_rules_in_order, rules_in_order}
+use Rattle.he_select.specs.LabelledRules.{admits, destination_of, is_better_labelled, labelled_of}
+use Rattle.he_select.specs.Rules.{Rule, higher_first, lower_first}
+use Rattle.he_select.specs.Selection.{SelectionInput, longest_route, route_of, source_of}
+use Rattle.he_select.specs.Tables.{label_of, precedence_of}
+use Rattle.he_select.specs.Walking.{walk_fitting}
+
+-- what the rules look at of an address that has this route and this source
+abbrev pub standing_with : List Row → Option Route → Option LabelledSource → Ip → Standing
+standing_with rows route source ip = record {
+  ip = ip;
+  source = source;
+  scope = scope_of ip;
+  label = label_of rows ip;
+  precedence = precedence_of rows ip;
+  tunnel = option_map_or (λ route. route.tunnel) route false;
+  common = option_map_or (λ labelled. common_of labelled.source.ip labelled.source.plen ip) source 0;
+}
+
+-- what they look at of an address
+abbrev pub standing_of : SelectionInput → Ip → Standing
+standing_of input ip = standing_with input.rows (route_of input ip) (option_map (labelled_of input.rows) (source_of input ip)) ip
+
+-- a route serves the address with this mapped number, of this family
+abbrev pub serves_number : ℕ → Bool → Route → Bool
+serves_number number v4 route = agrees 128 number route.prefix.bits route.prefix.len && beq (is_inside_mapped route.prefix) v4
+
+-- the source that the code's loop finds
+unfoldable pub chosen_over : Option Route → List LabelledSource → Ip → ℕ → Option LabelledSource
+chosen_over route labelled ip label =
+    option_and_then (λ route. walk_fitting (admits (destination_of ip label route)) (is_better_labelled (destination_of ip label route)) None labelled) route
+
+abbrev pub standing_from : List Row → List Route → List LabelledSource → Ip → Standing
+standing_from rows routes labelled ip =
+    standing_with rows (longest_route routes ip) (chosen_over (longest_route routes ip) labelled ip (label_of rows ip)) ip
+
+abbrev pub sourced_from : Standing → Sourced
+sourced_from s = record { ip = s.ip; source = option_map (λ labelled. labelled.source.ip) s.source }
+
+abbrev pub has_other_scope : Standing → Bool
+has_other_scope s = option_map_or (λ labelled. not (labelled.scope == s.scope)) s.source false
+
+abbrev pub has_deprecated : Standing → Bool
+has_deprecated s = option_map_or (λ labelled. labelled.source.deprecated) s.source false
+
+abbrev pub has_other_label : Standing → Bool
+has_other_label s = option_map_or (λ labelled. not (labelled.label == s.label)) s.source false
+
+-- prefers the one of which the test doesn't hold
+abbrev pub no_first : (Standing → Bool) → Rule Standing
+no_first is a b = bool_cmp (is a) (is b)
+
+-- the rules from 6 on, but for the last
+abbrev pub late_standing_rules : List (Rule Standing)
+late_standing_rules =
+    higher_first (λ s. s.precedence)
+    ∷ no_first (λ s. s.tunnel)
+    ∷ lower_first (λ s. s.scope)
+    ∷ (λ a b. cond (beq (is_v6 a.ip) (is_v6 b.ip)) (nat_cmp b.common a.common) Equal)
+    ∷ []
+
+abbrev pub standing_rules : List (Rule Standing)
+standing_rules = no_first (λ s. is_none s.source) ∷ no_first has_other_scope ∷ no_first has_deprecated ∷ no_first has_other_label ∷ late_standing_rules
+
+unfoldable pub late_rule_between : Standing → Standing → DestinationRule
+late_rule_between a b = first_deciding late_standing_rules late_rules_in_order a b
+
+abbrev pub rule_between : Standing → Standing → DestinationRule
+rule_between a b = first_deciding standing_rules rules_in_order a b
