@@ -14,28 +14,20 @@ use crate::standing::Standing;
 pub enum DestinationRule {
     /// Rule 1.
     AvoidUnusable,
-
     /// Rule 2.
     MatchingScope,
-
     /// Rule 3.
     AvoidDeprecated,
-
     /// Rule 5.
     MatchingLabel,
-
     /// Rule 6.
     HigherPrecedence,
-
     /// Rule 7.
     NativeTransport,
-
     /// Rule 8.
     SmallerScope,
-
     /// Rule 9.
     LongestPrefix,
-
     /// Rule 10.
     Unchanged,
 }

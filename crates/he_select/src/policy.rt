@@ -4,7 +4,7 @@ ghost use Rattle.std.specs.Prelude.{◌≡◌, ℕ, ◌+◌, ◌≤◌, drop, le
 ghost use Rattle.std.specs.List.{list_any, position_from};
 ghost use Rattle.he_select.specs.Equality.{equal_tables};
 ghost use Rattle.he_select.specs.TableFaults.{has_row, shared_from, table_fault, table_of};
-ghost use Rattle.he_select.specs.Tables.{precedence_of, label_of, same_row, any_address, any_v4_address, shares_precedence, IsAdmitted};
+ghost use Rattle.he_select.specs.Tables.{precedence_of, label_of, same_row, shares_precedence, IsAdmitted};
 ghost use Rattle.he_addr.specs.Prefix.{IsPrefix};
 ghost use Rattle.he_select.specs.Standard.{standard_rows};
 
@@ -21,10 +21,8 @@ use thiserror::Error;
 pub struct Row {
     /// The addresses that the row is about, IPv4 addresses as mapped ones.
     pub prefix: Prefix,
-
     /// How much the addresses are preferred.
     pub precedence: u16,
-
     /// Sources are preferred for destinations of their own label.
     pub label: u16,
 }
@@ -59,23 +57,18 @@ pub enum PolicyFault {
     /// No row, or more than [`ROWS`].
     #[error("policy has no row or too many")]
     Size,
-
     /// The prefix of this row, the least one, stands in an earlier row.
     #[error("policy row {0} has a prefix that stands earlier")]
     Repeated(usize),
-
     /// No row is `::/0`.
     #[error("policy has no ::/0")]
     NoDefault,
-
     /// No row is `::ffff:0:0/96`.
     #[error("policy has no ::ffff:0:0/96")]
     NoMapped,
-
     /// Of these two rows one lies inside `::ffff:0:0/96` and one outside it, and their precedences are equal.
     #[error("policy rows {0} and {1} share a precedence")]
     SharedPrecedence(usize, usize),
-
     /// An allocation was refused.
     #[error("out of memory")]
     Memory,
@@ -94,29 +87,15 @@ impl PolicyFault {
         if let Some(place) = first_repeated(rows) {
             return Some(PolicyFault::Repeated(place));
         }
-        if !has_any_address(rows) {
+        if !has_prefix(rows, Prefix::new(0, 0)) {
             return Some(PolicyFault::NoDefault);
         }
-        if !has_any_v4_address(rows) {
+        if !has_prefix(rows, Prefix::new(0xffff_0000_0000, 96)) {
             return Some(PolicyFault::NoMapped);
         }
         let (place, later) = shared_precedence(rows)?;
         Some(PolicyFault::SharedPrecedence(place, later))
     }
-}
-
-/// Whether a row is `::/0`.
-fn has_any_address(rows: &[Row]) -> bool
-    ensures { result ≡ has_row rows.now any_address }
-{
-    has_prefix(rows, Prefix::new(0, 0))
-}
-
-/// Whether a row is `::ffff:0:0/96`.
-fn has_any_v4_address(rows: &[Row]) -> bool
-    ensures { result ≡ has_row rows.now any_v4_address }
-{
-    has_prefix(rows, Prefix::new(0xffff_0000_0000, 96))
 }
 
 fn has_prefix(rows: &[Row], prefix: Prefix) -> bool

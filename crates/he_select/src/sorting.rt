@@ -24,7 +24,6 @@ use std::alloc::{AllocError, Allocator};
 pub struct Sourced {
     /// The destination.
     pub ip: Ip,
-
     /// What [`Host::source`] answers for it.
     pub source: Option<Ip>,
 }

@@ -20,19 +20,13 @@ use he_addr::{Ip, common_len};
 pub struct Standing {
     /// The destination.
     pub ip: Ip,
-
     /// The source that the host uses for it; none where the host does not reach it.
     pub source: Option<LabelledSource>,
-
     pub scope: u8,
-
     pub label: u16,
-
     pub precedence: u16,
-
     /// The destination is reached by encapsulation.
     pub tunnel: bool,
-
     /// The common prefix length of the destination and its source in bits, 0 without a source.
     pub common: u8,
 }
