@@ -8,5 +8,4 @@ mod ListedLaws
 mod OneRule
 mod SortLaws
 mod StartLaws
-mod UsableLaws
 mod WritingLaws

@@ -3,14 +3,13 @@ use Rattle.std.proofs.Common.{◌≡◌, ℕ, ◌+◌, ◌-◌, List, [], ◌∷
 use Rattle.std.specs.Prelude.{Option, None, Some, option_map}
 use Rattle.he_addr.specs.declared.ip.Ip.{Ip}
 use Rattle.he_plan.specs.Attempts.{order}
-use Rattle.he_plan.specs.Race.{Race}
+use Rattle.he_plan.specs.Race.{Race, race_input, usable_addresses}
 use Rattle.he_select.specs.declared.deciding.DestinationRule.{DestinationRule}
 use Rattle.he_select.specs.declared.standing.Standing.{Standing}
 use Rattle.he_select.specs.Deciding.{deciding_rule}
-use Rattle.he_select.specs.Selection.{SelectionInput, selection_input}
+use Rattle.he_select.specs.Selection.{SelectionInput}
 use Rattle.he_select.specs.Standing.{rule_between, standing_of}
 use Rattle.he_select.proofs.Standings.{deciding_is}
-use Rattle.he_text.specs.Orders.{usable_addresses}
 use Rattle.he_text.specs.Ranges.{line_end}
 use Rattle.he_explain.specs.Reasons.{Decision, behind_text, order_reasons_text, place_text, reason_line, reason_lines, reason_text, standings_of}
 
@@ -35,6 +34,6 @@ decided_by input a b = deciding_rule input a.ip b.ip
 pub race_lines : (race : Race) (sorted : List Standing) → sorted ≡ standings_of race → reason_lines rule_between 0 None sorted ≡ order_reasons_text race
 unfolding standings_of decided_by
 race_lines race sorted is =
-    let input : SelectionInput = selection_input race.policy race.host in
+    let input : SelectionInput = race_input race in
     ap (λ (l : List Standing). reason_lines rule_between 0 None l) is
     ∙ lines_agree (standing_of input) rule_between (decided_by input) (deciding_is input) 0 None (order race (usable_addresses race))

@@ -3,15 +3,13 @@ use Rattle.std.specs.Prelude.{ℕ, ◌+◌, ◌-◌, List, [], ◌∷◌, ◌++�
 use Rattle.std.specs.Option.{option_map_or}
 use Rattle.he_addr.specs.Printing.{printed}
 use Rattle.he_plan.specs.Attempts.{order}
-use Rattle.he_plan.specs.Race.{Race}
+use Rattle.he_plan.specs.Race.{Race, race_input, usable_addresses}
 use Rattle.he_select.specs.declared.deciding.DestinationRule.{DestinationRule}
 use Rattle.he_select.specs.declared.deciding.DestinationRule.TheVariants as rules
 use Rattle.he_select.specs.declared.selection.LabelledSource.{LabelledSource}
 use Rattle.he_select.specs.declared.standing.Standing.{Standing}
 use Rattle.he_select.specs.Deciding.{deciding_rule}
-use Rattle.he_select.specs.Selection.{selection_input}
 use Rattle.he_select.specs.Standing.{standing_of}
-use Rattle.he_text.specs.Orders.{usable_addresses}
 use Rattle.he_text.specs.Ranges.{line_end}
 
 -- the number and the name of a rule in RFC 6724 section 6
@@ -87,9 +85,8 @@ reason_lines decide place earlier (first ∷ more) =
 
 -- what the rules look at of the usable addresses of both answers, in sorted order and not interlaced
 unfoldable pub standings_of : Race → List Standing
-standings_of race = map (standing_of (selection_input race.policy race.host)) (order race (usable_addresses race))
+standings_of race = map (standing_of (race_input race)) (order race (usable_addresses race))
 
 -- these addresses, each with its source and with what puts it behind the one before
 abbrev pub order_reasons_text : Race → List ℕ
-order_reasons_text race =
-    reason_lines (λ a b. deciding_rule (selection_input race.policy race.host) a.ip b.ip) 0 None (standings_of race)
+order_reasons_text race = reason_lines (λ a b. deciding_rule (race_input race) a.ip b.ip) 0 None (standings_of race)

@@ -11,10 +11,9 @@ use crate::cause::Cause;
 use crate::collecting::{collect_events, end_tick};
 use crate::events::{Event, EventKind, Start};
 use crate::listing::{Listed, Turn};
-use crate::sorted::sorted_standings;
 use crate::writing::{write_bytes, write_labelled, write_labelled_ip, write_values};
 use he_addr::{Family, Ip, Memory, write_number};
-use he_plan::{Timeline, Transcript};
+use he_plan::{Timeline, Transcript, sorted_standings};
 use he_select::Standing;
 use std::alloc::{AllocError, Allocator};
 
@@ -202,6 +201,7 @@ pub(crate) fn write_course_of<A: Allocator + Copy, B: Allocator, C: Allocator>(
     write_events(&by_tick, out)
 }
 
+#[tactic(auto, unfolding(crate::specs::Reasons::standings_of))]
 fn write_sorted<A: Allocator + Copy, B: Allocator, C: Allocator>(
     alloc: A,
     timeline: &Timeline<B>,

@@ -7,10 +7,9 @@ ghost use Rattle.he_explain.specs.Reasons.{standings_of};
 
 use crate::course::write_course_of;
 use crate::reasons::write_order_of;
-use crate::sorted::sorted_standings;
 use crate::writing::write_bytes;
 use he_addr::Memory;
-use he_plan::{Timeline, Transcript, transcript_of};
+use he_plan::{Timeline, Transcript, sorted_standings, transcript_of};
 use he_select::Standing;
 use std::alloc::Allocator;
 
@@ -30,6 +29,7 @@ fn write_ended<A: Allocator + Copy, B: Allocator, C: Allocator>(
 }
 
 // The addresses are sorted once: the order is told of them, and the course takes its lists from it.
+#[tactic(auto, unfolding(crate::specs::Reasons::standings_of))]
 fn write_parts<A: Allocator + Copy, B: Allocator, C: Allocator>(
     alloc: A,
     timeline: &Timeline<B>,

@@ -24,7 +24,6 @@ mod interlaced;
 pub mod laws;
 mod listing;
 pub mod reasons;
-mod sorted;
 mod writing;
 
 pub use cause::{Cause, cause_of, is_held};

@@ -7,10 +7,9 @@ ghost use Rattle.he_select.specs.Standing.{rule_between};
 ghost use Rattle.he_text.specs.Writing.{AppendsText};
 ghost use Rattle.he_explain.specs.Reasons.{after_text, behind_text, compared_text, of_source, order_reasons_text, place_text, reason_line, reason_lines, reason_text, rule_text, standings_of, with_source_text};
 
-use crate::sorted::sorted_standings;
 use crate::writing::{write_bytes, write_labelled, write_labelled_ip, write_values};
 use he_addr::{Ip, Memory};
-use he_plan::Timeline;
+use he_plan::{Timeline, sorted_standings};
 use he_select::{DestinationRule, LabelledSource, Standing};
 use std::alloc::Allocator;
 
@@ -235,6 +234,7 @@ pub(crate) fn write_order_of<A: Allocator + Copy>(
     write_lines(sorted, out)
 }
 
+#[tactic(auto, unfolding(crate::specs::Reasons::standings_of))]
 fn write_whole<A: Allocator + Copy, B: Allocator>(
     alloc: A,
     timeline: &Timeline<B>,
