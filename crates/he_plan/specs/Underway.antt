@@ -70,13 +70,16 @@ pub record IsAtNext (race : Race) (done : List Attempt) (t : ℕ) (queue : Untri
   pub some : 0 < length queue.ips
   pub first : find (is_untried done) (order_at race t) ≡ slice_get queue.ips 0
 
--- what holds of a race under way: each attempt is the next one after those before it and starts by the greatest limit, its
--- fate is the race's, and the queue is theirs
+-- what holds of a race under way: each attempt is the next one after those before it and starts by the greatest limit, and
+-- the queue is theirs
 pub record IsUnderway (race : Race) (underway : Progress) : Type 0 where
   pub in_turn : AreNextInTurn race underway.attempts
   pub in_range : IfSome (last_of underway.attempts) (λ last. last.tick ≤ MAX_LIMIT)
-  pub fates : underway.fates ≡ map (fate_of race) underway.attempts
   pub queue : IsQueue race underway.attempts underway.queue
+
+-- the fates are the race's
+abbrev pub AreFates : Race → Progress → Type 0
+AreFates race underway = underway.fates ≡ map (fate_of race) underway.attempts
 
 -- one more attempt, the next one, at the tick
 pub record MakesNext (race : Race) (done all : List Attempt) (tick : ℕ) : Type 0 where
@@ -88,5 +91,6 @@ pub record MakesNext (race : Race) (done all : List Attempt) (tick : ℕ) : Type
 -- no attempt may start before the stop of the attempts that were made: the winner's finish, or the limit
 pub record IsStopped (race : Race) (underway : Progress) (winner : Option (ℕ × ℕ)) : Type 0 where
   pub kept : IsUnderway race underway
+  pub fates : AreFates race underway
   pub wins : IsWinner underway.fates winner
   pub stops : (t : ℕ) → MayStart race underway.attempts t → stop_of race winner ≤ t

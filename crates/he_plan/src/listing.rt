@@ -1,20 +1,21 @@
 // The lists from which attempts take their addresses: those of the answers that are included, in order and interlaced.
 
-ghost use Rattle.std.specs.Prelude.{◌≡◌, ◌≤◌, ◌++◌, true, filter, length, IfOk, OnErr, OnOk};
+ghost use Rattle.std.specs.Prelude.{◌≡◌, ◌≤◌, ◌++◌, true, filter, length, map, IfOk, OnErr, OnOk};
 ghost use Rattle.std.specs.List.Sorted.{IsPermutation};
 ghost use Rattle.he_addr.specs.Ip.{is_usable};
 ghost use Rattle.he_plan.specs.declared.limits.TheConstants.{MAX_ADDRESSES};
 ghost use Rattle.he_plan.specs.Alternating.{interlace};
 ghost use Rattle.he_plan.specs.Attempts.{order};
 ghost use Rattle.he_plan.specs.Planning.{interlaced_list, is_of_included, part_of, parts_of};
-ghost use Rattle.he_plan.specs.Race.{reply_of, usable_addresses};
+ghost use Rattle.he_plan.specs.Race.{race_input, reply_of, usable_addresses};
 ghost use Rattle.he_plan.specs.Timeline.{IsRace};
 ghost use Rattle.he_plan.specs.Underway.{AreSorted};
+ghost use Rattle.he_select.specs.Standing.{standing_of};
 
 use crate::interlacing::{interlace, members};
 use crate::timeline::{Timeline, are_addresses_in_range};
 use he_addr::{Family, Ip, Memory};
-use he_select::order;
+use he_select::{Standing, order, order_with_standings};
 use std::alloc::{AllocError, Allocator};
 
 // The interlaced list of the included answers. The addresses of both answers are sorted at the first list that needs
@@ -81,6 +82,18 @@ fn sorted_addresses<A: Allocator + Copy, B: Allocator>(
 {
     let ips = usable_addresses(alloc, timeline)?;
     order(alloc, timeline.policy(), timeline.host(), &ips)
+}
+
+/// The usable addresses of both answers, whatever their ticks, in the order of RFC 6724 section 6, each with what its
+/// rules look at. `Memory` where an allocation is refused.
+pub fn sorted_standings<A: Allocator + Copy, B: Allocator>(
+    alloc: A,
+    timeline: &Timeline<B>,
+) -> Result<Vec<Standing, A>, Memory>
+    ensures { IfOk result (λ sorted. sorted.items ≡ map (standing_of (race_input timeline.now)) (order timeline.now (usable_addresses timeline.now))) }
+{
+    let ips = usable_addresses(alloc, timeline)?;
+    order_with_standings(alloc, timeline.policy(), timeline.host(), &ips)
 }
 
 fn usable_addresses<A: Allocator + Copy, B: Allocator>(

@@ -4,7 +4,7 @@ ghost use Rattle.std.specs.Prelude.{◌≡◌, ℕ, ◌<◌, vec_capacity, vec_l
 ghost use Rattle.he_plan.specs.Attempts.{IsLeast, MayStart};
 ghost use Rattle.he_plan.specs.Race.{Race};
 ghost use Rattle.he_plan.specs.Timeline.{IsRace};
-ghost use Rattle.he_plan.specs.Underway.{IsUnderway, MakesNext, not_begun};
+ghost use Rattle.he_plan.specs.Underway.{AreFates, IsUnderway, MakesNext, not_begun};
 
 use crate::attempts::Attempt;
 use crate::finish::Fate;
@@ -92,6 +92,7 @@ impl<A: Allocator + Copy> Underway<A> {
         requires underway { IsUnderway timeline.now self.old }
         requires least { IsLeast (MayStart timeline.now self.old.attempts) tick }
         ensures made { OnOk result (MakesNext timeline.now self.old.attempts self.new.attempts tick) }
+        ensures fates { OnOk result (AreFates timeline.now self.old → AreFates timeline.now self.new) }
         ensures none { OnErr result ((self.new.attempts ≡ self.old.attempts) × (self.new.fates ≡ self.old.fates)) }
         ensures underway { IsUnderway timeline.now self.new }
     {
