@@ -1,5 +1,5 @@
 -- The lists from which attempts take their addresses are parts of the sorted ones, interlaced.
-use Rattle.std.proofs.Common.{◌≡◌, ℕ, ◌++◌, Bool, true, false, List, [], ◌∷◌, filter, map, Option, Some, None, refl, sym, ◌∙◌, ap}
+use Rattle.std.proofs.Common.{◌≡◌, ℕ, ◌++◌, Bool, false, List, [], ◌∷◌, filter, map, Option, Some, None, refl, sym, ◌∙◌, ap}
 use Rattle.std.specs.Prelude.{All}
 use Rattle.he_addr.specs.Ip.{InRange}
 use Rattle.he_addr.specs.declared.ip.Ip.{Ip}

@@ -65,7 +65,7 @@ with_source_text (Some labelled) = codes " source " ++ printed labelled.source.i
 abbrev pub place_text : ℕ → Standing → List ℕ
 place_text place standing = ((codes "order " ++ decimal place) ++ (codes " " ++ printed standing.ip)) ++ with_source_text standing.source
 
--- how it is found which rule decides between two addresses
+-- which rule decides between two addresses, the earlier one first
 abbrev pub Decision : Type 0
 Decision = Standing → Standing → DestinationRule
 

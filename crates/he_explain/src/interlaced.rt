@@ -36,8 +36,8 @@ impl<A: Allocator + Copy> Interlaced<A> {
     }
 }
 
-// Brings the list to what is received at the tick. It is made anew only where the answers that are seen by then are not
-// those that it is made of, so at most twice in a race; its addresses stand in the order of all usable ones.
+// Brings the list to what is received at the tick. It is made anew only where the answers that are seen by then are
+// not those that it is made of, so at most twice in a race; its addresses stand in the order of all usable ones.
 pub(crate) fn bring_to<A: Allocator + Copy, B: Allocator>(
     alloc: A,
     timeline: &Timeline<B>,

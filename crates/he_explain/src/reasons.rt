@@ -210,10 +210,7 @@ fn write_line<A: Allocator + Copy>(
     write_end(place, earlier, standing, out)
 }
 
-fn write_lines<A: Allocator + Copy>(
-    sorted: &[Standing],
-    out: &mut Vec<u8, A>,
-) -> Result<(), Memory>
+fn write_lines<A: Allocator + Copy>(sorted: &[Standing], out: &mut Vec<u8, A>) -> Result<(), Memory>
     ensures { AppendsText result out.old.items out.new.items (reason_lines rule_between 0 None sorted.now) }
 {
     let mut earlier = None;
