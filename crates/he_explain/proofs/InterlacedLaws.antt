@@ -1,49 +1,39 @@
 -- The lists from which attempts take their addresses are parts of the sorted ones, interlaced.
-use Rattle.std.proofs.Common.{◌≡◌, ℕ, ◌++◌, Bool, true, false, List, [], ◌∷◌, filter, map, Option, Some, None, refl, sym, ◌∙◌, ap}
+use Rattle.std.proofs.Common.{◌≡◌, ℕ, ◌++◌, Bool, false, List, [], ◌∷◌, filter, map, Option, Some, None, refl, sym, ◌∙◌, ap}
 use Rattle.std.specs.Prelude.{All}
-use Rattle.he_addr.specs.Ip.{InRange, is_usable}
+use Rattle.he_addr.specs.Ip.{InRange}
 use Rattle.he_addr.specs.declared.ip.Ip.{Ip}
 use Rattle.he_plan.specs.Alternating.{interlace}
 use Rattle.he_plan.specs.Attempts.{order, order_at, received, received_of}
 use Rattle.he_plan.specs.Planning.{interlaced_list, is_of_included, is_received, part_of, parts_of}
-use Rattle.he_plan.specs.Race.{Race, Reply, addresses_of}
+use Rattle.he_plan.specs.Race.{Race, Reply, addresses_of, race_input, usable_addresses}
 use Rattle.he_plan.specs.Timeline.{IsRace}
 use Rattle.he_plan.proofs.Listed.{list_kept}
-use Rattle.he_select.specs.declared.sorting.Sourced.{Sourced}
-use Rattle.he_select.specs.Preference.{order_of, sourced_by}
-use Rattle.he_select.specs.Selection.{SelectionInput, selection_input}
-use Rattle.he_text.specs.Orders.{usable_addresses}
-use Rattle.he_explain.specs.Sorting.{sorted_of}
+use Rattle.he_select.specs.declared.standing.Standing.{Standing}
+use Rattle.he_select.specs.Preference.{order_of}
+use Rattle.he_select.specs.Selection.{SelectionInput}
+use Rattle.he_select.specs.Standing.{standing_of}
+use Rattle.he_explain.specs.Reasons.{standings_of}
 
-addresses_kept : (input : SelectionInput) (ips : List Ip) → map (λ (sourced : Sourced). sourced.ip) (map (sourced_by input) ips) ≡ ips
+addresses_kept : (input : SelectionInput) (ips : List Ip) → map (λ (standing : Standing). standing.ip) (map (standing_of input) ips) ≡ ips
 addresses_kept input [] = refl
 addresses_kept input (ip ∷ ips) = ap (λ (rest : List Ip). ip ∷ rest) (addresses_kept input ips)
 
-all_part : (reply : Option Reply) → filter is_usable (addresses_of reply) ≡ part_of true reply
-all_part None = refl
-all_part (Some reply) = refl
-
-all_parts : (race : Race) → usable_addresses race ≡ parts_of race true true
-all_parts race =
-    ap (λ (xs : List Ip). xs ++ filter is_usable (addresses_of race.a)) (all_part race.aaaa)
-    ∙ ap (λ (ys : List Ip). part_of true race.aaaa ++ ys) (all_part race.a)
-
-sorted_addresses_are : (race : Race) (sorted : List Sourced) → sorted ≡ sorted_of race → map (λ (sourced : Sourced). sourced.ip) sorted ≡ order race (parts_of race true true)
-unfolding sorted_of
+sorted_addresses_are : (race : Race) (sorted : List Standing) → sorted ≡ standings_of race → map (λ (standing : Standing). standing.ip) sorted ≡ order race (usable_addresses race)
+unfolding standings_of
 sorted_addresses_are race sorted is =
-    ap (λ (l : List Sourced). map (λ (sourced : Sourced). sourced.ip) l) is
-    ∙ addresses_kept (selection_input race.policy race.host) (order race (usable_addresses race))
-    ∙ ap (λ (ips : List Ip). order race ips) (all_parts race)
+    ap (λ (l : List Standing). map (λ (standing : Standing). standing.ip) l) is
+    ∙ addresses_kept (race_input race) (order race (usable_addresses race))
 
 -- the interlaced list of some answers
-list_from : (race : Race) → IsRace race → All InRange (addresses_of race.aaaa) → All InRange (addresses_of race.a) → (v6 v4 : Bool) (sorted : List Sourced) → sorted ≡ sorted_of race
-    → interlace (filter (is_of_included v6 v4) (map (λ (sourced : Sourced). sourced.ip) sorted)) race.settings.count ≡ interlaced_list race v6 v4
+list_from : (race : Race) → IsRace race → All InRange (addresses_of race.aaaa) → All InRange (addresses_of race.a) → (v6 v4 : Bool) (sorted : List Standing) → sorted ≡ standings_of race
+    → interlace (filter (is_of_included v6 v4) (map (λ (standing : Standing). standing.ip) sorted)) race.settings.count ≡ interlaced_list race v6 v4
 list_from race r six four v6 v4 sorted is =
-    list_kept race r six four v6 v4 (map (λ (sourced : Sourced). sourced.ip) sorted) (sorted_addresses_are race sorted is)
+    list_kept race r six four v6 v4 (map (λ (standing : Standing). standing.ip) sorted) (sorted_addresses_are race sorted is)
 
 -- as it is made
-pub list_from_with : (race : Race) → IsRace race → All InRange (addresses_of race.aaaa) → All InRange (addresses_of race.a) → (v6 v4 : Bool) (sorted : List Sourced) (ips : List Ip) (count : ℕ) → sorted ≡ sorted_of race
-    → ips ≡ filter (is_of_included v6 v4) (map (λ (sourced : Sourced). sourced.ip) sorted) → count ≡ race.settings.count → interlace ips count ≡ interlaced_list race v6 v4
+pub list_from_with : (race : Race) → IsRace race → All InRange (addresses_of race.aaaa) → All InRange (addresses_of race.a) → (v6 v4 : Bool) (sorted : List Standing) (ips : List Ip) (count : ℕ) → sorted ≡ standings_of race
+    → ips ≡ filter (is_of_included v6 v4) (map (λ (standing : Standing). standing.ip) sorted) → count ≡ race.settings.count → interlace ips count ≡ interlaced_list race v6 v4
 list_from_with race r six four v6 v4 sorted ips count is of_ips of_count =
     ap (λ (n : ℕ). interlace ips n) of_count ∙ ap (λ (l : List Ip). interlace l race.settings.count) of_ips
     ∙ list_from race r six four v6 v4 sorted is
@@ -75,7 +65,7 @@ no_list race =
     ap (λ (xs : List Ip). xs ++ part_of false race.a) (no_part race.aaaa) ∙ no_part race.a
     in
     sym (ap (λ (ips : List Ip). interlace (order race ips) race.settings.count) none
-    ∙ ap (λ (ips : List Ip). interlace ips race.settings.count) (none_in_order (selection_input race.policy race.host)))
+    ∙ ap (λ (ips : List Ip). interlace ips race.settings.count) (none_in_order (race_input race)))
 
 -- the one of no answer
 pub first_list : (race : Race) (v6 v4 : Bool) (ips : List Ip) → v6 ≡ false → v4 ≡ false → ips ≡ [] → ips ≡ interlaced_list race v6 v4

@@ -1,6 +1,5 @@
 mod CauseLaws
 mod CourseLaws
-mod DecidingLaws
 mod EventLaws
 mod InterlacedLaws
 mod LaterLaws
@@ -8,7 +7,5 @@ mod LineLaws
 mod ListedLaws
 mod OneRule
 mod SortLaws
-mod SourceLaws
 mod StartLaws
-mod UsableLaws
 mod WritingLaws

@@ -6,14 +6,14 @@ use Rattle.std.specs.declared.cmp.Ordering.{Ordering}
 use Rattle.std.specs.declared.cmp.Ordering.TheVariants.{Less, Equal, Greater}
 use Rattle.std.specs.Ordering.{nat_cmp, is_eq}
 use Rattle.std.proofs.lemmas.Bool.{cases_lt}
+use Rattle.he_select.specs.declared.deciding.DestinationRule.{DestinationRule}
+use Rattle.he_select.specs.declared.deciding.DestinationRule.TheVariants as rules
+use Rattle.he_select.specs.Deciding.{deciding_rule, first_deciding, rules_in_order}
 use Rattle.he_select.specs.Places.{FailsFirst}
 use Rattle.he_select.specs.Preference.{Member, destination_rules}
 use Rattle.he_select.specs.Rules.{Rule}
 use Rattle.he_select.specs.Selection.{SelectionInput}
 use Rattle.he_select.proofs.Orders.{tied_numbers}
-use Rattle.he_explain.specs.declared.deciding.DestinationRule.{DestinationRule}
-use Rattle.he_explain.specs.declared.deciding.DestinationRule.TheVariants as rules
-use Rattle.he_explain.specs.Deciding.{deciding_rule, first_deciding, rules_in_order}
 use Rattle.he_explain.specs.Laws.{OneRuleDecides}
 
 abbrev Ties : Member → Member → Rule Member → Type 0

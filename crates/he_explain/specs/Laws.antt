@@ -9,6 +9,7 @@ use Rattle.he_plan.specs.Attempts.{IsAnswered, IsFree, IsNext, is_tried, is_untr
 use Rattle.he_plan.specs.Race.{Race, reply_of}
 use Rattle.he_plan.specs.Timeline.{IsRace}
 use Rattle.he_plan.specs.Transcript.{IsTranscript, Report}
+use Rattle.he_select.specs.Deciding.{DecidesAt, deciding_rule, rules_in_order}
 use Rattle.he_select.specs.Preference.{Member}
 use Rattle.he_select.specs.Selection.{SelectionInput}
 use Rattle.he_explain.specs.declared.cause.Cause.{Cause}
@@ -18,7 +19,6 @@ use Rattle.he_explain.specs.Causes.{cause_of, due_of}
 use Rattle.he_explain.specs.Course.{course}
 use Rattle.he_explain.specs.Events.{events_by_kind, start_event, start_events}
 use Rattle.he_explain.specs.Listing.{listed_at}
-use Rattle.he_explain.specs.Deciding.{DecidesAt, deciding_rule, rules_in_order}
 
 -- one rule decides between the two, and it is the one that is named
 pub record IsOneRule (input : SelectionInput) (a b : Member) (place : ℕ) : Type 0 where

@@ -1,10 +1,6 @@
 pub mod Causes
 pub mod Course
-pub mod Deciding
 pub mod Events
 pub mod Laws
 pub mod Listing
 pub mod Reasons
-pub mod Sorting
-pub mod Traits
-pub mod Writing

@@ -5,16 +5,16 @@ ghost use Rattle.std.specs.List.{flat_map};
 ghost use Rattle.he_addr.specs.Printing.{printed};
 ghost use Rattle.he_text.specs.Writing.{AppendsText};
 ghost use Rattle.he_explain.specs.Course.{cause_text, course_text, event_text, held_text, kind_text, listed_text, put_events, start_text, turn_text};
-ghost use Rattle.he_explain.specs.Sorting.{sorted_of};
+ghost use Rattle.he_explain.specs.Reasons.{standings_of};
 
 use crate::cause::Cause;
-use crate::events::{Event, EventKind, Start, collect_events, end_tick};
+use crate::collecting::{collect_events, end_tick};
+use crate::events::{Event, EventKind, Start};
 use crate::listing::{Listed, Turn};
-use crate::sorted::sorted_addresses;
 use crate::writing::{write_bytes, write_labelled, write_labelled_ip, write_values};
 use he_addr::{Family, Ip, Memory, write_number};
-use he_plan::{Timeline, Transcript};
-use he_select::Sourced;
+use he_plan::{Timeline, Transcript, sorted_standings};
+use he_select::Standing;
 use std::alloc::{AllocError, Allocator};
 
 // The events up to the end by tick, those of one tick in the order of the list. What is sorted is references: an event
@@ -38,13 +38,10 @@ fn events_until<'a, A: Allocator>(
 ) -> Result<Vec<&'a Event, A>, AllocError>
     ensures { IfOk result (λ kept. map (λ event. event.now) kept.items ≡ filter (λ event. nat_le event.tick end) events.now) }
 {
-    let mut kept = Vec::with_capacity(alloc, events.len())?;
-    for event in events {
-        if event.tick <= end {
-            kept.push(event)?;
-        }
-    }
-    Ok(kept)
+    events
+        .iter()
+        .filter(|event| event.tick <= end)
+        .collect(alloc)
 }
 
 fn sort_by_tick<'a, A: Allocator>(events: &mut Vec<&'a Event, A>) -> Result<(), AllocError>
@@ -192,11 +189,11 @@ fn write_events<A: Allocator + Copy>(events: &[&Event], out: &mut Vec<u8, A>) ->
 pub(crate) fn write_course_of<A: Allocator + Copy, B: Allocator, C: Allocator>(
     alloc: A,
     timeline: &Timeline<B>,
-    sorted: &[Sourced],
+    sorted: &[Standing],
     transcript: &Transcript<C>,
     out: &mut Vec<u8, A>,
 ) -> Result<(), Memory>
-    requires { sorted.now ≡ sorted_of timeline.now }
+    requires { sorted.now ≡ standings_of timeline.now }
     ensures { AppendsText result out.old.items out.new.items (course_text timeline.now transcript.now) }
 {
     let events = collect_events(alloc, timeline, sorted, transcript)?;
@@ -204,6 +201,7 @@ pub(crate) fn write_course_of<A: Allocator + Copy, B: Allocator, C: Allocator>(
     write_events(&by_tick, out)
 }
 
+#[tactic(auto, unfolding(crate::specs::Reasons::standings_of))]
 fn write_sorted<A: Allocator + Copy, B: Allocator, C: Allocator>(
     alloc: A,
     timeline: &Timeline<B>,
@@ -212,7 +210,7 @@ fn write_sorted<A: Allocator + Copy, B: Allocator, C: Allocator>(
 ) -> Result<(), Memory>
     ensures { AppendsText result out.old.items out.new.items (course_text timeline.now transcript.now) }
 {
-    let sorted = sorted_addresses(alloc, timeline)?;
+    let sorted = sorted_standings(alloc, timeline)?;
     write_course_of(alloc, timeline, &sorted, transcript, out)
 }
 

@@ -3,26 +3,25 @@
 ghost use Rattle.std.specs.Prelude.{◌≡◌, ◌++◌, codes, OnOk, OnErr};
 ghost use Rattle.he_text.specs.Writing.{AppendsText, Grows};
 ghost use Rattle.he_explain.specs.Course.{Explains, course_text, explanation_text};
-ghost use Rattle.he_explain.specs.Sorting.{sorted_of};
+ghost use Rattle.he_explain.specs.Reasons.{standings_of};
 
 use crate::course::write_course_of;
 use crate::reasons::write_order_of;
-use crate::sorted::sorted_addresses;
 use crate::writing::write_bytes;
 use he_addr::Memory;
-use he_plan::{Timeline, Transcript, transcript_of};
-use he_select::Sourced;
+use he_plan::{Timeline, Transcript, sorted_standings, transcript_of};
+use he_select::Standing;
 use std::alloc::Allocator;
 
 // The course, and `end`.
 fn write_ended<A: Allocator + Copy, B: Allocator, C: Allocator>(
     alloc: A,
     timeline: &Timeline<B>,
-    sorted: &[Sourced],
+    sorted: &[Standing],
     transcript: &Transcript<C>,
     out: &mut Vec<u8, A>,
 ) -> Result<(), Memory>
-    requires { sorted.now ≡ sorted_of timeline.now }
+    requires { sorted.now ≡ standings_of timeline.now }
     ensures { AppendsText result out.old.items out.new.items (course_text timeline.now transcript.now ++ codes "end\n") }
 {
     write_course_of(alloc, timeline, sorted, transcript, out)?;
@@ -30,6 +29,7 @@ fn write_ended<A: Allocator + Copy, B: Allocator, C: Allocator>(
 }
 
 // The addresses are sorted once: the order is told of them, and the course takes its lists from it.
+#[tactic(auto, unfolding(crate::specs::Reasons::standings_of))]
 fn write_parts<A: Allocator + Copy, B: Allocator, C: Allocator>(
     alloc: A,
     timeline: &Timeline<B>,
@@ -38,8 +38,8 @@ fn write_parts<A: Allocator + Copy, B: Allocator, C: Allocator>(
 ) -> Result<(), Memory>
     ensures { AppendsText result out.old.items out.new.items (explanation_text timeline.now transcript.now) }
 {
-    let sorted = sorted_addresses(alloc, timeline)?;
-    write_order_of(timeline, &sorted, out)?;
+    let sorted = sorted_standings(alloc, timeline)?;
+    write_order_of(&sorted, out)?;
     write_ended(alloc, timeline, &sorted, transcript, out)
 }
 

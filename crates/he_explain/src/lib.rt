@@ -7,8 +7,8 @@
 //! to 5): the answers, the wait for the AAAA answer, each attempt with its cause and the place of its address in the
 //! interlaced list, failures, pauses, and how the race ended.
 //!
-//! Proved, for every race: what is appended is the text of `specs/Reasons`, whose rules are those of he_select
-//! (`specs/Deciding`), and that of `specs/Course`, by the race's one transcript; and the vector is as it was where
+//! Proved, for every race: what is appended is the text of `specs/Reasons`, whose rules are those of he_select (its
+//! `specs/Deciding`), and that of `specs/Course`, by the race's one transcript; and the vector is as it was where
 //! memory is refused. [`laws`] has what follows from the definitions: between two members of a list exactly one rule
 //! decides; the cause of an attempt (`specs/Causes`) is what came at its tick and not before; its address is the first
 //! untried one of the interlaced list, at the place that is told (`specs/Listing`); and a course has all events up to
@@ -16,20 +16,17 @@
 #![tactic(auto)]
 
 pub mod cause;
+mod collecting;
 pub mod course;
-pub mod deciding;
 mod events;
 pub mod explanation;
 mod interlaced;
 pub mod laws;
 mod listing;
 pub mod reasons;
-mod sorted;
-mod traits;
 mod writing;
 
 pub use cause::{Cause, cause_of, is_held};
 pub use course::write_course;
-pub use deciding::DestinationRule;
 pub use explanation::write_explanation;
 pub use reasons::write_order_reasons;

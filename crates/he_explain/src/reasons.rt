@@ -1,20 +1,34 @@
 // The order of a race's addresses, each with the rule that puts it behind the one before.
 
-ghost use Rattle.std.specs.Prelude.{◌≡◌, ◌++◌, codes, None, OnOk, OnErr};
-ghost use Rattle.he_select.specs.Selection.{selection_input};
+ghost use Rattle.std.specs.Prelude.{◌≡◌, ◌++◌, codes, decimal, None, OnOk, OnErr};
+ghost use Rattle.he_addr.specs.Printing.{printed};
+ghost use Rattle.he_plan.specs.Race.{Race};
+ghost use Rattle.he_select.specs.Standing.{rule_between};
 ghost use Rattle.he_text.specs.Writing.{AppendsText};
-ghost use Rattle.he_explain.specs.Reasons.{after_text, order_reasons_text, rule_text};
-ghost use Rattle.he_explain.specs.Sorting.{sorted_of};
-ghost use Rattle.he_explain.specs.Writing.{behind_by, compared_by, line_by, lines_by, place_by, placed_by, reason_by, rule_by, source_by, source_number};
+ghost use Rattle.he_explain.specs.Reasons.{after_text, behind_text, compared_text, of_source, order_reasons_text, place_text, reason_line, reason_lines, reason_text, rule_text, standings_of, with_source_text};
 
-use crate::deciding::DestinationRule;
-use crate::sorted::sorted_addresses;
-use crate::traits::{SourceTraits, Traits};
 use crate::writing::{write_bytes, write_labelled, write_labelled_ip, write_values};
 use he_addr::{Ip, Memory};
-use he_plan::Timeline;
-use he_select::{Host, Policy, Sourced};
+use he_plan::{Timeline, sorted_standings};
+use he_select::{DestinationRule, LabelledSource, Standing};
 use std::alloc::Allocator;
+
+// The rule's number and its name in the standard.
+fn rule_text(rule: DestinationRule) -> &'static [u8]
+    ensures { result.now ≡ rule_text rule }
+{
+    match rule {
+        DestinationRule::AvoidUnusable => b"1, avoid unusable destinations",
+        DestinationRule::MatchingScope => b"2, prefer matching scope",
+        DestinationRule::AvoidDeprecated => b"3, avoid deprecated addresses",
+        DestinationRule::MatchingLabel => b"5, prefer matching label",
+        DestinationRule::HigherPrecedence => b"6, prefer higher precedence",
+        DestinationRule::NativeTransport => b"7, prefer native transport",
+        DestinationRule::SmallerScope => b"8, prefer smaller scope",
+        DestinationRule::LongestPrefix => b"9, use longest matching prefix",
+        DestinationRule::Unchanged => b"10, otherwise leave the order unchanged",
+    }
+}
 
 // Two values that a rule compares, the later address's first.
 fn write_after<A: Allocator + Copy>(
@@ -27,32 +41,26 @@ fn write_after<A: Allocator + Copy>(
     write_values(b": ", later, b" after ", earlier, out)
 }
 
-fn source_scope(traits: &Traits) -> u8
-    ensures { result ≡ source_number (λ source. source.scope) traits.now }
+fn source_scope(standing: &Standing) -> u8
+    ensures { result ≡ of_source (λ source. source.scope) standing.now }
 {
-    match traits.source {
-        Some(source) => source.scope,
-        None => 0,
-    }
+    standing.source.map_or(0, |source| source.scope)
 }
 
-fn source_label(traits: &Traits) -> u16
-    ensures { result ≡ source_number (λ source. source.label) traits.now }
+fn source_label(standing: &Standing) -> u16
+    ensures { result ≡ of_source (λ source. source.label) standing.now }
 {
-    match traits.source {
-        Some(source) => source.label,
-        None => 0,
-    }
+    standing.source.map_or(0, |source| source.label)
 }
 
 // The values that the rule compares, if it compares any.
 fn write_compared<A: Allocator + Copy>(
     rule: DestinationRule,
-    earlier: &Traits,
-    later: &Traits,
+    earlier: &Standing,
+    later: &Standing,
     out: &mut Vec<u8, A>,
 ) -> Result<(), Memory>
-    ensures { AppendsText result out.old.items out.new.items (compared_by rule earlier.now later.now) }
+    ensures { AppendsText result out.old.items out.new.items (compared_text rule earlier.now later.now) }
 {
     match rule {
         DestinationRule::MatchingScope => {
@@ -80,7 +88,7 @@ fn write_compared<A: Allocator + Copy>(
         }
         DestinationRule::SmallerScope => write_after(later.scope as u64, earlier.scope as u64, out),
         DestinationRule::LongestPrefix => {
-            write_after(later.common() as u64, earlier.common() as u64, out)
+            write_after(later.common as u64, earlier.common as u64, out)
         }
         DestinationRule::AvoidUnusable
         | DestinationRule::AvoidDeprecated
@@ -97,18 +105,18 @@ fn write_name<A: Allocator + Copy>(
     ensures { AppendsText result out.old.items out.new.items (codes " by rule " ++ rule_text rule) }
 {
     write_bytes(b" by rule ", out)?;
-    write_bytes(rule.text(), out)
+    write_bytes(rule_text(rule), out)
 }
 
 // by rule NUMBER, NAME: VALUES, behind a space
 fn write_rule<A: Allocator + Copy>(
-    earlier: &Traits,
-    later: &Traits,
+    rule: DestinationRule,
+    earlier: &Standing,
+    later: &Standing,
     out: &mut Vec<u8, A>,
 ) -> Result<(), Memory>
-    ensures { AppendsText result out.old.items out.new.items (rule_by earlier.now later.now) }
+    ensures { AppendsText result out.old.items out.new.items ((codes " by rule " ++ rule_text rule) ++ compared_text rule earlier.now later.now) }
 {
-    let rule = DestinationRule::between(earlier, later);
     write_name(rule, out)?;
     write_compared(rule, earlier, later, out)
 }
@@ -116,32 +124,33 @@ fn write_rule<A: Allocator + Copy>(
 // , behind PLACE by rule NUMBER, NAME: VALUES
 fn write_behind<A: Allocator + Copy>(
     place: u64,
-    earlier: &Traits,
-    later: &Traits,
+    rule: DestinationRule,
+    earlier: &Standing,
+    later: &Standing,
     out: &mut Vec<u8, A>,
 ) -> Result<(), Memory>
-    ensures { AppendsText result out.old.items out.new.items (behind_by place earlier.now later.now) }
+    ensures { AppendsText result out.old.items out.new.items (behind_text place rule earlier.now later.now) }
 {
     write_labelled(b", behind ", place, out)?;
-    write_rule(earlier, later, out)
+    write_rule(rule, earlier, later, out)
 }
 
 // source SOURCE or without source, behind a space
 fn write_source<A: Allocator + Copy>(
-    source: Option<SourceTraits>,
+    source: Option<LabelledSource>,
     out: &mut Vec<u8, A>,
 ) -> Result<(), Memory>
-    ensures { AppendsText result out.old.items out.new.items (source_by source) }
+    ensures { AppendsText result out.old.items out.new.items (with_source_text source) }
 {
     match source {
-        Some(source) => write_labelled_ip(b" source ", source.ip, out),
+        Some(labelled) => write_labelled_ip(b" source ", labelled.source.ip, out),
         None => write_bytes(b" without source", out),
     }
 }
 
 // order PLACE ADDRESS
 fn write_placed<A: Allocator + Copy>(place: u64, ip: Ip, out: &mut Vec<u8, A>) -> Result<(), Memory>
-    ensures { AppendsText result out.old.items out.new.items (placed_by place ip) }
+    ensures { AppendsText result out.old.items out.new.items ((codes "order " ++ decimal place) ++ (codes " " ++ printed ip)) }
 {
     write_labelled(b"order ", place, out)?;
     write_labelled_ip(b" ", ip, out)
@@ -149,26 +158,29 @@ fn write_placed<A: Allocator + Copy>(place: u64, ip: Ip, out: &mut Vec<u8, A>) -
 
 fn write_place<A: Allocator + Copy>(
     place: u64,
-    traits: &Traits,
+    standing: &Standing,
     out: &mut Vec<u8, A>,
 ) -> Result<(), Memory>
-    ensures { AppendsText result out.old.items out.new.items (place_by place traits.now) }
+    ensures { AppendsText result out.old.items out.new.items (place_text place standing.now) }
 {
-    write_placed(place, traits.ip, out)?;
-    write_source(traits.source, out)
+    write_placed(place, standing.ip, out)?;
+    write_source(standing.source, out)
 }
 
 // Why the address stands behind the one before it, if there is one.
 fn write_reason<A: Allocator + Copy>(
     place: u64,
-    earlier: Option<Traits>,
-    traits: &Traits,
+    earlier: Option<Standing>,
+    later: &Standing,
     out: &mut Vec<u8, A>,
 ) -> Result<(), Memory>
-    ensures { AppendsText result out.old.items out.new.items (reason_by place earlier traits.now) }
+    ensures { AppendsText result out.old.items out.new.items (reason_text rule_between place earlier later.now) }
 {
     match earlier {
-        Some(earlier) => write_behind(place.saturating_sub(1), &earlier, traits, out),
+        Some(earlier) => {
+            let rule = DestinationRule::between(&earlier, later);
+            write_behind(place.saturating_sub(1), rule, &earlier, later, out)
+        }
         None => Ok(()),
     }
 }
@@ -176,57 +188,50 @@ fn write_reason<A: Allocator + Copy>(
 // The end of a line: the reason, and the line's end.
 fn write_end<A: Allocator + Copy>(
     place: u64,
-    earlier: Option<Traits>,
-    traits: &Traits,
+    earlier: Option<Standing>,
+    standing: &Standing,
     out: &mut Vec<u8, A>,
 ) -> Result<(), Memory>
-    ensures { AppendsText result out.old.items out.new.items (reason_by place earlier traits.now ++ codes "\n") }
+    ensures { AppendsText result out.old.items out.new.items (reason_text rule_between place earlier standing.now ++ codes "\n") }
 {
-    write_reason(place, earlier, traits, out)?;
+    write_reason(place, earlier, standing, out)?;
     write_bytes(b"\n", out)
 }
 
 fn write_line<A: Allocator + Copy>(
     place: u64,
-    earlier: Option<Traits>,
-    traits: &Traits,
+    earlier: Option<Standing>,
+    standing: &Standing,
     out: &mut Vec<u8, A>,
 ) -> Result<(), Memory>
-    ensures { AppendsText result out.old.items out.new.items (line_by place earlier traits.now) }
+    ensures { AppendsText result out.old.items out.new.items (reason_line rule_between place earlier standing.now) }
 {
-    write_place(place, traits, out)?;
-    write_end(place, earlier, traits, out)
+    write_place(place, standing, out)?;
+    write_end(place, earlier, standing, out)
 }
 
-fn write_lines<A: Allocator + Copy, P: Allocator, H: Allocator>(
-    policy: &Policy<P>,
-    host: &Host<H>,
-    sorted: &[Sourced],
-    out: &mut Vec<u8, A>,
-) -> Result<(), Memory>
-    ensures { AppendsText result out.old.items out.new.items (lines_by (selection_input policy.now host.now) 0 None sorted.now) }
+fn write_lines<A: Allocator + Copy>(sorted: &[Standing], out: &mut Vec<u8, A>) -> Result<(), Memory>
+    ensures { AppendsText result out.old.items out.new.items (reason_lines rule_between 0 None sorted.now) }
 {
     let mut earlier = None;
-    for (place, sourced) in sorted.iter().enumerate() {
-        let traits = Traits::new(policy, host, sourced);
-        write_line(place as u64, earlier, &traits, out)?;
-        earlier = Some(traits);
+    for (place, standing) in sorted.iter().enumerate() {
+        write_line(place as u64, earlier, standing, out)?;
+        earlier = Some(*standing);
     }
     Ok(())
 }
 
 // The order of a race's addresses, which are given sorted.
-pub(crate) fn write_order_of<A: Allocator + Copy, B: Allocator>(
-    timeline: &Timeline<B>,
-    sorted: &[Sourced],
+pub(crate) fn write_order_of<A: Allocator + Copy>(
+    sorted: &[Standing],
     out: &mut Vec<u8, A>,
 ) -> Result<(), Memory>
-    requires { sorted.now ≡ sorted_of timeline.now }
-    ensures { AppendsText result out.old.items out.new.items (order_reasons_text timeline.now) }
+    ensures { (race : Race) → sorted.now ≡ standings_of race → AppendsText result out.old.items out.new.items (order_reasons_text race) }
 {
-    write_lines(timeline.policy(), timeline.host(), sorted, out)
+    write_lines(sorted, out)
 }
 
+#[tactic(auto, unfolding(crate::specs::Reasons::standings_of))]
 fn write_whole<A: Allocator + Copy, B: Allocator>(
     alloc: A,
     timeline: &Timeline<B>,
@@ -234,8 +239,8 @@ fn write_whole<A: Allocator + Copy, B: Allocator>(
 ) -> Result<(), Memory>
     ensures { AppendsText result out.old.items out.new.items (order_reasons_text timeline.now) }
 {
-    let sorted = sorted_addresses(alloc, timeline)?;
-    write_order_of(timeline, &sorted, out)
+    let sorted = sorted_standings(alloc, timeline)?;
+    write_order_of(&sorted, out)
 }
 
 /// Appends the order in which the race's addresses would be tried if all of them were there, with its reasons (RFC

@@ -1,5 +1,5 @@
 -- The list of the included answers is a part of the sorted addresses of both.
-use Rattle.std.proofs.Common.{◌≡◌, ℕ, zero, suc, ◌+◌, ◌≤◌, ◌<◌, ◌++◌, Bool, true, false, cond, List, [], ◌∷◌, length, filter, take, drop, get_or, Option, Some, None, refl, sym, ◌∙◌, ap, arith, length-append}
+use Rattle.std.proofs.Common.{◌≡◌, ℕ, zero, suc, ◌≤◌, ◌<◌, ◌++◌, Bool, true, false, cond, List, [], ◌∷◌, length, filter, take, drop, get_or, Option, Some, None, refl, sym, ◌∙◌, ap, arith}
 use Rattle.std.specs.List.{list_all, swap}
 use Rattle.std.specs.Prelude.{All, IsPermutation}
 use Rattle.std.proofs.lemmas.List.{drop_all, take_all}
@@ -14,11 +14,10 @@ use Rattle.he_select.proofs.Counting.{Each, each-get}
 use Rattle.he_select.proofs.Families.{parts_families}
 use Rattle.he_select.proofs.Filtered.{filtered_order}
 use Rattle.he_select.proofs.Ordered.{one_order}
-use Rattle.he_select.specs.Selection.{selection_input}
 use Rattle.he_plan.specs.Alternating.{alternate, interlace, interlace_by}
 use Rattle.he_plan.specs.Attempts.{order}
 use Rattle.he_plan.specs.Planning.{interlaced_list, is_of_included, part_of, parts_of}
-use Rattle.he_plan.specs.Race.{Race, Reply, addresses_of}
+use Rattle.he_plan.specs.Race.{Race, Reply, addresses_of, race_input, usable_addresses}
 use Rattle.he_plan.specs.Timeline.{IsRace, are_of, is_answer, is_of}
 use Rattle.he_plan.proofs.Alternation.{alone-interlace_by, filter_short}
 use Rattle.he_plan.proofs.Bools.{and_both, and_left, and_right}
@@ -79,17 +78,27 @@ usable_at (ip ∷ ips) each (suc i) d lt = usable_at ips each.1 i d (omega arith
 
 -- sorting only moves the addresses
 pub moved_parts : (race : Race) → IsRace race → All InRange (addresses_of race.aaaa) → All InRange (addresses_of race.a) → (v6 v4 : Bool) → IsPermutation (parts_of race v6 v4) (order race (parts_of race v6 v4))
-moved_parts race r six four v6 v4 = (one_order (selection_input race.policy race.host) (parts_families race.policy r.policy) (parts_of race v6 v4) (each_parts race six four v6 v4)).is.members
+moved_parts race r six four v6 v4 = (one_order (race_input race) (parts_families race.policy r.policy) (parts_of race v6 v4) (each_parts race six four v6 v4)).is.members
 
 -- the order of the included answers' addresses is the order of both answers' without the others
 order_kept : (race : Race) → IsRace race → All InRange (addresses_of race.aaaa) → All InRange (addresses_of race.a) → (v6 v4 : Bool) → order race (parts_of race v6 v4) ≡ filter (is_of_included v6 v4) (order race (parts_of race true true))
 order_kept race r six four v6 v4 =
     ap (order race) (sym (parts_kept race r v6 v4))
-    ∙ filtered_order (selection_input race.policy race.host) r.policy (is_of_included v6 v4) (parts_of race true true) (λ i d lt. usable_at (parts_of race true true) (each_parts race six four true true) i d lt)
+    ∙ filtered_order (race_input race) r.policy (is_of_included v6 v4) (parts_of race true true) (λ i d lt. usable_at (parts_of race true true) (each_parts race six four true true) i d lt)
 
-pub list_kept : (race : Race) → IsRace race → All InRange (addresses_of race.aaaa) → All InRange (addresses_of race.a) → (v6 v4 : Bool) (sorted : List Ip) → sorted ≡ order race (parts_of race true true) → interlace (filter (is_of_included v6 v4) sorted) race.settings.count ≡ interlaced_list race v6 v4
+-- where both answers are included, so are all usable addresses
+pub all_parts : (race : Race) → parts_of race true true ≡ usable_addresses race
+all_parts race = by_reply race.aaaa race.a
+  where
+    by_reply : (x y : Option Reply) → part_of true x ++ part_of true y ≡ filter is_usable (addresses_of x) ++ filter is_usable (addresses_of y)
+    by_reply None None = refl
+    by_reply None (Some y) = refl
+    by_reply (Some x) None = refl
+    by_reply (Some x) (Some y) = refl
+
+pub list_kept : (race : Race) → IsRace race → All InRange (addresses_of race.aaaa) → All InRange (addresses_of race.a) → (v6 v4 : Bool) (sorted : List Ip) → sorted ≡ order race (usable_addresses race) → interlace (filter (is_of_included v6 v4) sorted) race.settings.count ≡ interlaced_list race v6 v4
 list_kept race r six four v6 v4 sorted is =
-    ap (λ ips. interlace (filter (is_of_included v6 v4) ips) race.settings.count) is
+    ap (λ ips. interlace (filter (is_of_included v6 v4) ips) race.settings.count) (is ∙ ap (order race) (sym (all_parts race)))
     ∙ ap (λ ips. interlace ips race.settings.count) (sym (order_kept race r six four v6 v4))
 
 -- what passes a test passes it
@@ -200,6 +209,3 @@ pub part_short : (included : Bool) (reply : Option Reply) → length (part_of in
 part_short included None = omega arith
 part_short true (Some reply) = filter_short is_usable reply.addresses
 part_short false (Some reply) = omega arith
-
-pub parts_short : (race : Race) (v6 v4 : Bool) (six four : ℕ) → length (part_of v6 race.aaaa) ≤ six → length (part_of v4 race.a) ≤ four → length (parts_of race v6 v4) ≤ six + four
-parts_short race v6 v4 six four a b = omega (arith, length-append (part_of v6 race.aaaa) (part_of v4 race.a))

@@ -1,5 +1,5 @@
 -- An attempt that may start has an address to try, and comes after the one before it.
-use Rattle.std.proofs.Common.{◌≡◌, ℕ, ◌+◌, ◌-◌, ◌≤◌, ◌<◌, ◌||◌, ◌++◌, Bool, true, false, List, [], ◌∷◌, if◌then◌else◌, length, filter, Option, Some, None, MatchOption, IfSome, refl, ◌∙◌, arith, inl, inr, length-append, append_assoc}
+use Rattle.std.proofs.Common.{◌≡◌, ℕ, ◌+◌, ◌-◌, ◌≤◌, ◌<◌, ◌||◌, ◌++◌, Bool, true, false, List, [], ◌∷◌, if◌then◌else◌, length, filter, Option, Some, None, MatchOption, IfSome, refl, ◌∙◌, arith, inl, inr, length-append}
 use Rattle.std.specs.List.{list_any, slice_get}
 use Rattle.std.specs.Option.{option_map_or}
 use Rattle.std.proofs.lemmas.List.Folds.{list_any-append}
@@ -7,11 +7,11 @@ use Rattle.he_addr.specs.declared.ip.Ip.{Ip}
 use Rattle.he_addr.specs.Ip.{is_usable}
 use Rattle.he_plan.specs.declared.attempts.Attempt.{Attempt}
 use Rattle.he_plan.specs.declared.limits.TheConstants.{MAX_LIMIT}
-use Rattle.he_plan.specs.Attempts.{IsNext, IsPositive, MayBegin, MayFollow, MayStart, received_of, received, is_untried, last_of, seen}
-use Rattle.he_plan.specs.Continuing.{Continues}
+use Rattle.he_plan.specs.Attempts.{IsPositive, MayBegin, MayFollow, MayStart, received_of, received, is_untried, last_of, seen}
 use Rattle.he_plan.specs.Planning.{IsLater}
 use Rattle.he_plan.specs.Race.{Race, Reply}
 use Rattle.he_plan.specs.Timeline.{IsRace}
+use Rattle.he_plan.specs.Underway.{MakesNext}
 use Rattle.he_plan.proofs.Bools.{le_test, or_left, or_right}
 
 get_end : (xs : List Attempt) (x : Attempt) → slice_get (xs ++ x ∷ []) (length xs) ≡ Some x
@@ -73,15 +73,11 @@ left_by : (last : Option Attempt) (next : Attempt) → next.tick ≤ MAX_LIMIT �
 left_by None next h later = omega arith
 left_by (Some last) next h later = omega arith
 
-pub ticks_left-more : (done : List Attempt) (next : Attempt) → IsLater done next.tick → ticks_left (last_of (done ++ next ∷ [])) < ticks_left (last_of done)
+ticks_left-more : (done : List Attempt) (next : Attempt) → IsLater done next.tick → ticks_left (last_of (done ++ next ∷ [])) < ticks_left (last_of done)
 ticks_left-more done next later = rw (last_of-more done next) (left_by (last_of done) next later.0 later.1)
 
 pub last_in_range : (done : List Attempt) (next : Attempt) → IsLater done next.tick → IfSome (last_of (done ++ next ∷ [])) (λ x. x.tick ≤ MAX_LIMIT)
 last_in_range done next later = rw (last_of-more done next) later.0
 
--- these attempts are the first ones of the race: what continues them is the race's
-abbrev pub AreFirst : Race → List Attempt → Type 0
-AreFirst race done = (more : List Attempt) → Continues race done more → Continues race [] (done ++ more)
-
-pub AreFirst-more : (race : Race) (done : List Attempt) (next : Attempt) → AreFirst race done → IsNext race done next → AreFirst race (done ++ next ∷ [])
-AreFirst-more race done next first is more k = rw (append_assoc done (next ∷ []) more) (first (next ∷ more) (is, k))
+pub ticks_next : (race : Race) → IsRace race → (done all : List Attempt) (tick : ℕ) → MakesNext race done all tick → ticks_left (last_of all) < ticks_left (last_of done)
+ticks_next race r done all tick makes = rw makes.more (ticks_left-more done makes.next (start_later race r done makes.next.tick makes.is.tick.holds))

@@ -1,6 +1,6 @@
 -- The queue of a plan: at which address it is, and what one more attempt leaves true of it.
-use Rattle.std.proofs.Common.{◌≡◌, ℕ, suc, ◌+◌, ◌-◌, ◌≤◌, ◌<◌, ◌&&◌, ◌||◌, ◌++◌, Bool, true, false, cond, not, List, [], ◌∷◌, length, drop, filter, find, get_or, Option, Some, None, IfSome, zero, refl, sym, ◌∙◌, ap, subst, arith, add-one, drop-cons, length-drop}
-use Rattle.std.specs.List.{list_all, list_any, count_by}
+use Rattle.std.proofs.Common.{◌≡◌, ℕ, suc, ◌+◌, ◌≤◌, ◌<◌, ◌&&◌, ◌||◌, ◌++◌, Bool, true, false, cond, not, List, [], ◌∷◌, length, drop, filter, find, Option, Some, None, IfSome, zero, refl, sym, ◌∙◌, ap, subst, arith, inl}
+use Rattle.std.specs.List.{list_all, list_any, count_by, slice_get}
 use Rattle.std.specs.List.Sorted.{IsPermutation}
 use Rattle.std.proofs.lemmas.List.Elements.{filter_agree}
 use Rattle.std.proofs.lemmas.List.Folds.{list_all-append, list_any-append}
@@ -13,8 +13,9 @@ use Rattle.he_addr.specs.declared.ip.Ip.{Ip}
 use Rattle.he_plan.specs.declared.attempts.Attempt.{Attempt}
 use Rattle.he_plan.specs.Attempts.{MayStart, is_tried, is_untried, last_of, order, order_at, received, received_of, seen}
 use Rattle.he_plan.specs.Alternating.{interlace}
-use Rattle.he_plan.specs.Planning.{IsLater, IsOwn, IsRest, IsQueue, IsAtNext, is_received, was_received, part_of, parts_of, interlaced_list}
+use Rattle.he_plan.specs.Planning.{IsLater, is_received, part_of, parts_of, interlaced_list}
 use Rattle.he_plan.specs.Race.{Race, Reply}
+use Rattle.he_plan.specs.Underway.{AreSorted, IsAtNext, IsOwn, IsQueue, IsRest, Untried, nothing_received, was_received}
 use Rattle.he_plan.specs.Timeline.{IsRace, is_of}
 use Rattle.he_plan.proofs.Bools.{and_both, le_test, le_from, or_none, or_left_none, or_right_none, clash}
 use Rattle.he_plan.proofs.Distinct.{same_ip-self, count_at, count_none, none_counted, count-filter, count-order, order_once, no_v6, no_v4}
@@ -69,33 +70,28 @@ counts_any p xs some = counts_by (count_by p xs) refl
     counts_by (suc n) e = omega arith
 
 -- as many addresses are left as are untried
-pub left_is : (race : Race) (done : List Attempt) (v6 v4 : Bool) (ips : List Ip) (next : ℕ) → IsRest race done v6 v4 ips next → length ips - next ≡ count_by (is_untried done) (parts_of race v6 v4)
-left_is race done v6 v4 ips next q =
-    sym (length-drop next ips) ∙ ap length q.rest ∙ length-filter (is_untried done) (interlaced_list race v6 v4) ∙ count-order (is_untried done) race v6 v4 q.members
+pub left_is : (race : Race) (done : List Attempt) (q : Untried) → IsRest race done q → length q.ips ≡ count_by (is_untried done) (parts_of race q.v6 q.v4)
+left_is race done q rest =
+    ap length rest.rest ∙ length-filter (is_untried done) (interlaced_list race q.v6 q.v4) ∙ count-order (is_untried done) race q.v6 q.v4 rest.members
 
-find_first : (p : Ip → Bool) (xs : List Ip) (y : Ip) (ys : List Ip) → filter p xs ≡ y ∷ ys → find p xs ≡ Some y
-find_first p [] y ys h = cc
-find_first p (x ∷ xs) y ys h = find_by (p x) h (find_first p xs y ys)
+find_first : (p : Ip → Bool) (xs : List Ip) → find p xs ≡ slice_get (filter p xs) 0
+find_first p [] = refl
+find_first p (x ∷ xs) = find_by (p x) (find_first p xs)
   where
-    find_by : (b : Bool) → cond b (x ∷ filter p xs) (filter p xs) ≡ y ∷ ys → (filter p xs ≡ y ∷ ys → find p xs ≡ Some y) → cond b (Some x) (find p xs) ≡ Some y
-    find_by true k rest = cc
-    find_by false k rest = rest k
-
--- the address at a place, and the rest
-split_at : (ips xs : List Ip) (next : ℕ) (d : Ip) → next < length ips → drop next ips ≡ xs → xs ≡ get_or ips next d ∷ drop (next + 1) ips
-split_at ips xs next d below e = sym e ∙ rw (add-one, drop-cons ips next d below)
+    find_by : (b : Bool) → find p xs ≡ slice_get (filter p xs) 0 → cond b (Some x) (find p xs) ≡ slice_get (cond b (x ∷ filter p xs) (filter p xs)) 0
+    find_by true rest = refl
+    find_by false rest = rest
 
 -- the queue of what is received at t, at its first untried address, where an attempt may start at t
-pub at_next : (race : Race) (done : List Attempt) (t : ℕ) (v6 v4 : Bool) (ips : List Ip) (next : ℕ) → MayStart race done t → v6 ≡ is_received race t race.aaaa → v4 ≡ is_received race t race.a → IsRest race done v6 v4 ips next → IsAtNext race done t v6 v4 ips next
-at_next race done t v6 v4 ips next may six four rest =
-    let some : list_any (is_untried done) (parts_of race v6 v4) ≡ true = subst (λ (xs : List Ip). list_any (is_untried done) xs ≡ true) (received_is race t v6 v4 six four) (starts_any race done t may) in
-    let below : next < length ips = omega (arith, left_is race done v6 v4 ips next rest, counts_any (is_untried done) (parts_of race v6 v4) some) in
+at_next : (race : Race) (done : List Attempt) (t : ℕ) (q : Untried) → MayStart race done t → q.v6 ≡ is_received race t race.aaaa → q.v4 ≡ is_received race t race.a → IsRest race done q → IsAtNext race done t q
+at_next race done t q may six four rest =
+    let some : list_any (is_untried done) (parts_of race q.v6 q.v4) ≡ true = subst (λ (xs : List Ip). list_any (is_untried done) xs ≡ true) (received_is race t q.v6 q.v4 six four) (starts_any race done t may) in
     record {
       rest = rest;
       six = six;
       four = four;
-      below = below;
-      first = λ d. ap (find (is_untried done)) (order_is race t v6 v4 six four) ∙ find_first (is_untried done) (interlaced_list race v6 v4) (get_or ips next d) (drop (next + 1) ips) (split_at ips (filter (is_untried done) (interlaced_list race v6 v4)) next d below rest.rest);
+      some = omega (arith, left_is race done q rest, counts_any (is_untried done) (parts_of race q.v6 q.v4) some);
+      first = ap (find (is_untried done)) (order_is race t q.v6 q.v4 six four) ∙ find_first (is_untried done) (interlaced_list race q.v6 q.v4) ∙ ap (λ (ips : List Ip). slice_get ips 0) (sym rest.rest);
     }
 
 stays_by : (race : Race) (last : Option Attempt) (t : ℕ) (reply : Option Reply) → IfSome last (λ x. x.tick < t) → was_received race last reply ≡ true → is_received race t reply ≡ true
@@ -104,7 +100,7 @@ stays_by race (Some last) t None later h = cc
 stays_by race (Some last) t (Some reply) later h = le_test _ _ (omega (arith, le_from (seen race reply.tick) last.tick h, later))
 
 -- what was received by the last start is still received, so what is received later is that and what is new
-pub received_now : (race : Race) (done : List Attempt) (t : ℕ) (reply : Option Reply) (old new : Bool) → IsLater done t → old ≡ was_received race (last_of done) reply → new ≡ (old || is_received race t reply) → new ≡ is_received race t reply
+received_now : (race : Race) (done : List Attempt) (t : ℕ) (reply : Option Reply) (old new : Bool) → IsLater done t → old ≡ was_received race (last_of done) reply → new ≡ (old || is_received race t reply) → new ≡ is_received race t reply
 received_now race done t reply old new later was now = now ∙ ap (λ b. b || is_received race t reply) was ∙ now_by (was_received race (last_of done) reply) (is_received race t reply) (stays_by race (last_of done) t reply later.1)
   where
     now_by : (a b : Bool) → (a ≡ true → b ≡ true) → (a || b) ≡ b
@@ -115,20 +111,41 @@ received_now race done t reply old new later was now = now ∙ ap (λ b. b || is
 own_still : (family : Family) (done : List Attempt) (old new now : Bool) → new ≡ (old || now) → IsOwn family old done → IsOwn family new done
 own_still family done old new now is own none = own (or_left_none old now (sym is ∙ none))
 
+-- the queue where nothing new is received at t
+pub stays_next : (race : Race) (done : List Attempt) (t : ℕ) (q : Untried) (v6 v4 : Bool) → MayStart race done t → IsLater done t → IsQueue race done q → v6 ≡ (q.v6 || is_received race t race.aaaa) → v4 ≡ (q.v4 || is_received race t race.a) → v6 ≡ q.v6 → v4 ≡ q.v4 → IsAtNext race done t q
+stays_next race done t q v6 v4 may later queue is6 is4 same6 same4 =
+    at_next race done t q may
+    (sym same6 ∙ received_now race done t race.aaaa q.v6 v6 later queue.six is6)
+    (sym same4 ∙ received_now race done t race.a q.v4 v4 later queue.four is4)
+    queue.rest
+
 -- the queue made anew
-pub rest_anew : (race : Race) (done : List Attempt) (old6 old4 six four v6 v4 : Bool) (old ips : List Ip) (next : ℕ) → IsRest race done old6 old4 old next → v6 ≡ (old6 || six) → v4 ≡ (old4 || four) → IsPermutation (parts_of race v6 v4) (order race (parts_of race v6 v4)) → ips ≡ filter (is_untried done) (interlaced_list race v6 v4) → IsRest race done v6 v4 ips 0
-rest_anew race done old6 old4 six four v6 v4 old ips next q is6 is4 members is = record {
-  members = members;
-  own_six = own_still families.V6 done old6 v6 six is6 q.own_six;
-  own_four = own_still families.V4 done old4 v4 four is4 q.own_four;
-  rest = is;
+pub anew_next : (race : Race) (done : List Attempt) (t : ℕ) (old new : Untried) → MayStart race done t → IsLater done t → IsQueue race done old → new.v6 ≡ (old.v6 || is_received race t race.aaaa) → new.v4 ≡ (old.v4 || is_received race t race.a) → IsPermutation (parts_of race new.v6 new.v4) (order race (parts_of race new.v6 new.v4)) → new.ips ≡ filter (is_untried done) (interlaced_list race new.v6 new.v4) → AreSorted race new.sorted → IsAtNext race done t new
+anew_next race done t old new may later queue is6 is4 members is sorted =
+    at_next race done t new may
+    (received_now race done t race.aaaa old.v6 new.v6 later queue.six is6)
+    (received_now race done t race.a old.v4 new.v4 later queue.four is4)
+    (record {
+      members = members;
+      own_six = own_still families.V6 done old.v6 new.v6 (is_received race t race.aaaa) is6 queue.rest.own_six;
+      own_four = own_still families.V4 done old.v4 new.v4 (is_received race t race.a) is4 queue.rest.own_four;
+      rest = is;
+      sorted = sorted;
+    })
+
+-- the queue where memory is refused: no more than its addresses are sorted
+pub IsQueue-sorted : (race : Race) (done : List Attempt) (q : Untried) (sorted : List Ip) → IsQueue race done q → AreSorted race sorted → IsQueue race done (record q { sorted = sorted })
+IsQueue-sorted race done q sorted queue are = record {
+  rest = record { members = queue.rest.members; own_six = queue.rest.own_six; own_four = queue.rest.own_four; rest = queue.rest.rest; sorted = are };
+  six = queue.six;
+  four = queue.four;
 }
 
 order-none : (race : Race) → order race [] ≡ []
 unfolding by_preference
 order-none race = refl
 
-pub IsQueue-new : (race : Race) → IsQueue race [] false false [] 0
+pub IsQueue-new : (race : Race) → IsQueue race [] nothing_received
 IsQueue-new race =
     let none : parts_of race false false ≡ [] = nothing race.aaaa race.a in
     let sorted : order race (parts_of race false false) ≡ [] = ap (order race) none ∙ order-none race in
@@ -138,6 +155,7 @@ IsQueue-new race =
         own_six = λ e. refl;
         own_four = λ e. refl;
         rest = sym (ap (λ ips. filter (is_untried []) (interlace ips race.settings.count)) sorted);
+        sorted = inl refl;
       };
       six = refl;
       four = refl;
@@ -195,26 +213,32 @@ own_more : (family : Family) (included : Bool) (done : List Attempt) (x : Attemp
 own_more family included done x own not none =
     list_any-append (λ (y : Attempt). is_of family y.ip) done (x ∷ []) ∙ or_none _ _ (own none) (or_none _ _ (not none) refl)
 
+-- the address that stands first, and the rest
+split_first : (ips : List Ip) (ip : Ip) → slice_get ips 0 ≡ Some ip → ips ≡ ip ∷ drop 1 ips
+split_first [] ip h = cc
+split_first (x ∷ ips) ip h = cc
+
 -- the queue after one more attempt, which starts at t at the address that the queue is at
-pub IsQueue-more : (race : Race) → IsRace race → (done : List Attempt) (x : Attempt) (v6 v4 : Bool) (ips : List Ip) (next : ℕ) (d : Ip) → IsAtNext race done x.tick v6 v4 ips next → x.ip ≡ get_or ips next d → IsQueue race (done ++ x ∷ []) v6 v4 ips (next + 1)
-IsQueue-more race r done x v6 v4 ips next d q ip =
-    let is : filter (is_untried done) (interlaced_list race v6 v4) ≡ x.ip ∷ drop (next + 1) ips = split_at ips (filter (is_untried done) (interlaced_list race v6 v4)) next d q.below q.rest.rest ∙ ap (λ y. y ∷ drop (next + 1) ips) (sym ip) in
+pub IsQueue-more : (race : Race) → IsRace race → (done : List Attempt) (x : Attempt) (q : Untried) → IsAtNext race done x.tick q → slice_get q.ips 0 ≡ Some x.ip → IsQueue race (done ++ x ∷ []) (record q { ips = drop 1 q.ips })
+IsQueue-more race r done x q next first =
+    let is : filter (is_untried done) (interlaced_list race q.v6 q.v4) ≡ x.ip ∷ drop 1 q.ips = sym next.rest.rest ∙ split_first q.ips x.ip first in
     let last : last_of (done ++ x ∷ []) ≡ Some x = last_of-more done x in
     record {
       rest = record {
-        members = q.rest.members;
-        own_six = own_more families.V6 v6 done x q.rest.own_six (λ e. first_not (is_of families.V6) (is_untried done) (interlaced_list race v6 v4) (drop (next + 1) ips) x.ip is (none_v6 v6 e q.rest.members));
-        own_four = own_more families.V4 v4 done x q.rest.own_four (λ e. first_not (is_of families.V4) (is_untried done) (interlaced_list race v6 v4) (drop (next + 1) ips) x.ip is (none_v4 v4 e q.rest.members));
-        rest = rest_more done x (interlaced_list race v6 v4) (drop (next + 1) ips) is (order_once race r v6 v4 q.rest.members x.ip);
+        members = next.rest.members;
+        own_six = own_more families.V6 q.v6 done x next.rest.own_six (λ e. first_not (is_of families.V6) (is_untried done) (interlaced_list race q.v6 q.v4) (drop 1 q.ips) x.ip is (none_v6 q.v6 e next.rest.members));
+        own_four = own_more families.V4 q.v4 done x next.rest.own_four (λ e. first_not (is_of families.V4) (is_untried done) (interlaced_list race q.v6 q.v4) (drop 1 q.ips) x.ip is (none_v4 q.v4 e next.rest.members));
+        rest = rest_more done x (interlaced_list race q.v6 q.v4) (drop 1 q.ips) is (order_once race r q.v6 q.v4 next.rest.members x.ip);
+        sorted = next.rest.sorted;
       };
-      six = q.six ∙ ap (λ o. was_received race o race.aaaa) (sym last);
-      four = q.four ∙ ap (λ o. was_received race o race.a) (sym last);
+      six = next.six ∙ ap (λ o. was_received race o race.aaaa) (sym last);
+      four = next.four ∙ ap (λ o. was_received race o race.a) (sym last);
     }
   where
-    none_v6 : (b : Bool) → b ≡ false → IsPermutation (parts_of race b v4) (order race (parts_of race b v4)) → count_by (is_of families.V6) (interlaced_list race b v4) ≡ 0
+    none_v6 : (b : Bool) → b ≡ false → IsPermutation (parts_of race b q.v4) (order race (parts_of race b q.v4)) → count_by (is_of families.V6) (interlaced_list race b q.v4) ≡ 0
     none_v6 true e members = cc
-    none_v6 false e members = no_v6 race r v4 members
+    none_v6 false e members = no_v6 race r q.v4 members
 
-    none_v4 : (b : Bool) → b ≡ false → IsPermutation (parts_of race v6 b) (order race (parts_of race v6 b)) → count_by (is_of families.V4) (interlaced_list race v6 b) ≡ 0
+    none_v4 : (b : Bool) → b ≡ false → IsPermutation (parts_of race q.v6 b) (order race (parts_of race q.v6 b)) → count_by (is_of families.V4) (interlaced_list race q.v6 b) ≡ 0
     none_v4 true e members = cc
-    none_v4 false e members = no_v4 race r v6 members
+    none_v4 false e members = no_v4 race r q.v6 members

@@ -5,9 +5,8 @@ use Rattle.he_addr.specs.declared.ip.Ip.{Ip}
 use Rattle.he_addr.specs.Ip.{is_usable, same_ip}
 use Rattle.he_plan.specs.declared.attempts.Attempt.{Attempt}
 use Rattle.he_plan.specs.Alternating.{interlace}
-use Rattle.he_plan.specs.Race.{Race, Reply}
+use Rattle.he_plan.specs.Race.{Race, Reply, race_input}
 use Rattle.he_select.specs.Preference.{order_of}
-use Rattle.he_select.specs.Selection.{selection_input}
 
 -- n is the least number of which P holds
 pub record IsLeast (P : ℕ → Type 0) (n : ℕ) : Type 0 where
@@ -63,7 +62,7 @@ MayBegin race t =
 
 -- the received addresses by preference (RFC 8305 section 4, RFC 6724 section 6)
 abbrev pub order : Race → List Ip → List Ip
-order race ips = order_of (selection_input race.policy race.host) ips
+order race ips = order_of (race_input race) ips
 
 -- the list from which an attempt at t takes its address: of all received addresses, tried ones included
 abbrev pub order_at : Race → ℕ → List Ip

@@ -14,3 +14,4 @@ pub mod Ranges
 pub mod Settings
 pub mod Timeline
 pub mod Transcript
+pub mod Underway

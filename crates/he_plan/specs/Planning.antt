@@ -1,10 +1,7 @@
 -- Mirrors the code: what private functions answer: ticks that look at no pause, the winner so far, what is told of an
 -- attempt.
-use Rattle.std.specs.Prelude.{ℕ, ◌+◌, ◌≤◌, ◌<◌, ◌&&◌, if◌then◌else◌, ◌++◌, List, [], ◌∷◌, min, max, Option, Some, None, option_map, IfSome, nat_le, nat_lt, ◌≡◌, ◌⊎◌, Bool, true, false, length, drop, filter, map, find, slice_index_or}
+use Rattle.std.specs.Prelude.{ℕ, ◌+◌, ◌≤◌, ◌<◌, ◌&&◌, if◌then◌else◌, ◌++◌, List, [], ◌∷◌, min, max, Option, Some, None, option_map, IfSome, nat_le, nat_lt, Bool, true, false, filter}
 use Rattle.std.specs.List.{list_any}
-use Rattle.std.specs.List.Sorted.{IsPermutation}
-use Rattle.he_addr.specs.declared.ip.Family.{Family}
-use Rattle.he_addr.specs.declared.ip.Family.TheVariants as families
 use Rattle.he_addr.specs.declared.ip.Ip.{Ip}
 use Rattle.he_addr.specs.Ip.{is_usable, is_v6}
 use Rattle.he_plan.specs.declared.attempts.Attempt.{Attempt}
@@ -13,11 +10,10 @@ use Rattle.he_plan.specs.declared.finish.Fate.TheVariants.{Succeeded, Failed}
 use Rattle.he_plan.specs.declared.limits.TheConstants.{MAX_LIMIT}
 use Rattle.he_plan.specs.Race.{Race, Reply}
 use Rattle.he_plan.specs.declared.transcript.Line.{Line}
-use Rattle.he_plan.specs.Timeline.{is_of, are_pauses}
-use Rattle.he_plan.specs.Transcript.{mark_at, stop_of}
-use Rattle.he_plan.specs.Attempts.{AreNextInTurn, MayStart, is_untried, last_of, order, order_at, seen}
+use Rattle.he_plan.specs.Timeline.{are_pauses}
+use Rattle.he_plan.specs.Transcript.{mark_at}
+use Rattle.he_plan.specs.Attempts.{is_untried, last_of, order, seen}
 use Rattle.he_plan.specs.Alternating.{interlace}
-use Rattle.he_plan.specs.Finish.{IsWinner, fate_of}
 
 -- pauses in order, of which the first ends after the tick
 abbrev pub are_ahead : ℕ → List (ℕ × ℕ) → Bool
@@ -88,43 +84,9 @@ parts_of race v6 v4 = part_of v6 race.aaaa ++ part_of v4 race.a
 abbrev pub is_of_included : Bool → Bool → Ip → Bool
 is_of_included v6 v4 ip = if is_v6 ip then v6 else v4
 
--- the usable addresses of both answers in order, or none as long as no list needed them
-abbrev pub AreSorted : Race → List Ip → Type 0
-AreSorted race sorted = (sorted ≡ []) ⊎ (sorted ≡ order race (parts_of race true true))
-
 -- the interlaced list of the included answers
 abbrev pub interlaced_list : Race → Bool → Bool → List Ip
 interlaced_list race v6 v4 = interlace (order race (parts_of race v6 v4)) race.settings.count
-
--- none of the attempts is of the family, unless its answer is included
-abbrev pub IsOwn : Family → Bool → List Attempt → Type 0
-IsOwn family included done = included ≡ false → list_any (λ x. is_of family x.ip) done ≡ false
-
--- from `next` on these are the untried addresses of the interlaced list of the included answers
-pub record IsRest (race : Race) (done : List Attempt) (v6 v4 : Bool) (ips : List Ip) (next : ℕ) : Type 0 where
-  pub members : IsPermutation (parts_of race v6 v4) (order race (parts_of race v6 v4))
-  pub own_six : IsOwn families.V6 v6 done
-  pub own_four : IsOwn families.V4 v4 done
-  pub rest : drop next ips ≡ filter (is_untried done) (interlaced_list race v6 v4)
-
--- the answer was seen by the last start
-abbrev pub was_received : Race → Option Attempt → Option Reply → Bool
-was_received race None reply = false
-was_received race (Some last) reply = is_received race last.tick reply
-
--- the queue after these attempts: of the answers that were seen by the last start
-pub record IsQueue (race : Race) (done : List Attempt) (v6 v4 : Bool) (ips : List Ip) (next : ℕ) : Type 0 where
-  pub rest : IsRest race done v6 v4 ips next
-  pub six : v6 ≡ was_received race (last_of done) race.aaaa
-  pub four : v4 ≡ was_received race (last_of done) race.a
-
--- the queue for a start at t: of the answers that are seen at t, at the address that is tried then
-pub record IsAtNext (race : Race) (done : List Attempt) (t : ℕ) (v6 v4 : Bool) (ips : List Ip) (next : ℕ) : Type 0 where
-  pub rest : IsRest race done v6 v4 ips next
-  pub six : v6 ≡ is_received race t race.aaaa
-  pub four : v4 ≡ is_received race t race.a
-  pub below : next < length ips
-  pub first : (d : Ip) → find (is_untried done) (order_at race t) ≡ Some (slice_index_or ips next d)
 
 -- the delay after the last attempt ends below the limit, at or after `from`
 abbrev pub has_room : Race → ℕ → Option Attempt → Bool
@@ -164,23 +126,3 @@ abbrev pub last_failure : ℕ → List Fate → ℕ
 last_failure tick [] = tick
 last_failure tick (Failed finish ∷ told) = last_failure (max tick finish) told
 last_failure tick (_ ∷ told) = last_failure tick told
-
--- what is kept of a race that is being run: its attempts start by the greatest limit, and the queue is theirs
-pub record IsPlanned (race : Race) (done : List Attempt) (v6 v4 : Bool) (ips : List Ip) (next : ℕ) : Type 0 where
-  pub in_range : IfSome (last_of done) (λ last. last.tick ≤ MAX_LIMIT)
-  pub queue : IsQueue race done v6 v4 ips next
-
--- one more attempt, at the tick and the first untried address
-pub record PlansNext (race : Race) (done all : List Attempt) (tick : ℕ) : Type 0 where
-  pub next : Attempt
-  pub more : all ≡ done ++ next ∷ []
-  pub place : next.place ≡ length done
-  pub at : next.tick ≡ tick
-  pub ip : find (is_untried done) (order_at race tick) ≡ Some next.ip
-
--- the attempts up to the stop, the fate of each, and the winner of these
-pub record IsCourse (race : Race) (attempts : List Attempt) (fates : List Fate) (winner : Option (ℕ × ℕ)) : Type 0 where
-  pub in_turn : AreNextInTurn race attempts
-  pub stops : (t : ℕ) → MayStart race attempts t → stop_of race winner ≤ t
-  pub own : fates ≡ map (fate_of race) attempts
-  pub wins : IsWinner fates winner

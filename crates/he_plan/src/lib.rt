@@ -32,32 +32,32 @@ mod addresses;
 pub mod agreement;
 pub mod attempts;
 pub mod builder;
-mod course;
 pub mod due;
 pub mod finish;
 pub mod interlacing;
 pub mod laws;
 pub mod limits;
-mod listing;
+pub mod listing;
 pub mod outcome;
 mod outcomes;
-pub mod planner;
 pub mod planning;
 mod queue;
 pub mod settings;
 mod starts;
 pub mod timeline;
 pub mod transcript;
+pub mod underway;
 
 pub use attempts::{Attempt, Plan};
 pub use builder::{BuildFault, TimelineBuilder};
 pub use finish::{Fate, winner};
 pub use interlacing::interlace;
+pub use listing::sorted_standings;
 pub use outcome::Outcome;
-pub use planner::Planner;
 pub use planning::plan;
 pub use settings::{Range, Settings};
 pub use timeline::Timeline;
 pub use transcript::{
     Line, Mark, Outcome3, Transcript, transcript_at_stop, transcript_of, transcript_of_fates,
 };
+pub use underway::Underway;

@@ -1,19 +1,21 @@
 // The lists from which attempts take their addresses: those of the answers that are included, in order and interlaced.
 
-ghost use Rattle.std.specs.Prelude.{◌≡◌, ◌≤◌, ◌++◌, true, filter, length, IfOk, OnOk};
+ghost use Rattle.std.specs.Prelude.{◌≡◌, ◌≤◌, ◌++◌, true, filter, length, map, IfOk, OnErr, OnOk};
 ghost use Rattle.std.specs.List.Sorted.{IsPermutation};
 ghost use Rattle.he_addr.specs.Ip.{is_usable};
 ghost use Rattle.he_plan.specs.declared.limits.TheConstants.{MAX_ADDRESSES};
 ghost use Rattle.he_plan.specs.Alternating.{interlace};
 ghost use Rattle.he_plan.specs.Attempts.{order};
-ghost use Rattle.he_plan.specs.Planning.{AreSorted, interlaced_list, is_of_included, part_of, parts_of};
-ghost use Rattle.he_plan.specs.Race.{reply_of};
+ghost use Rattle.he_plan.specs.Planning.{interlaced_list, is_of_included, part_of, parts_of};
+ghost use Rattle.he_plan.specs.Race.{race_input, reply_of, usable_addresses};
 ghost use Rattle.he_plan.specs.Timeline.{IsRace};
+ghost use Rattle.he_plan.specs.Underway.{AreSorted};
+ghost use Rattle.he_select.specs.Standing.{standing_of};
 
 use crate::interlacing::{interlace, members};
 use crate::timeline::{Timeline, are_addresses_in_range};
 use he_addr::{Family, Ip, Memory};
-use he_select::order;
+use he_select::{Standing, order, order_with_standings};
 use std::alloc::{AllocError, Allocator};
 
 // The interlaced list of the included answers. The addresses of both answers are sorted at the first list that needs
@@ -28,12 +30,12 @@ pub(crate) fn interlaced_list<A: Allocator + Copy, B: Allocator>(
     requires { AreSorted timeline.now sorted.old.items }
     ensures value { IfOk result (λ v. v.items ≡ interlaced_list timeline.now v6 v4) }
     ensures members { IfOk result (λ _. IsPermutation (parts_of timeline.now v6 v4) (order timeline.now (parts_of timeline.now v6 v4))) }
-    ensures sorted { OnOk result (AreSorted timeline.now sorted.new.items) }
+    ensures sorted { AreSorted timeline.now sorted.new.items }
 {
     are_addresses_in_range(timeline);
     // One address is in order as it stands.
     if included_count(timeline, v6, v4) <= 1 {
-        return Ok(usable_addresses(alloc, timeline, v6, v4)?);
+        return Ok(included_addresses(alloc, timeline, v6, v4)?);
     }
     sort_once(alloc, timeline, sorted)?;
     interlaced_part(alloc, sorted, v6, v4, timeline.settings().count())
@@ -62,7 +64,8 @@ fn sort_once<A: Allocator + Copy, B: Allocator>(
     sorted: &mut Vec<Ip, A>,
 ) -> Result<(), Memory>
     requires { AreSorted timeline.now sorted.old.items }
-    ensures { OnOk result (sorted.new.items ≡ order timeline.now (parts_of timeline.now true true)) }
+    ensures ok { OnOk result (sorted.new.items ≡ order timeline.now (usable_addresses timeline.now)) }
+    ensures err { OnErr result (sorted.new.items ≡ sorted.old.items) }
 {
     if sorted.is_empty() {
         *sorted = sorted_addresses(alloc, timeline)?;
@@ -75,14 +78,35 @@ fn sorted_addresses<A: Allocator + Copy, B: Allocator>(
     alloc: A,
     timeline: &Timeline<B>,
 ) -> Result<Vec<Ip, A>, Memory>
-    ensures { IfOk result (λ v. v.items ≡ order timeline.now (parts_of timeline.now true true)) }
+    ensures { IfOk result (λ v. v.items ≡ order timeline.now (usable_addresses timeline.now)) }
 {
-    let ips = usable_addresses(alloc, timeline, true, true)?;
+    let ips = usable_addresses(alloc, timeline)?;
     order(alloc, timeline.policy(), timeline.host(), &ips)
 }
 
-// The usable addresses of the included answers, as received.
+/// The usable addresses of both answers, whatever their ticks, in the order of RFC 6724 section 6, each with what its
+/// rules look at. `Memory` where an allocation is refused.
+pub fn sorted_standings<A: Allocator + Copy, B: Allocator>(
+    alloc: A,
+    timeline: &Timeline<B>,
+) -> Result<Vec<Standing, A>, Memory>
+    ensures { IfOk result (λ sorted. sorted.items ≡ map (standing_of (race_input timeline.now)) (order timeline.now (usable_addresses timeline.now))) }
+{
+    let ips = usable_addresses(alloc, timeline)?;
+    order_with_standings(alloc, timeline.policy(), timeline.host(), &ips)
+}
+
 fn usable_addresses<A: Allocator + Copy, B: Allocator>(
+    alloc: A,
+    timeline: &Timeline<B>,
+) -> Result<Vec<Ip, A>, AllocError>
+    ensures { IfOk result (λ v. v.items ≡ usable_addresses timeline.now) }
+{
+    included_addresses(alloc, timeline, true, true)
+}
+
+// The usable addresses of the included answers, as received.
+fn included_addresses<A: Allocator + Copy, B: Allocator>(
     alloc: A,
     timeline: &Timeline<B>,
     v6: bool,

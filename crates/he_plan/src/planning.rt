@@ -1,16 +1,18 @@
-// The plan of a race: the attempts that it makes while each still runs.
+// The plan of a race, and its attempts up to its stop.
 
-ghost use Rattle.std.specs.Prelude.{◌≡◌, ◌||◌, filter, IfOk, OnOk};
-ghost use Rattle.he_plan.specs.Attempts.{AreAttempts, MayStart, is_untried};
-ghost use Rattle.he_plan.specs.Planning.{is_received, AreSorted, IsLater, IsQueue, IsAtNext};
-ghost use Rattle.he_plan.specs.Race.{reply_of};
+ghost use Rattle.std.specs.Prelude.{◌≡◌, ℕ, ◌≤◌, ◌-◌, length, take, IfOk, IfSome, IfNone};
+ghost use Rattle.he_plan.specs.Attempts.{AreAttempts, IsLeast, MayStart};
+ghost use Rattle.he_plan.specs.Finish.{IsWinner};
+ghost use Rattle.he_plan.specs.Planning.{is_beaten};
+ghost use Rattle.he_plan.specs.Timeline.{IsRace};
+ghost use Rattle.he_plan.specs.Transcript.{stop_of};
+ghost use Rattle.he_plan.specs.Underway.{IsStopped, IsUnderway};
 
-use crate::attempts::{Attempt, Plan};
-use crate::listing::interlaced_list;
-use crate::queue::Queue;
-use crate::starts::{is_tried, next_tick};
-use crate::timeline::{Timeline, put};
-use he_addr::{Family, Ip, Memory};
+use crate::attempts::Plan;
+use crate::finish::{Fate, next_winner};
+use crate::timeline::Timeline;
+use crate::underway::Underway;
+use he_addr::Memory;
 use std::alloc::Allocator;
 
 /// The attempts that the race makes while each still runs, by place.
@@ -20,81 +22,64 @@ pub fn plan<A: Allocator + Copy, B: Allocator>(
 ) -> Result<Plan<A>, Memory>
     ensures { IfOk result (AreAttempts timeline.now) }
 {
-    let mut attempts = Vec::new(alloc);
-    let mut queue = Queue::new(alloc);
-    let mut sorted = Vec::new(alloc);
-    while let Some(tick) = next_tick(timeline, &attempts, &queue) {
-        advance(alloc, timeline, &attempts, tick, &mut queue, &mut sorted)?;
-        let attempt = Attempt {
-            place: attempts.len(),
-            tick,
-            ip: queue.ips[queue.next],
-        };
-        attempts.push(attempt)?;
-        queue.next += 1;
+    let mut underway = Underway::new(alloc);
+    while let Some(tick) = underway.next_tick(timeline) {
+        underway.start(alloc, timeline, tick)?;
     }
-    Ok(Plan::new(attempts))
+    Ok(Plan::new(underway.into_attempts()))
 }
 
-// Brings the queue to a start at the tick, at the address that is tried then. What was received stays received, so it
-// is made anew at most twice in a race, and its addresses are sorted once: `sorted` keeps them.
-pub(crate) fn advance<A: Allocator + Copy, B: Allocator>(
+// The race with the attempts that start before the first success of earlier ones, and the winner of these: its finish
+// and place.
+pub(crate) fn run_to_stop<A: Allocator + Copy, B: Allocator>(
     alloc: A,
     timeline: &Timeline<B>,
-    done: &[Attempt],
-    tick: u64,
-    queue: &mut Queue<A>,
-    sorted: &mut Vec<Ip, A>,
-) -> Result<(), Memory>
-    requires may_start { MayStart timeline.now done.now tick }
-    requires later { IsLater done.now tick }
-    requires queue { IsQueue timeline.now done.now queue.old.v6 queue.old.v4 queue.old.ips.items queue.old.next }
-    requires sorted { AreSorted timeline.now sorted.old.items }
-    ensures queue { OnOk result (IsAtNext timeline.now done.now tick queue.new.v6 queue.new.v4 queue.new.ips.items queue.new.next) }
-    ensures sorted { OnOk result (AreSorted timeline.now sorted.new.items) }
+) -> Result<(Underway<A>, Option<(u64, usize)>), Memory>
+    ensures { IfOk result (λ stopped. IsStopped timeline.now stopped.0 stopped.1) }
 {
-    let v6 = is_included(timeline, Family::V6, tick, queue.v6);
-    let v4 = is_included(timeline, Family::V4, tick, queue.v4);
-    if v6 == queue.v6 && v4 == queue.v4 {
-        return Ok(());
+    let mut underway = Underway::new(alloc);
+    let mut winner = None;
+    while let Some(tick) = unbeaten_tick(timeline, &underway, winner) {
+        underway.start(alloc, timeline, tick)?;
+        winner = winner_with_last(winner, underway.fates());
     }
-    let mut ips = interlaced_list(alloc, timeline, sorted, v6, v4)?;
-    keep_untried(done, &mut ips);
-    put(
-        queue,
-        Queue {
-            v6,
-            v4,
-            ips,
-            next: 0,
-        },
-    );
-    Ok(())
+    Ok((underway, winner))
 }
 
-fn keep_untried<A: Allocator>(done: &[Attempt], ips: &mut Vec<Ip, A>)
-    ensures { ips.new.items ≡ filter (is_untried done.now) ips.old.items }
+// The least tick at which the next attempt may start, if no attempt succeeds by then.
+fn unbeaten_tick<A: Allocator + Copy, B: Allocator>(
+    timeline: &Timeline<B>,
+    underway: &Underway<A>,
+    winner: Option<(u64, usize)>,
+) -> Option<u64>
+    requires { IsUnderway timeline.now underway.now }
+    ensures some { IfSome result (IsLeast (MayStart timeline.now underway.now.attempts)) }
+    ensures none { IfNone result ((t : ℕ) → MayStart timeline.now underway.now.attempts t → stop_of timeline.now winner ≤ t) }
+    ensures race { IsRace timeline.now }
 {
-    ips.retain(|ip| !is_tried(done, *ip));
+    match underway.next_tick(timeline) {
+        Some(tick) if !is_beaten(winner, tick) => Some(tick),
+        _ => None,
+    }
 }
 
-// Whether the answer is included in the list for the tick, where it was by the last start or not.
-fn is_included<A: Allocator>(
-    timeline: &Timeline<A>,
-    family: Family,
-    tick: u64,
-    before: bool,
-) -> bool
-    ensures { result ≡ (before || is_received timeline.now tick (reply_of timeline.now family)) }
+// Whether there is a winner that finishes at or before the tick.
+fn is_beaten(winner: Option<(u64, usize)>, tick: u64) -> bool
+    ensures { result ≡ is_beaten winner tick }
 {
-    before || is_received(timeline, family, tick)
-}
-
-fn is_received<A: Allocator>(timeline: &Timeline<A>, family: Family, tick: u64) -> bool
-    ensures { result ≡ is_received timeline.now tick (reply_of timeline.now family) }
-{
-    match timeline.answer(family) {
-        Some((answered, _)) => timeline.seen(answered) <= tick,
+    match winner {
+        Some(winner) => winner.0 <= tick,
         None => false,
+    }
+}
+
+// The winner of the fates, from that of all but the last.
+fn winner_with_last(winner: Option<(u64, usize)>, fates: &[Fate]) -> Option<(u64, usize)>
+    requires { IsWinner (take (length fates.now - 1) fates.now) winner }
+    ensures { IsWinner fates.now result }
+{
+    match fates {
+        [] => winner,
+        [.., fate] => next_winner(winner, fates.len() - 1, *fate),
     }
 }

@@ -4,9 +4,10 @@ ghost use Rattle.std.specs.Prelude.{◌≡◌, ℕ, ◌≤◌, IfSome, IfNone};
 ghost use Rattle.std.specs.List.{list_any};
 ghost use Rattle.he_addr.specs.Ip.{is_usable};
 ghost use Rattle.he_plan.specs.Attempts.{IsLeast, MayStart, is_tried, last_of};
-ghost use Rattle.he_plan.specs.Planning.{earlier, positive_tick, a_begin_tick, begin_tick, late_tick, start_tick, IsLater, IsQueue};
+ghost use Rattle.he_plan.specs.Planning.{earlier, positive_tick, a_begin_tick, begin_tick, late_tick, start_tick, IsLater};
 ghost use Rattle.he_plan.specs.Race.{reply_of};
 ghost use Rattle.he_plan.specs.Timeline.{IsRace};
+ghost use Rattle.he_plan.specs.Underway.{IsQueue};
 
 use crate::attempts::Attempt;
 use crate::limits::{MAX_LIMIT, MAX_TICK};
@@ -21,10 +22,9 @@ pub(crate) fn next_tick<A: Allocator, B: Allocator>(
     queue: &Queue<B>,
 ) -> Option<u64>
     requires range { IfSome (last_of done.now) (λ last. last.tick ≤ MAX_LIMIT) }
-    requires queue { IsQueue timeline.now done.now queue.now.v6 queue.now.v4 queue.now.ips.items queue.now.next }
+    requires queue { IsQueue timeline.now done.now queue.now }
     ensures some { IfSome result (IsLeast (MayStart timeline.now done.now)) }
     ensures none { IfNone result ((t : ℕ) → ¬ MayStart timeline.now done.now t) }
-    ensures later { IfSome result (IsLater done.now) }
     ensures race { IsRace timeline.now }
 {
     let limit = timeline.settings().limit();
@@ -43,20 +43,20 @@ fn start_tick<A: Allocator, B: Allocator>(
     queue: &Queue<B>,
 ) -> Option<u64>
     requires range { IfSome (last_of done.now) (λ last. last.tick ≤ MAX_LIMIT) }
-    requires queue { IsQueue timeline.now done.now queue.now.v6 queue.now.v4 queue.now.ips.items queue.now.next }
+    requires queue { IsQueue timeline.now done.now queue.now }
     ensures { result ≡ start_tick timeline.now done.now }
 {
     let Some(last) = done.last() else {
         return begin_tick(timeline);
     };
     let attempt_delay_end = last.tick + timeline.settings().attempt();
-    if queue.next < queue.ips.len() {
-        return Some(attempt_delay_end);
+    if queue.is_empty() {
+        return earlier(
+            late_tick(timeline, Family::V6, queue.v6, attempt_delay_end),
+            late_tick(timeline, Family::V4, queue.v4, attempt_delay_end),
+        );
     }
-    earlier(
-        late_tick(timeline, Family::V6, queue.v6, attempt_delay_end),
-        late_tick(timeline, Family::V4, queue.v4, attempt_delay_end),
-    )
+    Some(attempt_delay_end)
 }
 
 // When the race begins: with a positive AAAA answer, or with a positive A answer once the AAAA answer has come or the

@@ -9,8 +9,8 @@ ghost use Rattle.he_plan.specs.Timeline.{IsRace};
 ghost use Rattle.he_plan.specs.Transcript.{IsTranscript, AreKnown, AreTold, stop_of, is_place, failed_mark, mark_at, result_of, without_winner, is_failed, is_tried_out, failures, greatest};
 
 use crate::attempts::{Attempt, Plan};
-use crate::course::course_of;
 use crate::finish::Fate;
+use crate::planning::run_to_stop;
 use crate::starts::is_tried;
 use crate::timeline::{Timeline, are_addresses_in_range};
 use he_addr::{Family, Ip, Memory};
@@ -135,10 +135,11 @@ pub fn transcript_of<A: Allocator + Copy, B: Allocator>(
     ensures { IfOk result (IsTranscript timeline.now) }
 {
     are_addresses_in_range(timeline);
-    let course = course_of(alloc, timeline)?;
-    let stop = stop(timeline, course.winner);
-    let ending = ending(timeline, &course.attempts, &course.fates, course.winner);
-    let lines = told_lines(alloc, stop, course.winner, &course.attempts, &course.fates)?;
+    let (underway, winner) = run_to_stop(alloc, timeline)?;
+    let (attempts, fates) = (underway.attempts(), underway.fates());
+    let stop = stop(timeline, winner);
+    let ending = ending(timeline, attempts, fates, winner);
+    let lines = told_lines(alloc, stop, winner, attempts, fates)?;
     Ok(Transcript::new(lines, ending))
 }
 

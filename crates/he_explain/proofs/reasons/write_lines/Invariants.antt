@@ -1,12 +1,11 @@
 use Rattle.std.proofs.Common.{◌≡◌, ◌++◌, drop}
 use Rattle.std.specs.Prelude.{None}
-use Rattle.he_select.specs.Selection.{selection_input}
+use Rattle.he_select.specs.Standing.{rule_between}
 use Rattle.he_text.specs.Writing.{Grows}
-use Rattle.he_explain.specs.Writing.{lines_by}
+use Rattle.he_explain.specs.Reasons.{reason_lines}
 use Rattle.he_explain.proofs.reasons.write_lines.Given as goal
 
 abbrev pub invariant-loop-place : goal.invariant-loop-place
 invariant-loop-place g l =
     Grows l.fn.out.items l.out.items
-    × (l.out.items ++ lines_by (selection_input l.policy l.host) l.place l.earlier (drop l.place l.sorted)
-    ≡ l.fn.out.items ++ lines_by (selection_input l.policy l.host) 0 None l.sorted)
+    × (l.out.items ++ reason_lines rule_between l.place l.earlier (drop l.place l.sorted) ≡ l.fn.out.items ++ reason_lines rule_between 0 None l.sorted)

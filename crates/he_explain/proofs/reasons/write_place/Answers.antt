@@ -1,10 +1,12 @@
-use Rattle.he_explain.specs.Writing.{placed_by, source_by}
+use Rattle.std.proofs.Common.{◌++◌, decimal, codes}
+use Rattle.he_addr.specs.Printing.{printed}
+use Rattle.he_explain.specs.Reasons.{with_source_text}
 use Rattle.he_explain.proofs.WritingLaws.{writes_then}
 use Rattle.he_explain.proofs.reasons.write_place.Goals as goal
 
 pub returns : goal.returns
 returns g c =
     writes_then c.args.out.now.items c.write_placed.new.out.items c.write_source.new.out.items
-    (placed_by c.args.place c.args.traits.now.ip)
-    (source_by c.args.traits.now.source)
+    ((codes "order " ++ decimal c.args.place) ++ (codes " " ++ printed c.args.standing.now.ip))
+    (with_source_text c.args.standing.now.source)
     c.write_source.result c.in_ok-write_placed.ensures c.write_source.ensures

@@ -2,7 +2,6 @@ use Rattle.std.proofs.Common.{◌≡◌, ◌≤◌, ◌<◌, None, sym, ◌∙�
 use Rattle.std.proofs.lemmas.Grind.{common_steps}
 use Rattle.he_plan.specs.Attempts.{seen}
 use Rattle.he_plan.specs.Planning.{start_tick}
-use Rattle.he_plan.proofs.Planned.{start_later}
 use Rattle.he_plan.proofs.Starting.{starts_at, none_starts_late, none_starts}
 use Rattle.he_plan.proofs.starts.next_tick.Goals as goal
 
@@ -20,9 +19,3 @@ pub returns-else-tick-limit-clause-none : goal.returns-else-tick-limit-clause-no
 returns-else-tick-limit-clause-none g c =
     let late : c.args.timeline.now.settings.limit ≤ seen c.args.timeline.now c.in-Some.from = grind (arith, common_steps) in
     none_starts_late c.args.timeline.now c.settings.ensures.race c.args.done.now c.in-Some.from (sym c.start_tick.ensures ∙ c.in-Some.is) late
-
-pub returns-then-tick-limit-clause-later : goal.returns-then-tick-limit-clause-later
-returns-then-tick-limit-clause-later g c =
-    let early : seen c.args.timeline.now c.in-Some.from < c.args.timeline.now.settings.limit = grind (arith, common_steps) in
-    let least = starts_at c.args.timeline.now c.settings.ensures.race c.args.done.now c.in-Some.from (sym c.start_tick.ensures ∙ c.in-Some.is) early in
-    rw c.seen-tick.ensures.value (start_later c.args.timeline.now c.settings.ensures.race c.args.done.now _ least.holds)

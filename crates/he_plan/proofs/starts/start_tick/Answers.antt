@@ -1,15 +1,18 @@
-use Rattle.std.proofs.Common.{◌+◌, ◌<◌, ◌≤◌, length, Some, sym, ◌∙◌, ap, arith}
+use Rattle.std.proofs.Common.{◌+◌, ◌≤◌, length, drop, Some, sym, ◌∙◌, ap, subst, arith}
+use Rattle.he_plan.specs.Underway.{IsQueue, Untried}
 use Rattle.he_plan.proofs.Following.{follows_delay, follows_late}
 use Rattle.he_plan.proofs.starts.start_tick.Goals as goal
 
-pub returns-then-queue-len : goal.returns-then-queue-len
-returns-then-queue-len g c =
-    let below : c.args.queue.now.next < length c.args.queue.now.ips.items = omega (arith, c.len.ensures, c.if-queue-len.true) in
-    ap (λ delay. Some (c.in-Some.last.now.tick + delay)) (c.attempt.ensures.value ∙ ap (λ s. s.attempt) c.settings.ensures.value)
-    ∙ follows_delay c.args.timeline.now c.settings.ensures.race c.args.done.now c.in-Some.last.now c.args.queue.now.v6 c.args.queue.now.v4 c.args.queue.now.ips.items c.args.queue.now.next (sym c.in-Some.ensures.value) c.requires.queue below
-
 pub returns : goal.returns
 returns g c =
-    let over : length c.args.queue.now.ips.items ≤ c.args.queue.now.next = omega (arith, c.len.ensures, c.if-queue-len.false) in
-    rw (c.earlier.ensures, c.late_tick.ensures, c.late_tick-2.ensures, c.attempt.ensures.value, c.settings.ensures.value)
-    (follows_late c.args.timeline.now c.settings.ensures.race c.args.done.now c.in-Some.last.now c.args.queue.now.v6 c.args.queue.now.v4 c.args.queue.now.ips.items c.args.queue.now.next (sym c.in-Some.ensures.value) c.requires.queue over)
+    ap (λ delay. Some (c.in-Some.last.now.tick + delay)) (c.attempt.ensures.value ∙ ap (λ s. s.attempt) c.settings.ensures.value)
+    ∙ follows_delay c.args.timeline.now c.settings.ensures.race c.args.done.now c.in-Some.last.now c.args.queue.now (sym c.in-Some.ensures.value) c.requires.queue (c.is_empty.ensures.some c.if-is_empty.false)
+
+pub returns-then-is_empty : goal.returns-then-is_empty
+returns-then-is_empty g c =
+    let queue : Untried = record { v6 = c.queue.inside.v6; v4 = c.queue.inside.v4; ips = drop c.queue.inside.next c.queue.inside.ips.items; sorted = c.queue.inside.sorted.items } in
+    let over : length c.args.queue.now.ips ≤ 0 = omega (arith, c.is_empty.ensures.none c.if-is_empty.true) in
+    rw (c.earlier.ensures, c.late_tick.ensures, c.late_tick-then-is_empty.ensures, c.attempt.ensures.value, c.settings.ensures.value)
+    (follows_late c.args.timeline.now c.settings.ensures.race c.args.done.now c.in-Some.last.now queue (sym c.in-Some.ensures.value)
+    (subst (λ (q : Untried). IsQueue c.args.timeline.now c.args.done.now q) (sym c.queue.view_is) c.requires.queue)
+    (subst (λ (q : Untried). length q.ips ≤ 0) (sym c.queue.view_is) over))
