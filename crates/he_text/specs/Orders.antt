@@ -1,12 +1,11 @@
 -- The text of an order: the addresses of a race as they would be tried if all were there (RFC 6724 section 6).
-use Rattle.std.specs.Prelude.{ℕ, ◌+◌, List, [], ◌∷◌, ◌++◌, filter, decimal, Option, Some, None, codes}
+use Rattle.std.specs.Prelude.{ℕ, ◌+◌, List, [], ◌∷◌, ◌++◌, decimal, Option, Some, None, codes}
 use Rattle.he_addr.specs.declared.ip.Ip.{Ip}
-use Rattle.he_addr.specs.Ip.{is_usable}
 use Rattle.he_addr.specs.Printing.{printed}
 use Rattle.he_plan.specs.Attempts.{order}
-use Rattle.he_plan.specs.Race.{Race, addresses_of}
+use Rattle.he_plan.specs.Race.{Race, race_input, usable_addresses}
 use Rattle.he_select.specs.declared.host.Source.{Source}
-use Rattle.he_select.specs.Selection.{SelectionInput, selection_input, source_of}
+use Rattle.he_select.specs.Selection.{SelectionInput, source_of}
 use Rattle.he_text.specs.Written.{written_line}
 
 -- the source that the host uses for an address, if it reaches it
@@ -23,10 +22,6 @@ abbrev pub order_lines : SelectionInput → ℕ → List Ip → List ℕ
 order_lines input place [] = []
 order_lines input place (ip ∷ ips) = order_line input place ip ++ order_lines input (place + 1) ips
 
--- the usable addresses of both answers, whatever their ticks
-abbrev pub usable_addresses : Race → List Ip
-usable_addresses race = filter is_usable (addresses_of race.aaaa) ++ filter is_usable (addresses_of race.a)
-
 -- the addresses in sorted order, not interlaced, each with its source; then `end`
 abbrev pub order_text : Race → List ℕ
-order_text race = order_lines (selection_input race.policy race.host) 0 (order race (usable_addresses race)) ++ written_line (codes "end" ∷ [])
+order_text race = order_lines (race_input race) 0 (order race (usable_addresses race)) ++ written_line (codes "end" ∷ [])

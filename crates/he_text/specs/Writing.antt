@@ -6,6 +6,8 @@ use Rattle.he_addr.specs.declared.ip.Ip.{Ip}
 use Rattle.he_plan.specs.declared.transcript.Mark.{Mark}
 use Rattle.he_plan.specs.declared.transcript.Mark.TheVariants as marks
 use Rattle.he_select.specs.declared.sorting.Sourced.{Sourced}
+use Rattle.he_select.specs.declared.standing.Standing.{Standing}
+use Rattle.he_select.specs.Standing.{sourced_from}
 use Rattle.he_text.specs.Written.{written_line}
 use Rattle.he_text.specs.declared.writing.Token.{Token}
 use Rattle.he_text.specs.declared.writing.Token.TheVariants as tokens
@@ -51,10 +53,13 @@ source_ip_text (Some ip) = printed ip
 abbrev pub sourced_line : ℕ → Sourced → List ℕ
 sourced_line place sourced = written_line (decimal place ∷ printed sourced.ip ∷ codes "from" ∷ source_ip_text sourced.source ∷ [])
 
--- the lines of the places, counted from `place`
-abbrev pub sourced_lines : ℕ → List Sourced → List ℕ
-sourced_lines place [] = []
-sourced_lines place (first ∷ more) = sourced_line place first ++ sourced_lines (place + 1) more
+-- and the lines of the places, counted from `place`
+abbrev pub standing_line : ℕ → Standing → List ℕ
+standing_line place standing = sourced_line place (sourced_from standing)
+
+abbrev pub standing_lines : ℕ → List Standing → List ℕ
+standing_lines place [] = []
+standing_lines place (first ∷ more) = standing_line place first ++ standing_lines (place + 1) more
 
 -- what was there is kept in front
 abbrev pub Grows : List ℕ → List ℕ → Type 0

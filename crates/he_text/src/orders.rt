@@ -1,63 +1,19 @@
 // Orders of addresses written to texts.
 
-ghost use Rattle.std.specs.Prelude.{◌≡◌, ◌+◌, ◌≤◌, ◌++◌, length, filter, map, Some, IsTrue, IfOk, OnOk, OnErr};
-ghost use Rattle.std.specs.List.{list_all};
-ghost use Rattle.he_addr.specs.Ip.{is_usable};
+ghost use Rattle.std.specs.Prelude.{◌≡◌, ◌+◌, ◌≤◌, ◌++◌, length, Some, OnOk, OnErr};
 ghost use Rattle.he_addr.specs.Prepending.{Prepends};
-ghost use Rattle.he_plan.specs.Attempts.{order};
-ghost use Rattle.he_plan.specs.Race.{reply_of, addresses_of};
-ghost use Rattle.he_select.specs.Preference.{sourced_by};
-ghost use Rattle.he_select.specs.Selection.{selection_input};
-ghost use Rattle.he_text.specs.Orders.{order_text, usable_addresses};
-ghost use Rattle.he_text.specs.Writing.{AppendsText, origin_text, sourced_line, sourced_lines};
+ghost use Rattle.he_text.specs.Orders.{order_text};
+ghost use Rattle.he_text.specs.Writing.{AppendsText, origin_text, sourced_line, standing_lines};
 
 use crate::parts::{LINE_END, TOKEN_END};
 use crate::writing::{LINE_ROOM, write_bytes, write_line};
-use he_addr::{Family, Ip, Memory, prepend_byte, prepend_bytes, prepend_ip, prepend_number};
-use he_plan::Timeline;
-use he_select::{Sourced, order_with_sources};
-use std::alloc::{AllocError, Allocator};
+use he_addr::{Ip, Memory, prepend_byte, prepend_bytes, prepend_ip, prepend_number};
+use he_plan::{Timeline, sorted_standings};
+use he_select::{Sourced, Standing};
+use std::alloc::Allocator;
 
 // The most bytes of what tells the source in a line: ` from `, an address and the line's end.
 const ORIGIN_LEN: usize = 46;
-
-fn push_usable<A: Allocator>(ips: &mut Vec<Ip, A>, addresses: &[Ip]) -> Result<(), AllocError>
-    ensures { OnOk result (ips.new.items ≡ ips.old.items ++ filter is_usable addresses.now) }
-{
-    for ip in addresses {
-        if ip.is_usable() {
-            ips.push(*ip)?;
-        }
-    }
-    Ok(())
-}
-
-// The addresses of a family's answer that can be connected to, whatever its tick.
-fn push_answer<A: Allocator, B: Allocator>(
-    ips: &mut Vec<Ip, A>,
-    timeline: &Timeline<B>,
-    family: Family,
-) -> Result<(), AllocError>
-    ensures { OnOk result (ips.new.items ≡ ips.old.items ++ filter is_usable (addresses_of (reply_of timeline.now family))) }
-{
-    match timeline.answer(family) {
-        Some((_, addresses)) => push_usable(ips, addresses),
-        None => Ok(()),
-    }
-}
-
-fn usable_addresses<A: Allocator + Copy, B: Allocator>(
-    alloc: A,
-    timeline: &Timeline<B>,
-) -> Result<Vec<Ip, A>, AllocError>
-    ensures addresses { IfOk result (λ ips. ips.items ≡ usable_addresses timeline.now) }
-    ensures usable { IfOk result (λ ips. IsTrue (list_all is_usable ips.items)) }
-{
-    let mut ips = Vec::new(alloc);
-    push_answer(&mut ips, timeline, Family::V6)?;
-    push_answer(&mut ips, timeline, Family::V4)?;
-    Ok(ips)
-}
 
 // The lines of an order are made in a buffer, as those of attempts are.
 
@@ -107,24 +63,16 @@ fn write_place<A: Allocator + Copy>(
     write_bytes(&buffer[start..], out)
 }
 
-fn write_places<A: Allocator + Copy>(sorted: &[Sourced], out: &mut Vec<u8, A>) -> Result<(), Memory>
-    ensures { AppendsText result out.old.items out.new.items (sourced_lines 0 sorted.now) }
+fn write_places<A: Allocator + Copy>(
+    sorted: &[Standing],
+    out: &mut Vec<u8, A>,
+) -> Result<(), Memory>
+    ensures { AppendsText result out.old.items out.new.items (standing_lines 0 sorted.now) }
 {
-    for (place, sourced) in sorted.iter().enumerate() {
-        write_place(place, *sourced, out)?;
+    for (place, standing) in sorted.iter().enumerate() {
+        write_place(place, standing.sourced(), out)?;
     }
     Ok(())
-}
-
-// The usable addresses in sorted order, each with the source that the host uses for it.
-fn sorted_addresses<A: Allocator + Copy, B: Allocator>(
-    alloc: A,
-    timeline: &Timeline<B>,
-) -> Result<Vec<Sourced, A>, Memory>
-    ensures { IfOk result (λ sorted. sorted.items ≡ map (sourced_by (selection_input timeline.now.policy timeline.now.host)) (order timeline.now (usable_addresses timeline.now))) }
-{
-    let usable = usable_addresses(alloc, timeline)?;
-    order_with_sources(alloc, timeline.policy(), timeline.host(), &usable)
 }
 
 fn write_whole<A: Allocator + Copy, B: Allocator>(
@@ -134,7 +82,7 @@ fn write_whole<A: Allocator + Copy, B: Allocator>(
 ) -> Result<(), Memory>
     ensures { AppendsText result out.old.items out.new.items (order_text timeline.now) }
 {
-    let sorted = sorted_addresses(alloc, timeline)?;
+    let sorted = sorted_standings(alloc, timeline)?;
     write_places(&sorted, out)?;
     write_line(b"end", &[], out)
 }
