@@ -12,7 +12,7 @@ use Rattle.he_plan.proofs.Bools.{before, clash, lt_test, or_none, outside}
 use Rattle.he_plan.proofs.Growing.{pause-away}
 use Rattle.he_plan.proofs.Lawful.{is_paused-more, seen_past-more}
 use Rattle.he_plan.proofs.Starting.{IsSeen-seen, SeesOwn, SeesOwn-free}
-use Rattle.he_race.specs.Recording.{floor, slept}
+use Rattle.he_race.specs.Recording.{first_after, slept}
 
 -- nothing of the script is passed over before the tick
 abbrev pub NonePassed : Race → ℕ → ℕ → Type 0
@@ -58,8 +58,8 @@ seen_late race end due now k r same late =
 abbrev pub SeesBy : Race → Race → ℕ → ℕ → Type 0
 SeesBy script race now k = (seen race k ≡ seen script k) ⊎ ((now ≤ seen race k) × (now ≤ seen script k))
 
-pub sees-by : (script race end : Race) → IsRace script → IsRace race → IsRace end → (turn : Option ℕ) (xs : List Attempt) (due at now : ℕ) → end.pauses ≡ (slept race due now).pauses → IsAfterTurn race turn xs → floor turn ≤ due → NonePassed script due at → now ≤ at
-    → (r : Reply) → (r.tick < floor turn → seen race r.tick ≡ seen script r.tick) → (¬ IsTaken turn r → due ≤ r.tick) → SeesBy script end now r.tick
+pub sees-by : (script race end : Race) → IsRace script → IsRace race → IsRace end → (turn : Option ℕ) (xs : List Attempt) (due at now : ℕ) → end.pauses ≡ (slept race due now).pauses → IsAfterTurn race turn xs → first_after turn ≤ due → NonePassed script due at → now ≤ at
+    → (r : Reply) → (r.tick < first_after turn → seen race r.tick ≡ seen script r.tick) → (¬ IsTaken turn r → due ≤ r.tick) → SeesBy script end now r.tick
 sees-by script race end rs rr re turn xs due at now same after above from by r was late = by_turn turn after above was late
   where
     untaken : due ≤ r.tick → SeesBy script end now r.tick
@@ -68,7 +68,7 @@ sees-by script race end rs rr re turn xs due at now same after above from by r w
         let k : at ≤ seen script r.tick = from (seen script r.tick) (let l : r.tick ≤ seen script r.tick = s.holds.0 in omega arith) s.holds.1 in
         inr (seen_late race end due now r.tick re same up, omega arith)
 
-    by_turn : (turn : Option ℕ) → IsAfterTurn race turn xs → floor turn ≤ due → (r.tick < floor turn → seen race r.tick ≡ seen script r.tick) → (¬ IsTaken turn r → due ≤ r.tick) → SeesBy script end now r.tick
+    by_turn : (turn : Option ℕ) → IsAfterTurn race turn xs → first_after turn ≤ due → (r.tick < first_after turn → seen race r.tick ≡ seen script r.tick) → (¬ IsTaken turn r → due ≤ r.tick) → SeesBy script end now r.tick
     by_turn None after above was late = untaken (late (λ h. h))
     by_turn (Some n) after above was late = elim (cases_lt n r.tick) [
       | inl later ↦ untaken (late (λ h. let k : r.tick ≤ n = h in omega arith))

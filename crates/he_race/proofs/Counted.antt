@@ -16,7 +16,7 @@ use Rattle.he_plan.proofs.Bools.{and_left, and_right, le_from, le_test}
 use Rattle.he_plan.proofs.Few.{left_of, untried_fewer}
 use Rattle.he_plan.proofs.InTurn.{in_turn-follow}
 use Rattle.he_race.specs.Answered.{is_taken}
-use Rattle.he_race.specs.Recording.{floor, taken, taken_of}
+use Rattle.he_race.specs.Recording.{first_after, taken, taken_of}
 
 no_longer : (race : Race) (done xs : List Attempt) → Follow race done xs → length xs ≤ left_of race done
 no_longer race done [] f = omega arith
@@ -49,7 +49,7 @@ pub pauses-few : (race : Race) → IsRace race → (turn : Option ℕ) (xs : Lis
 pauses-few race r turn xs made few = omega (arith, few, made-few race r xs made, taken_most turn race.aaaa, taken_most turn race.a)
 
 -- what was taken stays so
-taken_later : (turn : Option ℕ) (now : ℕ) → floor turn ≤ now → (reply : Option Reply) → taken_of turn reply ≤ taken_of (Some now) reply
+taken_later : (turn : Option ℕ) (now : ℕ) → first_after turn ≤ now → (reply : Option Reply) → taken_of turn reply ≤ taken_of (Some now) reply
 taken_later turn now up None = omega arith
 taken_later None now up (Some r) = omega arith
 taken_later (Some n) now up (Some r) = by_test (nat_le r.tick n) refl
@@ -58,7 +58,7 @@ taken_later (Some n) now up (Some r) = by_test (nat_le r.tick n) refl
     by_test false e = omega arith
     by_test true e = rw (le_test r.tick now (omega (arith, le_from r.tick n e))) (omega arith)
 
-pub all_taken_later : (turn : Option ℕ) (now : ℕ) → floor turn ≤ now → (race : Race) → taken turn race ≤ taken (Some now) race
+pub all_taken_later : (turn : Option ℕ) (now : ℕ) → first_after turn ≤ now → (race : Race) → taken turn race ≤ taken (Some now) race
 all_taken_later turn now up race = omega (arith, taken_later turn now up race.aaaa, taken_later turn now up race.a)
 
 -- an answer that is due is taken, and was not before
@@ -72,10 +72,10 @@ taken_now turn now due by (Some r) h =
     by_test None true e not = cc
     by_test (Some n) true e not = absurd (not (le_from r.tick n e))
 
-pub due_taken : (turn : Option ℕ) (now due : ℕ) → floor turn ≤ now → due ≤ now → (race : Race) → IsAnswerDue turn race.aaaa due ⊎ IsAnswerDue turn race.a due → taken turn race + 1 ≤ taken (Some now) race
+pub due_taken : (turn : Option ℕ) (now due : ℕ) → first_after turn ≤ now → due ≤ now → (race : Race) → IsAnswerDue turn race.aaaa due ⊎ IsAnswerDue turn race.a due → taken turn race + 1 ≤ taken (Some now) race
 due_taken turn now due up by race (inl six) = omega (arith, taken_now turn now due by race.aaaa six, taken_later turn now up race.a)
 due_taken turn now due up by race (inr four) = omega (arith, taken_now turn now due by race.a four, taken_later turn now up race.aaaa)
 
-pub turn_by : (turn : Option ℕ) (t : ℕ) → floor turn ≤ t → IfSome turn (λ n. n ≤ t)
+pub turn_by : (turn : Option ℕ) (t : ℕ) → first_after turn ≤ t → IfSome turn (λ n. n ≤ t)
 turn_by None t h = tt
 turn_by (Some n) t h = omega arith

@@ -22,15 +22,15 @@ use Rattle.he_race.specs.declared.faults.RaceFault.TheVariants as faults
 use Rattle.he_race.specs.declared.faults.TickFault.TheVariants as clocks
 use Rattle.he_race.specs.declared.live.Live.{Live}
 use Rattle.he_race.specs.declared.live.Raced.{Raced}
-use Rattle.he_race.specs.declared.live.Step.{Step}
+use Rattle.he_race.specs.declared.live.AfterPoll.{AfterPoll}
 use Rattle.he_race.specs.declared.live.Unfinished.{Unfinished}
-use Rattle.he_race.specs.declared.live.Step.TheVariants as steps
+use Rattle.he_race.specs.declared.live.AfterPoll.TheVariants as after_polls
 use Rattle.he_race.specs.declared.race.RaceFuture.{RaceFuture}
 use Rattle.he_race.specs.declared.scripted.ScriptedTrial.{ScriptedTrial}
 use Rattle.he_race.specs.declared.ticker.Ticker.{Ghosts as TickerOf}
 use Rattle.he_race.specs.Following.{Follows, GivesScripts, IsAsScripted, IsConnecting, IsScript, IsUnderWay, SeesAs, is_held}
 use Rattle.he_race.specs.Racing.{AsksFor, GoesOn, LivePolls, PollsFrom, RacePolls}
-use Rattle.he_race.specs.Recording.{floor}
+use Rattle.he_race.specs.Recording.{first_after}
 use Rattle.he_race.specs.Running.{IsScripted, scripted_trial}
 use Rattle.he_race.specs.Turns.{Goes, IsLive, IsNew, PolledAt, PolledFrom, Turned, begun}
 use Rattle.he_race.specs.Wheel.{Asks, Jumps, Wheel, counted, last_tick, moved}
@@ -52,17 +52,17 @@ module _ {C : Type 0} (connector : ConnectorOf C (Unit {0}) ScriptedTrial) where
   abbrev Future : Type 0
   Future = RaceFuture C Wheel (Unit {0}) ScriptedTrial
 
-  abbrev Steps : Type 0
-  Steps = Step C (Unit {0}) ScriptedTrial
+  abbrev AfterPolls : Type 0
+  AfterPolls = AfterPoll C (Unit {0}) ScriptedTrial
 
   -- a poll where the ticker stands is a turn
-  polled_turned : (c c' : C) (live : Live C (Unit {0}) ScriptedTrial) (at : ℕ) (step : Steps) → IsLive connector scripted_trial live → floor live.course.turn ≤ at → PolledAt connector scripted_trial c live at c' step → Turned connector scripted_trial c live (min at (live.course.recorded.settings.limit + 1)) c' step
-  polled_turned c c' live at step kept later h = by_turn live.course.turn later kept.course.rests.after h
+  polled_turned : (c c' : C) (live : Live C (Unit {0}) ScriptedTrial) (at : ℕ) (step : AfterPolls) → IsLive connector scripted_trial live → first_after live.recorder.turn ≤ at → PolledAt connector scripted_trial c live at c' step → Turned connector scripted_trial c live (min at (live.recorder.recorded.settings.limit + 1)) c' step
+  polled_turned c c' live at step kept later h = by_turn live.recorder.turn later kept.recorder.rests.after h
     where
-      by_turn : (turn : Option ℕ) → floor turn ≤ at → IsAfterTurn live.course.recorded turn live.course.planner.attempts.items → PolledFrom connector scripted_trial turn c live (min at (live.course.recorded.settings.limit + 1)) c' step → Turned connector scripted_trial c live (min at (live.course.recorded.settings.limit + 1)) c' step
+      by_turn : (turn : Option ℕ) → first_after turn ≤ at → IsAfterTurn live.recorder.recorded turn live.recorder.underway.attempts → PolledFrom connector scripted_trial turn c live (min at (live.recorder.recorded.settings.limit + 1)) c' step → Turned connector scripted_trial c live (min at (live.recorder.recorded.settings.limit + 1)) c' step
       by_turn None later after h = h
       by_turn (Some turn) later after h =
-          at_false ((c' ≡ c) × (step ≡ steps.Waits live (turn + 1))) (Turned connector scripted_trial c live (min at (live.course.recorded.settings.limit + 1)) c' step) (nat_le (min at (live.course.recorded.settings.limit + 1)) turn) (not_le (min at (live.course.recorded.settings.limit + 1)) turn (omega (arith, after.1))) h
+          at_false ((c' ≡ c) × (step ≡ after_polls.Waits live (turn + 1))) (Turned connector scripted_trial c live (min at (live.recorder.recorded.settings.limit + 1)) c' step) (nat_le (min at (live.recorder.recorded.settings.limit + 1)) turn) (not_le (min at (live.recorder.recorded.settings.limit + 1)) turn (omega (arith, after.1))) h
 
   live_polls : (old new : Future) (live : Live C (Unit {0}) ScriptedTrial) (result : Poll (Result (Raced (Unit {0})) RaceFault)) → old.live ≡ Some live → RacePolls connector scripted_trial wheel_ticker old result new → LivePolls connector scripted_trial wheel_ticker old live result new
   live_polls old new live result is h = subst (λ (x : Option (Live C (Unit {0}) ScriptedTrial)). PollsFrom connector scripted_trial wheel_ticker x old result new) is h
@@ -71,11 +71,11 @@ module _ {C : Type 0} (connector : ConnectorOf C (Unit {0}) ScriptedTrial) where
   pub gives-script : (turns : ℕ) (old new : Future) (given : Result (Raced (Unit {0})) RaceFault) → IsUnderWay connector turns old → RacePolls connector scripted_trial wheel_ticker old (Ready given) new → GivesScripts old.ticker.race given
   gives-script turns old new given u h = by_given given (live_polls old new u.live (Ready given) u.is h)
     where
-      ended : (raced : Raced (Unit {0})) (now : ℕ) → now ≡ old.ticker.at → PolledAt connector scripted_trial old.connector u.live now new.connector (steps.Ended raced) → IsTranscript old.ticker.race raced.transcript
+      ended : (raced : Raced (Unit {0})) (now : ℕ) → now ≡ old.ticker.at → PolledAt connector scripted_trial old.connector u.live now new.connector (after_polls.Ended raced) → IsTranscript old.ticker.race raced.transcript
       ended raced now at polled =
-          elim (polled_turned old.connector new.connector u.live old.ticker.at (steps.Ended raced) u.kept u.follows.later (subst (λ (n : ℕ). PolledAt connector scripted_trial old.connector u.live n new.connector (steps.Ended raced)) at polled)) [
-            | inl late ↦ ended-late connector old.ticker.race u.script old.connector u.scripted u.live old.ticker.at u.follows u.kept (min old.ticker.at (u.live.course.recorded.settings.limit + 1)) new.connector raced refl late
-            | inr swept ↦ ended-polled connector old.ticker.race u.script old.connector u.scripted u.live old.ticker.at u.follows u.kept (min old.ticker.at (u.live.course.recorded.settings.limit + 1)) new.connector raced refl swept
+          elim (polled_turned old.connector new.connector u.live old.ticker.at (after_polls.Ended raced) u.kept u.follows.later (subst (λ (n : ℕ). PolledAt connector scripted_trial old.connector u.live n new.connector (after_polls.Ended raced)) at polled)) [
+            | inl late ↦ ended-late connector old.ticker.race u.script old.connector u.scripted u.live old.ticker.at u.follows u.kept (min old.ticker.at (u.live.recorder.recorded.settings.limit + 1)) new.connector raced refl late
+            | inr swept ↦ ended-polled connector old.ticker.race u.script old.connector u.scripted u.live old.ticker.at u.follows u.kept (min old.ticker.at (u.live.recorder.recorded.settings.limit + 1)) new.connector raced refl swept
           ]
 
       by_given : (given : Result (Raced (Unit {0})) RaceFault) → LivePolls connector scripted_trial wheel_ticker old u.live (Ready given) new → GivesScripts old.ticker.race given
@@ -98,10 +98,10 @@ module _ {C : Type 0} (connector : ConnectorOf C (Unit {0}) ScriptedTrial) where
   goes-further turns old polled left went u h jumps = by_asked (live_polls old polled u.live Pending u.is h)
     where
       limit : ℕ
-      limit = u.live.course.recorded.settings.limit
+      limit = u.live.recorder.recorded.settings.limit
 
-      turned : (now : ℕ) → now ≡ old.ticker.at → (next : Live C (Unit {0}) ScriptedTrial) (tick : ℕ) → PolledAt connector scripted_trial old.connector u.live now polled.connector (steps.Waits next tick) → Goes connector scripted_trial (begun old.connector u.live (min old.ticker.at (limit + 1))) u.live.unfinished.items (min old.ticker.at (limit + 1)) polled.connector next tick
-      turned now at next tick p = polled_turned old.connector polled.connector u.live old.ticker.at (steps.Waits next tick) u.kept u.follows.later (subst (λ (n : ℕ). PolledAt connector scripted_trial old.connector u.live n polled.connector (steps.Waits next tick)) at p)
+      turned : (now : ℕ) → now ≡ old.ticker.at → (next : Live C (Unit {0}) ScriptedTrial) (tick : ℕ) → PolledAt connector scripted_trial old.connector u.live now polled.connector (after_polls.Waits next tick) → Goes connector scripted_trial (begun old.connector u.live (min old.ticker.at (limit + 1))) u.live.unfinished.items (min old.ticker.at (limit + 1)) polled.connector next tick
+      turned now at next tick p = polled_turned old.connector polled.connector u.live old.ticker.at (after_polls.Waits next tick) u.kept u.follows.later (subst (λ (n : ℕ). PolledAt connector scripted_trial old.connector u.live n polled.connector (after_polls.Waits next tick)) at p)
 
       by_asked : GoesOn connector scripted_trial wheel_ticker old u.live polled → IsUnderWay connector (turns + 1) (record polled { ticker = left }) × (left.race ≡ old.ticker.race)
       by_asked g =
@@ -118,24 +118,24 @@ module _ {C : Type 0} (connector : ConnectorOf C (Unit {0}) ScriptedTrial) where
               scripted = subst (IsScripted connector old.ticker.race) (sym on.1) u.scripted;
               follows = on.0;
               asked = refl;
-              turns_by = let above : floor a.next.course.turn ≡ old.ticker.at + 1 = ap floor on.2 in omega (arith, u.turns_by, u.follows.later);
+              turns_by = let above : first_after a.next.recorder.turn ≡ old.ticker.at + 1 = ap first_after on.2 in omega (arith, u.turns_by, u.follows.later);
             }),
             ap (λ (w : Wheel). w.race) stands,
           )
         where
-          early_by : (next : Live C (Unit {0}) ScriptedTrial) → IsLive connector scripted_trial next → next.course.turn ≡ Some old.ticker.at → old.ticker.at < last_tick
+          early_by : (next : Live C (Unit {0}) ScriptedTrial) → IsLive connector scripted_trial next → next.recorder.turn ≡ Some old.ticker.at → old.ticker.at < last_tick
           early_by next kept turn =
-              let after : IsAfterTurn next.course.recorded (Some old.ticker.at) next.course.planner.attempts.items = subst (λ (o : Option ℕ). IsAfterTurn next.course.recorded o next.course.planner.attempts.items) turn kept.course.rests.after in
-              omega (arith, after.1, kept.course.rests.valid.settings.limit_most)
+              let after : IsAfterTurn next.recorder.recorded (Some old.ticker.at) next.recorder.underway.attempts = subst (λ (o : Option ℕ). IsAfterTurn next.recorder.recorded o next.recorder.underway.attempts) turn kept.recorder.rests.after in
+              omega (arith, after.1, kept.recorder.rests.valid.settings.limit_most)
 
   -- a race that goes on has taken no more turns than there are ticks up to its limit
   pub few-turns : (turns : ℕ) (race : Future) → IsUnderWay connector turns race → turns ≤ race.ticker.race.settings.limit
   few-turns turns race u =
-      let same : u.live.course.recorded.settings.limit ≡ race.ticker.race.settings.limit = same_limit race.ticker.race u.live.course.recorded u.follows.alike in
-      let by : floor u.live.course.turn ≤ u.live.course.recorded.settings.limit = by_turn u.live.course.turn u.kept.course.rests.after in
+      let same : u.live.recorder.recorded.settings.limit ≡ race.ticker.race.settings.limit = same_limit race.ticker.race u.live.recorder.recorded u.follows.alike in
+      let by : first_after u.live.recorder.turn ≤ u.live.recorder.recorded.settings.limit = by_turn u.live.recorder.turn u.kept.recorder.rests.after in
       omega (arith, u.turns_by)
     where
-      by_turn : (turn : Option ℕ) → IsAfterTurn u.live.course.recorded turn u.live.course.planner.attempts.items → floor turn ≤ u.live.course.recorded.settings.limit
+      by_turn : (turn : Option ℕ) → IsAfterTurn u.live.recorder.recorded turn u.live.recorder.underway.attempts → first_after turn ≤ u.live.recorder.recorded.settings.limit
       by_turn None after = omega arith
       by_turn (Some n) after = omega (arith, after.1)
 
@@ -159,10 +159,10 @@ starts-under_way {C} connector script ss future scripted ticker (Some live) is k
     s : IsSeen script 0 (seen script 0)
     s = IsSeen-seen script ss.valid 0
 
-    none_yet : floor live.course.turn ≡ 0
-    none_yet = ap floor new.turn
+    none_yet : first_after live.recorder.turn ≡ 0
+    none_yet = ap first_after new.turn
 
-    none_taken : (o : Option Reply) → SeesAs script live.course.recorded (floor live.course.turn) o
+    none_taken : (o : Option Reply) → SeesAs script live.recorder.recorded (first_after live.recorder.turn) o
     none_taken None = tt
     none_taken (Some r) = λ early. absurd (let none : ⊥ = omega (arith, none_yet, early) in none)
 
@@ -171,11 +171,11 @@ starts-under_way {C} connector script ss future scripted ticker (Some live) is k
       alike = subst (AreAlike script) (sym new.recorded) refl;
       free = λ t clear. ap (λ (z : Race). is_paused z.pauses t) new.recorded;
       in_turn = subst (AreNextInTurn script) (sym new.attempts) (in_turn-none script);
-      told = subst (λ (z : Race). All (IsAsScripted script live.course.planner.attempts.items) z.outcomes) (sym new.recorded) (All-nil (IsAsScripted script live.course.planner.attempts.items));
-      held = subst (λ (xs : List Attempt). list_all (is_held live.unfinished.items live.course.recorded) xs ≡ true) (sym new.attempts) refl;
+      told = subst (λ (z : Race). All (IsAsScripted script live.recorder.underway.attempts) z.outcomes) (sym new.recorded) (All-nil (IsAsScripted script live.recorder.underway.attempts));
+      held = subst (λ (xs : List Attempt). list_all (is_held live.unfinished.items live.recorder.recorded) xs ≡ true) (sym new.attempts) refl;
       aaaa = none_taken script.aaaa;
       a = none_taken script.a;
-      connecting = subst (λ (os : List (Unfinished C (Unit {0}) ScriptedTrial)). All (IsConnecting script live.course.planner.attempts.items (seen script 0)) os) (sym new.unfinished) (All-nil (IsConnecting script live.course.planner.attempts.items (seen script 0)));
+      connecting = subst (λ (os : List (Unfinished C (Unit {0}) ScriptedTrial)). All (IsConnecting script live.recorder.underway.attempts (seen script 0)) os) (sym new.unfinished) (All-nil (IsConnecting script live.recorder.underway.attempts (seen script 0)));
       later = omega (arith, none_yet);
       awake = s.holds.1;
       due = λ t late clear. s.least t (omega arith, clear);

@@ -15,7 +15,7 @@ use Rattle.he_plan.proofs.Growing.{pauses-over}
 use Rattle.he_plan.proofs.Planned.{last_of-some}
 use Rattle.he_plan.proofs.Starting.{SeesOwn, SeesOwn-free, any_filter}
 use Rattle.he_race.specs.Answered.{earliest, is_taken, untaken_tick}
-use Rattle.he_race.specs.Recording.{floor}
+use Rattle.he_race.specs.Recording.{first_after}
 
 taken_by : (turn : Option ℕ) (t : ℕ) (reply : Reply) → IfSome turn (λ n. n ≤ t) → IsTaken turn reply → reply.tick ≤ t
 taken_by None t reply by h = absurd h
@@ -194,7 +194,7 @@ module _ (race : Race) (r : IsRace race) (turn : Option ℕ) where
   earliest_other due d (Some tick) e = let same : tick ≡ d = cc in omega arith
 
   -- a delay that is over was not over by the last turn
-  not_passed : (turn : Option ℕ) (done : List Attempt) (d : ℕ) → IsAfterTurn race turn done → IsDelayDue race turn done d ⊎ IsStartDue race turn done d → floor turn ≤ d
+  not_passed : (turn : Option ℕ) (done : List Attempt) (d : ℕ) → IsAfterTurn race turn done → IsDelayDue race turn done d ⊎ IsStartDue race turn done d → first_after turn ≤ d
   not_passed None done d after due = omega arith
   not_passed (Some n) done d after due = elim (cases_lt n d) [
     | inl later ↦ omega arith
@@ -212,11 +212,11 @@ module _ (race : Race) (r : IsRace race) (turn : Option ℕ) where
   least_next limit d next e =
       omega (arith, earliest_other limit d next e, earliest_first (earliest limit next) (untaken_tick turn race.aaaa), earliest_first (earliest (earliest limit next) (untaken_tick turn race.aaaa)) (untaken_tick turn race.a))
 
-  turn_by : (turn : Option ℕ) (t : ℕ) → floor turn ≤ t → IfSome turn (λ n. n ≤ t)
+  turn_by : (turn : Option ℕ) (t : ℕ) → first_after turn ≤ t → IfSome turn (λ n. n ≤ t)
   turn_by None t h = tt
   turn_by (Some n) t h = omega arith
 
-  pub due_tick-is : (done : List Attempt) (next : Option ℕ) → IsAfterTurn race turn done → last_end race.pauses ≤ floor turn → IfSome next (IsLeast (MayStart race done)) → IfNone next ((t : ℕ) → ¬ MayStart race done t)
+  pub due_tick-is : (done : List Attempt) (next : Option ℕ) → IsAfterTurn race turn done → last_end race.pauses ≤ first_after turn → IfSome next (IsLeast (MayStart race done)) → IfNone next ((t : ℕ) → ¬ MayStart race done t)
       → IsDueTick race turn done (Least race.settings.limit next)
   due_tick-is done next after over some none = record {
     holds = subst (IsDue race turn done) (omega (arith, bound.2, least bound.0 bound.1)) bound.1;
@@ -226,7 +226,7 @@ module _ (race : Race) (r : IsRace race) (turn : Option ℕ) where
       delay_least : (d : ℕ) → IsDelayDue race turn done d ⊎ IsStartDue race turn done d → Least race.settings.limit next ≤ d
       delay_least d due = elim (cases_lt d race.settings.limit) [
         | inl early ↦
-            let up : floor turn ≤ d = not_passed turn done d after due in
+            let up : first_after turn ≤ d = not_passed turn done d after due in
             let m : MayStart race done d = due_starts race r turn done d d due (turn_by turn d up) (omega arith) (pauses-over race r d (omega (arith, over))) early in
             by_next next some none m refl
         | inr late ↦ omega (arith, least_limit race.settings.limit next)

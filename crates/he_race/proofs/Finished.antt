@@ -24,7 +24,7 @@ use Rattle.he_race.specs.declared.live.Unfinished.{Unfinished}
 use Rattle.he_race.specs.declared.scripted.ScriptedTrial.{ScriptedTrial}
 use Rattle.he_race.specs.Answered.{is_tried_out_by}
 use Rattle.he_race.specs.Following.{Follows, IsAsScripted, IsConnecting, IsScript, SeesAs, is_held}
-use Rattle.he_race.specs.Recording.{EndsRace, floor, slept}
+use Rattle.he_race.specs.Recording.{EndsRace, first_after, slept}
 use Rattle.he_race.specs.Running.{IsScripted, scripted_trial}
 use Rattle.he_race.specs.Turns.{EndsLate, EndsPolled, IsLive, Sweep, begun, is_over}
 use Rattle.he_race.proofs.Awake.{free-slept, sees-by}
@@ -70,7 +70,7 @@ module _ {C : Type 0} where
 
 module _ {C : Type 0} (connector : ConnectorOf C (Unit {0}) ScriptedTrial) (race : Race) (ss : IsScript race) (c : C) (sc : IsScripted connector race c) (live : Live C (Unit {0}) ScriptedTrial) (at : ℕ) (f : Follows race live at) (kept : IsLive connector scripted_trial live) where
   abbrev made : List Attempt
-  made = live.course.planner.attempts.items
+  made = live.recorder.underway.attempts
 
   abbrev IsLeft : ℕ → Held C → Type 0
   IsLeft tick o = Contains made o.attempt × EndsAfter race tick o.attempt
@@ -102,89 +102,89 @@ module _ {C : Type 0} (connector : ConnectorOf C (Unit {0}) ScriptedTrial) (race
   all_none P (o ∷ os) h = let none : length (o ∷ os) ≡ 0 = (Decides-eqb (length (o ∷ os)) 0).0 h in absurd (let no_length : ⊥ = omega arith in no_length)
 
   -- a turn at the tick ends the race
-  module _ (to : Sweep C (Unit {0}) ScriptedTrial) (w : Sweeps connector race ss.valid c made at f.awake (slept live.course.recorded live.course.due at).pauses to []) (won : Bool) (over : is_over to.course at to.pending won ≡ true) (e : EndsRace to.course.recorded at made won) where
-    free_to : (t : ℕ) → IsFree race t → IsFree to.course.recorded t
-    free_to = free-end connector race ss c sc live at f kept to.course.recorded e.valid w.alike w.pauses
+  module _ (to : Sweep C (Unit {0}) ScriptedTrial) (w : Sweeps connector race ss.valid c made at f.awake (slept live.recorder.recorded live.recorder.due at).pauses to []) (won : Bool) (over : is_over to.recorder at to.pending won ≡ true) (e : EndsRace to.recorder.recorded at made won) where
+    free_to : (t : ℕ) → IsFree race t → IsFree to.recorder.recorded t
+    free_to = free-end connector race ss c sc live at f kept to.recorder.recorded e.valid w.alike w.pauses
 
-    limit_to : to.course.recorded.settings.limit ≡ race.settings.limit
-    limit_to = same_limit race to.course.recorded w.alike
+    limit_to : to.recorder.recorded.settings.limit ≡ race.settings.limit
+    limit_to = same_limit race to.recorder.recorded w.alike
 
-    held_to : list_all (is_held to.pending to.course.recorded) made ≡ true
-    held_to = subst (λ (os : List (Held C)). list_all (is_held os to.course.recorded) made ≡ true) (append-nil to.pending) w.held
+    held_to : list_all (is_held to.pending to.recorder.recorded) made ≡ true
+    held_to = subst (λ (os : List (Held C)). list_all (is_held os to.recorder.recorded) made ≡ true) (append-nil to.pending) w.held
 
     left_to : All (IsLeft at) to.pending
     left_to = All-weaker (IsPending connector race ss.valid c made at f.awake) (IsLeft at) pending_left to.pending w.pending
 
     abbrev six : Bool
-    six = is_tried_out_by at to.course.planner.attempts.items to.course.recorded.aaaa
+    six = is_tried_out_by at to.recorder.underway.attempts to.recorder.recorded.aaaa
 
     abbrev four : Bool
-    four = is_tried_out_by at to.course.planner.attempts.items to.course.recorded.a
+    four = is_tried_out_by at to.recorder.underway.attempts to.recorder.recorded.a
 
     -- a race that isn't won is at its limit or exhausted
-    lost_by : won ≡ false → (nat_le to.course.recorded.settings.limit at || ((length to.pending == 0) && (six && four))) ≡ true
-    lost_by lost = subst (λ (b : Bool). is_over to.course at to.pending b ≡ true) lost over
+    lost_by : won ≡ false → (nat_le to.recorder.recorded.settings.limit at || ((length to.pending == 0) && (six && four))) ≡ true
+    lost_by lost = subst (λ (b : Bool). is_over to.recorder at to.pending b ≡ true) lost over
 
-    late_to : (b : Bool) → won ≡ b → (x : Attempt) → Contains made x → outcome_of to.course.recorded x.ip ≡ None → EndsAfter race (if b then at else race.settings.limit) x
-    late_to true is x at_x none = held-all race to.course.recorded made f.in_turn (EndsAfter race at) to.pending left_to held_to x at_x none
-    late_to false is x at_x none = elim (or_one (nat_le to.course.recorded.settings.limit at) ((length to.pending == 0) && (six && four)) (lost_by is)) [
+    late_to : (b : Bool) → won ≡ b → (x : Attempt) → Contains made x → outcome_of to.recorder.recorded x.ip ≡ None → EndsAfter race (if b then at else race.settings.limit) x
+    late_to true is x at_x none = held-all race to.recorder.recorded made f.in_turn (EndsAfter race at) to.pending left_to held_to x at_x none
+    late_to false is x at_x none = elim (or_one (nat_le to.recorder.recorded.settings.limit at) ((length to.pending == 0) && (six && four)) (lost_by is)) [
       | inl limit ↦
-          let by : to.course.recorded.settings.limit ≤ at = le_from to.course.recorded.settings.limit at limit in
-          ends_after at race.settings.limit x (omega (arith, limit_to)) (held-all race to.course.recorded made f.in_turn (EndsAfter race at) to.pending left_to held_to x at_x none)
+          let by : to.recorder.recorded.settings.limit ≤ at = le_from to.recorder.recorded.settings.limit at limit in
+          ends_after at race.settings.limit x (omega (arith, limit_to)) (held-all race to.recorder.recorded made f.in_turn (EndsAfter race at) to.pending left_to held_to x at_x none)
       | inr out ↦
-          held-all race to.course.recorded made f.in_turn (EndsAfter race race.settings.limit) to.pending (all_none (IsLeft race.settings.limit) to.pending (and_left (length to.pending == 0) (six && four) out)) held_to x at_x none
+          held-all race to.recorder.recorded made f.in_turn (EndsAfter race race.settings.limit) to.pending (all_none (IsLeft race.settings.limit) to.pending (and_left (length to.pending == 0) (six && four) out)) held_to x at_x none
     ]
 
     -- where the race isn't won its answers were seen as in the script, or come after the limit
-    sees_limit : race.settings.limit ≤ at → (o : Option Reply) → SeesAs race to.course.recorded (at + 1) o → IfSome o (λ r. SeesAlike race to.course.recorded r.tick)
+    sees_limit : race.settings.limit ≤ at → (o : Option Reply) → SeesAs race to.recorder.recorded (at + 1) o → IfSome o (λ r. SeesAlike race to.recorder.recorded r.tick)
     sees_limit by None h = tt
     sees_limit by (Some r) h = elim (cases_lt at r.tick) [
       | inl later ↦
-          let one : r.tick ≤ seen to.course.recorded r.tick = seen_from to.course.recorded e.valid r.tick in
+          let one : r.tick ≤ seen to.recorder.recorded r.tick = seen_from to.recorder.recorded e.valid r.tick in
           let two : r.tick ≤ seen race r.tick = seen_from race ss.valid r.tick in
           inr (omega arith, omega arith)
       | inr came ↦ inl (h (omega arith))
     ]
 
-    sees_out : (o : Option Reply) → is_tried_out_by at to.course.planner.attempts.items o ≡ true → SeesAs race to.course.recorded (at + 1) o → IfSome o (λ r. SeesAlike race to.course.recorded r.tick)
+    sees_out : (o : Option Reply) → is_tried_out_by at to.recorder.underway.attempts o ≡ true → SeesAs race to.recorder.recorded (at + 1) o → IfSome o (λ r. SeesAlike race to.recorder.recorded r.tick)
     sees_out None out h = tt
     sees_out (Some r) out h = let by : r.tick ≤ at = le_from r.tick at (and_left (nat_le r.tick at) _ out) in inl (h (omega arith))
 
-    sees_to : won ≡ false → IfSome race.aaaa (λ r. SeesAlike race to.course.recorded r.tick) × IfSome race.a (λ r. SeesAlike race to.course.recorded r.tick)
+    sees_to : won ≡ false → IfSome race.aaaa (λ r. SeesAlike race to.recorder.recorded r.tick) × IfSome race.a (λ r. SeesAlike race to.recorder.recorded r.tick)
     sees_to lost =
-        let one : SeesAs race to.course.recorded (at + 1) race.aaaa = sees-end connector race ss c sc live at f kept to.course.recorded e.valid w.alike w.pauses race.aaaa f.aaaa (due-six connector race ss c sc live at f kept) in
-        let two : SeesAs race to.course.recorded (at + 1) race.a = sees-end connector race ss c sc live at f kept to.course.recorded e.valid w.alike w.pauses race.a f.a (due-four connector race ss c sc live at f kept) in
-        elim (or_one (nat_le to.course.recorded.settings.limit at) ((length to.pending == 0) && (six && four)) (lost_by lost)) [
+        let one : SeesAs race to.recorder.recorded (at + 1) race.aaaa = sees-end connector race ss c sc live at f kept to.recorder.recorded e.valid w.alike w.pauses race.aaaa f.aaaa (due-six connector race ss c sc live at f kept) in
+        let two : SeesAs race to.recorder.recorded (at + 1) race.a = sees-end connector race ss c sc live at f kept to.recorder.recorded e.valid w.alike w.pauses race.a f.a (due-four connector race ss c sc live at f kept) in
+        elim (or_one (nat_le to.recorder.recorded.settings.limit at) ((length to.pending == 0) && (six && four)) (lost_by lost)) [
           | inl limit ↦
-              let by : to.course.recorded.settings.limit ≤ at = le_from to.course.recorded.settings.limit at limit in
+              let by : to.recorder.recorded.settings.limit ≤ at = le_from to.recorder.recorded.settings.limit at limit in
               (sees_limit (omega (arith, limit_to)) race.aaaa one, sees_limit (omega (arith, limit_to)) race.a two)
           | inr out ↦
               let both : (six && four) ≡ true = and_right (length to.pending == 0) (six && four) out in
-              let tried : Option Reply → Bool = is_tried_out_by at to.course.planner.attempts.items in (
-                sees_out race.aaaa (subst (λ (o : Option Reply). is_tried_out_by at to.course.planner.attempts.items o ≡ true) (ap (λ (z : Race). z.aaaa) w.alike) (and_left six four both)) one,
-                sees_out race.a (subst (λ (o : Option Reply). is_tried_out_by at to.course.planner.attempts.items o ≡ true) (ap (λ (z : Race). z.a) w.alike) (and_right six four both)) two,
+              let tried : Option Reply → Bool = is_tried_out_by at to.recorder.underway.attempts in (
+                sees_out race.aaaa (subst (λ (o : Option Reply). is_tried_out_by at to.recorder.underway.attempts o ≡ true) (ap (λ (z : Race). z.aaaa) w.alike) (and_left six four both)) one,
+                sees_out race.a (subst (λ (o : Option Reply). is_tried_out_by at to.recorder.underway.attempts o ≡ true) (ap (λ (z : Race). z.a) w.alike) (and_right six four both)) two,
               )
         ]
 
-    pub transcript-polled : (report : Report) → IsTranscript to.course.recorded report → IsTranscript race report
+    pub transcript-polled : (report : Report) → IsTranscript to.recorder.recorded report → IsTranscript race report
     transcript-polled report t =
-        replays-script race to.course.recorded ss w.alike free_to made f.in_turn at won e report (record { told = w.told; late = late_to won refl; aaaa = λ lost. (sees_to lost).0; a = λ lost. (sees_to lost).1 }) t
+        replays-script race to.recorder.recorded ss w.alike free_to made f.in_turn at won e report (record { told = w.told; late = late_to won refl; aaaa = λ lost. (sees_to lost).0; a = λ lost. (sees_to lost).1 }) t
 
-  pub ended-polled : (now : ℕ) (c' : C) (raced : Raced (Unit {0})) → now ≡ min at (live.course.recorded.settings.limit + 1) → EndsPolled connector scripted_trial (begun c live now) live.unfinished.items now c' raced → IsTranscript race raced.transcript
+  pub ended-polled : (now : ℕ) (c' : C) (raced : Raced (Unit {0})) → now ≡ min at (live.recorder.recorded.settings.limit + 1) → EndsPolled connector scripted_trial (begun c live now) live.unfinished.items now c' raced → IsTranscript race raced.transcript
   ended-polled now c' raced is h =
       let g : EndsPolled connector scripted_trial (begun c live at) live.unfinished.items at c' raced = subst (λ (n : ℕ). EndsPolled connector scripted_trial (begun c live n) live.unfinished.items n c' raced) here h in
-      let w : Sweeps connector race ss.valid c made at f.awake (slept live.course.recorded live.course.due at).pauses g.swept [] = polled-at connector race ss c sc live at f kept g.swept g.polled in
-      let e : EndsRace g.swept.course.recorded at made (is_some g.swept.first) = subst (λ (xs : List Attempt). EndsRace g.swept.course.recorded at xs (is_some g.swept.first)) w.attempts g.ended in
+      let w : Sweeps connector race ss.valid c made at f.awake (slept live.recorder.recorded live.recorder.due at).pauses g.swept [] = polled-at connector race ss c sc live at f kept g.swept g.polled in
+      let e : EndsRace g.swept.recorder.recorded at made (is_some g.swept.first) = subst (λ (xs : List Attempt). EndsRace g.swept.recorder.recorded at xs (is_some g.swept.first)) w.attempts g.ended in
       transcript-polled g.swept w (is_some g.swept.first) g.over e raced.transcript (subst (λ (z : Race). IsTranscript z raced.transcript) g.recorded g.replays.transcript)
     where
       here : now ≡ at
       here =
-          let one : raced.recorded.settings.limit ≡ (begun c live now).course.recorded.settings.limit = same_limit (begun c live now).course.recorded raced.recorded h.replays.alike in
-          let two : (begun c live now).course.recorded.settings.limit ≡ live.course.recorded.settings.limit = same_limit live.course.recorded (slept live.course.recorded live.course.due now) (slept-alike live.course.recorded live.course.due now) in
-          let three : raced.recorded.settings.limit ≡ h.swept.course.recorded.settings.limit = ap (λ (z : Race). z.settings.limit) h.recorded in
+          let one : raced.recorded.settings.limit ≡ (begun c live now).recorder.recorded.settings.limit = same_limit (begun c live now).recorder.recorded raced.recorded h.replays.alike in
+          let two : (begun c live now).recorder.recorded.settings.limit ≡ live.recorder.recorded.settings.limit = same_limit live.recorder.recorded (slept live.recorder.recorded live.recorder.due now) (slept-alike live.recorder.recorded live.recorder.due now) in
+          let three : raced.recorded.settings.limit ≡ h.swept.recorder.recorded.settings.limit = ap (λ (z : Race). z.settings.limit) h.recorded in
           omega (arith, h.ended.early)
 
-  pub ended-late : (now : ℕ) (c' : C) (raced : Raced (Unit {0})) → now ≡ min at (live.course.recorded.settings.limit + 1) → EndsLate connector scripted_trial (begun c live now) now c' raced → IsTranscript race raced.transcript
+  pub ended-late : (now : ℕ) (c' : C) (raced : Raced (Unit {0})) → now ≡ min at (live.recorder.recorded.settings.limit + 1) → EndsLate connector scripted_trial (begun c live now) now c' raced → IsTranscript race raced.transcript
   ended-late now c' raced is g =
       replays-script race end ss alike free made f.in_turn end.settings.limit false g.ended raced.transcript
       (record {
@@ -196,13 +196,13 @@ module _ {C : Type 0} (connector : ConnectorOf C (Unit {0}) ScriptedTrial) (race
       (subst (λ (z : Race). IsTranscript z raced.transcript) g.recorded g.replays.transcript)
     where
       end : Race
-      end = slept live.course.recorded live.course.due now
+      end = slept live.recorder.recorded live.recorder.due now
 
-      same : end.outcomes ≡ live.course.recorded.outcomes
-      same = slept_outcomes live.course.recorded live.course.due now
+      same : end.outcomes ≡ live.recorder.recorded.outcomes
+      same = slept_outcomes live.recorder.recorded live.recorder.due now
 
       alike : AreAlike race end
-      alike = alike-later race live.course.recorded end f.alike (slept-alike live.course.recorded live.course.due now)
+      alike = alike-later race live.recorder.recorded end f.alike (slept-alike live.recorder.recorded live.recorder.due now)
 
       limit : race.settings.limit < now
       limit = omega (arith, g.late, same_limit race end alike)
@@ -214,15 +214,15 @@ module _ {C : Type 0} (connector : ConnectorOf C (Unit {0}) ScriptedTrial) (race
       early = omega (arith, limit, by)
 
       free : (t : ℕ) → IsFree race t → IsFree end t
-      free = free-slept race live.course.recorded live.course.due at now f.free f.due by
+      free = free-slept race live.recorder.recorded live.recorder.due at now f.free f.due by
 
       held : list_all (is_held live.unfinished.items end) made ≡ true
       held = subst (λ (told : List (Ip × Outcome)). list_all (λ (x : Attempt). list_any (λ (o : Held C). same_ip o.attempt.ip x.ip) live.unfinished.items || has_outcome x.ip told) made ≡ true) (sym same) f.held
 
-      sees : (o : Option Reply) → SeesAs race live.course.recorded (floor live.course.turn) o → ((d : ℕ) → IsAnswerDue live.course.turn o d → live.course.due ≤ d) → IfSome o (λ r. SeesAlike race end r.tick)
+      sees : (o : Option Reply) → SeesAs race live.recorder.recorded (first_after live.recorder.turn) o → ((d : ℕ) → IsAnswerDue live.recorder.turn o d → live.recorder.due ≤ d) → IfSome o (λ r. SeesAlike race end r.tick)
       sees None was due = tt
       sees (Some r) was due =
-          elim (sees-by race live.course.recorded end ss.valid kept.course.rests.valid g.ended.valid live.course.turn made live.course.due at now refl kept.course.rests.after (above-turn connector race ss c sc live at f kept) f.due by r was (λ untaken. due r.tick (untaken, refl))) [
+          elim (sees-by race live.recorder.recorded end ss.valid kept.recorder.rests.valid g.ended.valid live.recorder.turn made live.recorder.due at now refl kept.recorder.rests.after (above-turn connector race ss c sc live at f kept) f.due by r was (λ untaken. due r.tick (untaken, refl))) [
             | inl equal ↦ inl equal
             | inr late ↦ inr (omega (arith, late.0, limit), omega (arith, late.1, limit))
           ]

@@ -34,7 +34,7 @@ use Rattle.he_race.specs.declared.trial.Trial.{Ghosts as TrialOf}
 use Rattle.he_race.specs.Answered.{earliest}
 use Rattle.he_race.specs.Attempt.{due_of}
 use Rattle.he_race.specs.Following.{EndsFrom, Follows, IsAsScripted, IsConnecting, IsScript, SeesAs, is_held}
-use Rattle.he_race.specs.Recording.{floor, slept}
+use Rattle.he_race.specs.Recording.{first_after, slept}
 use Rattle.he_race.specs.Running.{IsScripted, scripted_trial}
 use Rattle.he_race.specs.Scripted.{script, script_of, tick_of}
 use Rattle.he_race.specs.Turns.{ArePolled, BeginsNext, Goes, IsLive, StaysAs, Sweep, asked_tick, begun, unpolled}
@@ -106,15 +106,15 @@ module _ {C : Type 0} (connector : ConnectorOf C (Unit {0}) ScriptedTrial) (race
   Held = Unfinished C (Unit {0}) ScriptedTrial
 
   abbrev made : List Attempt
-  made = live.course.planner.attempts.items
+  made = live.recorder.underway.attempts
 
   abbrev paused : List (ℕ × ℕ)
-  paused = (slept live.course.recorded live.course.due at).pauses
+  paused = (slept live.recorder.recorded live.recorder.due at).pauses
 
   abbrev Polled : Sweep C (Unit {0}) ScriptedTrial → List Held → Type 0
   Polled to os = Sweeps connector race ss.valid c made at f.awake paused to os
 
-  begun_at : (z : Race) → z.outcomes ≡ live.course.recorded.outcomes → AreAlike race z → Sweeps connector race ss.valid c made at f.awake z.pauses (unpolled c (record live.course { recorded = z })) live.unfinished.items
+  begun_at : (z : Race) → z.outcomes ≡ live.recorder.recorded.outcomes → AreAlike race z → Sweeps connector race ss.valid c made at f.awake z.pauses (unpolled c (record live.recorder { recorded = z })) live.unfinished.items
   begun_at z same alike = record {
     still = refl;
     attempts = refl;
@@ -130,28 +130,28 @@ module _ {C : Type 0} (connector : ConnectorOf C (Unit {0}) ScriptedTrial) (race
   pub polled-at : (to : Sweep C (Unit {0}) ScriptedTrial) → ArePolled connector scripted_trial at (begun c live at) live.unfinished.items to → Polled to []
   polled-at to p =
       swept-all connector race ss.valid c made at f.awake paused (begun c live at) to live.unfinished.items
-      (begun_at (slept live.course.recorded live.course.due at) (slept_outcomes live.course.recorded live.course.due at) (alike-later race live.course.recorded (slept live.course.recorded live.course.due at) f.alike (slept-alike live.course.recorded live.course.due at))) p
+      (begun_at (slept live.recorder.recorded live.recorder.due at) (slept_outcomes live.recorder.recorded live.recorder.due at) (alike-later race live.recorder.recorded (slept live.recorder.recorded live.recorder.due at) f.alike (slept-alike live.recorder.recorded live.recorder.due at))) p
 
-  pub above-turn : floor live.course.turn ≤ live.course.due
-  above-turn = due_later live.course.recorded kept.course.rests.valid live.course.turn made live.course.due kept.course.rests.after kept.course.due.holds
+  pub above-turn : first_after live.recorder.turn ≤ live.recorder.due
+  above-turn = due_later live.recorder.recorded kept.recorder.rests.valid live.recorder.turn made live.recorder.due kept.recorder.rests.after kept.recorder.due.holds
 
   -- an answer that was not taken is due
-  pub due-six : (d : ℕ) → IsAnswerDue live.course.turn race.aaaa d → live.course.due ≤ d
-  due-six d h = kept.course.due.least d (inl (subst (λ (o : Option Reply). IsAnswerDue live.course.turn o d) (sym (ap (λ (z : Race). z.aaaa) f.alike)) h))
+  pub due-six : (d : ℕ) → IsAnswerDue live.recorder.turn race.aaaa d → live.recorder.due ≤ d
+  due-six d h = kept.recorder.due.least d (inl (subst (λ (o : Option Reply). IsAnswerDue live.recorder.turn o d) (sym (ap (λ (z : Race). z.aaaa) f.alike)) h))
 
-  pub due-four : (d : ℕ) → IsAnswerDue live.course.turn race.a d → live.course.due ≤ d
-  due-four d h = kept.course.due.least d (inr (inl (subst (λ (o : Option Reply). IsAnswerDue live.course.turn o d) (sym (ap (λ (z : Race). z.a) f.alike)) h)))
+  pub due-four : (d : ℕ) → IsAnswerDue live.recorder.turn race.a d → live.recorder.due ≤ d
+  due-four d h = kept.recorder.due.least d (inr (inl (subst (λ (o : Option Reply). IsAnswerDue live.recorder.turn o d) (sym (ap (λ (z : Race). z.a) f.alike)) h)))
 
   module _ (end : Race) (re : IsRace end) (alike : AreAlike race end) (pauses : end.pauses ≡ paused) where
     pub free-end : (t : ℕ) → IsFree race t → IsFree end t
-    free-end t h = ap (λ (ps : List (ℕ × ℕ)). is_paused ps t) pauses ∙ free-slept race live.course.recorded live.course.due at at f.free f.due (omega arith) t h
+    free-end t h = ap (λ (ps : List (ℕ × ℕ)). is_paused ps t) pauses ∙ free-slept race live.recorder.recorded live.recorder.due at at f.free f.due (omega arith) t h
 
     -- what came by the tick was seen as in the script
-    pub sees-end : (o : Option Reply) → SeesAs race live.course.recorded (floor live.course.turn) o → ((d : ℕ) → IsAnswerDue live.course.turn o d → live.course.due ≤ d) → SeesAs race end (at + 1) o
+    pub sees-end : (o : Option Reply) → SeesAs race live.recorder.recorded (first_after live.recorder.turn) o → ((d : ℕ) → IsAnswerDue live.recorder.turn o d → live.recorder.due ≤ d) → SeesAs race end (at + 1) o
     sees-end None was due = tt
     sees-end (Some r) was due = λ by.
         sees-same race end ss.valid re at r.tick f.awake (free-end at f.awake)
-        (sees-by race live.course.recorded end ss.valid kept.course.rests.valid re live.course.turn made live.course.due at at pauses kept.course.rests.after above-turn f.due (omega arith) r was (λ untaken. due r.tick (untaken, refl)))
+        (sees-by race live.recorder.recorded end ss.valid kept.recorder.rests.valid re live.recorder.turn made live.recorder.due at at pauses kept.recorder.rests.after above-turn f.due (omega arith) r was (λ untaken. due r.tick (untaken, refl)))
         (omega arith)
 
   -- the tick to which the ticker goes, once it was asked for this one
@@ -187,20 +187,20 @@ module _ {C : Type 0} (connector : ConnectorOf C (Unit {0}) ScriptedTrial) (race
 
   -- what is kept after a turn, but for what depends on whether an attempt began
   record Kept (new : Live C (Unit {0}) ScriptedTrial) (tick : ℕ) : Type 0 where
-    alike : AreAlike race new.course.recorded
-    free : (t : ℕ) → IsFree race t → IsFree new.course.recorded t
-    turn : new.course.turn ≡ Some at
-    aaaa : SeesAs race new.course.recorded (at + 1) race.aaaa
-    a : SeesAs race new.course.recorded (at + 1) race.a
-    due : (t : ℕ) → new.course.due ≤ t → IsFree race t → next_tick tick ≤ t
+    alike : AreAlike race new.recorder.recorded
+    free : (t : ℕ) → IsFree race t → IsFree new.recorder.recorded t
+    turn : new.recorder.turn ≡ Some at
+    aaaa : SeesAs race new.recorder.recorded (at + 1) race.aaaa
+    a : SeesAs race new.recorder.recorded (at + 1) race.a
+    due : (t : ℕ) → new.recorder.due ≤ t → IsFree race t → next_tick tick ≤ t
 
   -- what the attempts are after it
   record Goes_on (new : Live C (Unit {0}) ScriptedTrial) (tick : ℕ) (c' : C) : Type 0 where
     still : c' ≡ c
-    in_turn : AreNextInTurn race new.course.planner.attempts.items
-    told : All (IsAsScripted race new.course.planner.attempts.items) new.course.recorded.outcomes
-    held : list_all (is_held new.unfinished.items new.course.recorded) new.course.planner.attempts.items ≡ true
-    connecting : All (IsConnecting race new.course.planner.attempts.items (next_tick tick)) new.unfinished.items
+    in_turn : AreNextInTurn race new.recorder.underway.attempts
+    told : All (IsAsScripted race new.recorder.underway.attempts) new.recorder.recorded.outcomes
+    held : list_all (is_held new.unfinished.items new.recorder.recorded) new.recorder.underway.attempts ≡ true
+    connecting : All (IsConnecting race new.recorder.underway.attempts (next_tick tick)) new.unfinished.items
 
   follows : (new : Live C (Unit {0}) ScriptedTrial) (tick : ℕ) (c' : C) → Kept new tick → Goes_on new tick c' → Follows race new (next_tick tick)
   follows new tick c' k g = record {
@@ -209,47 +209,47 @@ module _ {C : Type 0} (connector : ConnectorOf C (Unit {0}) ScriptedTrial) (race
     in_turn = g.in_turn;
     told = g.told;
     held = g.held;
-    aaaa = subst (λ (turn : Option ℕ). SeesAs race new.course.recorded (floor turn) race.aaaa) (sym k.turn) k.aaaa;
-    a = subst (λ (turn : Option ℕ). SeesAs race new.course.recorded (floor turn) race.a) (sym k.turn) k.a;
+    aaaa = subst (λ (turn : Option ℕ). SeesAs race new.recorder.recorded (first_after turn) race.aaaa) (sym k.turn) k.aaaa;
+    a = subst (λ (turn : Option ℕ). SeesAs race new.recorder.recorded (first_after turn) race.a) (sym k.turn) k.a;
     connecting = g.connecting;
-    later = subst (λ (turn : Option ℕ). floor turn ≤ next_tick tick) (sym k.turn) (next_later tick);
+    later = subst (λ (turn : Option ℕ). first_after turn ≤ next_tick tick) (sym k.turn) (next_later tick);
     awake = let s : IsSeen race (max tick (at + 1)) (next_tick tick) = IsSeen-seen race ss.valid (max tick (at + 1)) in s.holds.1;
     due = k.due;
   }
 
-  module _ (to : Sweep C (Unit {0}) ScriptedTrial) (w : Polled to []) (new : Live C (Unit {0}) ScriptedTrial) (recorded : new.course.recorded ≡ to.course.recorded) (live_on : IsLive connector scripted_trial new) (turned : new.course.turn ≡ Some at) (tick : ℕ) (asked : tick ≡ asked_tick connector scripted_trial new.course.due new.unfinished.items) (c' : C) where
-    alike_on : AreAlike race new.course.recorded
+  module _ (to : Sweep C (Unit {0}) ScriptedTrial) (w : Polled to []) (new : Live C (Unit {0}) ScriptedTrial) (recorded : new.recorder.recorded ≡ to.recorder.recorded) (live_on : IsLive connector scripted_trial new) (turned : new.recorder.turn ≡ Some at) (tick : ℕ) (asked : tick ≡ asked_tick connector scripted_trial new.recorder.due new.unfinished.items) (c' : C) where
+    alike_on : AreAlike race new.recorder.recorded
     alike_on = subst (AreAlike race) (sym recorded) w.alike
 
-    pauses_on : new.course.recorded.pauses ≡ paused
+    pauses_on : new.recorder.recorded.pauses ≡ paused
     pauses_on = ap (λ (z : Race). z.pauses) recorded ∙ w.pauses
 
-    is_race : IsRace new.course.recorded
-    is_race = live_on.course.rests.valid
+    is_race : IsRace new.recorder.recorded
+    is_race = live_on.recorder.rests.valid
 
     kept_on : Kept new tick
     kept_on = record {
       alike = alike_on;
-      free = free-end new.course.recorded is_race alike_on pauses_on;
+      free = free-end new.recorder.recorded is_race alike_on pauses_on;
       turn = turned;
-      aaaa = sees-end new.course.recorded is_race alike_on pauses_on race.aaaa f.aaaa due-six;
-      a = sees-end new.course.recorded is_race alike_on pauses_on race.a f.a due-four;
+      aaaa = sees-end new.recorder.recorded is_race alike_on pauses_on race.aaaa f.aaaa due-six;
+      a = sees-end new.recorder.recorded is_race alike_on pauses_on race.a f.a due-four;
       due = λ t late clear. (let s : IsSeen race (max tick (at + 1)) (next_tick tick) = IsSeen-seen race ss.valid (max tick (at + 1)) in s.least t (due_by t late, clear));
     }
       where
-        due_by : (t : ℕ) → new.course.due ≤ t → max tick (at + 1) ≤ t
+        due_by : (t : ℕ) → new.recorder.due ≤ t → max tick (at + 1) ≤ t
         due_by t late =
-            let after : floor new.course.turn ≤ new.course.due = due_later new.course.recorded is_race new.course.turn new.course.planner.attempts.items new.course.due live_on.course.rests.after live_on.course.due.holds in
-            let above : floor new.course.turn ≡ at + 1 = ap floor turned in
-            let by : asked_tick connector scripted_trial new.course.due new.unfinished.items ≤ new.course.due = asked-early connector scripted_trial new.course.due new.unfinished.items in
+            let after : first_after new.recorder.turn ≤ new.recorder.due = due_later new.recorder.recorded is_race new.recorder.turn new.recorder.underway.attempts new.recorder.due live_on.recorder.rests.after live_on.recorder.due.holds in
+            let above : first_after new.recorder.turn ≡ at + 1 = ap first_after turned in
+            let by : asked_tick connector scripted_trial new.recorder.due new.unfinished.items ≤ new.recorder.due = asked-early connector scripted_trial new.recorder.due new.unfinished.items in
             omega arith
 
-    none_began : StaysAs connector scripted_trial to.connector to.course.planner.attempts.items new.course.planner.attempts.items to.pending c' new.unfinished.items → Goes_on new tick c'
+    none_began : StaysAs connector scripted_trial to.connector to.recorder.underway.attempts new.recorder.underway.attempts to.pending c' new.unfinished.items → Goes_on new tick c'
     none_began s =
-        let same : new.course.planner.attempts.items ≡ made = s.none ∙ w.attempts in
-        let held : list_all (is_held to.pending to.course.recorded) made ≡ true = subst (λ (os : List Held). list_all (is_held os to.course.recorded) made ≡ true) (append-nil to.pending) w.held in
-        let up : tick ≤ asked_tick connector scripted_trial new.course.due to.pending = omega (arith, asked, ap (asked_tick connector scripted_trial new.course.due) s.same) in
-        let connecting : All (IsConnecting race made (next_tick tick)) to.pending = still_connecting made (λ y h. h) tick new.course.due to.pending up w.pending in
+        let same : new.recorder.underway.attempts ≡ made = s.none ∙ w.attempts in
+        let held : list_all (is_held to.pending to.recorder.recorded) made ≡ true = subst (λ (os : List Held). list_all (is_held os to.recorder.recorded) made ≡ true) (append-nil to.pending) w.held in
+        let up : tick ≤ asked_tick connector scripted_trial new.recorder.due to.pending = omega (arith, asked, ap (asked_tick connector scripted_trial new.recorder.due) s.same) in
+        let connecting : All (IsConnecting race made (next_tick tick)) to.pending = still_connecting made (λ y h. h) tick new.recorder.due to.pending up w.pending in
         record {
           still = s.still ∙ w.still;
           in_turn = subst (AreNextInTurn race) (sym same) f.in_turn;
@@ -276,7 +276,7 @@ module _ {C : Type 0} (connector : ConnectorOf C (Unit {0}) ScriptedTrial) (race
         ]
 
     -- the attempt that begins connects as the script says
-    began_future : (n : BeginsNext connector scripted_trial to.connector at to.course.planner.attempts.items new.course.planner.attempts.items to.pending c' new.unfinished.items) → (c' ≡ c) × (n.o.future ≡ Connecting (Ok (script_of race n.x.ip n.x.tick)) (n.x.tick + 1) true)
+    began_future : (n : BeginsNext connector scripted_trial to.connector at to.recorder.underway.attempts new.recorder.underway.attempts to.pending c' new.unfinished.items) → (c' ≡ c) × (n.o.future ≡ Connecting (Ok (script_of race n.x.ip n.x.tick)) (n.x.tick + 1) true)
     began_future n =
         let b = at_false _ _ (nat_lt n.x.tick n.x.tick) (not_lt n.x.tick n.x.tick (omega arith)) n.begins.polls.1 in
         let own : IsScripted connector race to.connector = subst (IsScripted connector race) (sym w.still) sc in
@@ -293,46 +293,46 @@ module _ {C : Type 0} (connector : ConnectorOf C (Unit {0}) ScriptedTrial) (race
         by_outcome None lasts = tt
         by_outcome (Some out) lasts = seen_rises race ss.valid (max tick (at + 1)) (x.tick + duration_of out) (omega (arith, lasts.0))
 
-    one_began : BeginsNext connector scripted_trial to.connector at to.course.planner.attempts.items new.course.planner.attempts.items to.pending c' new.unfinished.items → Goes_on new tick c'
+    one_began : BeginsNext connector scripted_trial to.connector at to.recorder.underway.attempts new.recorder.underway.attempts to.pending c' new.unfinished.items → Goes_on new tick c'
     one_began n =
-        let same : new.course.planner.attempts.items ≡ made ++ n.x ∷ [] = n.more ∙ ap (λ (xs : List Attempt). xs ++ n.x ∷ []) w.attempts in
-        let held : list_all (is_held to.pending to.course.recorded) made ≡ true = subst (λ (os : List Held). list_all (is_held os to.course.recorded) made ≡ true) (append-nil to.pending) w.held in
-        let next : IsNext new.course.recorded made n.x = is_next in
+        let same : new.recorder.underway.attempts ≡ made ++ n.x ∷ [] = n.more ∙ ap (λ (xs : List Attempt). xs ++ n.x ∷ []) w.attempts in
+        let held : list_all (is_held to.pending to.recorder.recorded) made ≡ true = subst (λ (os : List Held). list_all (is_held os to.recorder.recorded) made ≡ true) (append-nil to.pending) w.held in
+        let next : IsNext new.recorder.recorded made n.x = is_next in
         let clear : IsFree race n.x.tick = subst (IsFree race) (sym n.at) f.awake in
-        let begins : IsNext race made n.x = next_script race new.course.recorded ss.valid is_race alike_on (free-end new.course.recorded is_race alike_on pauses_on) made n.x clear next in
+        let begins : IsNext race made n.x = next_script race new.recorder.recorded ss.valid is_race alike_on (free-end new.recorder.recorded is_race alike_on pauses_on) made n.x clear next in
         let b = began_future n in
-        let whole : asked_tick connector scripted_trial new.course.due new.unfinished.items ≡ earliest (asked_tick connector scripted_trial new.course.due to.pending) (due_of connector scripted_trial n.o.future) = ap (asked_tick connector scripted_trial new.course.due) n.next ∙ asked_joined connector scripted_trial new.course.due to.pending (n.o ∷ []) in
+        let whole : asked_tick connector scripted_trial new.recorder.due new.unfinished.items ≡ earliest (asked_tick connector scripted_trial new.recorder.due to.pending) (due_of connector scripted_trial n.o.future) = ap (asked_tick connector scripted_trial new.recorder.due) n.next ∙ asked_joined connector scripted_trial new.recorder.due to.pending (n.o ∷ []) in
         let due : due_of connector scripted_trial n.o.future ≡ Some (n.x.tick + 1) = ap (due_of connector scripted_trial) b.1 in
-        let least : tick ≡ earliest (asked_tick connector scripted_trial new.course.due to.pending) (Some (n.x.tick + 1)) = asked ∙ whole ∙ ap (earliest (asked_tick connector scripted_trial new.course.due to.pending)) due in
-        let connecting : All (IsConnecting race (made ++ n.x ∷ []) (next_tick tick)) to.pending = still_connecting (made ++ n.x ∷ []) (contains_more made n.x) tick new.course.due to.pending (omega arith) w.pending in
+        let least : tick ≡ earliest (asked_tick connector scripted_trial new.recorder.due to.pending) (Some (n.x.tick + 1)) = asked ∙ whole ∙ ap (earliest (asked_tick connector scripted_trial new.recorder.due to.pending)) due in
+        let connecting : All (IsConnecting race (made ++ n.x ∷ []) (next_tick tick)) to.pending = still_connecting (made ++ n.x ∷ []) (contains_more made n.x) tick new.recorder.due to.pending (omega arith) w.pending in
         record {
           still = b.0;
           in_turn = subst (AreNextInTurn race) (sym same) (in_turn-more race made n.x f.in_turn begins);
-          told = rw (same, recorded) (more_told race made n.x to.course.recorded.outcomes w.told);
-          held = rw (same, recorded, n.next) (held_more to.pending n.o n.x to.course.recorded n.begins.attempt held);
+          told = rw (same, recorded) (more_told race made n.x to.recorder.recorded.outcomes w.told);
+          held = rw (same, recorded, n.next) (held_more to.pending n.o n.x to.recorder.recorded n.begins.attempt held);
           connecting = rw (same, n.next) (All-push (IsConnecting race (made ++ n.x ∷ []) (next_tick tick)) to.pending n.o connecting (began_connecting n.o n.x n.begins.attempt n.at b.1 (omega arith)));
         }
       where
-        is_next : IsNext new.course.recorded made n.x
+        is_next : IsNext new.recorder.recorded made n.x
         is_next =
-            let same : new.course.planner.attempts.items ≡ made ++ n.x ∷ [] = n.more ∙ ap (λ (xs : List Attempt). xs ++ n.x ∷ []) w.attempts in
-            let turn : AreNextInTurn new.course.recorded (made ++ n.x ∷ []) = subst (AreNextInTurn new.course.recorded) same live_on.course.rests.made.in_turn in
-            subst (λ (xs : List Attempt). IsNext new.course.recorded xs n.x) (take_all_of made n.x) (turn (length made) n.x (get_last made n.x))
+            let same : new.recorder.underway.attempts ≡ made ++ n.x ∷ [] = n.more ∙ ap (λ (xs : List Attempt). xs ++ n.x ∷ []) w.attempts in
+            let turn : AreNextInTurn new.recorder.recorded (made ++ n.x ∷ []) = subst (AreNextInTurn new.recorder.recorded) same live_on.recorder.rests.made.in_turn in
+            subst (λ (xs : List Attempt). IsNext new.recorder.recorded xs n.x) (take_all_of made n.x) (turn (length made) n.x (get_last made n.x))
 
-    pub goes-on : StaysAs connector scripted_trial to.connector to.course.planner.attempts.items new.course.planner.attempts.items to.pending c' new.unfinished.items ⊎ BeginsNext connector scripted_trial to.connector at to.course.planner.attempts.items new.course.planner.attempts.items to.pending c' new.unfinished.items → Follows race new (next_tick tick) × (c' ≡ c)
+    pub goes-on : StaysAs connector scripted_trial to.connector to.recorder.underway.attempts new.recorder.underway.attempts to.pending c' new.unfinished.items ⊎ BeginsNext connector scripted_trial to.connector at to.recorder.underway.attempts new.recorder.underway.attempts to.pending c' new.unfinished.items → Follows race new (next_tick tick) × (c' ≡ c)
     goes-on (inl s) = let g : Goes_on new tick c' = none_began s in (follows new tick c' kept_on g, g.still)
     goes-on (inr n) = let g : Goes_on new tick c' = one_began n in (follows new tick c' kept_on g, g.still)
 
   -- a turn that goes on is at the tick at which the ticker stands
-  turn_at : (now : ℕ) (c' : C) (new : Live C (Unit {0}) ScriptedTrial) (tick : ℕ) → now ≡ min at (live.course.recorded.settings.limit + 1) → Goes connector scripted_trial (begun c live now) live.unfinished.items now c' new tick → now ≡ at
+  turn_at : (now : ℕ) (c' : C) (new : Live C (Unit {0}) ScriptedTrial) (tick : ℕ) → now ≡ min at (live.recorder.recorded.settings.limit + 1) → Goes connector scripted_trial (begun c live now) live.unfinished.items now c' new tick → now ≡ at
   turn_at now c' new tick is g =
-      let early : now < g.swept.course.recorded.settings.limit = going-early g.swept.course now g.swept.pending (is_some g.swept.first) g.going in
-      let one : new.course.recorded.settings.limit ≡ (begun c live now).course.recorded.settings.limit = same_limit (begun c live now).course.recorded new.course.recorded g.alike in
-      let two : (begun c live now).course.recorded.settings.limit ≡ live.course.recorded.settings.limit = same_limit live.course.recorded (slept live.course.recorded live.course.due now) (slept-alike live.course.recorded live.course.due now) in
-      let three : new.course.recorded.settings.limit ≡ g.swept.course.recorded.settings.limit = ap (λ (z : Race). z.settings.limit) g.recorded in
+      let early : now < g.swept.recorder.recorded.settings.limit = going-early g.swept.recorder now g.swept.pending (is_some g.swept.first) g.going in
+      let one : new.recorder.recorded.settings.limit ≡ (begun c live now).recorder.recorded.settings.limit = same_limit (begun c live now).recorder.recorded new.recorder.recorded g.alike in
+      let two : (begun c live now).recorder.recorded.settings.limit ≡ live.recorder.recorded.settings.limit = same_limit live.recorder.recorded (slept live.recorder.recorded live.recorder.due now) (slept-alike live.recorder.recorded live.recorder.due now) in
+      let three : new.recorder.recorded.settings.limit ≡ g.swept.recorder.recorded.settings.limit = ap (λ (z : Race). z.settings.limit) g.recorded in
       omega arith
 
-  pub follows-on : (now : ℕ) (c' : C) (new : Live C (Unit {0}) ScriptedTrial) (tick : ℕ) → now ≡ min at (live.course.recorded.settings.limit + 1) → Goes connector scripted_trial (begun c live now) live.unfinished.items now c' new tick → Follows race new (next_tick tick) × (c' ≡ c) × (new.course.turn ≡ Some at)
+  pub follows-on : (now : ℕ) (c' : C) (new : Live C (Unit {0}) ScriptedTrial) (tick : ℕ) → now ≡ min at (live.recorder.recorded.settings.limit + 1) → Goes connector scripted_trial (begun c live now) live.unfinished.items now c' new tick → Follows race new (next_tick tick) × (c' ≡ c) × (new.recorder.turn ≡ Some at)
   follows-on now c' new tick is h =
       let g : Goes connector scripted_trial (begun c live at) live.unfinished.items at c' new tick = subst (λ (n : ℕ). Goes connector scripted_trial (begun c live n) live.unfinished.items n c' new tick) (turn_at now c' new tick is h) h in
       let on : Follows race new (next_tick tick) × (c' ≡ c) = goes-on g.swept (polled-at g.swept g.polled) new g.recorded g.kept g.turn tick g.asked c' g.starts in

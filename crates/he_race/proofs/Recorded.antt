@@ -1,5 +1,5 @@
 -- What is known of a race that is being run when a turn begins, when an attempt finishes in it, and when it ends.
-use Rattle.std.proofs.Common.{◌≡◌, ℕ, zero, suc, ◌+◌, ◌-◌, ◌≤◌, ◌<◌, ◌⊎◌, ◌&&◌, ◌||◌, ◌++◌, Bool, true, false, not, List, [], ◌∷◌, if◌then◌else◌, length, find, get_or, Option, Some, None, Result, Ok, Err, IfSome, IfOk, OnOk, IsSomeAnd, nat_le, nat_lt, refl, sym, ◌∙◌, ap, subst, arith, inl, inr, length-append}
+use Rattle.std.proofs.Common.{◌≡◌, ℕ, zero, suc, ◌+◌, ◌-◌, ◌≤◌, ◌<◌, ◌⊎◌, ◌&&◌, ◌||◌, ◌++◌, Bool, true, false, not, List, [], ◌∷◌, if◌then◌else◌, length, find, get_or, Option, Some, None, Result, Ok, Err, IfSome, OnOk, IsSomeAnd, nat_le, nat_lt, refl, sym, ◌∙◌, ap, subst, arith, inl, inr, length-append}
 use Rattle.std.specs.List.{All, Contains, list_all, slice_get}
 use Rattle.std.specs.Option.{option_map, option_map_or}
 use Rattle.std.proofs.lemmas.Bool.{cases_lt}
@@ -18,9 +18,9 @@ use Rattle.he_plan.specs.Building.{last_end, with_outcome, with_pause}
 use Rattle.he_plan.specs.Continuing.{Follow}
 use Rattle.he_plan.specs.Due.{IsAfterTurn, IsDelayDue, IsDue, IsDueTick, IsStartDue, IsTaken}
 use Rattle.he_plan.specs.Finish.{outcome_in, outcome_of}
-use Rattle.he_plan.specs.Planning.{IsPlanned, PlansNext, was_received}
 use Rattle.he_plan.specs.Race.{Race, Reply, has_outcome}
 use Rattle.he_plan.specs.Timeline.{IsRace}
+use Rattle.he_plan.specs.Underway.{IsUnderway, MakesNext, Progress, was_received}
 use Rattle.he_plan.proofs.Agreeing.{in_turn-below, starts-below}
 use Rattle.he_plan.proofs.Bools.{and_both, and_left, and_right, before, clash, inside, lt_test, not_le, or_left, or_left_none, or_right, or_right_none}
 use Rattle.he_plan.proofs.Dueness.{due-no_sooner, starts-delayed, starts-free}
@@ -28,10 +28,9 @@ use Rattle.he_plan.proofs.Growing.{outcome-below, outcome-others, outcome-own, p
 use Rattle.he_plan.proofs.InTurn.{in_turn-follow, in_turn-more, in_turn-none}
 use Rattle.he_plan.proofs.Lawful.{seen_past-more}
 use Rattle.he_plan.proofs.Planned.{last_of-more}
-use Rattle.he_plan.proofs.Queued.{IsQueue-new}
 use Rattle.he_plan.proofs.Ranges.{same_ip-sym}
 use Rattle.he_plan.proofs.Starting.{IsSeen-seen}
-use Rattle.he_race.specs.Recording.{Begins, EndedBy, FailedBelow, HasSuccess, InTurn, Rests, ended_by, floor, taken, unrecorded}
+use Rattle.he_race.specs.Recording.{Begins, EndedBy, FailedBelow, HasSuccess, InTurn, Rests, ended_by, first_after, taken, unrecorded}
 use Rattle.he_race.proofs.Counted.{all_taken_later, due_taken, turn_by}
 use Rattle.he_race.proofs.DueTicks.{due_starts}
 
@@ -64,7 +63,7 @@ last_end-more pauses p =
     rw e (ap (λ (o : Option (ℕ × ℕ)). option_map_or (λ (q : ℕ × ℕ). q.1) o 0) (get_last pauses p))
 
 -- nothing is due before the first tick after the last turn
-pub due_later : (race : Race) → IsRace race → (turn : Option ℕ) (xs : List Attempt) (due : ℕ) → IsAfterTurn race turn xs → IsDue race turn xs due → floor turn ≤ due
+pub due_later : (race : Race) → IsRace race → (turn : Option ℕ) (xs : List Attempt) (due : ℕ) → IsAfterTurn race turn xs → IsDue race turn xs due → first_after turn ≤ due
 due_later race r None xs due after is = omega arith
 due_later race r (Some n) xs due after is = by_kind is
   where
@@ -90,15 +89,15 @@ failed_later race race' below now x up free (outcomes.Fail d) h = (free (x.tick 
 not_won : false ≡ true → ⊥
 not_won e = cc
 
-pub begins-late : (race : Race) (turn : Option ℕ) (xs : List Attempt) (due now : ℕ) → Rests race turn xs → IsDueTick race turn xs due → floor turn ≤ now → due < now → IsRace (with_pause race due now) → Begins (with_pause race due now) now xs
+pub begins-late : (race : Race) (turn : Option ℕ) (xs : List Attempt) (due now : ℕ) → Rests race turn xs → IsDueTick race turn xs due → first_after turn ≤ now → due < now → IsRace (with_pause race due now) → Begins (with_pause race due now) now xs
 begins-late race turn xs due now rest is up late r' =
     let race' : Race = with_pause race due now in
     let r : IsRace race = rest.valid in
     let agree : AgreeBelow due race race' = pause-below race due now in
-    let base : floor turn ≤ due = due_later race r turn xs due rest.after is.holds in
-    let past : All (λ (x : Attempt). x.tick < due) xs = All-weaker (λ (x : Attempt). x.tick < floor turn) (λ (x : Attempt). x.tick < due) (λ x h. omega (arith, h)) xs rest.past in
-    let failed : All (λ (x : Attempt). IfSome (outcome_of race' x.ip) (FailedBelow race' now x)) xs = All-weaker (λ (x : Attempt). IfSome (outcome_of race x.ip) (FailedBelow race (floor turn) x)) (λ (x : Attempt). IfSome (outcome_of race' x.ip) (FailedBelow race' now x))
-    (λ x h. if_some (FailedBelow race (floor turn) x) (FailedBelow race' now x) (outcome_of race x.ip) (failed_later race race' (floor turn) now x up (λ t lt free. (agree.free t (omega arith)).0 free)) h) xs rest.failed in
+    let base : first_after turn ≤ due = due_later race r turn xs due rest.after is.holds in
+    let past : All (λ (x : Attempt). x.tick < due) xs = All-weaker (λ (x : Attempt). x.tick < first_after turn) (λ (x : Attempt). x.tick < due) (λ x h. omega (arith, h)) xs rest.past in
+    let failed : All (λ (x : Attempt). IfSome (outcome_of race' x.ip) (FailedBelow race' now x)) xs = All-weaker (λ (x : Attempt). IfSome (outcome_of race x.ip) (FailedBelow race (first_after turn) x)) (λ (x : Attempt). IfSome (outcome_of race' x.ip) (FailedBelow race' now x))
+    (λ x h. if_some (FailedBelow race (first_after turn) x) (FailedBelow race' now x) (outcome_of race x.ip) (failed_later race race' (first_after turn) now x up (λ t lt free. (agree.free t (omega arith)).0 free)) h) xs rest.failed in
     record {
       in_turn = record {
         valid = r';
@@ -142,16 +141,16 @@ begins-late race turn xs due now rest is up late r' =
       ]
     ]
 
-pub begins-now : (race : Race) (turn : Option ℕ) (xs : List Attempt) (due now : ℕ) → Rests race turn xs → IsDueTick race turn xs due → floor turn ≤ now → now ≤ due → Begins race now xs
+pub begins-now : (race : Race) (turn : Option ℕ) (xs : List Attempt) (due now : ℕ) → Rests race turn xs → IsDueTick race turn xs due → first_after turn ≤ now → now ≤ due → Begins race now xs
 begins-now race turn xs due now rest is up early =
     let r : IsRace race = rest.valid in
-    let failed : All (λ (x : Attempt). IfSome (outcome_of race x.ip) (FailedBelow race now x)) xs = All-weaker (λ (x : Attempt). IfSome (outcome_of race x.ip) (FailedBelow race (floor turn) x)) (λ (x : Attempt). IfSome (outcome_of race x.ip) (FailedBelow race now x))
-    (λ x h. if_some (FailedBelow race (floor turn) x) (FailedBelow race now x) (outcome_of race x.ip) (failed_later race race (floor turn) now x up (λ t lt free. free)) h) xs rest.failed in
+    let failed : All (λ (x : Attempt). IfSome (outcome_of race x.ip) (FailedBelow race now x)) xs = All-weaker (λ (x : Attempt). IfSome (outcome_of race x.ip) (FailedBelow race (first_after turn) x)) (λ (x : Attempt). IfSome (outcome_of race x.ip) (FailedBelow race now x))
+    (λ x h. if_some (FailedBelow race (first_after turn) x) (FailedBelow race now x) (outcome_of race x.ip) (failed_later race race (first_after turn) now x up (λ t lt free. free)) h) xs rest.failed in
     record {
       in_turn = record {
         valid = r;
         made = rest.made;
-        past = All-weaker (λ (x : Attempt). x.tick < floor turn) (λ (x : Attempt). x.tick < now) (λ x h. omega (arith, h)) xs rest.past;
+        past = All-weaker (λ (x : Attempt). x.tick < first_after turn) (λ (x : Attempt). x.tick < now) (λ x h. omega (arith, h)) xs rest.past;
         over = omega (arith, rest.over);
         ended = All-weaker (λ (x : Attempt). IfSome (outcome_of race x.ip) (FailedBelow race now x)) (λ (x : Attempt). IfSome (outcome_of race x.ip) (EndedBy race now false x)) (λ x h. if_some (FailedBelow race now x) (EndedBy race now false x) (outcome_of race x.ip) (failed_ended race now x) h) xs failed;
         stops = λ t m. (let k : seen race due ≤ t = due-no_sooner race r turn xs due rest.after is t m in let s : IsSeen race due (seen race due) = IsSeen-seen race r due in let l : due ≤ seen race due = s.holds.0 in omega arith);
@@ -162,7 +161,7 @@ begins-now race turn xs due now rest is up early =
       failed = failed;
     }
 
--- the planner's queue stays right where the client sleeps after the last start
+-- the underway's queue stays right where the client sleeps after the last start
 past_pause : (from to last x : ℕ) → last < from → nat_le (seen_past ((from, to) ∷ []) x) last ≡ nat_le x last
 past_pause from to last x above = elim (cases_lt x from) [
   | inl earlier ↦ ap (λ (b : Bool). nat_le (if b then to else x) last) (before from to x earlier)
@@ -187,23 +186,25 @@ last_before tick xs h = by_get (length xs - 1) xs h
     by_get zero (y ∷ ys) h = All-head (λ (x : Attempt). x.tick < tick) y ys h
     by_get (suc k) (y ∷ ys) h = by_get k ys (All-tail (λ (x : Attempt). x.tick < tick) y ys h)
 
-pub planned-slept : (race : Race) (from to : ℕ) (xs : List Attempt) (v6 v4 : Bool) (ips : List Ip) (next : ℕ) → All (λ (x : Attempt). x.tick < from) xs → IsPlanned race xs v6 v4 ips next → IsPlanned (with_pause race from to) xs v6 v4 ips next
-planned-slept race from to xs v6 v4 ips next above p = record {
-  in_range = p.in_range;
+pub underway-slept : (race : Race) (from to : ℕ) (u : Progress) → All (λ (x : Attempt). x.tick < from) u.attempts → AreNextInTurn (with_pause race from to) u.attempts → IsUnderway race u → IsUnderway (with_pause race from to) u
+underway-slept race from to u above in_turn is = record {
+  in_turn = in_turn;
+  in_range = is.in_range;
   queue = record {
-    rest = record { members = p.queue.rest.members; own_six = p.queue.rest.own_six; own_four = p.queue.rest.own_four; rest = p.queue.rest.rest };
-    six = p.queue.six ∙ sym (received_still race from to (last_of xs) race.aaaa (last_before from xs above));
-    four = p.queue.four ∙ sym (received_still race from to (last_of xs) race.a (last_before from xs above));
+    rest = record { members = is.queue.rest.members; own_six = is.queue.rest.own_six; own_four = is.queue.rest.own_four; rest = is.queue.rest.rest; sorted = is.queue.rest.sorted };
+    six = is.queue.six ∙ sym (received_still race from to (last_of u.attempts) race.aaaa (last_before from u.attempts above));
+    four = is.queue.four ∙ sym (received_still race from to (last_of u.attempts) race.a (last_before from u.attempts above));
   };
 }
 
-pub planned-told : (race : Race) (ip : Ip) (outcome : Outcome) (xs : List Attempt) (v6 v4 : Bool) (ips : List Ip) (next : ℕ) → IsPlanned race xs v6 v4 ips next → IsPlanned (with_outcome race ip outcome) xs v6 v4 ips next
-planned-told race ip outcome xs v6 v4 ips next p = record {
-  in_range = p.in_range;
+pub underway-told : (race : Race) (ip : Ip) (outcome : Outcome) (u : Progress) → AreNextInTurn (with_outcome race ip outcome) u.attempts → IsUnderway race u → IsUnderway (with_outcome race ip outcome) u
+underway-told race ip outcome u in_turn is = record {
+  in_turn = in_turn;
+  in_range = is.in_range;
   queue = record {
-    rest = record { members = p.queue.rest.members; own_six = p.queue.rest.own_six; own_four = p.queue.rest.own_four; rest = p.queue.rest.rest };
-    six = p.queue.six;
-    four = p.queue.four;
+    rest = record { members = is.queue.rest.members; own_six = is.queue.rest.own_six; own_four = is.queue.rest.own_four; rest = is.queue.rest.rest; sorted = is.queue.rest.sorted };
+    six = is.queue.six;
+    four = is.queue.four;
   };
 }
 
@@ -297,16 +298,9 @@ tried_more xs x (p ∷ told) h =
     let rest : list_all (λ (q : Ip × Outcome). is_tried xs q.0) told ≡ true = and_right (is_tried xs p.0) (list_all (λ (q : Ip × Outcome). is_tried xs q.0) told) h in
     and_both _ _ (list_any-append (λ (z : Attempt). same_ip z.ip p.0) xs (x ∷ []) ∙ or_left (is_tried xs p.0) (is_tried (x ∷ []) p.0) head) (tried_more xs x told rest)
 
-pub planned_next : (race : Race) (now : ℕ) (xs all : List Attempt) → InTurn race now xs false → MayStart race xs now → (p : PlansNext race xs all now) → IsNext race xs p.next
-planned_next race now xs all t may p = record {
-  place = p.place;
-  tick = rw p.at (record { holds = may; least = λ m k. t.stops m k });
-  ip = rw p.at p.ip;
-}
-
-pub rests-started : (race : Race) (now : ℕ) (xs all : List Attempt) → InTurn race now xs false → MayStart race xs now → PlansNext race xs all now → Rests race (Some now) all
+pub rests-started : (race : Race) (now : ℕ) (xs all : List Attempt) → InTurn race now xs false → MayStart race xs now → MakesNext race xs all now → Rests race (Some now) all
 rests-started race now xs all t may p =
-    let next : IsNext race xs p.next = planned_next race now xs all t may p in
+    let next : IsNext race xs p.next = p.is in
     rw p.more (record {
       valid = t.valid;
       made = record { in_turn = in_turn-more race xs p.next t.made.in_turn next; tried = tried_more xs p.next race.outcomes t.made.tried };
@@ -379,28 +373,26 @@ finished race now xs won ok x t at silent first r' = record {
     by_success false e true f h = kept (t.success f)
     by_success false e false f h = absurd (let no : false ≡ true = sym (rw (f, e) refl) ∙ h in not_won no)
 
-pub may_now : (race : Race) (now tick : ℕ) (xs : List Attempt) → InTurn race now xs false → IsLeast (MayStart race xs) tick → tick ≤ now → MayStart race xs now
-may_now race now tick xs t is by = subst (MayStart race xs) (let k : now ≤ tick = t.stops tick is.holds in omega arith) is.holds
-
 pub none_yet : (race : Race) (now tick : ℕ) (xs : List Attempt) → IsLeast (MayStart race xs) tick → now < tick → ¬ MayStart race xs now
 none_yet race now tick xs is late m = let k : tick ≤ now = is.least now m in omega arith
 
-pub rests-ok : {P E : Type 0} (items : P → List Attempt) (race : Race) (now : ℕ) (xs : List Attempt) → InTurn race now xs false → MayStart race xs now → (r : Result P E) → IfOk r (λ p. PlansNext race xs (items p) now) → IfOk r (λ p. Rests race (Some now) (items p))
-rests-ok items race now xs t may (Ok p) h = rests-started race now xs (items p) t may h
-rests-ok items race now xs t may (Err e) h = tt
+-- an attempt that is due starts in the turn
+pub rests-ok : {E : Type 0} (race : Race) (now tick : ℕ) (xs all : List Attempt) → InTurn race now xs false → IsLeast (MayStart race xs) tick → tick ≤ now → (r : Result (Unit {0}) E) → OnOk r (MakesNext race xs all tick) → OnOk r (Rests race (Some now) all)
+rests-ok race now tick xs all t is by (Ok done) m =
+    let same : tick ≡ now = (let k : now ≤ tick = t.stops tick is.holds in omega arith) in
+    rests-started race now xs all t (subst (MayStart race xs) same is.holds) (subst (MakesNext race xs all) same m)
+rests-ok race now tick xs all t is by (Err f) m = tt
 
-pub begins-slept : {E : Type 0} (race new : Race) (turn : Option ℕ) (xs : List Attempt) (due now : ℕ) → Rests race turn xs → IsDueTick race turn xs due → floor turn ≤ now → due < now → (r : Result (Unit {0}) E) → OnOk r (new ≡ with_pause race due now) → OnOk r (IsRace new) → OnOk r (Begins new now xs)
+pub begins-slept : {E : Type 0} (race new : Race) (turn : Option ℕ) (xs : List Attempt) (due now : ℕ) → Rests race turn xs → IsDueTick race turn xs due → first_after turn ≤ now → due < now → (r : Result (Unit {0}) E) → OnOk r (new ≡ with_pause race due now) → OnOk r (IsRace new) → OnOk r (Begins new now xs)
 begins-slept race new turn xs due now rest is up late (Ok done) e v = rw e (begins-late race turn xs due now rest is up late (subst IsRace e v))
 begins-slept race new turn xs due now rest is up late (Err f) e v = tt
 
-pub planned-ok : {E : Type 0} (race new : Race) (turn : Option ℕ) (xs : List Attempt) (due now : ℕ) (v6 v4 : Bool) (ips : List Ip) (next : ℕ) → Rests race turn xs → IsDueTick race turn xs due → IsPlanned race xs v6 v4 ips next → (r : Result (Unit {0}) E) → OnOk r (new ≡ with_pause race due now) → OnOk r (IsPlanned new xs v6 v4 ips next)
-planned-ok race new turn xs due now v6 v4 ips next rest is p (Ok done) e =
-    let base : floor turn ≤ due = due_later race rest.valid turn xs due rest.after is.holds in
-    rw e (planned-slept race due now xs v6 v4 ips next (All-weaker (λ (x : Attempt). x.tick < floor turn) (λ (x : Attempt). x.tick < due) (λ x h. omega (arith, h)) xs rest.past) p)
-planned-ok race new turn xs due now v6 v4 ips next rest is p (Err f) e = tt
-
-pub planned-new : (race : Race) → IsPlanned race [] false false [] 0
-planned-new race = record { in_range = tt; queue = IsQueue-new race }
+pub underway-ok : {E : Type 0} (race new : Race) (turn : Option ℕ) (u : Progress) (due now : ℕ) → Rests race turn u.attempts → IsDueTick race turn u.attempts due → IsUnderway race u → (r : Result (Unit {0}) E) → OnOk r (new ≡ with_pause race due now) → OnOk r (Begins new now u.attempts) → OnOk r (IsUnderway new u)
+underway-ok race new turn u due now rest is p (Ok done) e b =
+    let base : first_after turn ≤ due = due_later race rest.valid turn u.attempts due rest.after is.holds in
+    let in_turn : AreNextInTurn (with_pause race due now) u.attempts = subst (λ (x : Race). AreNextInTurn x u.attempts) e b.in_turn.made.in_turn in
+    rw e (underway-slept race due now u (All-weaker (λ (x : Attempt). x.tick < first_after turn) (λ (x : Attempt). x.tick < due) (λ x h. omega (arith, h)) u.attempts rest.past) in_turn p)
+underway-ok race new turn u due now rest is p (Err f) e b = tt
 
 pub rests-new : (race given : Race) → IsRace race → race ≡ unrecorded given → Rests race None []
 rests-new race given r e = record {

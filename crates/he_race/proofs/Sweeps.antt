@@ -12,17 +12,17 @@ use Rattle.he_plan.specs.Race.{Race}
 use Rattle.he_plan.proofs.Bools.{le_test, not_le}
 use Rattle.he_race.specs.declared.attempt.Finish.{Finish}
 use Rattle.he_race.specs.declared.connector.Connector.{Ghosts as ConnectorOf}
-use Rattle.he_race.specs.declared.course.Course.{Course}
+use Rattle.he_race.specs.declared.recorder.Recorder.{Recorder}
 use Rattle.he_race.specs.declared.faults.ConnectFault.{ConnectFault}
 use Rattle.he_race.specs.declared.limits.TheConstants.{MAX_POLL_TICK}
 use Rattle.he_race.specs.declared.live.Live.{Live}
-use Rattle.he_race.specs.declared.live.Step.{Step}
-use Rattle.he_race.specs.declared.live.Step.TheVariants as steps
+use Rattle.he_race.specs.declared.live.AfterPoll.{AfterPoll}
+use Rattle.he_race.specs.declared.live.AfterPoll.TheVariants as after_polls
 use Rattle.he_race.specs.declared.live.Unfinished.{Unfinished}
 use Rattle.he_race.specs.declared.trial.Trial.{Ghosts as TrialOf}
 use Rattle.he_race.specs.Answered.{earliest}
 use Rattle.he_race.specs.Attempt.{AttemptPolls, due_of}
-use Rattle.he_race.specs.Recording.{EndsRace, MakesOne, floor}
+use Rattle.he_race.specs.Recording.{EndsRace, MakesOne, first_after}
 use Rattle.he_race.specs.Turns.{ArePolled, AsksInTime, BeginsFrom, BeginsOne, BeginsAt, EndsPolled, EndsWith, Goes, GoesOn, IsLive, LeftBy, PolledAt, PolledFrom, PollsAt, Replays, StartsOne, Sweep, Turned, TurnsFrom, asked_tick, begun, first_of, is_over, told, unpolled}
 use Rattle.he_race.proofs.Turning.{alike-later, drop-set, take-set}
 
@@ -60,38 +60,38 @@ drop-removed xs i a lt = rw (take-set xs i a, drop-set xs i a) (drop-joined xs (
 
 module _ {C Conn Run : Type 0} (connector : ConnectorOf C Conn Run) (trial : TrialOf Run Conn) where
   -- those before i were polled; where the polls of the others end, so do the polls of all
-  pub record Sweeping (from : Sweep C Conn Run) (os : List (Unfinished C Conn Run)) (now : ℕ) (c : C) (course : Course) (xs : List (Unfinished C Conn Run)) (i : ℕ) (first : Option Conn) : Type 0 where
-    pub rest : (to : Sweep C Conn Run) → ArePolled connector trial now (record { connector = c; course = course; pending = take i xs; first = first }) (drop i xs) to → ArePolled connector trial now from os to
+  pub record Sweeping (from : Sweep C Conn Run) (os : List (Unfinished C Conn Run)) (now : ℕ) (c : C) (recorder : Recorder) (xs : List (Unfinished C Conn Run)) (i : ℕ) (first : Option Conn) : Type 0 where
+    pub rest : (to : Sweep C Conn Run) → ArePolled connector trial now (record { connector = c; recorder = recorder; pending = take i xs; first = first }) (drop i xs) to → ArePolled connector trial now from os to
 
-  pub sweeping-none : (c : C) (course : Course) (os : List (Unfinished C Conn Run)) (now : ℕ) → Sweeping (unpolled c course) os now c course os 0 None
-  sweeping-none c course os now = record { rest = λ to h. h }
+  pub sweeping-none : (c : C) (recorder : Recorder) (os : List (Unfinished C Conn Run)) (now : ℕ) → Sweeping (unpolled c recorder) os now c recorder os 0 None
+  sweeping-none c recorder os now = record { rest = λ to h. h }
 
   -- polls that begin at the same state, of the same attempts
   same-polls : (now : ℕ) (s t to : Sweep C Conn Run) (xs ys : List (Unfinished C Conn Run)) → s ≡ t → xs ≡ ys → ArePolled connector trial now s xs to → ArePolled connector trial now t ys to
   same-polls now s t to xs ys e f h = subst (λ (z : Sweep C Conn Run). ArePolled connector trial now z ys to) e (subst (λ (zs : List (Unfinished C Conn Run)). ArePolled connector trial now s zs to) f h)
 
   -- a sweep by its parts
-  abbrev swept_by : C → Course → List (Unfinished C Conn Run) → Option Conn → Sweep C Conn Run
-  swept_by c course xs first = record { connector = c; course = course; pending = xs; first = first }
+  abbrev swept_by : C → Recorder → List (Unfinished C Conn Run) → Option Conn → Sweep C Conn Run
+  swept_by c recorder xs first = record { connector = c; recorder = recorder; pending = xs; first = first }
 
-  pub sweeping-pending : (from : Sweep C Conn Run) (os : List (Unfinished C Conn Run)) (now : ℕ) (c c' : C) (old new : Live C Conn Run) (i : ℕ) (first : Option Conn) (answer : Option (Result Conn ConnectFault)) → Sweeping from os now c old.course old.unfinished.items i first → i < length old.unfinished.items → answer ≡ None → PollsAt connector trial c old i now answer c' new → Sweeping from os now c' new.course new.unfinished.items (i + 1) first
+  pub sweeping-pending : (from : Sweep C Conn Run) (os : List (Unfinished C Conn Run)) (now : ℕ) (c c' : C) (old new : Live C Conn Run) (i : ℕ) (first : Option Conn) (answer : Option (Result Conn ConnectFault)) → Sweeping from os now c old.recorder old.unfinished.items i first → i < length old.unfinished.items → answer ≡ None → PollsAt connector trial c old i now answer c' new → Sweeping from os now c' new.recorder new.unfinished.items (i + 1) first
   sweeping-pending from os now c c' old new i first answer s lt e p = by_poll p.polled p.polls p.left
     where
-      by_poll : (polled : Poll (Finish Conn)) → AttemptPolls connector trial c p.o.future now polled c' p.future → LeftBy connector trial old i now p.o polled p.future answer new → Sweeping from os now c' new.course new.unfinished.items (i + 1) first
+      by_poll : (polled : Poll (Finish Conn)) → AttemptPolls connector trial c p.o.future now polled c' p.future → LeftBy connector trial old i now p.o polled p.future answer new → Sweeping from os now c' new.recorder new.unfinished.items (i + 1) first
       by_poll (Ready f) polls left = cc (e, left.0)
       by_poll Pending polls left = record {
         rest = λ to h.
             let pending : take (i + 1) new.unfinished.items ≡ take i old.unfinished.items ++ record p.o { future = p.future } ∷ [] = ap (λ (k : ℕ). take k new.unfinished.items) (one-more i) ∙ ap (take (suc i)) left.2 ∙ take-one old.unfinished.items i (record p.o { future = p.future }) lt in
             let others : drop (i + 1) new.unfinished.items ≡ drop (suc i) old.unfinished.items = ap (λ (k : ℕ). drop k new.unfinished.items) (one-more i) ∙ ap (drop (suc i)) left.2 ∙ drop-set old.unfinished.items i (record p.o { future = p.future }) in
-            let state : record { connector = c'; course = new.course; pending = take (i + 1) new.unfinished.items; first = first } ≡ record { connector = c'; course = old.course; pending = take i old.unfinished.items ++ record p.o { future = p.future } ∷ []; first = first } = cc (pending, left.1) in
+            let state : record { connector = c'; recorder = new.recorder; pending = take (i + 1) new.unfinished.items; first = first } ≡ record { connector = c'; recorder = old.recorder; pending = take i old.unfinished.items ++ record p.o { future = p.future } ∷ []; first = first } = cc (pending, left.1) in
             let more = same-polls now _ _ to _ _ state others h in
-            s.rest to (subst (λ (zs : List (Unfinished C Conn Run)). ArePolled connector trial now (record { connector = c; course = old.course; pending = take i old.unfinished.items; first = first }) zs to) (sym (from-at old.unfinished.items i p.o p.at)) (Pending, c', p.future, polls, more));
+            s.rest to (subst (λ (zs : List (Unfinished C Conn Run)). ArePolled connector trial now (record { connector = c; recorder = old.recorder; pending = take i old.unfinished.items; first = first }) zs to) (sym (from-at old.unfinished.items i p.o p.at)) (Pending, c', p.future, polls, more));
       }
 
-  pub sweeping-ready : (from : Sweep C Conn Run) (os : List (Unfinished C Conn Run)) (now : ℕ) (c c' : C) (old new : Live C Conn Run) (i : ℕ) (first more : Option Conn) (answer : Option (Result Conn ConnectFault)) (a : Result Conn ConnectFault) → Sweeping from os now c old.course old.unfinished.items i first → i < length old.unfinished.items → answer ≡ Some a → more ≡ first_of first a → PollsAt connector trial c old i now answer c' new → Sweeping from os now c' new.course new.unfinished.items i more
+  pub sweeping-ready : (from : Sweep C Conn Run) (os : List (Unfinished C Conn Run)) (now : ℕ) (c c' : C) (old new : Live C Conn Run) (i : ℕ) (first more : Option Conn) (answer : Option (Result Conn ConnectFault)) (a : Result Conn ConnectFault) → Sweeping from os now c old.recorder old.unfinished.items i first → i < length old.unfinished.items → answer ≡ Some a → more ≡ first_of first a → PollsAt connector trial c old i now answer c' new → Sweeping from os now c' new.recorder new.unfinished.items i more
   sweeping-ready from os now c c' old new i first more answer a s lt e m p = by_poll p.polled p.polls p.left
     where
-      by_poll : (polled : Poll (Finish Conn)) → AttemptPolls connector trial c p.o.future now polled c' p.future → LeftBy connector trial old i now p.o polled p.future answer new → Sweeping from os now c' new.course new.unfinished.items i more
+      by_poll : (polled : Poll (Finish Conn)) → AttemptPolls connector trial c p.o.future now polled c' p.future → LeftBy connector trial old i now p.o polled p.future answer new → Sweeping from os now c' new.recorder new.unfinished.items i more
       by_poll Pending polls left = cc (e, left.0)
       by_poll (Ready f) polls left = record {
         rest = λ to h.
@@ -99,17 +99,17 @@ module _ {C Conn Run : Type 0} (connector : ConnectorOf C Conn Run) (trial : Tri
             let pending : take i new.unfinished.items ≡ take i old.unfinished.items = ap (take i) left.2 ∙ take-removed old.unfinished.items i (record p.o { future = p.future }) lt in
             let others : drop i new.unfinished.items ≡ drop (suc i) old.unfinished.items = ap (drop i) left.2 ∙ drop-removed old.unfinished.items i (record p.o { future = p.future }) lt in
             let won : more ≡ first_of first f.result = m ∙ ap (first_of first) (sym same) in
-            let state : record { connector = c'; course = new.course; pending = take i new.unfinished.items; first = more } ≡ record { connector = c'; course = told old.course p.o.attempt now f.result; pending = take i old.unfinished.items; first = first_of first f.result } = cc (pending, left.1, won) in
+            let state : record { connector = c'; recorder = new.recorder; pending = take i new.unfinished.items; first = more } ≡ record { connector = c'; recorder = told old.recorder p.o.attempt now f.result; pending = take i old.unfinished.items; first = first_of first f.result } = cc (pending, left.1, won) in
             let rest = same-polls now _ _ to _ _ state others h in
-            s.rest to (subst (λ (zs : List (Unfinished C Conn Run)). ArePolled connector trial now (record { connector = c; course = old.course; pending = take i old.unfinished.items; first = first }) zs to) (sym (from-at old.unfinished.items i p.o p.at)) (Ready f, c', p.future, polls, rest));
+            s.rest to (subst (λ (zs : List (Unfinished C Conn Run)). ArePolled connector trial now (record { connector = c; recorder = old.recorder; pending = take i old.unfinished.items; first = first }) zs to) (sym (from-at old.unfinished.items i p.o p.at)) (Ready f, c', p.future, polls, rest));
       }
 
-  pub sweeping-over : (from : Sweep C Conn Run) (os : List (Unfinished C Conn Run)) (now : ℕ) (c : C) (course : Course) (xs : List (Unfinished C Conn Run)) (i : ℕ) (first : Option Conn) → Sweeping from os now c course xs i first → i ≡ length xs → ArePolled connector trial now from os (record { connector = c; course = course; pending = xs; first = first })
-  sweeping-over from os now c course xs i first s e =
+  pub sweeping-over : (from : Sweep C Conn Run) (os : List (Unfinished C Conn Run)) (now : ℕ) (c : C) (recorder : Recorder) (xs : List (Unfinished C Conn Run)) (i : ℕ) (first : Option Conn) → Sweeping from os now c recorder xs i first → i ≡ length xs → ArePolled connector trial now from os (record { connector = c; recorder = recorder; pending = xs; first = first })
+  sweeping-over from os now c recorder xs i first s e =
       let pending : take i xs ≡ xs = ap (λ k. take k xs) e ∙ take-length xs in
       let none : drop i xs ≡ [] = drop_of_length-le xs (omega (arith, e)) in
-      let to : Sweep C Conn Run = record { connector = c; course = course; pending = xs; first = first } in
-      s.rest to (subst (λ (zs : List (Unfinished C Conn Run)). ArePolled connector trial now (record { connector = c; course = course; pending = take i xs; first = first }) zs to) (sym none) (ap (λ (ys : List (Unfinished C Conn Run)). swept_by c course ys first) (sym pending)))
+      let to : Sweep C Conn Run = record { connector = c; recorder = recorder; pending = xs; first = first } in
+      s.rest to (subst (λ (zs : List (Unfinished C Conn Run)). ArePolled connector trial now (record { connector = c; recorder = recorder; pending = take i xs; first = first }) zs to) (sym none) (ap (λ (ys : List (Unfinished C Conn Run)). swept_by c recorder ys first) (sym pending)))
 
   get-past : (xs : List Attempt) → slice_get xs (length xs) ≡ None
   get-past [] = refl
@@ -142,16 +142,16 @@ module _ {C Conn Run : Type 0} (connector : ConnectorOf C Conn Run) (trial : Tri
       lower_than (Some tick) = omega arith
 
   -- the tick that is asked for is at most the limit
-  pub asked-by : (live : Live C Conn Run) → IsLive connector trial live → asked_tick connector trial live.course.due live.unfinished.items ≤ MAX_POLL_TICK
+  pub asked-by : (live : Live C Conn Run) → IsLive connector trial live → asked_tick connector trial live.recorder.due live.unfinished.items ≤ MAX_POLL_TICK
   asked-by live h =
-      let early : live.course.due ≤ live.course.recorded.settings.limit = h.course.due.least live.course.recorded.settings.limit (inr (inr (inr (inr refl)))) in
-      omega (arith, early, asked-early live.course.due live.unfinished.items, h.course.rests.valid.settings.limit_most)
+      let early : live.recorder.due ≤ live.recorder.recorded.settings.limit = h.recorder.due.least live.recorder.recorded.settings.limit (inr (inr (inr (inr refl)))) in
+      omega (arith, early, asked-early live.recorder.due live.unfinished.items, h.recorder.rests.valid.settings.limit_most)
 
   -- a turn that ends the race
-  pub ended-swept : {E : Type 0} (from : Sweep C Conn Run) (os : List (Unfinished C Conn Run)) (now : ℕ) (to : Sweep C Conn Run) (r : Result (Step C Conn Run) E) → ArePolled connector trial now from os to → is_over to.course now to.pending (is_some to.first) ≡ true → EndsRace to.course.recorded now to.course.planner.attempts.items (is_some to.first) → AreAlike from.course.recorded to.course.recorded → to.course.recorded.pauses ≡ from.course.recorded.pauses → IfOk r (EndsWith to.course.recorded to.first) → IfOk r (TurnsFrom connector trial from os now to.connector)
+  pub ended-swept : {E : Type 0} (from : Sweep C Conn Run) (os : List (Unfinished C Conn Run)) (now : ℕ) (to : Sweep C Conn Run) (r : Result (AfterPoll C Conn Run) E) → ArePolled connector trial now from os to → is_over to.recorder now to.pending (is_some to.first) ≡ true → EndsRace to.recorder.recorded now to.recorder.underway.attempts (is_some to.first) → AreAlike from.recorder.recorded to.recorder.recorded → to.recorder.recorded.pauses ≡ from.recorder.recorded.pauses → IfOk r (EndsWith to.recorder.recorded to.first) → IfOk r (TurnsFrom connector trial from os now to.connector)
   ended-swept from os now to (Err e) polled over ended alike pauses h = tt
-  ended-swept from os now to (Ok (steps.Waits new tick)) polled over ended alike pauses h = absurd h
-  ended-swept from os now to (Ok (steps.Ended raced)) polled over ended alike pauses h = record {
+  ended-swept from os now to (Ok (after_polls.Waits new tick)) polled over ended alike pauses h = absurd h
+  ended-swept from os now to (Ok (after_polls.Ended raced)) polled over ended alike pauses h = record {
     swept = to;
     polled = polled;
     over = over;
@@ -160,7 +160,7 @@ module _ {C Conn Run : Type 0} (connector : ConnectorOf C Conn Run) (trial : Tri
     recorded = h.1;
     winner = h.2;
     replays = record {
-      alike = alike-later from.course.recorded to.course.recorded raced.recorded alike h.0.alike;
+      alike = alike-later from.recorder.recorded to.recorder.recorded raced.recorded alike h.0.alike;
       transcript = h.0.transcript;
       winner = h.0.winner;
     };
@@ -168,31 +168,31 @@ module _ {C Conn Run : Type 0} (connector : ConnectorOf C Conn Run) (trial : Tri
   }
 
   -- a turn that goes on
-  pub gone-on : {E : Type 0} (from : Sweep C Conn Run) (os : List (Unfinished C Conn Run)) (now : ℕ) (c c' : C) (first : Option Conn) (old : Live C Conn Run) (r : Result (Step C Conn Run) E) → ArePolled connector trial now from os (record { connector = c; course = old.course; pending = old.unfinished.items; first = first }) → is_over old.course now old.unfinished.items (is_some first) ≡ false → AreAlike from.course.recorded old.course.recorded → old.course.recorded.pauses ≡ from.course.recorded.pauses → IfOk r (GoesOn connector trial c old now c') → IfOk r (TurnsFrom connector trial from os now c')
+  pub gone-on : {E : Type 0} (from : Sweep C Conn Run) (os : List (Unfinished C Conn Run)) (now : ℕ) (c c' : C) (first : Option Conn) (old : Live C Conn Run) (r : Result (AfterPoll C Conn Run) E) → ArePolled connector trial now from os (record { connector = c; recorder = old.recorder; pending = old.unfinished.items; first = first }) → is_over old.recorder now old.unfinished.items (is_some first) ≡ false → AreAlike from.recorder.recorded old.recorder.recorded → old.recorder.recorded.pauses ≡ from.recorder.recorded.pauses → IfOk r (GoesOn connector trial c old now c') → IfOk r (TurnsFrom connector trial from os now c')
   gone-on from os now c c' first old (Err e) polled going alike pauses h = tt
-  gone-on from os now c c' first old (Ok (steps.Ended raced)) polled going alike pauses h = absurd h
-  gone-on from os now c c' first old (Ok (steps.Waits new tick)) polled going alike pauses h = record {
-    swept = record { connector = c; course = old.course; pending = old.unfinished.items; first = first };
+  gone-on from os now c c' first old (Ok (after_polls.Ended raced)) polled going alike pauses h = absurd h
+  gone-on from os now c c' first old (Ok (after_polls.Waits new tick)) polled going alike pauses h = record {
+    swept = record { connector = c; recorder = old.recorder; pending = old.unfinished.items; first = first };
     polled = polled;
     going = going;
     recorded = h.recorded;
     starts = h.starts;
     kept = h.kept;
-    alike = subst (AreAlike from.course.recorded) (sym h.recorded) alike;
+    alike = subst (AreAlike from.recorder.recorded) (sym h.recorded) alike;
     pauses = ap (λ (race : Race). race.pauses) h.recorded ∙ pauses;
     turn = h.turn;
     asked = h.asked;
   }
 
   -- a turn past the limit
-  pub turned-late : {E : Type 0} (c : C) (live : Live C Conn Run) (now : ℕ) (course : Course) (r : Result (Step C Conn Run) E) → course ≡ (begun c live now).course → course.recorded.settings.limit < now → EndsRace course.recorded course.recorded.settings.limit course.planner.attempts.items false → IfOk r (EndsWith course.recorded None) → IfOk r (Turned connector trial c live now c)
-  turned-late c live now course (Err e) same late ended h = tt
-  turned-late c live now course (Ok (steps.Waits new tick)) same late ended h = absurd h
-  turned-late c live now course (Ok (steps.Ended raced)) same late ended h =
-      let recorded : course.recorded ≡ (begun c live now).course.recorded = ap (λ (x : Course). x.recorded) same in
+  pub turned-late : {E : Type 0} (c : C) (live : Live C Conn Run) (now : ℕ) (recorder : Recorder) (r : Result (AfterPoll C Conn Run) E) → recorder ≡ (begun c live now).recorder → recorder.recorded.settings.limit < now → EndsRace recorder.recorded recorder.recorded.settings.limit recorder.underway.attempts false → IfOk r (EndsWith recorder.recorded None) → IfOk r (Turned connector trial c live now c)
+  turned-late c live now recorder (Err e) same late ended h = tt
+  turned-late c live now recorder (Ok (after_polls.Waits new tick)) same late ended h = absurd h
+  turned-late c live now recorder (Ok (after_polls.Ended raced)) same late ended h =
+      let recorded : recorder.recorded ≡ (begun c live now).recorder.recorded = ap (λ (x : Recorder). x.recorded) same in
       inl (record {
         late = subst (λ (race : Race). race.settings.limit < now) recorded late;
-        ended = subst (λ (x : Course). EndsRace x.recorded x.recorded.settings.limit x.planner.attempts.items false) same ended;
+        ended = subst (λ (x : Recorder). EndsRace x.recorded x.recorded.settings.limit x.underway.attempts false) same ended;
         still = refl;
         recorded = h.1 ∙ recorded;
         winner = h.2;
@@ -200,35 +200,35 @@ module _ {C Conn Run : Type 0} (connector : ConnectorOf C Conn Run) (trial : Tri
       })
 
   -- a turn at or before the limit
-  pub turned-run : {E : Type 0} (c c' : C) (live : Live C Conn Run) (now : ℕ) (course : Course) (r : Result (Step C Conn Run) E) → course ≡ (begun c live now).course → IfOk r (TurnsFrom connector trial (unpolled c course) live.unfinished.items now c') → IfOk r (Turned connector trial c live now c')
-  turned-run c c' live now course (Err e) same h = tt
-  turned-run c c' live now course (Ok (steps.Ended raced)) same h =
-      inr (subst (λ (x : Course). EndsPolled connector trial (unpolled c x) live.unfinished.items now c' raced) same h)
-  turned-run c c' live now course (Ok (steps.Waits new tick)) same h =
-      subst (λ (x : Course). Goes connector trial (unpolled c x) live.unfinished.items now c' new tick) same h
+  pub turned-run : {E : Type 0} (c c' : C) (live : Live C Conn Run) (now : ℕ) (recorder : Recorder) (r : Result (AfterPoll C Conn Run) E) → recorder ≡ (begun c live now).recorder → IfOk r (TurnsFrom connector trial (unpolled c recorder) live.unfinished.items now c') → IfOk r (Turned connector trial c live now c')
+  turned-run c c' live now recorder (Err e) same h = tt
+  turned-run c c' live now recorder (Ok (after_polls.Ended raced)) same h =
+      inr (subst (λ (x : Recorder). EndsPolled connector trial (unpolled c x) live.unfinished.items now c' raced) same h)
+  turned-run c c' live now recorder (Ok (after_polls.Waits new tick)) same h =
+      subst (λ (x : Recorder). Goes connector trial (unpolled c x) live.unfinished.items now c' new tick) same h
 
   -- a turn asks for a tick that may be asked for
-  pub turn-in_time : {E : Type 0} (c c' : C) (live : Live C Conn Run) (now : ℕ) (r : Result (Step C Conn Run) E) → IfOk r (Turned connector trial c live now c') → IfOk r AsksInTime
+  pub turn-in_time : {E : Type 0} (c c' : C) (live : Live C Conn Run) (now : ℕ) (r : Result (AfterPoll C Conn Run) E) → IfOk r (Turned connector trial c live now c') → IfOk r AsksInTime
   turn-in_time c c' live now (Err e) h = tt
-  turn-in_time c c' live now (Ok (steps.Ended raced)) h = tt
-  turn-in_time c c' live now (Ok (steps.Waits new tick)) h = let by : asked_tick connector trial new.course.due new.unfinished.items ≤ MAX_POLL_TICK = asked-by new h.kept in omega (arith, by, h.asked)
+  turn-in_time c c' live now (Ok (after_polls.Ended raced)) h = tt
+  turn-in_time c c' live now (Ok (after_polls.Waits new tick)) h = let by : asked_tick connector trial new.recorder.due new.unfinished.items ≤ MAX_POLL_TICK = asked-by new h.kept in omega (arith, by, h.asked)
 
   -- a poll that takes a turn
-  pub polled-turn : {E : Type 0} (c c' : C) (live : Live C Conn Run) (now : ℕ) (at limit : ℕ) (r : Result (Step C Conn Run) E) → at ≡ min now (limit + 1) → limit ≡ live.course.recorded.settings.limit → floor live.course.turn ≤ at → IfOk r (Turned connector trial c live at c') → IfOk r (PolledAt connector trial c live now c')
+  pub polled-turn : {E : Type 0} (c c' : C) (live : Live C Conn Run) (now : ℕ) (at limit : ℕ) (r : Result (AfterPoll C Conn Run) E) → at ≡ min now (limit + 1) → limit ≡ live.recorder.recorded.settings.limit → first_after live.recorder.turn ≤ at → IfOk r (Turned connector trial c live at c') → IfOk r (PolledAt connector trial c live now c')
   polled-turn c c' live now at limit (Err e) same l later h = tt
   polled-turn c c' live now at limit (Ok step) same l later h =
-      subst (λ (n : ℕ). PolledFrom connector trial live.course.turn c live n c' step) (same ∙ ap (λ (n : ℕ). min now (n + 1)) l) (by_turn live.course.turn later)
+      subst (λ (n : ℕ). PolledFrom connector trial live.recorder.turn c live n c' step) (same ∙ ap (λ (n : ℕ). min now (n + 1)) l) (by_turn live.recorder.turn later)
     where
-      by_turn : (turn : Option ℕ) → floor turn ≤ at → PolledFrom connector trial turn c live at c' step
+      by_turn : (turn : Option ℕ) → first_after turn ≤ at → PolledFrom connector trial turn c live at c' step
       by_turn None later = h
       by_turn (Some turn) later = rw (not_le at turn (omega (arith, later))) h
 
   -- a poll that takes none
-  pub polled-again : (c : C) (live : Live C Conn Run) (now at turn : ℕ) → at ≡ min now (live.course.recorded.settings.limit + 1) → live.course.turn ≡ Some turn → at ≤ turn → PolledAt connector trial c live now c (steps.Waits live (turn + 1))
+  pub polled-again : (c : C) (live : Live C Conn Run) (now at turn : ℕ) → at ≡ min now (live.recorder.recorded.settings.limit + 1) → live.recorder.turn ≡ Some turn → at ≤ turn → PolledAt connector trial c live now c (after_polls.Waits live (turn + 1))
   polled-again c live now at turn same was early =
-      subst (λ (n : ℕ). PolledFrom connector trial live.course.turn c live n c (steps.Waits live (turn + 1))) same (subst (λ (x : Option ℕ). PolledFrom connector trial x c live at c (steps.Waits live (turn + 1))) (sym was) (rw (le_test at turn early) (refl, refl)))
+      subst (λ (n : ℕ). PolledFrom connector trial live.recorder.turn c live n c (after_polls.Waits live (turn + 1))) same (subst (λ (x : Option ℕ). PolledFrom connector trial x c live at c (after_polls.Waits live (turn + 1))) (sym was) (rw (le_test at turn early) (refl, refl)))
 
-  pub again-in_time : (live : Live C Conn Run) (turn : ℕ) → IsLive connector trial live → live.course.turn ≡ Some turn → turn + 1 ≤ MAX_POLL_TICK
+  pub again-in_time : (live : Live C Conn Run) (turn : ℕ) → IsLive connector trial live → live.recorder.turn ≡ Some turn → turn + 1 ≤ MAX_POLL_TICK
   again-in_time live turn h was =
-      let after = subst (λ (x : Option ℕ). IsAfterTurn live.course.recorded x live.course.planner.attempts.items) was h.course.rests.after in
-      omega (arith, after.1, h.course.rests.valid.settings.limit_most)
+      let after = subst (λ (x : Option ℕ). IsAfterTurn live.recorder.recorded x live.recorder.underway.attempts) was h.recorder.rests.after in
+      omega (arith, after.1, h.recorder.rests.valid.settings.limit_most)

@@ -10,16 +10,16 @@ use Rattle.he_plan.specs.declared.attempts.Attempt.{Attempt}
 use Rattle.he_plan.specs.declared.outcome.Outcome.{Outcome}
 use Rattle.he_plan.specs.declared.outcome.Outcome.TheVariants as outcomes
 use Rattle.he_plan.specs.Agreement.{AreAlike}
-use Rattle.he_plan.specs.Attempts.{MayStart}
+use Rattle.he_plan.specs.Attempts.{AreNextInTurn, MayStart}
 use Rattle.he_plan.specs.Building.{with_outcome, with_pause}
 use Rattle.he_plan.specs.Finish.{outcome_in, outcome_of}
-use Rattle.he_plan.specs.Planning.{IsPlanned}
 use Rattle.he_plan.specs.Race.{Race, Reply, has_outcome}
 use Rattle.he_plan.specs.Timeline.{IsRace}
+use Rattle.he_plan.specs.Underway.{IsUnderway, Progress}
 use Rattle.he_plan.proofs.Bools.{above, and_left, and_right, le_from, or_left_none, or_one, or_right_none}
 use Rattle.he_plan.proofs.Growing.{pauses-over}
 use Rattle.he_plan.proofs.Stopping.{none_left-ends}
-use Rattle.he_race.specs.declared.course.Course.{Course}
+use Rattle.he_race.specs.declared.recorder.Recorder.{Recorder}
 use Rattle.he_race.specs.declared.connector.Connector.{Ghosts as ConnectorOf}
 use Rattle.he_race.specs.declared.faults.ConnectFault.{ConnectFault}
 use Rattle.he_race.specs.declared.live.Live.{Live}
@@ -28,7 +28,7 @@ use Rattle.he_race.specs.declared.trial.Trial.{Ghosts as TrialOf}
 use Rattle.he_race.specs.Answered.{is_tried_out_by}
 use Rattle.he_race.specs.Recording.{Begins, EndedBy, EndsRace, FailedBelow, InTurn, IsEnded, MakesOne, ended_by, slept}
 use Rattle.he_race.specs.Turns.{Answers, IsUnfinished, Polled, Records, are_untold, is_connection, is_over}
-use Rattle.he_race.proofs.Recorded.{finished, planned-told}
+use Rattle.he_race.proofs.Recorded.{finished, underway-told}
 
 pub take-set : {X : Type 0} (xs : List X) (i : ℕ) (a : X) → take i (slice_set xs i a) ≡ take i xs
 take-set [] zero a = refl
@@ -55,32 +55,34 @@ no_outcome (p ∷ told) ip h = by_head (same_ip p.0 ip) (or_left_none _ _ h) (no
     by_head false e rest = rest
 
 -- the turn goes on where an attempt was recorded
-pub recorded-turn : {Conn : Type 0} (old new : Course) (now : ℕ) (won : Bool) (answer : Result Conn ConnectFault) → InTurn old.recorded now old.planner.attempts.items won → Records old now answer new → InTurn new.recorded now new.planner.attempts.items (won || is_connection answer)
+pub recorded-turn : {Conn : Type 0} (old new : Recorder) (now : ℕ) (won : Bool) (answer : Result Conn ConnectFault) → InTurn old.recorded now old.underway.attempts won → Records old now answer new → InTurn new.recorded now new.underway.attempts (won || is_connection answer)
 recorded-turn old new now won answer t r =
-    let told : Course = record old { recorded = with_outcome old.recorded r.x.ip (ended_by (is_connection answer) (now - r.x.tick)) } in
-    let P : Course → Type 0 = λ c. InTurn c.recorded now c.planner.attempts.items (won || is_connection answer) in
-    subst P (sym r.is) (finished old.recorded now old.planner.attempts.items won (is_connection answer) r.x t r.made (no_outcome old.recorded.outcomes r.x.ip r.first) r.first (subst (λ (c : Course). IsRace c.recorded) r.is r.valid))
+    let told : Recorder = record old { recorded = with_outcome old.recorded r.x.ip (ended_by (is_connection answer) (now - r.x.tick)) } in
+    let P : Recorder → Type 0 = λ c. InTurn c.recorded now c.underway.attempts (won || is_connection answer) in
+    subst P (sym r.is) (finished old.recorded now old.underway.attempts won (is_connection answer) r.x t r.made (no_outcome old.recorded.outcomes r.x.ip r.first) r.first (subst (λ (c : Recorder). IsRace c.recorded) r.is r.valid))
 
 pub alike-later : (x y z : Race) → AreAlike x y → AreAlike y z → AreAlike x z
 alike-later x y z e f = f ∙ ap (λ (r : Race). record r { outcomes = z.outcomes; pauses = z.pauses }) e
 
-pub polled-none : (old : Course) → Polled old old
-polled-none old = record { is = refl; alike = refl; pauses = refl; planned = λ h. h }
+pub polled-none : (old : Recorder) → Polled old old
+polled-none old = record { is = refl; alike = refl; pauses = refl; underway = λ h. h }
 
-pub polled-more : {Conn : Type 0} (first old new : Course) (now : ℕ) (answer : Result Conn ConnectFault) → Polled first old → Records old now answer new → Polled first new
-polled-more first old new now answer p r =
-    let recorded : new.recorded ≡ with_outcome old.recorded r.x.ip (ended_by (is_connection answer) (now - r.x.tick)) = ap (λ (c : Course). c.recorded) r.is in
+pub polled-more : {Conn : Type 0} (first old new : Recorder) (now : ℕ) (answer : Result Conn ConnectFault) → AreNextInTurn new.recorded new.underway.attempts → Polled first old → Records old now answer new → Polled first new
+polled-more first old new now answer in_turn p r =
+    let recorded : new.recorded ≡ with_outcome old.recorded r.x.ip (ended_by (is_connection answer) (now - r.x.tick)) = ap (λ (c : Recorder). c.recorded) r.is in
+    let made : new.underway ≡ first.underway = ap (λ (c : Recorder). c.underway) r.is ∙ ap (λ (c : Recorder). c.underway) p.is in
+    let turn : AreNextInTurn (with_outcome old.recorded r.x.ip (ended_by (is_connection answer) (now - r.x.tick))) first.underway.attempts =
+    subst (λ (race : Race). AreNextInTurn race first.underway.attempts) recorded (subst (λ (u : Progress). AreNextInTurn new.recorded u.attempts) made in_turn) in
     record {
-      is = r.is ∙ ap (λ (c : Course). record c { recorded = with_outcome old.recorded r.x.ip (ended_by (is_connection answer) (now - r.x.tick)) }) p.is ∙ ap (λ (race : Race). record first { recorded = race }) (sym recorded);
+      is = r.is ∙ ap (λ (c : Recorder). record c { recorded = with_outcome old.recorded r.x.ip (ended_by (is_connection answer) (now - r.x.tick)) }) p.is ∙ ap (λ (race : Race). record first { recorded = race }) (sym recorded);
       alike = alike-later first.recorded old.recorded new.recorded p.alike (subst (AreAlike old.recorded) (sym recorded) refl);
       pauses = ap (λ (race : Race). race.pauses) recorded ∙ p.pauses;
-      planned = λ h. rw recorded (planned-told old.recorded r.x.ip (ended_by (is_connection answer) (now - r.x.tick)) first.planner.attempts.items first.planner.queue.v6 first.planner.queue.v4 first.planner.queue.ips.items first.planner.queue.next (p.planned h));
+      underway = λ h. rw recorded (underway-told old.recorded r.x.ip (ended_by (is_connection answer) (now - r.x.tick)) first.underway turn (p.underway h));
     }
 
 -- the queue is still the one of the attempts
-pub planned-still : (old new : Course) → Polled old new → IsPlanned old.recorded old.planner.attempts.items old.planner.queue.v6 old.planner.queue.v4 old.planner.queue.ips.items old.planner.queue.next → IsPlanned new.recorded new.planner.attempts.items new.planner.queue.v6 new.planner.queue.v4 new.planner.queue.ips.items new.planner.queue.next
-planned-still old new p h =
-    subst (λ (x : Course). IsPlanned x.recorded x.planner.attempts.items x.planner.queue.v6 x.planner.queue.v4 x.planner.queue.ips.items x.planner.queue.next) (sym p.is) (p.planned h)
+pub underway-still : (old new : Recorder) → Polled old new → IsUnderway old.recorded old.underway → IsUnderway new.recorded new.underway
+underway-still old new p h = subst (λ (x : Recorder). IsUnderway x.recorded x.underway) (sym p.is) (p.underway h)
 
 -- past the limit the race ends at it
 pub ends-late : (race : Race) (now : ℕ) (xs : List Attempt) → Begins race now xs → now ≡ race.settings.limit + 1 → EndsRace race race.settings.limit xs false
@@ -113,12 +115,12 @@ tried_out race now xs (Some s) None six four h k = cc
 tried_out race now xs (Some s) (Some r) six four h k = none_left-ends race xs s r six four (and_right _ _ h) (and_right _ _ k)
 
 -- a turn that is over ends the race
-pub ends-turn : {X : Type 0} (course : Course) (now : ℕ) (unfinished : List X) (won : Bool) → InTurn course.recorded now course.planner.attempts.items won → now ≤ course.recorded.settings.limit → is_over course now unfinished won ≡ true → EndsRace course.recorded now course.planner.attempts.items won
-ends-turn course now unfinished won t early over = record {
+pub ends-turn : {X : Type 0} (recorder : Recorder) (now : ℕ) (unfinished : List X) (won : Bool) → InTurn recorder.recorded now recorder.underway.attempts won → now ≤ recorder.recorded.settings.limit → is_over recorder now unfinished won ≡ true → EndsRace recorder.recorded now recorder.underway.attempts won
+ends-turn recorder now unfinished won t early over = record {
   valid = t.valid;
   in_turn = t.made.in_turn;
-  past = All-weaker (λ (x : Attempt). x.tick < now) (λ (x : Attempt). x.tick ≤ now) (λ x h. omega (arith, h)) course.planner.attempts.items t.past;
-  free = λ yes. pauses-over course.recorded t.valid now t.over;
+  past = All-weaker (λ (x : Attempt). x.tick < now) (λ (x : Attempt). x.tick ≤ now) (λ x h. omega (arith, h)) recorder.underway.attempts t.past;
+  free = λ yes. pauses-over recorder.recorded t.valid now t.over;
   early = early;
   ended = t.ended;
   stops = t.stops;
@@ -126,26 +128,26 @@ ends-turn course now unfinished won t early over = record {
   over = λ lost s m. none lost over s m;
 }
   where
-    none : won ≡ false → is_over course now unfinished won ≡ true → (s : ℕ) → ¬ MayStart course.recorded course.planner.attempts.items s
+    none : won ≡ false → is_over recorder now unfinished won ≡ true → (s : ℕ) → ¬ MayStart recorder.recorded recorder.underway.attempts s
     none lost over s m =
-        let late : Bool = nat_le course.recorded.settings.limit now in
-        let six : Bool = is_tried_out_by now course.planner.attempts.items course.recorded.aaaa in
-        let four : Bool = is_tried_out_by now course.planner.attempts.items course.recorded.a in
-        let e : (late || ((length unfinished == 0) && (six && four))) ≡ true = subst (λ (b : Bool). is_over course now unfinished b ≡ true) lost over in
+        let late : Bool = nat_le recorder.recorded.settings.limit now in
+        let six : Bool = is_tried_out_by now recorder.underway.attempts recorder.recorded.aaaa in
+        let four : Bool = is_tried_out_by now recorder.underway.attempts recorder.recorded.a in
+        let e : (late || ((length unfinished == 0) && (six && four))) ≡ true = subst (λ (b : Bool). is_over recorder now unfinished b ≡ true) lost over in
         elim (or_one late ((length unfinished == 0) && (six && four)) e) [
-          | inl limit ↦ let k : now ≤ s = t.stops s m in let l : course.recorded.settings.limit ≤ now = le_from course.recorded.settings.limit now limit in omega (arith, m.0)
+          | inl limit ↦ let k : now ≤ s = t.stops s m in let l : recorder.recorded.settings.limit ≤ now = le_from recorder.recorded.settings.limit now limit in omega (arith, m.0)
           | inr out ↦
               let both : (six && four) ≡ true = and_right (length unfinished == 0) (six && four) out in
-              tried_out course.recorded now course.planner.attempts.items course.recorded.aaaa course.recorded.a refl refl (and_left six four both) (and_right six four both) s m
+              tried_out recorder.recorded now recorder.underway.attempts recorder.recorded.aaaa recorder.recorded.a refl refl (and_left six four both) (and_right six four both) s m
         ]
 
-pub ended-turn : {X : Type 0} (course : Course) (now : ℕ) (unfinished : List X) (won : Bool) → InTurn course.recorded now course.planner.attempts.items won → now ≤ course.recorded.settings.limit → is_over course now unfinished won ≡ true → IsEnded course.recorded course.planner.attempts.items won
-ended-turn course now unfinished won t early over = record { stop = now; ends = ends-turn course now unfinished won t early over }
+pub ended-turn : {X : Type 0} (recorder : Recorder) (now : ℕ) (unfinished : List X) (won : Bool) → InTurn recorder.recorded now recorder.underway.attempts won → now ≤ recorder.recorded.settings.limit → is_over recorder now unfinished won ≡ true → IsEnded recorder.recorded recorder.underway.attempts won
+ended-turn recorder now unfinished won t early over = record { stop = now; ends = ends-turn recorder now unfinished won t early over }
 
 -- a race that goes on is below its limit
-pub going-early : {X : Type 0} (course : Course) (now : ℕ) (unfinished : List X) (won : Bool) → is_over course now unfinished won ≡ false → now < course.recorded.settings.limit
-going-early course now unfinished won e =
-    above course.recorded.settings.limit now (or_left_none _ _ (or_right_none won _ e))
+pub going-early : {X : Type 0} (recorder : Recorder) (now : ℕ) (unfinished : List X) (won : Bool) → is_over recorder now unfinished won ≡ false → now < recorder.recorded.settings.limit
+going-early recorder now unfinished won e =
+    above recorder.recorded.settings.limit now (or_left_none _ _ (or_right_none won _ e))
 
 pub contains-at : (xs : List Attempt) (k : ℕ) (d : Attempt) → k < length xs → Contains xs (get_or xs k d)
 contains-at xs k d lt = (k, lt, same xs k (get_or xs k d) d lt)
@@ -157,11 +159,11 @@ contains-at xs k d lt = (k, lt, same xs k (get_or xs k d) d lt)
 
 -- what is kept while the unfinished attempts are polled
 module _ {C Conn Run : Type 0} (connector : ConnectorOf C Conn Run) (trial : TrialOf Run Conn) where
-  pub record Polling (first : Course) (now : ℕ) (cur : Live C Conn Run) (i : ℕ) (won : Bool) : Type 0 where
-    pub turn : InTurn cur.course.recorded now cur.course.planner.attempts.items won
-    pub unfinished : All (IsUnfinished connector trial cur.course.planner.attempts.items) cur.unfinished.items
-    pub untold : are_untold cur.course.recorded.outcomes cur.unfinished.items ≡ true
-    pub polled : Polled first cur.course
+  pub record Polling (first : Recorder) (now : ℕ) (cur : Live C Conn Run) (i : ℕ) (won : Bool) : Type 0 where
+    pub turn : InTurn cur.recorder.recorded now cur.recorder.underway.attempts won
+    pub unfinished : All (IsUnfinished connector trial cur.recorder.underway.attempts) cur.unfinished.items
+    pub untold : are_untold cur.recorder.recorded.outcomes cur.unfinished.items ≡ true
+    pub polled : Polled first cur.recorder
     pub within : i ≤ vec_len cur.unfinished
 
   -- an attempt of a race is one of it later
@@ -173,30 +175,31 @@ module _ {C Conn Run : Type 0} (connector : ConnectorOf C Conn Run) (trial : Tri
   pub unfinished-later : (race : Race) (xs all : List Attempt) (now : ℕ) (os : List (Unfinished C Conn Run)) → MakesOne race xs all now → All (IsUnfinished connector trial xs) os → All (IsUnfinished connector trial all) os
   unfinished-later race xs all now os m h = All-weaker (IsUnfinished connector trial xs) (IsUnfinished connector trial all) (λ o u. record { made = made_later race xs all now o.attempt m u.made; can = u.can }) os h
 
-  pub polling-none : (first : Course) (now : ℕ) (cur new : Live C Conn Run) (i : ℕ) (won : Bool) (answer : Option (Result Conn ConnectFault)) → Polling first now cur i won → i < vec_len cur.unfinished → answer ≡ None → Answers cur.course now answer new.course → All (IsUnfinished connector trial cur.course.planner.attempts.items) new.unfinished.items → are_untold new.course.recorded.outcomes new.unfinished.items ≡ true → vec_len new.unfinished + (if is_some answer then 1 else 0) ≡ vec_len cur.unfinished → Polling first now new (i + 1) won
-  polling-none first now cur new i won (Some a) p lt e course left untold len = cc
-  polling-none first now cur new i won None p lt e course left untold len =
-      let P : Course → Type 0 = λ c. InTurn c.recorded now c.planner.attempts.items won in
-      let Q : Course → Type 0 = λ c. All (IsUnfinished connector trial c.planner.attempts.items) new.unfinished.items in
+  pub polling-none : (first : Recorder) (now : ℕ) (cur new : Live C Conn Run) (i : ℕ) (won : Bool) (answer : Option (Result Conn ConnectFault)) → Polling first now cur i won → i < vec_len cur.unfinished → answer ≡ None → Answers cur.recorder now answer new.recorder → All (IsUnfinished connector trial cur.recorder.underway.attempts) new.unfinished.items → are_untold new.recorder.recorded.outcomes new.unfinished.items ≡ true → vec_len new.unfinished + (if is_some answer then 1 else 0) ≡ vec_len cur.unfinished → Polling first now new (i + 1) won
+  polling-none first now cur new i won (Some a) p lt e recorder left untold len = cc
+  polling-none first now cur new i won None p lt e recorder left untold len =
+      let P : Recorder → Type 0 = λ c. InTurn c.recorded now c.underway.attempts won in
+      let Q : Recorder → Type 0 = λ c. All (IsUnfinished connector trial c.underway.attempts) new.unfinished.items in
       record {
-        turn = subst P (sym course) p.turn;
-        unfinished = subst Q (sym course) left;
+        turn = subst P (sym recorder) p.turn;
+        unfinished = subst Q (sym recorder) left;
         untold = untold;
-        polled = subst (Polled first) (sym course) p.polled;
+        polled = subst (Polled first) (sym recorder) p.polled;
         within = omega (arith, len);
       }
 
-  pub polling-some : (first : Course) (now : ℕ) (cur new : Live C Conn Run) (i : ℕ) (won more : Bool) (answer : Option (Result Conn ConnectFault)) (a : Result Conn ConnectFault) → Polling first now cur i won → i < vec_len cur.unfinished → answer ≡ Some a → more ≡ (won || is_connection a) → Answers cur.course now answer new.course → All (IsUnfinished connector trial cur.course.planner.attempts.items) new.unfinished.items → are_untold new.course.recorded.outcomes new.unfinished.items ≡ true → vec_len new.unfinished + (if is_some answer then 1 else 0) ≡ vec_len cur.unfinished → Polling first now new i more
-  polling-some first now cur new i won more None a p lt e m course left untold len = cc
-  polling-some first now cur new i won more (Some b) a p lt e m course left untold len =
+  pub polling-some : (first : Recorder) (now : ℕ) (cur new : Live C Conn Run) (i : ℕ) (won more : Bool) (answer : Option (Result Conn ConnectFault)) (a : Result Conn ConnectFault) → Polling first now cur i won → i < vec_len cur.unfinished → answer ≡ Some a → more ≡ (won || is_connection a) → Answers cur.recorder now answer new.recorder → All (IsUnfinished connector trial cur.recorder.underway.attempts) new.unfinished.items → are_untold new.recorder.recorded.outcomes new.unfinished.items ≡ true → vec_len new.unfinished + (if is_some answer then 1 else 0) ≡ vec_len cur.unfinished → Polling first now new i more
+  polling-some first now cur new i won more None a p lt e m recorder left untold len = cc
+  polling-some first now cur new i won more (Some b) a p lt e m recorder left untold len =
       let same : b ≡ a = cc in
-      let r : Records cur.course now a new.course = subst (λ (x : Result Conn ConnectFault). Records cur.course now x new.course) same course in
-      let Q : Course → Type 0 = λ c. All (IsUnfinished connector trial c.planner.attempts.items) new.unfinished.items in
+      let r : Records cur.recorder now a new.recorder = subst (λ (x : Result Conn ConnectFault). Records cur.recorder now x new.recorder) same recorder in
+      let turn : InTurn new.recorder.recorded now new.recorder.underway.attempts (won || is_connection a) = recorded-turn cur.recorder new.recorder now won a p.turn r in
+      let Q : Recorder → Type 0 = λ c. All (IsUnfinished connector trial c.underway.attempts) new.unfinished.items in
       record {
-        turn = subst (InTurn new.course.recorded now new.course.planner.attempts.items) (sym m) (recorded-turn cur.course new.course now won a p.turn r);
+        turn = subst (InTurn new.recorder.recorded now new.recorder.underway.attempts) (sym m) turn;
         unfinished = subst Q (sym r.is) left;
         untold = untold;
-        polled = polled-more first cur.course new.course now a p.polled r;
+        polled = polled-more first cur.recorder new.recorder now a turn.made.in_turn p.polled r;
         within = omega (arith, len);
       }
 

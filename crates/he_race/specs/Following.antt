@@ -1,5 +1,5 @@
--- What holds of a race that is run by a script, over a ticker that jumps from tick to tick: its record so far is the
--- script's, and nothing is passed over.
+-- Mirrors the code: what holds in the loop of `race_one`, which runs a race by a script over a ticker that jumps from tick
+-- to tick: its record so far is the script's, and nothing is passed over.
 use Rattle.std.specs.Prelude.{ℕ, ◌≡◌, ◌+◌, ◌<◌, ◌≤◌, ◌||◌, Bool, List, [], Option, Some, Result, Ok, Err, IfSome, IsTrue}
 use Rattle.std.specs.List.{All, Contains, list_all, list_any}
 use Rattle.he_addr.specs.Ip.{InRange, same_ip}
@@ -22,7 +22,7 @@ use Rattle.he_race.specs.declared.live.Raced.{Raced}
 use Rattle.he_race.specs.declared.live.Unfinished.{Unfinished}
 use Rattle.he_race.specs.declared.race.RaceFuture.{RaceFuture}
 use Rattle.he_race.specs.declared.scripted.ScriptedTrial.{ScriptedTrial}
-use Rattle.he_race.specs.Recording.{floor}
+use Rattle.he_race.specs.Recording.{first_after}
 use Rattle.he_race.specs.Running.{IsScripted, scripted_trial}
 use Rattle.he_race.specs.Scripted.{script_of}
 use Rattle.he_race.specs.Turns.{IsLive}
@@ -71,17 +71,17 @@ is_held os race x = list_any (λ o. same_ip o.attempt.ip x.ip) os || has_outcome
 
 -- a race, which is to be polled at a tick, as the script has it so far
 pub record Follows {C : Type 0} (script : Race) (live : Live C (Unit {0}) ScriptedTrial) (at : ℕ) : Type 0 where
-  pub alike : AreAlike script live.course.recorded
-  pub free : (t : ℕ) → IsFree script t → IsFree live.course.recorded t
-  pub in_turn : AreNextInTurn script live.course.planner.attempts.items
-  pub told : All (IsAsScripted script live.course.planner.attempts.items) live.course.recorded.outcomes
-  pub held : IsTrue (list_all (is_held live.unfinished.items live.course.recorded) live.course.planner.attempts.items)
-  pub aaaa : SeesAs script live.course.recorded (floor live.course.turn) script.aaaa
-  pub a : SeesAs script live.course.recorded (floor live.course.turn) script.a
-  pub connecting : All (IsConnecting script live.course.planner.attempts.items at) live.unfinished.items
-  pub later : floor live.course.turn ≤ at
+  pub alike : AreAlike script live.recorder.recorded
+  pub free : (t : ℕ) → IsFree script t → IsFree live.recorder.recorded t
+  pub in_turn : AreNextInTurn script live.recorder.underway.attempts
+  pub told : All (IsAsScripted script live.recorder.underway.attempts) live.recorder.recorded.outcomes
+  pub held : IsTrue (list_all (is_held live.unfinished.items live.recorder.recorded) live.recorder.underway.attempts)
+  pub aaaa : SeesAs script live.recorder.recorded (first_after live.recorder.turn) script.aaaa
+  pub a : SeesAs script live.recorder.recorded (first_after live.recorder.turn) script.a
+  pub connecting : All (IsConnecting script live.recorder.underway.attempts at) live.unfinished.items
+  pub later : first_after live.recorder.turn ≤ at
   pub awake : IsFree script at
-  pub due : (t : ℕ) → live.course.due ≤ t → IsFree script t → at ≤ t
+  pub due : (t : ℕ) → live.recorder.due ≤ t → IsFree script t → at ≤ t
 
 -- a future of such a race, after some turns, at the tick at which its ticker stands
 pub record IsUnderWay {C : Type 0} (connector : ConnectorOf C (Unit {0}) ScriptedTrial) (turns : ℕ) (race : RaceFuture C Wheel (Unit {0}) ScriptedTrial) : Type 0 where
@@ -92,7 +92,7 @@ pub record IsUnderWay {C : Type 0} (connector : ConnectorOf C (Unit {0}) Scripte
   pub scripted : IsScripted connector race.ticker.race race.connector
   pub follows : Follows race.ticker.race live race.ticker.at
   pub asked : race.ticker.asked ≡ []
-  pub turns_by : turns ≤ floor live.course.turn
+  pub turns_by : turns ≤ first_after live.recorder.turn
 
 -- what such a race gives: the script's transcript, unless memory is refused
 abbrev pub GivesScripts : Race → Result (Raced (Unit {0})) RaceFault → Type 0

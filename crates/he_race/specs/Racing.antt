@@ -9,7 +9,7 @@ use Rattle.he_race.specs.declared.faults.TickFault.{TickFault}
 use Rattle.he_race.specs.declared.faults.TickFault.TheVariants as clocks
 use Rattle.he_race.specs.declared.live.Live.{Live}
 use Rattle.he_race.specs.declared.live.Raced.{Raced}
-use Rattle.he_race.specs.declared.live.Step.TheVariants as steps
+use Rattle.he_race.specs.declared.live.AfterPoll.TheVariants as after_polls
 use Rattle.he_race.specs.declared.race.RaceFuture.{RaceFuture}
 use Rattle.he_race.specs.declared.ticker.Ticker.{Ghosts as TickerOf}
 use Rattle.he_race.specs.declared.trial.Trial.{Ghosts as TrialOf}
@@ -28,7 +28,7 @@ module _ {C Conn Run T : Type 0} (connector : ConnectorOf C Conn Run) (trial : T
     pub tells : ticker.tells old.ticker now told
     pub next : Live C Conn Run
     pub tick : ℕ
-    pub polled : PolledAt connector trial old.connector live now new.connector (steps.Waits next tick)
+    pub polled : PolledAt connector trial old.connector live now new.connector (after_polls.Waits next tick)
     pub asks : ticker.wakes told tick answer new.ticker
 
   pub record GoesOn (old : RaceFuture C T Conn Run) (live : Live C Conn Run) (new : RaceFuture C T Conn Run) : Type 0 where
@@ -39,7 +39,7 @@ module _ {C Conn Run T : Type 0} (connector : ConnectorOf C Conn Run) (trial : T
   pub record Ends (old : RaceFuture C T Conn Run) (live : Live C Conn Run) (new : RaceFuture C T Conn Run) (raced : Raced Conn) : Type 0 where
     pub now : ℕ
     pub tells : ticker.tells old.ticker now new.ticker
-    pub polled : PolledAt connector trial old.connector live now new.connector (steps.Ended raced)
+    pub polled : PolledAt connector trial old.connector live now new.connector (after_polls.Ended raced)
 
   -- a fault: the clock is lost only where the ticker says so
   abbrev pub Fails : RaceFuture C T Conn Run → Live C Conn Run → RaceFuture C T Conn Run → RaceFault → Type 0

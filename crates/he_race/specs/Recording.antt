@@ -1,5 +1,5 @@
--- What holds of a race that is being run, between two turns and in one: of what is recorded of it, and of the
--- attempts that were made.
+-- What a reader must believe of the record of a race that is being run: what holds of it between two turns and in one, and
+-- of the attempts that were made. The public contracts of `RaceFuture` cite it.
 use Rattle.std.specs.Prelude.{ℕ, ◌≡◌, ◌+◌, ◌<◌, ◌≤◌, ◌⊎◌, Bool, true, false, List, [], length, if◌then◌else◌, Option, Some, None, IfSome, IsTrue, nat_lt}
 use Rattle.std.specs.List.{All, Contains, list_all}
 use Rattle.he_plan.specs.declared.attempts.Attempt.{Attempt}
@@ -11,16 +11,16 @@ use Rattle.he_plan.specs.Attempts.{AreNextInTurn, IsFree, MayStart, is_tried}
 use Rattle.he_plan.specs.Building.{last_end, with_pause}
 use Rattle.he_plan.specs.Due.{IsAfterTurn, IsDueTick}
 use Rattle.he_plan.specs.Finish.{outcome_of}
-use Rattle.he_plan.specs.Planning.{IsPlanned, PlansNext}
 use Rattle.he_plan.specs.Race.{Race, Reply}
 use Rattle.he_plan.specs.Timeline.{IsRace}
-use Rattle.he_race.specs.declared.course.Course.{Course}
+use Rattle.he_plan.specs.Underway.{IsUnderway, MakesNext}
+use Rattle.he_race.specs.declared.recorder.Recorder.{Recorder}
 use Rattle.he_race.specs.Answered.{is_taken}
 
 -- the first tick after the last turn
-abbrev pub floor : Option ℕ → ℕ
-floor None = 0
-floor (Some turn) = turn + 1
+abbrev pub first_after : Option ℕ → ℕ
+first_after None = 0
+first_after (Some turn) = turn + 1
 
 -- the race's settings, policy, host and answers, before anything is recorded
 abbrev pub unrecorded : Race → Race
@@ -67,9 +67,9 @@ taken turn race = taken_of turn race.aaaa + taken_of turn race.a
 pub record Rests (race : Race) (turn : Option ℕ) (xs : List Attempt) : Type 0 where
   pub valid : IsRace race
   pub made : AreMade race xs
-  pub past : All (λ x. x.tick < floor turn) xs
-  pub over : last_end race.pauses ≤ floor turn
-  pub failed : All (λ x. IfSome (outcome_of race x.ip) (FailedBelow race (floor turn) x)) xs
+  pub past : All (λ x. x.tick < first_after turn) xs
+  pub over : last_end race.pauses ≤ first_after turn
+  pub failed : All (λ x. IfSome (outcome_of race x.ip) (FailedBelow race (first_after turn) x)) xs
   pub after : IsAfterTurn race turn xs
   pub few : length race.pauses ≤ taken turn race + length xs
 
@@ -112,10 +112,10 @@ abbrev pub slept : Race → ℕ → ℕ → Race
 slept race due now = if nat_lt due now then with_pause race due now else race
 
 -- what is kept of a race between two turns
-pub record IsCourse (c : Course) : Type 0 where
-  pub rests : Rests c.recorded c.turn c.planner.attempts.items
-  pub due : IsDueTick c.recorded c.turn c.planner.attempts.items c.due
-  pub planned : IsPlanned c.recorded c.planner.attempts.items c.planner.queue.v6 c.planner.queue.v4 c.planner.queue.ips.items c.planner.queue.next
+pub record IsRecorder (c : Recorder) : Type 0 where
+  pub rests : Rests c.recorded c.turn c.underway.attempts
+  pub due : IsDueTick c.recorded c.turn c.underway.attempts c.due
+  pub underway : IsUnderway c.recorded c.underway
 
 -- the race has ended, won or not
 pub record IsEnded (race : Race) (xs : List Attempt) (won : Bool) : Type 0 where
@@ -124,4 +124,4 @@ pub record IsEnded (race : Race) (xs : List Attempt) (won : Bool) : Type 0 where
 
 -- no attempt is made, or the next one at the tick
 abbrev pub MakesOne : Race → List Attempt → List Attempt → ℕ → Type 0
-MakesOne race xs all now = (all ≡ xs) ⊎ PlansNext race xs all now
+MakesOne race xs all now = (all ≡ xs) ⊎ MakesNext race xs all now

@@ -1,4 +1,5 @@
--- What a race that is being run keeps between two polls, and what it ends with.
+-- What a reader must believe of a race that is being run: what a turn does, what is kept between two polls, and what the
+-- race ends with. The public contracts of `RaceFuture` cite it.
 use Rattle.std.specs.Prelude.{ℕ, ◌≡◌, ◌+◌, ◌-◌, ◌<◌, ◌≤◌, ◌==◌, ◌&&◌, ◌||◌, ◌⊎◌, ◌++◌, ⊤, length, min, nat_le, not, Bool, true, false, IsTrue, MatchBool, List, [], ◌∷◌, slice_get, Option, Some, None, is_some, option_map, Result, Ok, Err}
 use Rattle.std.specs.List.{All, Contains, list_any, remove, slice_set}
 use Rattle.futures.specs.declared.task.Poll.{Poll}
@@ -9,15 +10,15 @@ use Rattle.he_plan.specs.declared.attempts.Attempt.{Attempt}
 use Rattle.he_plan.specs.declared.outcome.Outcome.{Outcome}
 use Rattle.he_plan.specs.Agreement.{AreAlike}
 use Rattle.he_plan.specs.Building.{with_outcome}
-use Rattle.he_plan.specs.Planning.{IsPlanned}
 use Rattle.he_plan.specs.Race.{Race, has_outcome}
 use Rattle.he_plan.specs.Timeline.{IsRace}
 use Rattle.he_plan.specs.Transcript.{IsTranscript}
+use Rattle.he_plan.specs.Underway.{IsUnderway}
 use Rattle.he_race.specs.declared.attempt.AttemptFuture.{AttemptFuture}
 use Rattle.he_race.specs.declared.attempt.AttemptFuture.TheVariants.{Sleeping}
 use Rattle.he_race.specs.declared.attempt.Finish.{Finish}
 use Rattle.he_race.specs.declared.connector.Connector.{Ghosts as ConnectorOf}
-use Rattle.he_race.specs.declared.course.Course.{Course}
+use Rattle.he_race.specs.declared.recorder.Recorder.{Recorder}
 use Rattle.he_race.specs.declared.faults.ConnectFault.{ConnectFault}
 use Rattle.he_race.specs.declared.faults.RaceFault.{RaceFault}
 use Rattle.he_race.specs.declared.faults.RaceFault.TheVariants as faults
@@ -25,12 +26,12 @@ use Rattle.he_race.specs.declared.limits.TheConstants.{MAX_POLL_TICK}
 use Rattle.he_race.specs.declared.live.Live.{Live}
 use Rattle.he_race.specs.declared.live.Unfinished.{Unfinished}
 use Rattle.he_race.specs.declared.live.Raced.{Raced}
-use Rattle.he_race.specs.declared.live.Step.{Step}
-use Rattle.he_race.specs.declared.live.Step.TheVariants as steps
+use Rattle.he_race.specs.declared.live.AfterPoll.{AfterPoll}
+use Rattle.he_race.specs.declared.live.AfterPoll.TheVariants as after_polls
 use Rattle.he_race.specs.declared.trial.Trial.{Ghosts as TrialOf}
 use Rattle.he_race.specs.Answered.{earliest, is_tried_out_by}
 use Rattle.he_race.specs.Attempt.{AttemptPolls, CanPoll, due_of}
-use Rattle.he_race.specs.Recording.{EndsRace, IsCourse, ended_by, is_won, slept, unrecorded}
+use Rattle.he_race.specs.Recording.{EndsRace, IsRecorder, ended_by, is_won, slept, unrecorded}
 
 -- an attempt's answer is a connection
 abbrev pub is_connection : {Conn : Type 0} → Result Conn ConnectFault → Bool
@@ -38,15 +39,15 @@ is_connection (Ok conn) = true
 is_connection (Err fault) = false
 
 -- at the tick an attempt of the race answered, and how it ended is recorded, after the ticks since its start
-pub record Records {Conn : Type 0} (old : Course) (now : ℕ) (answer : Result Conn ConnectFault) (new : Course) : Type 0 where
+pub record Records {Conn : Type 0} (old : Recorder) (now : ℕ) (answer : Result Conn ConnectFault) (new : Recorder) : Type 0 where
   pub x : Attempt
-  pub made : Contains old.planner.attempts.items x
+  pub made : Contains old.underway.attempts x
   pub first : has_outcome x.ip old.recorded.outcomes ≡ false
   pub is : new ≡ record old { recorded = with_outcome old.recorded x.ip (ended_by (is_connection answer) (now - x.tick)) }
   pub valid : IsRace new.recorded
 
 -- a pending attempt changes nothing of the record
-abbrev pub Answers : {Conn : Type 0} → Course → ℕ → Option (Result Conn ConnectFault) → Course → Type 0
+abbrev pub Answers : {Conn : Type 0} → Recorder → ℕ → Option (Result Conn ConnectFault) → Recorder → Type 0
 Answers old now None new = new ≡ old
 Answers old now (Some answer) new = Records old now answer new
 
@@ -67,20 +68,20 @@ GivesFrom None (Ok raced) = ⊥
 GivesFrom None (Err fault) = fault ≡ faults.Over
 
 abbrev pub GivesOf : {C Conn Run : Type 0} → Option (Live C Conn Run) → Result (Raced Conn) RaceFault → Type 0
-GivesOf {C} {Conn} {Run} live result = GivesFrom {Conn = Conn} (option_map (λ (x : Live C Conn Run). x.course.recorded) live) result
+GivesOf {C} {Conn} {Run} live result = GivesFrom {Conn = Conn} (option_map (λ (x : Live C Conn Run). x.recorder.recorded) live) result
 
 -- the race ends at the tick: it is won, or at its limit, or exhausted: no attempt is unfinished, and each usable
 -- address of both answers, which have come, was tried
-abbrev pub is_over : {X : Type 0} → Course → ℕ → List X → Bool → Bool
-is_over course now unfinished won =
-    won || (nat_le course.recorded.settings.limit now
+abbrev pub is_over : {X : Type 0} → Recorder → ℕ → List X → Bool → Bool
+is_over recorder now unfinished won =
+    won || (nat_le recorder.recorded.settings.limit now
     || ((length unfinished == 0)
-    && (is_tried_out_by now course.planner.attempts.items course.recorded.aaaa && is_tried_out_by now course.planner.attempts.items course.recorded.a)))
+    && (is_tried_out_by now recorder.underway.attempts recorder.recorded.aaaa && is_tried_out_by now recorder.underway.attempts recorder.recorded.a)))
 
--- the course with how an attempt ended: after the ticks since its start
-abbrev pub told : {Conn : Type 0} → Course → Attempt → ℕ → Result Conn ConnectFault → Course
-told course x now answer =
-    record course { recorded = with_outcome course.recorded x.ip (ended_by (is_connection answer) (now - x.tick)) }
+-- the record with how an attempt ended: after the ticks since its start
+abbrev pub told : {Conn : Type 0} → Recorder → Attempt → ℕ → Result Conn ConnectFault → Recorder
+told recorder x now answer =
+    record recorder { recorded = with_outcome recorder.recorded x.ip (ended_by (is_connection answer) (now - x.tick)) }
 
 -- the connection that there is, or else the answer's
 abbrev pub first_of : {Conn : Type 0} → Option Conn → Result Conn ConnectFault → Option Conn
@@ -92,13 +93,13 @@ first_of None (Err fault) = None
 -- pending, and the first connection
 pub record Sweep (C Conn Run : Type 0) : Type 0 where
   pub connector : C
-  pub course : Course
+  pub recorder : Recorder
   pub pending : List (Unfinished C Conn Run)
   pub first : Option Conn
 
 -- a turn that begins, in which nothing was polled yet
-abbrev pub unpolled : {C Conn Run : Type 0} → C → Course → Sweep C Conn Run
-unpolled c course = record { connector = c; course = course; pending = []; first = None }
+abbrev pub unpolled : {C Conn Run : Type 0} → C → Recorder → Sweep C Conn Run
+unpolled c recorder = record { connector = c; recorder = recorder; pending = []; first = None }
 
 -- no address of these attempts has an outcome, and none stands twice
 abbrev pub are_untold : {C Conn Run : Type 0} → List (Ip × Outcome) → List (Unfinished C Conn Run) → Bool
@@ -108,14 +109,14 @@ are_untold told (o ∷ os) =
 
 -- a race before its first turn: nothing is recorded, and no attempt was made
 pub record IsNew {C Conn Run : Type 0} (race : Race) (live : Live C Conn Run) : Type 0 where
-  pub recorded : live.course.recorded ≡ unrecorded race
-  pub turn : live.course.turn ≡ None
-  pub attempts : live.course.planner.attempts.items ≡ []
+  pub recorded : live.recorder.recorded ≡ unrecorded race
+  pub turn : live.recorder.turn ≡ None
+  pub attempts : live.recorder.underway.attempts ≡ []
   pub unfinished : live.unfinished.items ≡ []
 
 -- a turn begins: the client slept from the due tick on
 abbrev pub begun : {C Conn Run : Type 0} → C → Live C Conn Run → ℕ → Sweep C Conn Run
-begun c live now = unpolled c (record live.course { recorded = slept live.course.recorded live.course.due now })
+begun c live now = unpolled c (record live.recorder { recorded = slept live.recorder.recorded live.recorder.due now })
 
 module _ {C Conn Run : Type 0} (connector : ConnectorOf C Conn Run) (trial : TrialOf Run Conn) where
   -- an attempt of the race that may be polled
@@ -125,9 +126,9 @@ module _ {C Conn Run : Type 0} (connector : ConnectorOf C Conn Run) (trial : Tri
 
   -- what is kept between two polls
   pub record IsLive (live : Live C Conn Run) : Type 0 where
-    pub course : IsCourse live.course
-    pub unfinished : All (IsUnfinished live.course.planner.attempts.items) live.unfinished.items
-    pub untold : IsTrue (are_untold live.course.recorded.outcomes live.unfinished.items)
+    pub recorder : IsRecorder live.recorder
+    pub unfinished : All (IsUnfinished live.recorder.underway.attempts) live.unfinished.items
+    pub untold : IsTrue (are_untold live.recorder.recorded.outcomes live.unfinished.items)
 
   -- the least of the due tick and the ticks at which an unfinished attempt is due
   abbrev pub asked_tick : ℕ → List (Unfinished C Conn Run) → ℕ
@@ -139,7 +140,7 @@ module _ {C Conn Run : Type 0} (connector : ConnectorOf C Conn Run) (trial : Tri
   abbrev pub after_poll : Sweep C Conn Run → Unfinished C Conn Run → ℕ → Poll (Finish Conn) → C → AttemptFuture C Conn Run → Sweep C Conn Run
   after_poll s o now Pending c future = record s { connector = c; pending = s.pending ++ record o { future = future } ∷ [] }
   after_poll s o now (Ready f) c future =
-      record s { connector = c; course = told s.course o.attempt now f.result; first = first_of s.first f.result }
+      record s { connector = c; recorder = told s.recorder o.attempt now f.result; first = first_of s.first f.result }
 
   -- each of the attempts is polled once at the tick: with the answer, the connector and the state that the poll
   -- leaves
@@ -153,9 +154,9 @@ module _ {C Conn Run : Type 0} (connector : ConnectorOf C Conn Run) (trial : Tri
   -- the attempt that stands at `i`, the answer of its poll, and what is left of it
   abbrev pub LeftBy : Live C Conn Run → ℕ → ℕ → Unfinished C Conn Run → Poll (Finish Conn) → AttemptFuture C Conn Run → Option (Result Conn ConnectFault) → Live C Conn Run → Type 0
   LeftBy old i now o Pending future answer new =
-      (answer ≡ None) × (new.course ≡ old.course) × (new.unfinished.items ≡ slice_set old.unfinished.items i (record o { future = future }))
+      (answer ≡ None) × (new.recorder ≡ old.recorder) × (new.unfinished.items ≡ slice_set old.unfinished.items i (record o { future = future }))
   LeftBy old i now o (Ready f) future answer new =
-      (answer ≡ Some f.result) × (new.course ≡ told old.course o.attempt now f.result)
+      (answer ≡ Some f.result) × (new.recorder ≡ told old.recorder o.attempt now f.result)
       × (new.unfinished.items ≡ remove (slice_set old.unfinished.items i (record o { future = future })) i)
 
   -- the attempt that stands at `i` is polled once
@@ -200,85 +201,85 @@ module _ {C Conn Run : Type 0} (connector : ConnectorOf C Conn Run) (trial : Tri
 
   -- the end of a turn that goes on: the attempt that is due begins
   pub record Continues (c : C) (old : Live C Conn Run) (now : ℕ) (c' : C) (new : Live C Conn Run) (tick : ℕ) : Type 0 where
-    pub recorded : new.course.recorded ≡ old.course.recorded
-    pub starts : StartsOne c now old.course.planner.attempts.items new.course.planner.attempts.items old.unfinished.items c' new.unfinished.items
+    pub recorded : new.recorder.recorded ≡ old.recorder.recorded
+    pub starts : StartsOne c now old.recorder.underway.attempts new.recorder.underway.attempts old.unfinished.items c' new.unfinished.items
     pub kept : IsLive new
-    pub turn : new.course.turn ≡ Some now
-    pub asked : tick ≡ asked_tick new.course.due new.unfinished.items
+    pub turn : new.recorder.turn ≡ Some now
+    pub asked : tick ≡ asked_tick new.recorder.due new.unfinished.items
 
-  abbrev pub GoesOn : C → Live C Conn Run → ℕ → C → Step C Conn Run → Type 0
-  GoesOn c old now c' (steps.Ended raced) = ⊥
-  GoesOn c old now c' (steps.Waits new tick) = Continues c old now c' new tick
+  abbrev pub GoesOn : C → Live C Conn Run → ℕ → C → AfterPoll C Conn Run → Type 0
+  GoesOn c old now c' (after_polls.Ended raced) = ⊥
+  GoesOn c old now c' (after_polls.Waits new tick) = Continues c old now c' new tick
 
   -- a turn that goes on: each unfinished attempt was polled, the race is not over, and the attempt that is due begins
   pub record Goes (from : Sweep C Conn Run) (os : List (Unfinished C Conn Run)) (now : ℕ) (c' : C) (new : Live C Conn Run) (tick : ℕ) : Type 0 where
     pub swept : Sweep C Conn Run
     pub polled : ArePolled now from os swept
-    pub going : is_over swept.course now swept.pending (is_some swept.first) ≡ false
-    pub recorded : new.course.recorded ≡ swept.course.recorded
-    pub starts : StartsOne swept.connector now swept.course.planner.attempts.items new.course.planner.attempts.items swept.pending c' new.unfinished.items
+    pub going : is_over swept.recorder now swept.pending (is_some swept.first) ≡ false
+    pub recorded : new.recorder.recorded ≡ swept.recorder.recorded
+    pub starts : StartsOne swept.connector now swept.recorder.underway.attempts new.recorder.underway.attempts swept.pending c' new.unfinished.items
     pub kept : IsLive new
-    pub alike : AreAlike from.course.recorded new.course.recorded
-    pub pauses : new.course.recorded.pauses ≡ from.course.recorded.pauses
-    pub turn : new.course.turn ≡ Some now
-    pub asked : tick ≡ asked_tick new.course.due new.unfinished.items
+    pub alike : AreAlike from.recorder.recorded new.recorder.recorded
+    pub pauses : new.recorder.recorded.pauses ≡ from.recorder.recorded.pauses
+    pub turn : new.recorder.turn ≡ Some now
+    pub asked : tick ≡ asked_tick new.recorder.due new.unfinished.items
 
   -- a turn after which the race is over, since each unfinished attempt was polled
   pub record EndsPolled (from : Sweep C Conn Run) (os : List (Unfinished C Conn Run)) (now : ℕ) (c' : C) (raced : Raced Conn) : Type 0 where
     pub swept : Sweep C Conn Run
     pub polled : ArePolled now from os swept
-    pub over : is_over swept.course now swept.pending (is_some swept.first) ≡ true
-    pub ended : EndsRace swept.course.recorded now swept.course.planner.attempts.items (is_some swept.first)
+    pub over : is_over swept.recorder now swept.pending (is_some swept.first) ≡ true
+    pub ended : EndsRace swept.recorder.recorded now swept.recorder.underway.attempts (is_some swept.first)
     pub still : c' ≡ swept.connector
-    pub recorded : raced.recorded ≡ swept.course.recorded
+    pub recorded : raced.recorded ≡ swept.recorder.recorded
     pub winner : raced.winner ≡ swept.first
-    pub replays : Replays from.course.recorded raced
-    pub pauses : raced.recorded.pauses ≡ from.course.recorded.pauses
+    pub replays : Replays from.recorder.recorded raced
+    pub pauses : raced.recorded.pauses ≡ from.recorder.recorded.pauses
 
   -- past the limit the race ends, and nothing is polled
   pub record EndsLate (from : Sweep C Conn Run) (now : ℕ) (c' : C) (raced : Raced Conn) : Type 0 where
-    pub late : from.course.recorded.settings.limit < now
-    pub ended : EndsRace from.course.recorded from.course.recorded.settings.limit from.course.planner.attempts.items false
+    pub late : from.recorder.recorded.settings.limit < now
+    pub ended : EndsRace from.recorder.recorded from.recorder.recorded.settings.limit from.recorder.underway.attempts false
     pub still : c' ≡ from.connector
-    pub recorded : raced.recorded ≡ from.course.recorded
+    pub recorded : raced.recorded ≡ from.recorder.recorded
     pub winner : raced.winner ≡ None
-    pub replays : Replays from.course.recorded raced
+    pub replays : Replays from.recorder.recorded raced
 
   -- a turn at or before the limit, once what was slept is recorded
-  abbrev pub TurnsFrom : Sweep C Conn Run → List (Unfinished C Conn Run) → ℕ → C → Step C Conn Run → Type 0
-  TurnsFrom from os now c' (steps.Ended raced) = EndsPolled from os now c' raced
-  TurnsFrom from os now c' (steps.Waits new tick) = Goes from os now c' new tick
+  abbrev pub TurnsFrom : Sweep C Conn Run → List (Unfinished C Conn Run) → ℕ → C → AfterPoll C Conn Run → Type 0
+  TurnsFrom from os now c' (after_polls.Ended raced) = EndsPolled from os now c' raced
+  TurnsFrom from os now c' (after_polls.Waits new tick) = Goes from os now c' new tick
 
   -- a turn at the tick ends the race or goes on
-  abbrev pub Turned : C → Live C Conn Run → ℕ → C → Step C Conn Run → Type 0
-  Turned c live now c' (steps.Ended raced) =
+  abbrev pub Turned : C → Live C Conn Run → ℕ → C → AfterPoll C Conn Run → Type 0
+  Turned c live now c' (after_polls.Ended raced) =
       EndsLate (begun c live now) now c' raced ⊎ EndsPolled (begun c live now) live.unfinished.items now c' raced
-  Turned c live now c' (steps.Waits new tick) = Goes (begun c live now) live.unfinished.items now c' new tick
+  Turned c live now c' (after_polls.Waits new tick) = Goes (begun c live now) live.unfinished.items now c' new tick
 
   -- a poll takes a turn where none was at the tick or later; else nothing changes, and the tick after the last turn
   -- is asked for
-  abbrev pub PolledFrom : Option ℕ → C → Live C Conn Run → ℕ → C → Step C Conn Run → Type 0
+  abbrev pub PolledFrom : Option ℕ → C → Live C Conn Run → ℕ → C → AfterPoll C Conn Run → Type 0
   PolledFrom None c live now c' step = Turned c live now c' step
   PolledFrom (Some turn) c live now c' step =
-      MatchBool (nat_le now turn) ((c' ≡ c) × (step ≡ steps.Waits live (turn + 1))) (Turned c live now c' step)
+      MatchBool (nat_le now turn) ((c' ≡ c) × (step ≡ after_polls.Waits live (turn + 1))) (Turned c live now c' step)
 
   -- a poll at the tick; a tick past the limit counts as the one after it
-  abbrev pub PolledAt : C → Live C Conn Run → ℕ → C → Step C Conn Run → Type 0
-  PolledAt c live now c' step = PolledFrom live.course.turn c live (min now (live.course.recorded.settings.limit + 1)) c' step
+  abbrev pub PolledAt : C → Live C Conn Run → ℕ → C → AfterPoll C Conn Run → Type 0
+  PolledAt c live now c' step = PolledFrom live.recorder.turn c live (min now (live.recorder.recorded.settings.limit + 1)) c' step
 
 -- the tick that is asked for may be
-abbrev pub AsksInTime : {C Conn Run : Type 0} → Step C Conn Run → Type 0
-AsksInTime (steps.Ended raced) = ⊤
-AsksInTime (steps.Waits new tick) = tick ≤ MAX_POLL_TICK
+abbrev pub AsksInTime : {C Conn Run : Type 0} → AfterPoll C Conn Run → Type 0
+AsksInTime (after_polls.Ended raced) = ⊤
+AsksInTime (after_polls.Waits new tick) = tick ≤ MAX_POLL_TICK
 
 -- the race has ended, with this record and this connection
-abbrev pub EndsWith : {C Conn Run : Type 0} → Race → Option Conn → Step C Conn Run → Type 0
-EndsWith race winner (steps.Ended raced) = Replays race raced × (raced.recorded ≡ race) × (raced.winner ≡ winner)
-EndsWith race winner (steps.Waits new tick) = ⊥
+abbrev pub EndsWith : {C Conn Run : Type 0} → Race → Option Conn → AfterPoll C Conn Run → Type 0
+EndsWith race winner (after_polls.Ended raced) = Replays race raced × (raced.recorded ≡ race) × (raced.winner ≡ winner)
+EndsWith race winner (after_polls.Waits new tick) = ⊥
 
 -- after all attempts were polled: outcomes are recorded, and nothing else has changed
-pub record Polled (old new : Course) : Type 0 where
+pub record Polled (old new : Recorder) : Type 0 where
   pub is : new ≡ record old { recorded = new.recorded }
   pub alike : AreAlike old.recorded new.recorded
   pub pauses : new.recorded.pauses ≡ old.recorded.pauses
-  pub planned : IsPlanned old.recorded old.planner.attempts.items old.planner.queue.v6 old.planner.queue.v4 old.planner.queue.ips.items old.planner.queue.next → IsPlanned new.recorded old.planner.attempts.items old.planner.queue.v6 old.planner.queue.v4 old.planner.queue.ips.items old.planner.queue.next
+  pub underway : IsUnderway old.recorded old.underway → IsUnderway new.recorded old.underway

@@ -89,7 +89,7 @@
 //!   took no turn, for the tick after the last one; `Clock` comes only where the ticker answered Lost; after its
 //!   answer, and only then, a race is over (`RacePolls` in `specs/Racing.antt`).
 //! - No call that a race makes of the builder of its record can be refused for another cause than memory
-//!   (`only_memory` in `src/course.rt`): for each pause an answer was taken or an attempt made, so there are at most
+//!   (`only_memory` in `src/recorder.rt`): for each pause an answer was taken or an attempt made, so there are at most
 //!   131; an unfinished attempt is at an address of an answer, has no outcome and stands once; an outcome lasts at
 //!   most to the limit.
 //! - A trial of `Scripted` that begins at `s` answers its address's outcome, of duration `d`, at polls from `s + d`
@@ -108,12 +108,12 @@
 mod alone;
 pub mod attempt;
 pub mod connector;
-mod course;
 pub mod faults;
 pub mod limits;
 mod live;
 pub mod one;
 pub mod race;
+mod recorder;
 pub mod run;
 pub mod scripted;
 pub mod ticker;

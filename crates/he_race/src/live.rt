@@ -4,16 +4,16 @@ ghost use Rattle.std.specs.Prelude.{All, if◌then◌else◌, ◌≡◌, ◌+◌
 ghost use Rattle.futures.specs.Task.{Keeps};
 ghost use Rattle.he_plan.specs.declared.limits.TheConstants.{MAX_LIMIT};
 ghost use Rattle.he_plan.specs.Agreement.{AreAlike};
-ghost use Rattle.he_plan.specs.Planning.{IsPlanned};
+ghost use Rattle.he_plan.specs.Underway.{IsUnderway};
 ghost use Rattle.he_race.specs.declared.limits.TheConstants.{MAX_POLL_TICK};
 ghost use Rattle.he_race.specs.Attempt.{CanPoll};
-ghost use Rattle.he_race.specs.Recording.{InTurn, IsEnded, floor, unrecorded};
+ghost use Rattle.he_race.specs.Recording.{InTurn, IsEnded, first_after, unrecorded};
 ghost use Rattle.he_race.specs.Turns.{Answers, ArePolled, AsksInTime, BeginsAt, BeginsFrom, EndsWith, GoesOn, IsLive, IsNew, IsUnfinished, Polled, PolledAt, PollsAt, Turned, TurnsFrom, are_untold, asked_tick, first_of, is_connection, is_over, unpolled};
 
 use crate::attempt::{AttemptFuture, Finish};
 use crate::connector::Connector;
-use crate::course::Course;
 use crate::faults::ConnectFault;
+use crate::recorder::Recorder;
 use futures::task::{Context, Poll};
 use he_addr::Memory;
 use he_plan::{Attempt, Timeline, Transcript};
@@ -29,7 +29,7 @@ pub(crate) struct Unfinished<C: Connector> {
 
 #[derive(Drop)]
 pub(crate) struct Live<C: Connector> {
-    pub(crate) course: Course,
+    pub(crate) recorder: Recorder,
     pub(crate) unfinished: Vec<Unfinished<C>>,
 }
 
@@ -46,7 +46,7 @@ pub struct Raced<Conn> {
 
 // What a poll comes to, where no memory is refused: the race has ended, or it goes on and is to be polled at a tick.
 #[derive(Drop)]
-pub(crate) enum Step<C: Connector> {
+pub(crate) enum AfterPoll<C: Connector> {
     Ended(Raced<C::Conn>),
     Waits(Live<C>, u64),
 }
@@ -57,11 +57,11 @@ impl<C: Connector> Live<C> {
         timeline: &Timeline<A>,
     ) -> Result<Live<C>, Memory>
         ensures live { IfOk result (IsLive C.Connector C.Run.Trial) }
-        ensures recorded { IfOk result (λ live. live.course.recorded ≡ unrecorded timeline.now) }
+        ensures recorded { IfOk result (λ live. live.recorder.recorded ≡ unrecorded timeline.now) }
         ensures first { IfOk result (IsNew timeline.now) }
     {
         Ok(Live {
-            course: Course::new(alloc, timeline)?,
+            recorder: Recorder::new(alloc, timeline)?,
             unfinished: Vec::new(alloc),
         })
     }
@@ -72,16 +72,16 @@ impl<C: Connector> Live<C> {
         now: u64,
         connector: &mut C,
         cx: &mut Context<'_>,
-    ) -> Result<Step<C>, Memory>
+    ) -> Result<AfterPoll<C>, Memory>
         requires { IsLive C.Connector C.Run.Trial self }
         ensures polled { IfOk result (PolledAt C.Connector C.Run.Trial connector.old self now connector.new) }
         ensures in_time { IfOk result AsksInTime }
         ensures kept { Keeps cx.old cx.new }
     {
-        let limit = self.course.limit();
+        let limit = self.recorder.limit();
         let now = now.min(limit + 1);
-        match self.course.turn {
-            Some(turn) if now <= turn => Ok(Step::Waits(self, turn + 1)),
+        match self.recorder.turn {
+            Some(turn) if now <= turn => Ok(AfterPoll::Waits(self, turn + 1)),
             _ => self.take_turn(now, connector, cx),
         }
     }
@@ -92,15 +92,15 @@ impl<C: Connector> Live<C> {
         now: u64,
         connector: &mut C,
         cx: &mut Context<'_>,
-    ) -> Result<Step<C>, Memory>
+    ) -> Result<AfterPoll<C>, Memory>
         requires live { IsLive C.Connector C.Run.Trial self }
-        requires later { floor self.course.turn ≤ now }
-        requires in_time { now ≤ self.course.recorded.settings.limit + 1 }
+        requires later { first_after self.recorder.turn ≤ now }
+        requires in_time { now ≤ self.recorder.recorded.settings.limit + 1 }
         ensures turned { IfOk result (Turned C.Connector C.Run.Trial connector.old self now connector.new) }
         ensures kept { Keeps cx.old cx.new }
     {
-        let limit = self.course.limit();
-        match self.course.begin_turn(now) {
+        let limit = self.recorder.limit();
+        match self.recorder.begin_turn(now) {
             Err(fault) => {
                 drop(self);
                 Err(fault)
@@ -120,13 +120,13 @@ impl<C: Connector> Live<C> {
         now: u64,
         connector: &mut C,
         cx: &mut Context<'_>,
-    ) -> Result<Step<C>, Memory>
-        requires turn { InTurn self.course.recorded now self.course.planner.attempts.items false }
-        requires planned { IsPlanned self.course.recorded self.course.planner.attempts.items self.course.planner.queue.v6 self.course.planner.queue.v4 self.course.planner.queue.ips.items self.course.planner.queue.next }
-        requires unfinished { All (IsUnfinished C.Connector C.Run.Trial self.course.planner.attempts.items) self.unfinished.items }
-        requires untold { are_untold self.course.recorded.outcomes self.unfinished.items ≡ true }
-        requires early { now ≤ self.course.recorded.settings.limit }
-        ensures turned { IfOk result (TurnsFrom C.Connector C.Run.Trial (unpolled connector.old self.course) self.unfinished.items now connector.new) }
+    ) -> Result<AfterPoll<C>, Memory>
+        requires turn { InTurn self.recorder.recorded now self.recorder.underway.attempts false }
+        requires underway { IsUnderway self.recorder.recorded self.recorder.underway }
+        requires unfinished { All (IsUnfinished C.Connector C.Run.Trial self.recorder.underway.attempts) self.unfinished.items }
+        requires untold { are_untold self.recorder.recorded.outcomes self.unfinished.items ≡ true }
+        requires early { now ≤ self.recorder.recorded.settings.limit }
+        ensures turned { IfOk result (TurnsFrom C.Connector C.Run.Trial (unpolled connector.old self.recorder) self.unfinished.items now connector.new) }
         ensures kept { Keeps cx.old cx.new }
     {
         match self.poll_all(now, connector, cx) {
@@ -152,15 +152,15 @@ impl<C: Connector> Live<C> {
         connector: &mut C,
         cx: &mut Context<'_>,
     ) -> Result<Option<C::Conn>, Memory>
-        requires turn { InTurn self.old.course.recorded now self.old.course.planner.attempts.items false }
-        requires unfinished { All (IsUnfinished C.Connector C.Run.Trial self.old.course.planner.attempts.items) self.old.unfinished.items }
-        requires untold { are_untold self.old.course.recorded.outcomes self.old.unfinished.items ≡ true }
+        requires turn { InTurn self.old.recorder.recorded now self.old.recorder.underway.attempts false }
+        requires unfinished { All (IsUnfinished C.Connector C.Run.Trial self.old.recorder.underway.attempts) self.old.unfinished.items }
+        requires untold { are_untold self.old.recorder.recorded.outcomes self.old.unfinished.items ≡ true }
         requires in_time { now ≤ MAX_LIMIT }
-        ensures turn { IfOk result (λ won. InTurn self.new.course.recorded now self.new.course.planner.attempts.items (is_some won)) }
-        ensures unfinished { OnOk result (All (IsUnfinished C.Connector C.Run.Trial self.new.course.planner.attempts.items) self.new.unfinished.items) }
-        ensures untold { OnOk result (are_untold self.new.course.recorded.outcomes self.new.unfinished.items ≡ true) }
-        ensures course { OnOk result (Polled self.old.course self.new.course) }
-        ensures each { IfOk result (λ won. ArePolled C.Connector C.Run.Trial now (unpolled connector.old self.old.course) self.old.unfinished.items (record { connector = connector.new; course = self.new.course; pending = self.new.unfinished.items; first = won })) }
+        ensures turn { IfOk result (λ won. InTurn self.new.recorder.recorded now self.new.recorder.underway.attempts (is_some won)) }
+        ensures unfinished { OnOk result (All (IsUnfinished C.Connector C.Run.Trial self.new.recorder.underway.attempts) self.new.unfinished.items) }
+        ensures untold { OnOk result (are_untold self.new.recorder.recorded.outcomes self.new.unfinished.items ≡ true) }
+        ensures recorder { OnOk result (Polled self.old.recorder self.new.recorder) }
+        ensures each { IfOk result (λ won. ArePolled C.Connector C.Run.Trial now (unpolled connector.old self.old.recorder) self.old.unfinished.items (record { connector = connector.new; recorder = self.new.recorder; pending = self.new.unfinished.items; first = won })) }
         ensures kept { Keeps cx.old cx.new }
     {
         let mut winner = None;
@@ -183,13 +183,13 @@ impl<C: Connector> Live<C> {
         cx: &mut Context<'_>,
     ) -> Result<Option<Result<C::Conn, ConnectFault>>, Memory>
         requires below { i < vec_len self.old.unfinished }
-        requires turn { (won : Bool) × InTurn self.old.course.recorded now self.old.course.planner.attempts.items won }
-        requires unfinished { All (IsUnfinished C.Connector C.Run.Trial self.old.course.planner.attempts.items) self.old.unfinished.items }
-        requires untold { are_untold self.old.course.recorded.outcomes self.old.unfinished.items ≡ true }
+        requires turn { (won : Bool) × InTurn self.old.recorder.recorded now self.old.recorder.underway.attempts won }
+        requires unfinished { All (IsUnfinished C.Connector C.Run.Trial self.old.recorder.underway.attempts) self.old.unfinished.items }
+        requires untold { are_untold self.old.recorder.recorded.outcomes self.old.unfinished.items ≡ true }
         requires in_time { now ≤ MAX_LIMIT }
-        ensures course { IfOk result (λ answer. Answers self.old.course now answer self.new.course) }
-        ensures unfinished { OnOk result (All (IsUnfinished C.Connector C.Run.Trial self.old.course.planner.attempts.items) self.new.unfinished.items) }
-        ensures untold { OnOk result (are_untold self.new.course.recorded.outcomes self.new.unfinished.items ≡ true) }
+        ensures recorder { IfOk result (λ answer. Answers self.old.recorder now answer self.new.recorder) }
+        ensures unfinished { OnOk result (All (IsUnfinished C.Connector C.Run.Trial self.old.recorder.underway.attempts) self.new.unfinished.items) }
+        ensures untold { OnOk result (are_untold self.new.recorder.recorded.outcomes self.new.unfinished.items ≡ true) }
         ensures step { IfOk result (λ answer. PollsAt C.Connector C.Run.Trial connector.old self.old i now answer connector.new self.new) }
         ensures left { IfOk result (λ answer. vec_len self.new.unfinished + (if is_some answer then 1 else 0) ≡ vec_len self.old.unfinished) }
         ensures kept { Keeps cx.old cx.new }
@@ -202,7 +202,7 @@ impl<C: Connector> Live<C> {
                     tick: _,
                     result: answer,
                 } = finish;
-                self.course.finish(attempt, now, answer.is_ok())?;
+                self.recorder.finish(attempt, now, answer.is_ok())?;
                 drop(self.unfinished.remove(i));
                 Ok(Some(answer))
             }
@@ -212,60 +212,84 @@ impl<C: Connector> Live<C> {
     // Whether the race ends at the tick: it is won, at its limit, or exhausted, since nothing is left to wait for or
     // to try.
     fn is_over(&self, now: u64, is_won: bool) -> bool
-        ensures { result ≡ is_over self.now.course now self.now.unfinished.items is_won }
+        ensures { result ≡ is_over self.now.recorder now self.now.unfinished.items is_won }
     {
         is_won
-            || now >= self.course.limit()
-            || (self.unfinished.is_empty() && self.course.is_tried_out(now))
+            || now >= self.recorder.limit()
+            || (self.unfinished.is_empty() && self.recorder.is_tried_out(now))
     }
 
     // Ends a turn that goes on: the attempt that is due at the tick, if one is, begins at once.
-    fn end_turn(self, now: u64, connector: &mut C, cx: &mut Context<'_>) -> Result<Step<C>, Memory>
-        requires in_turn { InTurn self.course.recorded now self.course.planner.attempts.items false }
-        requires planned { IsPlanned self.course.recorded self.course.planner.attempts.items self.course.planner.queue.v6 self.course.planner.queue.v4 self.course.planner.queue.ips.items self.course.planner.queue.next }
-        requires unfinished { All (IsUnfinished C.Connector C.Run.Trial self.course.planner.attempts.items) self.unfinished.items }
-        requires untold { are_untold self.course.recorded.outcomes self.unfinished.items ≡ true }
-        requires early { now < self.course.recorded.settings.limit }
+    fn end_turn(
+        self,
+        now: u64,
+        connector: &mut C,
+        cx: &mut Context<'_>,
+    ) -> Result<AfterPoll<C>, Memory>
+        requires in_turn { InTurn self.recorder.recorded now self.recorder.underway.attempts false }
+        requires underway { IsUnderway self.recorder.recorded self.recorder.underway }
+        requires unfinished { All (IsUnfinished C.Connector C.Run.Trial self.recorder.underway.attempts) self.unfinished.items }
+        requires untold { are_untold self.recorder.recorded.outcomes self.unfinished.items ≡ true }
+        requires early { now < self.recorder.recorded.settings.limit }
         ensures on { IfOk result (GoesOn C.Connector C.Run.Trial connector.old self now connector.new) }
         ensures kept { Keeps cx.old cx.new }
     {
-        let Live { course, unfinished } = self;
-        let made = course.planner.attempts().len();
-        match course.end_turn(now) {
+        let Live {
+            mut recorder,
+            unfinished,
+        } = self;
+        let made = recorder.underway.attempts().len();
+        match recorder.end_turn(now) {
             Err(fault) => {
                 drop(unfinished);
+                drop(recorder);
                 Err(fault)
             }
-            Ok(course) => {
-                match with_made(unfinished, course.planner.attempts(), made, connector, cx) {
+            Ok(()) => {
+                match with_made(
+                    unfinished,
+                    recorder.underway.attempts(),
+                    made,
+                    connector,
+                    cx,
+                ) {
                     Err(fault) => {
-                        drop(course);
+                        drop(recorder);
                         Err(fault)
                     }
                     Ok(unfinished) => {
-                        let tick = next_tick(course.due, &unfinished);
-                        Ok(Step::Waits(Live { course, unfinished }, tick))
+                        let tick = next_tick(recorder.due, &unfinished);
+                        Ok(AfterPoll::Waits(
+                            Live {
+                                recorder,
+                                unfinished,
+                            },
+                            tick,
+                        ))
                     }
                 }
             }
         }
     }
 
-    fn end(self, winner: Option<C::Conn>) -> Result<Step<C>, Memory>
-        requires { IsEnded self.course.recorded self.course.planner.attempts.items (is_some winner) }
-        ensures { IfOk result (EndsWith self.course.recorded winner) }
+    fn end(self, winner: Option<C::Conn>) -> Result<AfterPoll<C>, Memory>
+        requires { IsEnded self.recorder.recorded self.recorder.underway.attempts (is_some winner) }
+        ensures { IfOk result (EndsWith self.recorder.recorded winner) }
     {
-        let Live { course, unfinished } = self;
+        let Live {
+            recorder,
+            unfinished,
+        } = self;
         drop(unfinished);
-        match course.transcript() {
+        match recorder.transcript() {
             Err(fault) => {
-                drop(course);
+                drop(recorder);
                 drop(winner);
                 Err(fault)
             }
-            Ok(transcript) => Ok(Step::Ended(Raced {
+            Ok(transcript) => Ok(AfterPoll::Ended(Raced {
                 transcript,
-                recorded: course.into_record(),
+                recorded: recorder.into_record(),
                 winner,
             })),
         }

@@ -11,7 +11,7 @@ ghost use Rattle.he_race.specs.Turns.{GivesOf, IsLive, IsNew};
 
 use crate::connector::Connector;
 use crate::faults::{RaceFault, TickFault};
-use crate::live::{Live, Raced, Step};
+use crate::live::{AfterPoll, Live, Raced};
 use crate::ticker::Ticker;
 use futures::Future;
 use futures::task::{Context, Poll};
@@ -41,7 +41,7 @@ impl<C: Connector, T: Ticker> RaceFuture<C, T> {
         ensures connector { IfOk result (λ race. race.connector ≡ connector) }
         ensures ticker { IfOk result (λ race. race.ticker ≡ ticker) }
         ensures live { IfOk result (λ race. IsSomeAnd race.live (IsLive C.Connector C.Run.Trial)) }
-        ensures recorded { IfOk result (λ race. IsSomeAnd race.live (λ live. live.course.recorded ≡ unrecorded timeline.now)) }
+        ensures recorded { IfOk result (λ race. IsSomeAnd race.live (λ live. live.recorder.recorded ≡ unrecorded timeline.now)) }
         ensures first { IfOk result (λ race. IsSomeAnd race.live (IsNew timeline.now)) }
     {
         let live = Live::new(alloc, timeline)?;
@@ -87,8 +87,8 @@ impl<C: Connector, T: Ticker> Future for RaceFuture<C, T> {
         let now = self.ticker.now();
         match live.step(now, &mut self.connector, cx) {
             Err(_) => Poll::Ready(Err(RaceFault::Memory)),
-            Ok(Step::Ended(raced)) => Poll::Ready(Ok(raced)),
-            Ok(Step::Waits(live, tick)) => match self.ticker.wake_at(tick, cx) {
+            Ok(AfterPoll::Ended(raced)) => Poll::Ready(Ok(raced)),
+            Ok(AfterPoll::Waits(live, tick)) => match self.ticker.wake_at(tick, cx) {
                 Ok(()) => {
                     put(&mut self.live, live);
                     Poll::Pending

@@ -2,7 +2,7 @@ use Rattle.std.proofs.Common.{◌≡◌, ◌∙◌, ◌<◌, Some, length, refl,
 use Rattle.std.proofs.lemmas.List.Elements.{All-set}
 use Rattle.futures.specs.declared.task.Poll.TheVariants.{Pending, Ready}
 use Rattle.he_plan.specs.declared.attempts.Attempt.{Attempt}
-use Rattle.he_race.specs.declared.course.Course.{Course}
+use Rattle.he_race.specs.declared.recorder.Recorder.{Recorder}
 use Rattle.he_race.specs.Turns.{IsUnfinished, told}
 use Rattle.he_race.proofs.Turning.{All-left}
 use Rattle.he_race.proofs.Untold.{ended-told, same-at, same-attempt, stands-at, untold-at, untold-gone, untold-set}
@@ -11,22 +11,22 @@ use Rattle.he_race.proofs.live.Live.poll_one.Goals as goal
 pub returns-in-Pending-clause-unfinished : goal.returns-in-Pending-clause-unfinished
 returns-in-Pending-clause-unfinished g c =
     let lt : c.args.i < length c.args.self.now.unfinished.items = search rules in
-    let was : IsUnfinished g.C.Connector g.C.Run.Trial c.args.self.now.course.planner.attempts.items c.index_mut.result.now = subst (IsUnfinished g.C.Connector g.C.Run.Trial c.args.self.now.course.planner.attempts.items) (sym c.index_mut.ensures.value) (c.requires.unfinished c.args.i c.index_mut.result.now lt) in
-    All-set (IsUnfinished g.C.Connector g.C.Run.Trial c.args.self.now.course.planner.attempts.items) c.args.self.now.unfinished.items c.args.i _ (record { made = was.made; can = c.in-Pending.ensures.again }) c.requires.unfinished
+    let was : IsUnfinished g.C.Connector g.C.Run.Trial c.args.self.now.recorder.underway.attempts c.index_mut.result.now = subst (IsUnfinished g.C.Connector g.C.Run.Trial c.args.self.now.recorder.underway.attempts) (sym c.index_mut.ensures.value) (c.requires.unfinished c.args.i c.index_mut.result.now lt) in
+    All-set (IsUnfinished g.C.Connector g.C.Run.Trial c.args.self.now.recorder.underway.attempts) c.args.self.now.unfinished.items c.args.i _ (record { made = was.made; can = c.in-Pending.ensures.again }) c.requires.unfinished
 
 pub returns-in_ok-finish-in-Ready-clause-unfinished : goal.returns-in_ok-finish-in-Ready-clause-unfinished
 returns-in_ok-finish-in-Ready-clause-unfinished g c =
-    rw c.remove.ensures.items (All-left (IsUnfinished g.C.Connector g.C.Run.Trial c.args.self.now.course.planner.attempts.items) c.args.self.now.unfinished.items c.args.i _ c.requires.unfinished)
+    rw c.remove.ensures.items (All-left (IsUnfinished g.C.Connector g.C.Run.Trial c.args.self.now.recorder.underway.attempts) c.args.self.now.unfinished.items c.args.i _ c.requires.unfinished)
 
 pub finish-requires-clause-unfinished : goal.finish-requires-clause-unfinished
 finish-requires-clause-unfinished g c =
     let lt : c.args.i < length c.args.self.now.unfinished.items = search rules in
-    rw c.index.ensures (untold-at c.args.self.now.course.recorded.outcomes c.args.self.now.unfinished.items c.requires.untold c.args.i c.index.result.now lt)
+    rw c.index.ensures (untold-at c.args.self.now.recorder.recorded.outcomes c.args.self.now.unfinished.items c.requires.untold c.args.i c.index.result.now lt)
 
 pub returns-in-Pending-clause-untold : goal.returns-in-Pending-clause-untold
 returns-in-Pending-clause-untold g c =
     let lt : c.args.i < length c.args.self.now.unfinished.items = search rules in
-    untold-set c.args.self.now.course.recorded.outcomes c.args.self.now.unfinished.items c.requires.untold c.args.i c.index_mut.result.now _ lt (same-attempt c.index_mut.result.now _ c.index_mut.ensures.value)
+    untold-set c.args.self.now.recorder.recorded.outcomes c.args.self.now.unfinished.items c.requires.untold c.args.i c.index_mut.result.now _ lt (same-attempt c.index_mut.result.now _ c.index_mut.ensures.value)
 
 pub returns-in-Pending-clause-step : goal.returns-in-Pending-clause-step
 returns-in-Pending-clause-step g c =
@@ -40,22 +40,22 @@ returns-in-Pending-clause-step g c =
       left = (refl, refl, refl);
     }
 
-pub returns-in_ok-finish-in-Ready-clause-course : goal.returns-in_ok-finish-in-Ready-clause-course
-returns-in_ok-finish-in-Ready-clause-course g c =
+pub returns-in_ok-finish-in-Ready-clause-recorder : goal.returns-in_ok-finish-in-Ready-clause-recorder
+returns-in_ok-finish-in-Ready-clause-recorder g c =
     let lt : c.args.i < length c.args.self.now.unfinished.items = search rules in
-    let was : IsUnfinished g.C.Connector g.C.Run.Trial c.args.self.now.course.planner.attempts.items c.index.result.now = subst (IsUnfinished g.C.Connector g.C.Run.Trial c.args.self.now.course.planner.attempts.items) (sym c.index.ensures) (c.requires.unfinished c.args.i c.index.result.now lt) in
+    let was : IsUnfinished g.C.Connector g.C.Run.Trial c.args.self.now.recorder.underway.attempts c.index.result.now = subst (IsUnfinished g.C.Connector g.C.Run.Trial c.args.self.now.recorder.underway.attempts) (sym c.index.ensures) (c.requires.unfinished c.args.i c.index.result.now lt) in
     record {
       x = c.index.result.now.attempt;
       made = was.made;
-      first = rw c.index.ensures (untold-at c.args.self.now.course.recorded.outcomes c.args.self.now.unfinished.items c.requires.untold c.args.i c.index.result.now lt);
-      is = c.in_ok-finish-in-Ready.ensures.recorded ∙ ended-told c.args.self.now.course c.index.result.now.attempt c.args.now c.in-Ready.finish.result c.is_ok.result c.is_ok.ensures.value;
+      first = rw c.index.ensures (untold-at c.args.self.now.recorder.recorded.outcomes c.args.self.now.unfinished.items c.requires.untold c.args.i c.index.result.now lt);
+      is = c.in_ok-finish-in-Ready.ensures.recorded ∙ ended-told c.args.self.now.recorder c.index.result.now.attempt c.args.now c.in-Ready.finish.result c.is_ok.result c.is_ok.ensures.value;
       valid = c.in_ok-finish-in-Ready.ensures.valid;
     }
 
 pub returns-in_ok-finish-in-Ready-clause-untold : goal.returns-in_ok-finish-in-Ready-clause-untold
 returns-in_ok-finish-in-Ready-clause-untold g c =
     let lt : c.args.i < length c.args.self.now.unfinished.items = search rules in
-    untold-gone c.args.self.now.course.recorded.outcomes c.finish.new.self.recorded.outcomes c.args.self.now.unfinished.items c.remove.new.self.items c.requires.untold c.args.i c.index.result.now _ c.index.result.now lt c.index.ensures _ (ap (λ (x : Course). x.recorded.outcomes) c.in_ok-finish-in-Ready.ensures.recorded) c.remove.ensures.items
+    untold-gone c.args.self.now.recorder.recorded.outcomes c.finish.new.self.recorded.outcomes c.args.self.now.unfinished.items c.remove.new.self.items c.requires.untold c.args.i c.index.result.now _ c.index.result.now lt c.index.ensures _ (ap (λ (x : Recorder). x.recorded.outcomes) c.in_ok-finish-in-Ready.ensures.recorded) c.remove.ensures.items
 
 pub returns-in_ok-finish-in-Ready-clause-step : goal.returns-in_ok-finish-in-Ready-clause-step
 returns-in_ok-finish-in-Ready-clause-step g c =
@@ -70,8 +70,8 @@ returns-in_ok-finish-in-Ready-clause-step g c =
       left = (
         refl,
         c.in_ok-finish-in-Ready.ensures.recorded
-            ∙ ended-told c.args.self.now.course c.index.result.now.attempt c.args.now c.in-Ready.finish.result c.is_ok.result c.is_ok.ensures.value
-            ∙ ap (λ (x : Attempt). told c.args.self.now.course x c.args.now c.in-Ready.finish.result) same,
+            ∙ ended-told c.args.self.now.recorder c.index.result.now.attempt c.args.now c.in-Ready.finish.result c.is_ok.result c.is_ok.ensures.value
+            ∙ ap (λ (x : Attempt). told c.args.self.now.recorder x c.args.now c.in-Ready.finish.result) same,
         c.remove.ensures.items,
       );
     }

@@ -1,7 +1,7 @@
 use Rattle.he_plan.specs.Building.{with_pause}
 use Rattle.he_plan.proofs.Ranges.{IsRace-with_pause}
 use Rattle.he_race.proofs.Builds.{Adds, left-ok, pause-adds, valid-ok}
-use Rattle.he_race.proofs.course.add_pause.Goals as goal
+use Rattle.he_race.proofs.recorder.add_pause.Goals as goal
 
 pub only_memory-requires : goal.only_memory-requires
 only_memory-requires c =

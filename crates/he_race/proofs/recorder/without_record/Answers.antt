@@ -1,5 +1,5 @@
 use Rattle.he_race.proofs.Builds.{filled}
-use Rattle.he_race.proofs.course.without_record.Goals as goal
+use Rattle.he_race.proofs.recorder.without_record.Goals as goal
 
 pub returns-in-Ok-clause-recorded : goal.returns-in-Ok-clause-recorded
 returns-in-Ok-clause-recorded g c =

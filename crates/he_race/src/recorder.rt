@@ -11,45 +11,48 @@ ghost use Rattle.he_plan.specs.Attempts.{is_tried};
 ghost use Rattle.he_plan.specs.Building.{empty_race, last_end, with_answer, with_outcome, with_pause};
 ghost use Rattle.he_plan.specs.Due.{IsAfterTurn, IsDueTick};
 ghost use Rattle.he_plan.specs.Finish.{fate_of};
-ghost use Rattle.he_plan.specs.Planning.{IsPlanned};
 ghost use Rattle.he_plan.specs.Race.{has_outcome, is_in_answer, reply_of};
 ghost use Rattle.he_plan.specs.Timeline.{IsRace, duration_of, is_answer, is_duration};
 ghost use Rattle.he_plan.specs.Transcript.{IsTranscript};
+ghost use Rattle.he_plan.specs.Underway.{IsUnderway};
 ghost use Rattle.he_race.specs.Answered.{earliest, is_taken, is_tried_out_by, untaken_tick, with_reply};
-ghost use Rattle.he_race.specs.Recording.{Begins, InTurn, IsCourse, IsEnded, MakesOne, Rests, ended_by, floor, is_won, slept, unrecorded};
+ghost use Rattle.he_race.specs.Recording.{Begins, InTurn, IsRecorder, IsEnded, MakesOne, Rests, ended_by, first_after, is_won, slept, unrecorded};
 
 use he_addr::{Family, Ip, Memory};
 use he_plan::{
-    Attempt, BuildFault, Fate, Outcome, Planner, Timeline, TimelineBuilder, Transcript,
+    Attempt, BuildFault, Fate, Outcome, Timeline, TimelineBuilder, Transcript, Underway,
     transcript_at_stop, winner,
 };
 use std::alloc::{Allocator, Global};
 use std::mem::drop;
 
 #[derive(Drop)]
-pub(crate) struct Course {
+pub(crate) struct Recorder {
     alloc: Global,
     pub(crate) recorded: TimelineBuilder,
-    pub(crate) planner: Planner,
+    pub(crate) underway: Underway,
     pub(crate) turn: Option<u64>,
     pub(crate) due: u64,
 }
 
-impl Course {
+impl Recorder {
     // The race of the timeline's settings, policy, host and answers, before its first turn.
-    pub(crate) fn new<A: Allocator>(alloc: Global, timeline: &Timeline<A>) -> Result<Course, Memory>
-        ensures course { IfOk result IsCourse }
+    pub(crate) fn new<A: Allocator>(
+        alloc: Global,
+        timeline: &Timeline<A>,
+    ) -> Result<Recorder, Memory>
+        ensures recorder { IfOk result IsRecorder }
         ensures recorded { IfOk result (λ c. c.recorded ≡ unrecorded timeline.now) }
         ensures turn { IfOk result (λ c. c.turn ≡ None) }
-        ensures attempts { IfOk result (λ c. c.planner.attempts.items ≡ []) }
+        ensures attempts { IfOk result (λ c. c.underway.attempts ≡ []) }
     {
         let recorded = without_record(alloc, timeline)?;
-        let planner = Planner::new(alloc);
-        let due = due_tick(recorded.timeline(), &planner, None);
-        Ok(Course {
+        let underway = Underway::new(alloc);
+        let due = due_tick(recorded.timeline(), &underway, None);
+        Ok(Recorder {
             alloc,
             recorded,
-            planner,
+            underway,
             turn: None,
             due,
         })
@@ -64,12 +67,12 @@ impl Course {
 
     // Begins the turn at a tick: where something was due before it, the client slept from then on.
     pub(crate) fn begin_turn(&mut self, now: u64) -> Result<(), Memory>
-        requires course { IsCourse self.old }
-        requires later { floor self.old.turn ≤ now }
+        requires recorder { IsRecorder self.old }
+        requires later { first_after self.old.turn ≤ now }
         requires in_time { now ≤ self.old.recorded.settings.limit + 1 }
         ensures recorded { OnOk result (self.new ≡ record self.old { recorded = slept self.old.recorded self.old.due now }) }
-        ensures begins { OnOk result (Begins self.new.recorded now self.new.planner.attempts.items) }
-        ensures planned { OnOk result (IsPlanned self.new.recorded self.new.planner.attempts.items self.new.planner.queue.v6 self.new.planner.queue.v4 self.new.planner.queue.ips.items self.new.planner.queue.next) }
+        ensures begins { OnOk result (Begins self.new.recorded now self.new.underway.attempts) }
+        ensures underway { OnOk result (IsUnderway self.new.recorded self.new.underway) }
     {
         if self.due < now {
             return add_pause(&mut self.recorded, self.due, now);
@@ -79,8 +82,8 @@ impl Course {
 
     // Records how the attempt ended in the turn at the tick.
     pub(crate) fn finish(&mut self, attempt: Attempt, now: u64, is_won: bool) -> Result<(), Memory>
-        requires turn { (won : Bool) × InTurn self.old.recorded now self.old.planner.attempts.items won }
-        requires made { Contains self.old.planner.attempts.items attempt }
+        requires turn { (won : Bool) × InTurn self.old.recorded now self.old.underway.attempts won }
+        requires made { Contains self.old.underway.attempts attempt }
         requires unfinished { has_outcome attempt.ip self.old.recorded.outcomes ≡ false }
         requires in_time { now ≤ MAX_LIMIT }
         ensures recorded { OnOk result (self.new ≡ record self.old { recorded = with_outcome self.old.recorded attempt.ip (ended_by is_won (now - attempt.tick)) }) }
@@ -97,57 +100,43 @@ impl Course {
 
     // Whether both answers have come by the tick, and each of their usable addresses was tried.
     pub(crate) fn is_tried_out(&self, now: u64) -> bool
-        ensures { result ≡ (is_tried_out_by now self.now.planner.attempts.items self.now.recorded.aaaa && is_tried_out_by now self.now.planner.attempts.items self.now.recorded.a) }
+        ensures { result ≡ (is_tried_out_by now self.now.underway.attempts self.now.recorded.aaaa && is_tried_out_by now self.now.underway.attempts self.now.recorded.a) }
     {
         let race = self.recorded.timeline();
-        let attempts = self.planner.attempts();
+        let attempts = self.underway.attempts();
         is_tried_out_by(now, attempts, race.answer(Family::V6))
             && is_tried_out_by(now, attempts, race.answer(Family::V4))
     }
 
     // Ends the turn at the tick: an attempt that is due starts.
-    pub(crate) fn end_turn(self, now: u64) -> Result<Course, Memory>
-        requires in_turn { InTurn self.recorded now self.planner.attempts.items false }
-        requires planned { IsPlanned self.recorded self.planner.attempts.items self.planner.queue.v6 self.planner.queue.v4 self.planner.queue.ips.items self.planner.queue.next }
-        requires early { now < self.recorded.settings.limit }
-        ensures course { IfOk result IsCourse }
-        ensures recorded { IfOk result (λ c. c.recorded ≡ self.recorded) }
-        ensures turn { IfOk result (λ c. c.turn ≡ Some now) }
-        ensures made { IfOk result (λ c. MakesOne self.recorded self.planner.attempts.items c.planner.attempts.items now) }
+    pub(crate) fn end_turn(&mut self, now: u64) -> Result<(), Memory>
+        requires in_turn { InTurn self.old.recorded now self.old.underway.attempts false }
+        requires underway { IsUnderway self.old.recorded self.old.underway }
+        requires early { now < self.old.recorded.settings.limit }
+        ensures recorder { OnOk result (IsRecorder self.new) }
+        ensures recorded { OnOk result (self.new.recorded ≡ self.old.recorded) }
+        ensures turn { OnOk result (self.new.turn ≡ Some now) }
+        ensures made { OnOk result (MakesOne self.old.recorded self.old.underway.attempts self.new.underway.attempts now) }
     {
-        let Course {
-            alloc,
-            recorded,
-            planner,
-            turn: _,
-            due: _,
-        } = self;
-        match start_due(alloc, recorded.timeline(), planner, now) {
-            Err(fault) => {
-                drop(recorded);
-                Err(fault)
-            }
-            Ok(planner) => {
-                let due = due_tick(recorded.timeline(), &planner, Some(now));
-                Ok(Course {
-                    alloc,
-                    recorded,
-                    planner,
-                    turn: Some(now),
-                    due,
-                })
-            }
-        }
+        start_due(
+            self.alloc,
+            self.recorded.timeline(),
+            &mut self.underway,
+            now,
+        )?;
+        self.due = due_tick(self.recorded.timeline(), &self.underway, Some(now));
+        self.turn = Some(now);
+        Ok(())
     }
 
     // The record of the race that ended.
     pub(crate) fn into_record(self) -> Timeline
         ensures { result ≡ self.recorded }
     {
-        let Course {
+        let Recorder {
             alloc: _,
             recorded,
-            planner: _,
+            underway: _,
             turn: _,
             due: _,
         } = self;
@@ -156,12 +145,12 @@ impl Course {
 
     // The transcript of the race that ended.
     pub(crate) fn transcript(&self) -> Result<Transcript, Memory>
-        requires { (won : Bool) × IsEnded self.now.recorded self.now.planner.attempts.items won }
+        requires { (won : Bool) × IsEnded self.now.recorded self.now.underway.attempts won }
         ensures transcript { IfOk result (IsTranscript self.now.recorded) }
-        ensures ending { IfOk result (λ t. (won : Bool) → IsEnded self.now.recorded self.now.planner.attempts.items won → is_won t.result ≡ won) }
+        ensures ending { IfOk result (λ t. (won : Bool) → IsEnded self.now.recorded self.now.underway.attempts won → is_won t.result ≡ won) }
     {
         let timeline = self.recorded.timeline();
-        let attempts = self.planner.attempts();
+        let attempts = self.underway.attempts();
         let fates = fates_of(self.alloc, timeline, attempts)?;
         let winner = winner(&fates);
         transcript_at_stop(self.alloc, timeline, attempts, &fates, winner)
@@ -286,32 +275,34 @@ fn only_memory(answer: Result<(), BuildFault>) -> Result<(), Memory>
 }
 
 // Makes the next attempt, if one may start at the tick.
-fn start_due(alloc: Global, race: &Timeline, planner: Planner, now: u64) -> Result<Planner, Memory>
-    requires in_turn { InTurn race.now now planner.attempts.items false }
-    requires planned { IsPlanned race.now planner.attempts.items planner.queue.v6 planner.queue.v4 planner.queue.ips.items planner.queue.next }
+fn start_due(
+    alloc: Global,
+    race: &Timeline,
+    underway: &mut Underway,
+    now: u64,
+) -> Result<(), Memory>
+    requires in_turn { InTurn race.now now underway.old.attempts false }
+    requires underway { IsUnderway race.now underway.old }
     requires early { now < race.now.settings.limit }
-    ensures rests { IfOk result (λ p. Rests race.now (Some now) p.attempts.items) }
-    ensures made { IfOk result (λ p. MakesOne race.now planner.attempts.items p.attempts.items now) }
-    ensures planned { IfOk result (λ p. IsPlanned race.now p.attempts.items p.queue.v6 p.queue.v4 p.queue.ips.items p.queue.next) }
+    ensures rests { OnOk result (Rests race.now (Some now) underway.new.attempts) }
+    ensures made { OnOk result (MakesOne race.now underway.old.attempts underway.new.attempts now) }
+    ensures underway { IsUnderway race.now underway.new }
 {
-    let Some(tick) = planner.next_tick(race) else {
-        return Ok(planner);
-    };
-    if tick > now {
-        return Ok(planner);
+    match underway.next_tick(race) {
+        Some(tick) if tick <= now => underway.start(alloc, race, tick),
+        _ => Ok(()),
     }
-    planner.start(alloc, race, now)
 }
 
 // The least tick at which something is due after the turn.
-fn due_tick(race: &Timeline, planner: &Planner, turn: Option<u64>) -> u64
-    requires planned { IsPlanned race.now planner.now.attempts.items planner.now.queue.v6 planner.now.queue.v4 planner.now.queue.ips.items planner.now.queue.next }
-    requires after { IsAfterTurn race.now turn planner.now.attempts.items }
-    requires over { last_end race.now.pauses ≤ floor turn }
-    ensures { IsDueTick race.now turn planner.now.attempts.items result }
+fn due_tick(race: &Timeline, underway: &Underway, turn: Option<u64>) -> u64
+    requires underway { IsUnderway race.now underway.now }
+    requires after { IsAfterTurn race.now turn underway.now.attempts }
+    requires over { last_end race.now.pauses ≤ first_after turn }
+    ensures { IsDueTick race.now turn underway.now.attempts result }
 {
     let limit = race.settings().limit();
-    let due = earliest(limit, planner.next_tick(race));
+    let due = earliest(limit, underway.next_tick(race));
     let due = earliest(due, untaken_tick(race, Family::V6, turn));
     earliest(due, untaken_tick(race, Family::V4, turn))
 }

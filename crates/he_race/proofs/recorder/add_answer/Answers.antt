@@ -1,6 +1,6 @@
 use Rattle.he_plan.specs.Building.{with_answer}
 use Rattle.he_race.proofs.Builds.{Adds, answer-adds, answer-valid, left-ok, valid-ok}
-use Rattle.he_race.proofs.course.add_answer.Goals as goal
+use Rattle.he_race.proofs.recorder.add_answer.Goals as goal
 
 pub only_memory-requires : goal.only_memory-requires
 only_memory-requires c =

@@ -1,6 +1,0 @@
-use Rattle.he_race.proofs.Standing.{stands-made}
-use Rattle.he_race.proofs.course.Course.finish.Goals as goal
-
-pub add_outcome-requires-clause-known : goal.add_outcome-requires-clause-known
-add_outcome-requires-clause-known c =
-    stands-made c.args.self.now.recorded c.args.self.now.planner.attempts.items c.requires.turn.1.made.in_turn c.args.attempt c.requires.made
