@@ -7,7 +7,7 @@ use Rattle.he_race.specs.declared.live.Live.{Live}
 use Rattle.he_race.specs.declared.live.Raced.{Raced}
 
 pub gives_record : {C Conn Run : Type 0} (live : Option (Live C Conn Run)) (race : Race) (raced : Raced Conn)
-    → IsSomeAnd live (λ x. x.course.recorded ≡ unrecorded race) → GivesOf live (Ok raced) → Replays race raced
+    → IsSomeAnd live (λ x. x.recorder.recorded ≡ unrecorded race) → GivesOf live (Ok raced) → Replays race raced
 gives_record None race raced is gives = absurd gives
 gives_record {C} {Conn} {Run} (Some live) race raced is gives =
     let of : Replays (unrecorded race) raced = subst (λ (r : Race). Replays {Conn = Conn} r raced) is gives in
