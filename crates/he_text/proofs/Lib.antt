@@ -20,8 +20,6 @@ mod FormReads
 mod GivenLaws
 mod HeadLaws
 mod HostLaws
-mod InputLines
-mod InputRaces
 mod LineLaws
 mod LineReads
 mod LineTexts
@@ -49,5 +47,6 @@ mod SaysLaws
 mod SelectionFacts
 mod Tables
 mod ToldLaws
+pub mod WalkLaws
 mod WordLines
 mod WritingLaws

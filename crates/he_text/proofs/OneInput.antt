@@ -6,8 +6,9 @@ use Rattle.he_plan.specs.Race.{Race}
 use Rattle.he_text.specs.declared.fault.TextKind.{TextKind}
 use Rattle.he_text.specs.declared.inputs.InputFault.{InputFault}
 use Rattle.he_text.specs.FaultSearch.{fault_of}
-use Rattle.he_text.specs.Inputs.{AreRaceTexts, HasRaces, IsFaultBehind, fault_behind, line_count, most_races}
+use Rattle.he_text.specs.Inputs.{AreRaceTexts, HasRaces, IsFaultBehind, fault_behind, line_count}
 use Rattle.he_text.specs.Parts.{lines_of}
+use Rattle.he_text.specs.Ranges.{most_races}
 use Rattle.he_text.specs.Text.{BeginsWithRace, IsRaceText}
 
 no_race_in_nothing : BeginsWithRace [] → ⊥

@@ -353,6 +353,7 @@ ended_race body =
 pub record BeginsWith (text rest : List ℕ) (race : Race) : Type 0 where
   pub shorter : length rest < length text
   pub is : IsRaceText (take (length text - length rest) text) race
+  pub split : text ≡ take (length text - length rest) text ++ rest
 
 front_is : (text front rest : List ℕ) → text ≡ front ++ 10 ∷ rest → take (length text - length rest) text ≡ front ++ 10 ∷ []
 front_is text front rest h =
@@ -376,6 +377,7 @@ begins_by text rest race line after used all header is value fits =
     let P : List ℕ → Type 0 = λ t. IsRaceText t race in
     record {
       shorter = omega arith;
+      split = parts.0 ∙ sym (append_assoc front (10 ∷ []) rest) ∙ ap (λ f. f ++ rest) (sym (front_is text front rest parts.0));
       is = subst P (sym (front_is text front rest parts.0)) (record { lines = is.body; said = said_before is.body; parts = split; are = is.right.are; value = value_is; fits = fits });
     }
 

@@ -8,18 +8,18 @@ use Rattle.he_text.specs.declared.inputs.InputFault.TheVariants.{Text, Read}
 use Rattle.he_text.specs.declared.inputs.NotOneRace.{NotOneRace}
 use Rattle.he_text.specs.declared.inputs.NotOneRace.TheVariants as faults
 use Rattle.he_text.specs.FaultSearch.{fault_of}
-use Rattle.he_text.specs.Ranges.{line_end}
+use Rattle.he_text.specs.Ranges.{line_end, most_races}
 use Rattle.he_text.specs.Text.{IsRaceText}
 
--- the most races that an input may have
-abbrev pub most_races : ℕ
-most_races = 1024
-
 -- the text is, one after the other, a text of each of the races
+abbrev pub AreTexts : (List ℕ → Race → Type 0) → List Race → List ℕ → Type 0
+AreTexts IsText [] text = text ≡ []
+AreTexts IsText (race ∷ races) text =
+    (first : List ℕ) × (more : List ℕ) × (text ≡ first ++ more) × IsText first race × AreTexts IsText races more
+
+-- a timeline text of each of the races
 abbrev pub AreRaceTexts : List Race → List ℕ → Type 0
-AreRaceTexts [] text = text ≡ []
-AreRaceTexts (race ∷ races) text =
-    (first : List ℕ) × (more : List ℕ) × (text ≡ first ++ more) × IsRaceText first race × AreRaceTexts races more
+AreRaceTexts races text = AreTexts IsRaceText races text
 
 -- how many lines end in the text
 abbrev pub line_count : List ℕ → ℕ

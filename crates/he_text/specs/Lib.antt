@@ -4,7 +4,6 @@ pub mod Faults
 pub mod FirstFault
 pub mod Forms
 pub mod InRange
-pub mod InputReading
 pub mod Inputs
 pub mod Left
 pub mod Next
@@ -14,6 +13,8 @@ pub mod Ranges
 pub mod Reading
 pub mod Said
 pub mod Text
+pub mod WalkSteps
+pub mod Walks
 pub mod Words
 pub mod Writing
 pub mod Written

@@ -31,3 +31,7 @@ most_u16 = 65535
 -- the least first tick behind a pause
 abbrev pub least_pause_end : ℕ
 least_pause_end = 1
+
+-- the most races that a text may have
+abbrev pub most_races : ℕ
+most_races = 1024

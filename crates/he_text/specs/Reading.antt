@@ -36,7 +36,7 @@ use Rattle.he_text.specs.declared.words.Word.{Word}
 use Rattle.he_text.specs.declared.words.Word.TheVariants as words
 use Rattle.he_text.specs.Faults.{is_policy_next}
 use Rattle.he_text.specs.Forms.{◌>>=◌, word_of, setting_in, row_in, host_source_in, host_route_in, listed_in, answer_in, connect_in, pause_in, end_in}
-use Rattle.he_text.specs.Parts.{tokens_of}
+use Rattle.he_text.specs.Parts.{lines_of, tokens_of}
 use Rattle.he_text.specs.Words.{group_of, most_lines, is_policy, is_end}
 
 -- a call that failed did so as `read` does, or was refused memory where `read` finds nothing wrong
@@ -261,6 +261,13 @@ read_lines [] = Err (1, kinds.Unfinished)
 read_lines (line ∷ after) =
     at_line 1 (wholeness (line ∷ after)) >>= λ _.
     if bytes_eq line (codes "race 1") then read_head 2 order_at_start no_head after else Err (1, kinds.Header)
+
+-- a text was read: its race, how many bytes stand behind it, and how many lines it has
+pub record ReadsFirst (text : List ℕ) (race : Race) (left lines : ℕ) : Type 0 where
+  pub rest : List ℕ
+  pub counted : length rest ≡ left
+  pub read : read_lines (lines_of text) ≡ Ok (race, lines_of rest)
+  pub passed : lines + length (lines_of rest) ≡ length (lines_of text)
 
 -- a failed reading did so at line n as `read` does, or was refused memory there, where nothing is wrong up to this line
 abbrev pub FailsAt : {B : Type 0} → ℕ → TextKind → Result B (ℕ × TextKind) → Type 0

@@ -5,14 +5,14 @@ ghost use Rattle.he_addr.specs.declared.ip.Ip.{Ip};
 ghost use Rattle.he_plan.specs.Race.{Race};
 ghost use Rattle.he_plan.specs.Timeline.{IsRace};
 ghost use Rattle.he_text.specs.declared.fault.TextKind.{TextKind};
-ghost use Rattle.he_text.specs.declared.limits.TheConstants.{MAX_LINE, MAX_ANSWERS, SOURCE_MARKS, ROUTE_MARKS, MAX_PRECEDENCE, MAX_LABEL, MIN_INTERFACE, MAX_INTERFACE};
+ghost use Rattle.he_text.specs.declared.limits.TheConstants.{MAX_LINE, MAX_ANSWERS, SOURCE_MARKS, ROUTE_MARKS, MAX_PRECEDENCE, MAX_LABEL, MIN_INTERFACE, MAX_INTERFACE, MIN_PAUSE_END, MOST_RACES};
 ghost use Rattle.he_text.specs.declared.parts.TheConstants.{LINE_END, TOKEN_END};
 ghost use Rattle.he_select.specs.Ranges.{least_interface};
 ghost use Rattle.he_text.specs.Beginnings.{FaultChanges, FaultStands, MayChange};
 ghost use Rattle.he_text.specs.FaultSearch.{fault_of};
 ghost use Rattle.he_text.specs.FirstFault.{IsFirstFaultOf};
 ghost use Rattle.he_text.specs.InRange.{RaceInRange};
-ghost use Rattle.he_text.specs.Ranges.{line_end, token_end, most_line_bytes, most_answers, most_source_marks, most_route_marks, most_u16};
+ghost use Rattle.he_text.specs.Ranges.{line_end, token_end, most_line_bytes, most_answers, most_source_marks, most_route_marks, most_u16, least_pause_end, most_races};
 ghost use Rattle.he_text.specs.Forms.{said_in};
 ghost use Rattle.he_text.specs.Said.{Said, Ended};
 ghost use Rattle.he_text.specs.Text.{Says, IsAllowed, IsRaceText, BeginsWithRace, TellsFault};
@@ -84,6 +84,8 @@ pub fn ranges()
     ensures bytes { (LINE_END ≡ line_end) × (TOKEN_END ≡ token_end) }
     ensures lines { (MAX_LINE ≡ most_line_bytes) × (MAX_ANSWERS ≡ most_answers) }
     ensures marks { (SOURCE_MARKS ≡ most_source_marks) × (ROUTE_MARKS ≡ most_route_marks) }
+    ensures races { MOST_RACES ≡ most_races }
+    ensures pauses { MIN_PAUSE_END ≡ least_pause_end }
     ensures selection { (MAX_PRECEDENCE ≡ most_u16) × (MAX_LABEL ≡ most_u16) × (MIN_INTERFACE ≡ least_interface) × (MAX_INTERFACE ≡ most_u16) }
 {}
 

@@ -29,6 +29,7 @@ mod ranges;
 pub mod reading;
 pub mod timelines;
 pub mod transcripts;
+pub mod walks;
 mod words;
 mod writing;
 
@@ -39,3 +40,4 @@ pub use orders::write_order;
 pub use reading::read_race;
 pub use timelines::write_timeline;
 pub use transcripts::write_transcript;
+pub use walks::{Ending, Walk, WalkFault};

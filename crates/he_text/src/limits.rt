@@ -23,3 +23,9 @@ pub const ROUTE_MARKS: usize = 1;
 
 /// The most lines with the answer of one family.
 pub const MAX_ANSWERS: usize = 1;
+
+/// The least first tick behind a pause.
+pub const MIN_PAUSE_END: u64 = 1;
+
+/// The most races of a text.
+pub const MOST_RACES: usize = 1_024;

@@ -11,7 +11,6 @@ ghost use Rattle.he_text.specs.Parts.{lines_of};
 ghost use Rattle.he_text.specs.Text.{IsLineOf, IsRaceText};
 
 use crate::fault::{TextFault, TextKind};
-use crate::inputs::line_count;
 use crate::laws::told_faults_stand;
 use crate::limits::MAX_LINE;
 use crate::parts::LINE_END;
@@ -84,6 +83,13 @@ pub fn may_change(text: &[u8], fault: TextFault) -> bool
         }
         _ => false,
     }
+}
+
+// How many lines end in the text.
+fn line_count(text: &[u8]) -> u64
+    ensures { result ≡ line_count text.now }
+{
+    text.iter().filter(|byte| **byte == LINE_END).count() as u64
 }
 
 // What stands behind the last line end; all, where there is none.

@@ -11,7 +11,7 @@ ghost use Rattle.he_text.specs.Forms.{word_of};
 ghost use Rattle.he_text.specs.declared.draft.Order.{Order};
 ghost use Rattle.he_text.specs.Left.{line_bytes, lines_left, tokens_left, HasRoom, IsAmong};
 ghost use Rattle.he_text.specs.Parts.{lines_of, tokens_of};
-ghost use Rattle.he_text.specs.Reading.{Fails, FailsAt, take_line, read_body, head_of, take_head, settle, read_head, read_lines, order_at_start, no_head};
+ghost use Rattle.he_text.specs.Reading.{Fails, FailsAt, ReadsFirst, take_line, read_body, head_of, take_head, settle, read_head, read_lines, order_at_start, no_head};
 ghost use Rattle.he_text.specs.Text.{IsRaceText, IsLineOf, TellsFault};
 
 use crate::draft::{Order, take};
@@ -268,10 +268,13 @@ fn start<A: Allocator + Copy>(alloc: A, head: Head<A>, lines: &Lines) -> Result<
     }
 }
 
-// The race with which the text begins, and how many bytes stand behind it.
+// The race with which the text begins, how many bytes stand behind it, and how many lines it has.
 #[inline(always)]
-fn read_first<A: Allocator + Copy>(alloc: A, text: &[u8]) -> Result<(Timeline<A>, usize), TextFault>
-    ensures read { MatchResult result (λ x. (rest : List ℕ) × (length rest ≡ x.1) × (read_lines (lines_of text.now) ≡ Ok (x.0, lines_of rest))) (λ fault. FailsAt fault.line fault.kind (read_lines (lines_of text.now))) }
+pub(crate) fn read_first<A: Allocator + Copy>(
+    alloc: A,
+    text: &[u8],
+) -> Result<(Timeline<A>, usize, u64), TextFault>
+    ensures read { MatchResult result (λ x. ReadsFirst text.now x.0 x.1 x.2) (λ fault. FailsAt fault.line fault.kind (read_lines (lines_of text.now))) }
     ensures line { IfErr result (λ fault. IsLineOf text.now fault.line) }
     ensures fits { IfOk result (λ x. IsRace x.0) }
     ensures shorter { MatchResult result (λ x. x.1 ≤ length text.now) (λ _. Unit {0}) }
@@ -288,7 +291,7 @@ fn read_first<A: Allocator + Copy>(alloc: A, text: &[u8]) -> Result<(Timeline<A>
     };
     let scene = start(alloc, head, &lines)?;
     match read_rest(alloc, order, scene, &mut lines) {
-        Ok(race) => Ok((race, lines.len())),
+        Ok(race) => Ok((race, lines.len(), lines.number() - 1)),
         Err(kind) => Err(TextFault {
             line: lines.number(),
             kind,
@@ -323,6 +326,6 @@ pub fn read_race<A: Allocator + Copy>(
     if from == text.len() {
         return Ok(None);
     }
-    let (race, left) = read_first(alloc, &text[from..])?;
+    let (race, left, _) = read_first(alloc, &text[from..])?;
     Ok(Some((race, text.len() - left)))
 }

@@ -1,29 +1,28 @@
-use Rattle.std.proofs.Common.{ℕ, ◌≡◌, ◌-◌, ◌<◌, List, arith, subst, length, take, drop, length-drop}
-use Rattle.std.proofs.lemmas.List.{take_all}
-use Rattle.he_text.specs.Inputs.{most_races}
-use Rattle.he_text.specs.InputReading.{FailsPast, HasRead, IsStep, PassesRace}
-use Rattle.he_text.specs.declared.inputs.Step.TheVariants as steps
-use Rattle.he_text.proofs.InputRaces.{one_more, fault_not_one, past_not_one}
+use Rattle.std.proofs.Common.{◌≡◌, ◌+◌, arith, length, ap, ◌∙◌}
+use Rattle.he_text.specs.Inputs.{IsNotOne}
+use Rattle.he_text.specs.WalkSteps.{not_one}
+use Rattle.he_text.specs.declared.walks.Walk.{Walk}
+use Rattle.he_text.proofs.WalkLaws.{err_handed, fault_not_one, has_none, more_behind, none_behind}
 use Rattle.he_text.proofs.inputs.check_behind.Goals as goal
 
-pub returns-in-Fault-clause-fault : goal.returns-in-Fault-clause-fault
-returns-in-Fault-clause-fault g c =
-    let step : IsStep c.args.input.now c.loop-races.from (steps.Fault c.in-Fault.found) = rw c.in-Fault.is at c.skip_race.ensures in
-    let few : c.loop-races.races < most_races = c.loop-races-test.true in
-    fault_not_one c.args.input.now c.args.is_broken c.args.end c.loop-races.from c.line_count-lines.result c.loop-races.races c.in-Fault.found c.fault_behind.result
-    c.loop-races.invariant c.line_count-lines.ensures few step.0 step.1 c.fault_behind.ensures
+pub returns-in_err-other-clause-fault : goal.returns-in_err-other-clause-fault
+returns-in_err-other-clause-fault g c =
+    let before = c.loop-other.invariant in
+    let is = rw c.of-ending.ensures at c.in_err-other.ensures.fault in
+    err_handed c.from_residual.result (not_one c.in_err-other.field-0.0) (IsNotOne c.args.input.now c.args.is_broken) c.from_residual.ensures
+    (fault_not_one c.args.input.now c.args.is_broken before.races c.loop-other.walk c.in_err-other.field-0.0 before.passed before.within.few is)
 
-pub loop-races-preserved : goal.loop-races-preserved
-loop-races-preserved g c =
-    let passes : PassesRace c.args.input.now c.loop-races.from c.in-Race.next = rw c.in-Race.is at c.skip_race.ensures in
-    one_more c.args.input.now c.args.end c.loop-races.from c.in-Race.next c.loop-races.races c.loop-races.auto.races c.loop-races.invariant passes
+pub loop-other-preserved : goal.loop-other-preserved
+loop-other-preserved g c =
+    let passes = rw c.in-Some.is at c.in_ok-other.ensures.found in
+    more_behind c.args.input.now c.args.first c.loop-other.walk c.next.new.self c.in-Some.other c.loop-other.invariant c.in_ok-other.ensures.within passes
 
-pub returns-clause-fault : goal.returns-clause-fault
-returns-clause-fault g c =
-    let whole : take (length c.args.input.now - c.loop-races.from) (drop c.loop-races.from c.args.input.now) ≡ drop c.loop-races.from c.args.input.now =
-    take_all _ _ (omega (arith, length-drop {A = ℕ})) in
-    let count : c.loop-races.races ≡ most_races = let h = c.loop-races-test.false in let k = c.loop-races.auto.races-end in omega arith in
-    let Rest : List ℕ → Type 0 = λ rest. FailsPast c.args.is_broken c.line_count-lines-2.result rest c.fault_past_races.result in
-    let Count : ℕ → Type 0 = λ n. HasRead c.args.input.now c.args.end c.loop-races.from n in
-    past_not_one c.args.input.now c.args.is_broken c.args.end c.loop-races.from c.line_count-lines-2.result c.fault_past_races.result
-    (subst Count count c.loop-races.invariant) c.line_count-lines-2.ensures (subst Rest whole c.fault_past_races.ensures)
+pub returns-else-walk-eq1-clause-fault : goal.returns-else-walk-eq1-clause-fault
+returns-else-walk-eq1-clause-fault g c =
+    let before = c.loop-other.invariant in
+    let found = rw c.of-ending.ensures at c.in_ok-other.ensures.found in
+    let ends = none_behind c.args.input.now c.args.is_broken c.loop-other.walk c.next.new.self c.in_ok-other.field-0 found c.in_default.not-Some in
+    let counted : c.loop-other.walk.races ≡ 0 + length before.races = before.passed.counted in
+    let same : c.next.new.self ≡ c.loop-other.walk = ends.0 in
+    let other : length before.races ≡ 1 → ⊥ = λ one. c.if-walk-eq1.false (ap (λ (w : Walk). w.races) same ∙ (let h : c.loop-other.walk.races ≡ 1 = omega arith in h)) in
+    (before.races, has_none c.args.input.now c.args.is_broken before.races c.loop-other.walk before.passed before.within.few ends.1, other)

@@ -20,12 +20,12 @@ returns-in_err-race-clause-fault g c =
 pub returns-clause-found : goal.returns-clause-found
 returns-clause-found g c =
     let got = c.in_ok-race.ensures.read in
-    race_at c.args.text.now got.0 c.in_ok-race.race c.args.from c.in_ok-race.left c.requires got.1 (ap (λ (t : List ℕ). read_lines (lines_of t)) (sym (take_rest c.args.text.now c.args.from)) ∙ got.2) c.in_ok-race.ensures.fits
+    race_at c.args.text.now got.rest c.in_ok-race.race c.args.from c.in_ok-race.left c.requires got.counted (ap (λ (t : List ℕ). read_lines (lines_of t)) (sym (take_rest c.args.text.now c.args.from)) ∙ got.read) c.in_ok-race.ensures.fits
 
 pub returns-clause-right : goal.returns-clause-right
 returns-clause-right g c =
     let got = c.in_ok-race.ensures.read in
-    no_fault (lines_of (drop c.args.from c.args.text.now)) (c.in_ok-race.race, lines_of got.0) (ap (λ (t : List ℕ). read_lines (lines_of t)) (sym (take_rest c.args.text.now c.args.from)) ∙ got.2)
+    no_fault (lines_of (drop c.args.from c.args.text.now)) (c.in_ok-race.race, lines_of got.rest) (ap (λ (t : List ℕ). read_lines (lines_of t)) (sym (take_rest c.args.text.now c.args.from)) ∙ got.read)
 
 pub returns-in_err-race-clause-complete : goal.returns-in_err-race-clause-complete
 returns-in_err-race-clause-complete g c = λ end race within is.
@@ -39,7 +39,7 @@ returns-in_err-race-clause-complete g c = λ end race within is.
 pub returns-clause-complete : goal.returns-clause-complete
 returns-clause-complete g c = λ end race within is.
     let got = c.in_ok-race.ensures.read in
-    let found = race_at c.args.text.now got.0 c.in_ok-race.race c.args.from c.in_ok-race.left c.requires got.1 (ap (λ (t : List ℕ). read_lines (lines_of t)) (sym (take_rest c.args.text.now c.args.from)) ∙ got.2) c.in_ok-race.ensures.fits in
+    let found = race_at c.args.text.now got.rest c.in_ok-race.race c.args.from c.in_ok-race.left c.requires got.counted (ap (λ (t : List ℕ). read_lines (lines_of t)) (sym (take_rest c.args.text.now c.args.from)) ∙ got.read) c.in_ok-race.ensures.fits in
     found_is c.args.text.now c.args.from end (length c.args.text.now - c.in_ok-race.left) race c.in_ok-race.race within is found.0 found.1 found.2
 
 pub returns-then-from-text-clause-complete : goal.returns-then-from-text-clause-complete

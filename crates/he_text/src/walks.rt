@@ -1,0 +1,171 @@
+//! Walks over the races of an input.
+ghost use Rattle.std.specs.Prelude.{◌≡◌, ◌+◌, ◌^◌, ◌<◌, None, IfErr, IfOk};
+ghost use Rattle.he_text.specs.Inputs.{fault_behind};
+ghost use Rattle.he_text.specs.WalkSteps.{StopsAt, breaks};
+ghost use Rattle.he_text.specs.Walks.{EndsAt, IsNextOf, IsWalkFault, IsWithin, ending_of};
+
+use crate::fault::{TextFault, TextKind};
+use crate::inputs::InputFault;
+use crate::laws::faults_stand;
+use crate::limits::MOST_RACES;
+use crate::next::may_change;
+use crate::reading::read_first;
+use he_plan::Timeline;
+use std::alloc::Allocator;
+
+/// What follows the bytes of an input that are there.
+#[derive(Clone, Copy, Debug, PartialEq, Eq)]
+pub enum Ending {
+    /// More bytes, or nothing.
+    Open,
+    /// Nothing: the input ends with them.
+    Whole,
+    /// Nothing: the input broke off.
+    Broken,
+}
+
+impl Ending {
+    /// The ending of an input of which all bytes are there, by whether it broke off behind them.
+    pub fn of(is_broken: bool) -> Ending
+        ensures { result ≡ ending_of is_broken }
+    {
+        if is_broken {
+            Ending::Broken
+        } else {
+            Ending::Whole
+        }
+    }
+
+    // Whether the input broke off.
+    fn breaks(self) -> bool
+        ensures { result ≡ breaks self }
+    {
+        match self {
+            Ending::Broken => true,
+            _ => false,
+        }
+    }
+}
+
+/// Why a walk stops.
+#[derive(Clone, Copy, Debug, PartialEq, Eq)]
+pub enum WalkFault {
+    /// Something is wrong with the input.
+    Input(InputFault),
+    /// An allocation was refused.
+    Memory,
+}
+
+/// How far a walk over the bytes of an input has come. It may begin behind bytes that are there no more.
+#[derive(Clone, Copy, Debug, PartialEq, Eq)]
+pub struct Walk {
+    /// The place in the bytes behind the last race that was passed.
+    pub end: usize,
+    /// How many races of the input stand before it.
+    pub races: usize,
+    /// How many lines of the input end before it.
+    pub lines: u64,
+}
+
+impl Walk {
+    /// At the front of an input.
+    pub const START: Walk = Walk {
+        end: 0,
+        races: 0,
+        lines: 0,
+    };
+
+    /// Passes the next race of the bytes, and answers it; None where no race follows: where the input ends, or, if its
+    /// bytes may go on, where it depends on what follows what stands there. `bytes` are those of the calls before, or
+    /// more of them.
+    ///
+    /// # Errors
+    ///
+    /// - `Input(Text)` with the fault of the text that follows, its line counted over the whole input from 1. Behind
+    ///   as many races as a text may have (`limits::MOST_RACES`) that is `TooMany` at the next line, whatever it is.
+    ///   Where the bytes may go on, every input that begins with them has this fault.
+    /// - `Input(Read)` where the input broke off behind a whole race, or within one that had no fault by then.
+    /// - `Memory` where an allocation was refused.
+    ///
+    /// The walk stays where it was then, as with None.
+    pub fn next<A: Allocator + Copy>(
+        &mut self,
+        alloc: A,
+        bytes: &[u8],
+        ending: Ending,
+    ) -> Result<Option<Timeline<A>>, WalkFault>
+        requires { IsWithin bytes.now self.old }
+        ensures within { IsWithin bytes.now self.new }
+        ensures found { IfOk result (IsNextOf bytes.now ending self.old self.new) }
+        ensures same { IfErr result (λ _. self.new ≡ self.old) }
+        ensures fault { IfErr result (IsWalkFault bytes.now ending self.old) }
+    {
+        let rest = &bytes[self.end..];
+        if rest.is_empty() {
+            return self.stop(rest, ending, None);
+        }
+        if self.races == MOST_RACES {
+            return self.stop(rest, ending, Some(TOO_MANY));
+        }
+        match read_first(alloc, rest) {
+            Ok((race, left, lines)) => {
+                self.end = bytes.len() - left;
+                self.races += 1;
+                self.lines += lines;
+                Ok(Some(race))
+            }
+            Err(fault) => self.stop(rest, ending, Some(fault)),
+        }
+    }
+
+    // What is told where no race is passed, by what is wrong with the text that follows, if there is any.
+    fn stop<A: Allocator>(
+        self,
+        rest: &[u8],
+        ending: Ending,
+        wrong: Option<TextFault>,
+    ) -> Result<Option<Timeline<A>>, WalkFault>
+        requires within { IsWithin rest.now (record self { end = 0 }) }
+        requires wrong { StopsAt self.races rest.now wrong }
+        ensures found { IfOk result (λ found. (found ≡ None) × EndsAt ending rest.now) }
+        ensures fault { IfErr result (IsWalkFault rest.now ending (record self { end = 0 })) }
+    {
+        let Some(fault) = wrong else {
+            return match ending {
+                Ending::Broken => Err(WalkFault::Input(InputFault::Read)),
+                _ => Ok(None),
+            };
+        };
+        if fault.kind.is_memory() {
+            return Err(WalkFault::Memory);
+        }
+        faults_stand();
+        match ending {
+            Ending::Open if may_change(rest, fault) => Ok(None),
+            _ => {
+                let found = fault_behind(ending.breaks(), self.lines, fault);
+                Err(WalkFault::Input(found))
+            }
+        }
+    }
+}
+
+// A fault behind so many lines. Where the input broke off, the text is unfinished for that alone.
+fn fault_behind(is_broken: bool, lines: u64, found: TextFault) -> InputFault
+    requires { lines + found.line < 2 ^ 64 }
+    ensures { result ≡ fault_behind is_broken lines (found.line, found.kind) }
+{
+    match found.kind {
+        TextKind::Unfinished if is_broken => InputFault::Read,
+        kind => InputFault::Text(TextFault {
+            line: lines + found.line,
+            kind,
+        }),
+    }
+}
+
+// The fault of what follows as many races as a text may have.
+const TOO_MANY: TextFault = TextFault {
+    line: 1,
+    kind: TextKind::TooMany,
+};
