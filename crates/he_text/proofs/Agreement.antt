@@ -7,7 +7,7 @@ use Rattle.std.specs.Str.{bytes_eq}
 use Rattle.std.proofs.lemmas.Bool.{ltb-false, leb-false, lt-leb}
 use Rattle.he_plan.specs.Building.{empty_race}
 use Rattle.he_plan.specs.Race.{Race}
-use Rattle.he_text.specs.declared.draft.Order.{Order}
+use Rattle.he_text.specs.declared.draft.LastGroup.{LastGroup}
 use Rattle.he_text.specs.declared.fault.TextKind.{TextKind}
 use Rattle.he_text.specs.declared.fault.TextKind.TheVariants as kinds
 use Rattle.he_text.specs.declared.limits.TheConstants.{MAX_LINE}
@@ -17,7 +17,7 @@ use Rattle.he_text.specs.Faults.{first_fault, test, group_on, last_group, known_
 use Rattle.he_text.specs.FaultSearch.{at_line_number, fault_from, fault_in}
 use Rattle.he_text.specs.Forms.{◌>>=◌, word_of, said_by}
 use Rattle.he_text.specs.Parts.{tokens_of}
-use Rattle.he_text.specs.Reading.{at_line, ended_by, wholeness, admit, take_told, take_line, read_body, HeadGiven, head_part, head_of, take_given, take_head, policy_from, read_head, read_lines, order_at_start, no_head, is_head_word}
+use Rattle.he_text.specs.Reading.{at_line, ended_by, wholeness, admit, take_told, take_line, read_body, HeadGiven, head_part, head_of, take_given, take_head, policy_from, read_head, read_lines, group_at_start, no_head, is_head_word}
 use Rattle.he_text.specs.Said.{Said, rows_given, settings_given, table_of_rows, host_given, race_of}
 use Rattle.he_text.specs.Words.{word_in, group_of, is_policy, is_end}
 use Rattle.he_text.proofs.Checks.{taken_in_order, line_checks, line_fault_is, in_order, checks_passed}
@@ -120,25 +120,25 @@ late_last before line word tokens is late =
 
 under_next : (before : List (List ℕ)) (line : List ℕ) (word : Word) (tokens : List (List ℕ)) → word_of (tokens_of line) ≡ Ok (word, tokens) → Under (last_group 0 before) before → ltb (group_of word) (last_group 0 before) ≡ false
     → Under (last_group 0 (before ++ line ∷ [])) (before ++ line ∷ [])
-under_next before line word tokens is under order =
+under_next before line word tokens is under so_far =
     let here : group_on line ≡ group_of word = group_is line word tokens is in
     let last : last_group 0 (before ++ line ∷ []) ≡ group_on line = last_more 0 before line in
-    let ge = ltb-false (group_of word) (last_group 0 before) order in
+    let ge = ltb-false (group_of word) (last_group 0 before) so_far in
     let P : ℕ → Type 0 = λ g. Under g (before ++ line ∷ []) in
     subst P (sym last) (under_more (last_group 0 before) (group_on line) before line under (omega arith) (omega arith))
 
 -- what a line of the last groups leads to
-abbrev pub body_next : ℕ → List (List ℕ) → Result (Word × Order × Race) TextKind → Result (Race × List (List ℕ)) (ℕ × TextKind)
+abbrev pub body_next : ℕ → List (List ℕ) → Result (Word × LastGroup × Race) TextKind → Result (Race × List (List ℕ)) (ℕ × TextKind)
 body_next n after taken = at_line n taken >>= λ next. cond (is_end next.0) (Ok (next.2, after)) (read_body (n + 1) next.1 next.2 after)
 
-body_known : (n : ℕ) (after : List (List ℕ)) (checks : Option TextKind) (word : Word) (order : Order) (race : Race) (walked : Result (List (List ℕ) × List (List ℕ)) (ℕ × TextKind)) (lines : List (List ℕ))
+body_known : (n : ℕ) (after : List (List ℕ)) (checks : Option TextKind) (word : Word) (so_far : LastGroup) (race : Race) (walked : Result (List (List ℕ) × List (List ℕ)) (ℕ × TextKind)) (lines : List (List ℕ))
     → race ≡ race_of (said_before lines)
-    → (checks ≡ None → is_end word ≡ false → read_body (n + 1) order race after ≡ raced walked)
-    → body_next n after (outcome checks (word, order, race)) ≡ stop n checks (raced (cond (is_end word) (Ok (lines, after)) walked))
-body_known n after (Some kind) word order race walked lines same later = refl
-body_known n after None word order race walked lines same later = by_end (is_end word) refl
+    → (checks ≡ None → is_end word ≡ false → read_body (n + 1) so_far race after ≡ raced walked)
+    → body_next n after (outcome checks (word, so_far, race)) ≡ stop n checks (raced (cond (is_end word) (Ok (lines, after)) walked))
+body_known n after (Some kind) word so_far race walked lines same later = refl
+body_known n after None word so_far race walked lines same later = by_end (is_end word) refl
   where
-    by_end : (b : Bool) → is_end word ≡ b → cond b (Ok (race, after)) (read_body (n + 1) order race after) ≡ raced (cond b (Ok (lines, after)) walked)
+    by_end : (b : Bool) → is_end word ≡ b → cond b (Ok (race, after)) (read_body (n + 1) so_far race after) ≡ raced (cond b (Ok (lines, after)) walked)
     by_end true e = ap (λ r. Ok (r, after)) same
     by_end false e = later refl e
 
@@ -171,9 +171,9 @@ body_later n before line after (Err kind) is under late later =
 body_later n before line after (Ok parts) is under late later =
     ap (body_next n after) (told_line before line after parts.0 parts.1 is under (late parts.0 parts.1 is))
     ∙ body_known n after (line_checks before line after (Ok parts)) parts.0 (order_of (before ++ line ∷ [])) (race_of (said_before (before ++ line ∷ []))) (walk (n + 1) (before ++ line ∷ []) after) (before ++ line ∷ []) refl
-    (λ right goes. let order = in_order before line after parts.0 parts.1 right in
-    later (under_next before line parts.0 parts.1 is under order)
-    (all_late (before ++ line ∷ []) after (late_last before line parts.0 parts.1 is (late parts.0 parts.1 is order))))
+    (λ right goes. let so_far = in_order before line after parts.0 parts.1 right in
+    later (under_next before line parts.0 parts.1 is under so_far)
+    (all_late (before ++ line ∷ []) after (late_last before line parts.0 parts.1 is (late parts.0 parts.1 is so_far))))
     ∙ ap (λ b. stop n (line_checks before line after (Ok parts)) (raced (cond b (Ok (before ++ line ∷ [], after)) (walk (n + 1) (before ++ line ∷ []) after)))) (sym (ends_known line parts.0 parts.1 is))
 
 body_step : (n : ℕ) (before : List (List ℕ)) (line : List ℕ) (after : List (List ℕ)) (later : Result (Race × List (List ℕ)) (ℕ × TextKind)) (walked : Result (List (List ℕ) × List (List ℕ)) (ℕ × TextKind)) (word : Result (Word × List (List ℕ)) TextKind)
@@ -195,14 +195,14 @@ body_agrees n before (line ∷ after) under late =
     (body_later n before line after (word_of (tokens_of line)) refl under late (body_agrees (n + 1) (before ++ line ∷ []) after))
 
 -- the first groups
-abbrev pub head_next : ℕ → List (List ℕ) → Result (Order × HeadGiven) TextKind → Result (Race × List (List ℕ)) (ℕ × TextKind)
+abbrev pub head_next : ℕ → List (List ℕ) → Result (LastGroup × HeadGiven) TextKind → Result (Race × List (List ℕ)) (ℕ × TextKind)
 head_next n after taken = at_line n taken >>= λ next. read_head (n + 1) next.0 next.1 after
 
-head_known : (n : ℕ) (after : List (List ℕ)) (checks : Option TextKind) (order : Order) (given : HeadGiven) (final : Result (Race × List (List ℕ)) (ℕ × TextKind))
-    → (checks ≡ None → read_head (n + 1) order given after ≡ final)
-    → head_next n after (outcome checks (order, given)) ≡ stop n checks final
-head_known n after (Some kind) order given final later = refl
-head_known n after None order given final later = later refl
+head_known : (n : ℕ) (after : List (List ℕ)) (checks : Option TextKind) (so_far : LastGroup) (given : HeadGiven) (final : Result (Race × List (List ℕ)) (ℕ × TextKind))
+    → (checks ≡ None → read_head (n + 1) so_far given after ≡ final)
+    → head_next n after (outcome checks (so_far, given)) ≡ stop n checks final
+head_known n after (Some kind) so_far given final later = refl
+head_known n after None so_far given final later = later refl
 
 -- whether a word is of the first groups, and what that says of the line
 head_cases : (line : List ℕ) → ((head_of (tokens_of line) ≡ None) × ((word : Word) (tokens : List (List ℕ)) → word_of (tokens_of line) ≡ Ok (word, tokens) → is_head_word word ≡ false))
@@ -286,14 +286,14 @@ head_by_word n before line after only later = elim (head_cases line) [
     by_whole none late (Err kind) e =
         ap (λ w. at_line n w >>= λ _. head_after n (order_of before) (head_given (said_before before)) (line ∷ after) after (head_of (tokens_of line))) e
         ∙ sym (body_unwhole n (order_of before) (race_of (said_before before)) (line ∷ after) kind e)
-        ∙ body_agrees n before (line ∷ after) only.under (λ word tokens is order. late word tokens is)
+        ∙ body_agrees n before (line ∷ after) only.under (λ word tokens is so_far. late word tokens is)
     by_whole none late (Ok done) e =
         ap (λ w. at_line n w >>= λ _. head_after n (order_of before) (head_given (said_before before)) (line ∷ after) after (head_of (tokens_of line))) e
         ∙ ap (head_after n (order_of before) (head_given (said_before before)) (line ∷ after) after) none
         ∙ settle_reads n (order_of before) (head_given (said_before before)) (line ∷ after) (empty_race (settings_given (said_before before)) (table_of_rows (rows_given (said_before before))) (host_given (said_before before)))
         (starts (said_before before) only.fit only.hosts (table_whole line after (rows_given (said_before before)) late only.table))
         ∙ ap (λ race. read_body n (order_of before) race (line ∷ after)) (sym (quiet_race (said_before before) only.quiet))
-        ∙ body_agrees n before (line ∷ after) only.under (λ word tokens is order. late word tokens is)
+        ∙ body_agrees n before (line ∷ after) only.under (λ word tokens is so_far. late word tokens is)
 
 pub head_agrees : (n : ℕ) (before lines : List (List ℕ)) → IsHeadOnly before lines → read_head n (order_of before) (head_given (said_before before)) lines ≡ raced (walk n before lines)
 unfolding read_head walk
@@ -314,7 +314,7 @@ nothing_yet : (lines : List (List ℕ)) → IsHeadOnly [] lines
 unfolding said_before policy_from
 nothing_yet lines = record { under = tt; quiet = record { aaaa = refl; a = refl; outcomes = refl; pauses = refl }; fit = none_fits; hosts = no_hosts; table = inr refl }
 
-start_agrees : (lines : List (List ℕ)) → read_head 2 order_at_start no_head lines ≡ raced (walk 2 [] lines)
+start_agrees : (lines : List (List ℕ)) → read_head 2 group_at_start no_head lines ≡ raced (walk 2 [] lines)
 unfolding said_before
 start_agrees lines = head_agrees 2 [] lines (nothing_yet lines)
 
@@ -322,8 +322,8 @@ pub lines_agree : (lines : List (List ℕ)) → read_lines lines ≡ raced (walk
 unfolding read_lines walk_all wholeness
 lines_agree [] = refl
 lines_agree (line ∷ after) =
-    whole_first 1 (ltb MAX_LINE (length line)) after (wrong_header line) (cond (bytes_eq line (codes "race 1")) (read_head 2 order_at_start no_head after) (Err (1, kinds.Header))) (raced (walk 2 [] after))
-    (begins line after (bytes_eq line (codes "race 1")) (read_head 2 order_at_start no_head after) (raced (walk 2 [] after)) (start_agrees after))
+    whole_first 1 (ltb MAX_LINE (length line)) after (wrong_header line) (cond (bytes_eq line (codes "race 1")) (read_head 2 group_at_start no_head after) (Err (1, kinds.Header))) (raced (walk 2 [] after))
+    (begins line after (bytes_eq line (codes "race 1")) (read_head 2 group_at_start no_head after) (raced (walk 2 [] after)) (start_agrees after))
     ∙ sym (raced_stop 1 (first_fault (too_long line ∷ unfinished after ∷ wrong_header line ∷ [])) (walk 2 [] after))
 
 -- the fault is where the walk stops

@@ -443,11 +443,7 @@ stands text n kind h = elim (may_or_not text n kind) [
 pub not_earlier : (text more : List ℕ) (n : ℕ) (kind : TextKind) → fault_of text ≡ Some (n, kind) → NotBefore n (fault_of (text ++ more))
 not_earlier text more n kind h = in_later (lines_of text) (lines_of (text ++ more)) n kind (parts_go_on 10 text more) h
 
--- faults come behind a line
-abbrev Behind : ℕ → Option (ℕ × TextKind) → Type 0
-Behind n fault = MatchOption fault (Unit {0}) (λ f. n < f.0)
-
-farther : (n m : ℕ) (later : Option (ℕ × TextKind)) → n < m → NotBefore m later → Behind n later
+farther : (n m : ℕ) (later : Option (ℕ × TextKind)) → n ≤ m → NotBefore m later → NotBefore n later
 farther n m None lt h = tt
 farther n m (Some f) lt h = omega arith
 
@@ -458,9 +454,9 @@ tells text more n kind told = elim told [
   | inl memory ↦ by_fault (fault_of text) refl memory.0 memory.1
 ]
   where
-    by_fault : (fault : Option (ℕ × TextKind)) → fault_of text ≡ fault → kind ≡ kinds.Memory → Behind n fault → MayChange text n kind ⊎ TellsFault n kind (fault_of (text ++ more))
+    by_fault : (fault : Option (ℕ × TextKind)) → fault_of text ≡ fault → kind ≡ kinds.Memory → NotBefore n fault → MayChange text n kind ⊎ TellsFault n kind (fault_of (text ++ more))
     by_fault None e refused later =
-        let P : Option (ℕ × TextKind) → Type 0 = Behind n in
+        let P : Option (ℕ × TextKind) → Type 0 = NotBefore n in
         let begins = right_begins text e in
         let none : fault_of (text ++ more) ≡ None = begins_right (text ++ more) (begins.0, begins.1 ++ more, begins.2, ap (λ t. t ++ more) begins.3 ∙ append_assoc begins.0 begins.1 more, begins.4) in
         inr (inl (refused, subst P (sym none) tt))

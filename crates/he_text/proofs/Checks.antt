@@ -1,6 +1,6 @@
 -- The checks of a line behind the first one, from the fourth on.
 use Rattle.std.proofs.Common.{◌≡◌, ℕ, Bool, true, false, ltb, List, [], ◌∷◌, Option, Some, None, Result, Ok, Err, refl, sym, ◌∙◌, ap}
-use Rattle.he_text.specs.declared.draft.Order.{Order}
+use Rattle.he_text.specs.declared.draft.LastGroup.{LastGroup}
 use Rattle.std.specs.Result.{result_err}
 use Rattle.he_text.specs.declared.fault.TextKind.{TextKind}
 use Rattle.he_text.specs.declared.fault.TextKind.TheVariants as kinds
@@ -17,23 +17,23 @@ abbrev pub later_checks : Option TextKind → Option TextKind → Result Said Te
 later_checks word often said bounds again table = first_fault (word ∷ often ∷ result_err said ∷ of_said bounds said ∷ of_said again said ∷ of_said table said ∷ [])
 
 -- an order and what is told, taken one after the other, fail as the checks do
-pub taken_in_order : {S T : Type 0} (word often : Option TextKind) (said : Result Said TextKind) (bounds again table : Said → Option TextKind) (order : Order) (admitted : Result Order TextKind) (told : Result S TextKind) (after : Said → S) (final : S) (give : Order → S → T)
-    → admitted ≡ outcome (first_fault (word ∷ often ∷ [])) order
+pub taken_in_order : {S T : Type 0} (word often : Option TextKind) (said : Result Said TextKind) (bounds again table : Said → Option TextKind) (so_far : LastGroup) (admitted : Result LastGroup TextKind) (told : Result S TextKind) (after : Said → S) (final : S) (give : LastGroup → S → T)
+    → admitted ≡ outcome (first_fault (word ∷ often ∷ [])) so_far
     → (word ≡ None → often ≡ None → told ≡ (said >>= λ s. outcome (first_fault (bounds s ∷ again s ∷ table s ∷ [])) (after s)))
     → ((s : Said) → said ≡ Ok s → after s ≡ final)
-    → (admitted >>= λ next. told >>= λ t. Ok (give next t)) ≡ outcome (later_checks word often said bounds again table) (give order final)
-taken_in_order (Some kind) often said bounds again table order admitted told after final give ha ht hf = ap (λ a. a >>= λ next. told >>= λ t. Ok (give next t)) ha
-taken_in_order None (Some kind) said bounds again table order admitted told after final give ha ht hf = ap (λ a. a >>= λ next. told >>= λ t. Ok (give next t)) ha
-taken_in_order None None (Err kind) bounds again table order admitted told after final give ha ht hf =
-    ap (λ a. a >>= λ next. told >>= λ t. Ok (give next t)) ha ∙ ap (λ r. r >>= λ t. Ok (give order t)) (ht refl refl)
-taken_in_order None None (Ok s) bounds again table order admitted told after final give ha ht hf =
-    ap (λ a. a >>= λ next. told >>= λ t. Ok (give next t)) ha ∙ ap (λ r. r >>= λ t. Ok (give order t)) (ht refl refl)
-    ∙ by_fault (first_fault (bounds s ∷ again s ∷ table s ∷ [])) (after s) final give order (hf s refl)
+    → (admitted >>= λ next. told >>= λ t. Ok (give next t)) ≡ outcome (later_checks word often said bounds again table) (give so_far final)
+taken_in_order (Some kind) often said bounds again table so_far admitted told after final give ha ht hf = ap (λ a. a >>= λ next. told >>= λ t. Ok (give next t)) ha
+taken_in_order None (Some kind) said bounds again table so_far admitted told after final give ha ht hf = ap (λ a. a >>= λ next. told >>= λ t. Ok (give next t)) ha
+taken_in_order None None (Err kind) bounds again table so_far admitted told after final give ha ht hf =
+    ap (λ a. a >>= λ next. told >>= λ t. Ok (give next t)) ha ∙ ap (λ r. r >>= λ t. Ok (give so_far t)) (ht refl refl)
+taken_in_order None None (Ok s) bounds again table so_far admitted told after final give ha ht hf =
+    ap (λ a. a >>= λ next. told >>= λ t. Ok (give next t)) ha ∙ ap (λ r. r >>= λ t. Ok (give so_far t)) (ht refl refl)
+    ∙ by_fault (first_fault (bounds s ∷ again s ∷ table s ∷ [])) (after s) final give so_far (hf s refl)
   where
-    by_fault : {S T : Type 0} (fault : Option TextKind) (here final : S) (give : Order → S → T) (order : Order) → here ≡ final
-        → (outcome fault here >>= λ t. Ok (give order t)) ≡ outcome fault (give order final)
-    by_fault (Some kind) here final give order same = refl
-    by_fault None here final give order same = ap (λ t. Ok (give order t)) same
+    by_fault : {S T : Type 0} (fault : Option TextKind) (here final : S) (give : LastGroup → S → T) (so_far : LastGroup) → here ≡ final
+        → (outcome fault here >>= λ t. Ok (give so_far t)) ≡ outcome fault (give so_far final)
+    by_fault (Some kind) here final give so_far same = refl
+    by_fault None here final give so_far same = ap (λ t. Ok (give so_far t)) same
 
 abbrev pub line_checks : List (List ℕ) → List ℕ → List (List ℕ) → Result (Word × List (List ℕ)) TextKind → Option TextKind
 line_checks before line after word =

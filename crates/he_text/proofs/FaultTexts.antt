@@ -12,13 +12,13 @@ use Rattle.he_text.specs.Text.{IsRaceText, TellsFault}
 use Rattle.he_text.proofs.Agreement.{fault_told, fault_agrees}
 use Rattle.he_text.proofs.RaceTexts.{begins_with_race}
 
-told_after : {A : Type 0} (n : ℕ) (read : Result A (ℕ × TextKind)) → IfErr read (λ fault. n < fault.0) → MatchOption (fault_told read) (Unit {0}) (λ fault. n < fault.0)
+told_after : {A : Type 0} (n : ℕ) (read : Result A (ℕ × TextKind)) → IfErr read (λ fault. n ≤ fault.0) → MatchOption (fault_told read) (Unit {0}) (λ fault. n ≤ fault.0)
 told_after n (Ok x) h = tt
 told_after n (Err fault) h = h
 
 pub tells_fault : (n : ℕ) (kind : TextKind) (lines : List (List ℕ)) → FailsAt n kind (read_lines lines) → TellsFault n kind (fault_in lines)
 tells_fault n kind lines fails = elim fails [
-  | inl memory ↦ let P : Option (ℕ × TextKind) → Type 0 = λ f. MatchOption f (Unit {0}) (λ fault. n < fault.0) in
+  | inl memory ↦ let P : Option (ℕ × TextKind) → Type 0 = λ f. MatchOption f (Unit {0}) (λ fault. n ≤ fault.0) in
       inl (memory.0, subst P (fault_agrees lines) (told_after n (read_lines lines) memory.1))
   | inr same ↦ inr (sym (fault_agrees lines) ∙ ap fault_told same)
 ]

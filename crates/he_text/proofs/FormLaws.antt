@@ -59,16 +59,6 @@ pub addresses_end : (ips : List Ip) (family : Family) (tokens : List (List ℕ))
 unfolding addresses_in
 addresses_end ips family tokens is = ap (λ ts. prepend ips (addresses_in family ts)) is ∙ ap Ok (append-nil ips)
 
--- as many addresses more as tokens are read
-pub one_fewer : (ips pushed : List Ip) (ip : Ip) (tokens more : List (List ℕ)) (token : List ℕ) (most : ℕ) → pushed ≡ ips ++ ip ∷ [] → tokens ≡ token ∷ more → length ips + length tokens ≤ most → length pushed + length more ≤ most
-one_fewer ips pushed ip tokens more token most one is within =
-    let longer : length pushed ≡ length ips + 1 = ap length one ∙ length-append ips (ip ∷ []) in
-    let fewer : length tokens ≡ length (token ∷ more) = ap length is in
-    omega arith
-
-pub has_room : (ips : List Ip) (tokens more : List (List ℕ)) (token : List ℕ) (most : ℕ) → tokens ≡ token ∷ more → length ips + length tokens ≤ most → length ips < most
-has_room ips tokens more token most is within = let fewer : length tokens ≡ length (token ∷ more) = ap length is in omega arith
-
 list_taken : (family : Family) (tick : ℕ) (race : Race) (read : Result (List Ip) TextKind)
     → (with_tick tick read >>= λ reply. built (add_answer family reply.tick reply.addresses race)) ≡ (read >>= λ ips. built (add_answer family tick ips race))
 list_taken family tick race (Ok ips) = refl

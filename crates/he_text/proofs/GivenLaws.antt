@@ -10,7 +10,7 @@ use Rattle.he_plan.specs.Settings.{SettingValues}
 use Rattle.he_select.specs.declared.policy.Row.{Row}
 use Rattle.he_select.specs.declared.host.Source.{Source}
 use Rattle.he_select.specs.declared.host.Route.{Route}
-use Rattle.he_text.specs.declared.draft.Given.{Given}
+use Rattle.he_text.specs.declared.draft.GivenSettings.{GivenSettings}
 use Rattle.he_text.specs.declared.fault.TextKind.{TextKind}
 use Rattle.he_text.specs.declared.fault.TextKind.TheVariants as kinds
 use Rattle.he_text.specs.declared.words.Name.{Name}
@@ -27,13 +27,13 @@ use Rattle.he_text.proofs.SaidLaws.{one_more, first_more, setting_kept, IsQuiet,
 use Rattle.he_text.proofs.ToldLaws.{outcome}
 
 -- the settings that were given
-abbrev pub made : Option ℕ → Option ℕ → Option ℕ → Option ℕ → Given
+abbrev pub made : Option ℕ → Option ℕ → Option ℕ → Option ℕ → GivenSettings
 made r a c l = record { resolution = r; attempt = a; count = c; limit = l }
 
-abbrev pub given_of : List Said → Given
+abbrev pub given_of : List Said → GivenSettings
 given_of said = made (setting_given Resolution said) (setting_given Attempt said) (setting_given Count said) (setting_given Limit said)
 
-abbrev pub judged_setting : List Said → Said → Result Given TextKind
+abbrev pub judged_setting : List Said → Said → Result GivenSettings TextKind
 judged_setting said s = outcome (first_fault (wrong_bounds said s ∷ repeated said s ∷ [])) (given_of (said ++ s ∷ []))
 
 pub given_same : (r r' a a' c c' l l' : Option ℕ) → r ≡ r' → a ≡ a' → c ≡ c' → l ≡ l' → made r a c l ≡ made r' a' c' l'
@@ -45,7 +45,7 @@ setting_new name said value same none =
     ap at_front (one_more (setting_said name) said (Setting name value) value (ap (λ b. cond b (Some value) None) same)) ∙ first_more (filter_map (setting_said name) said) value none
 
 -- one more setting, where there is none of its name yet
-put_one : (before : Option ℕ) (value : ℕ) (with_value : Option ℕ → Given) (after : Given) → (before ≡ None → with_value (Some value) ≡ after)
+put_one : (before : Option ℕ) (value : ℕ) (with_value : Option ℕ → GivenSettings) (after : GivenSettings) → (before ≡ None → with_value (Some value) ≡ after)
     → (once before value >>= λ (more : Option ℕ). Ok (with_value more)) ≡ outcome (first_fault (None ∷ test (is_some before) kinds.Repeated ∷ [])) after
 put_one None value with_value after same = ap Ok (same refl)
 put_one (Some x) value with_value after same = refl

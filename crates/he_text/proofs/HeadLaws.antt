@@ -11,7 +11,7 @@ use Rattle.he_select.specs.declared.host.Route.{Route}
 use Rattle.he_select.specs.Hosts.{same_source, same_route}
 use Rattle.he_select.specs.TableFaults.{table_fault}
 use Rattle.he_select.specs.Tables.{same_row}
-use Rattle.he_text.specs.declared.draft.Given.{Given}
+use Rattle.he_text.specs.declared.draft.GivenSettings.{GivenSettings}
 use Rattle.he_text.specs.declared.fault.TextKind.{TextKind}
 use Rattle.he_text.specs.declared.fault.TextKind.TheVariants as kinds
 use Rattle.he_text.specs.declared.words.Name.{Name}
@@ -26,7 +26,7 @@ use Rattle.he_text.proofs.GivenLaws.{given_of, given_kept, put_agrees}
 use Rattle.he_text.proofs.SaidLaws.{none_more, one_more}
 use Rattle.he_text.proofs.ToldLaws.{outcome}
 
-abbrev made : Given → List Row → List Source → List Route → HeadGiven
+abbrev made : GivenSettings → List Row → List Source → List Route → HeadGiven
 made given rows sources routes = record { settings = given; rows = rows; sources = sources; routes = routes }
 
 -- what the lines of the first groups gave
@@ -37,20 +37,20 @@ head_given said = made (given_of said) (rows_given said) (sources_given said) (r
 abbrev pub judged_head : List (List ℕ) → List Said → Said → Result HeadGiven TextKind
 judged_head after said s = outcome (first_fault (wrong_bounds said s ∷ repeated said s ∷ wrong_table said after s ∷ [])) (head_given (said ++ s ∷ []))
 
-head_same : (g g' : Given) (r r' : List Row) (s s' : List Source) (t t' : List Route) → g ≡ g' → r ≡ r' → s ≡ s' → t ≡ t' → made g r s t ≡ made g' r' s' t'
+head_same : (g g' : GivenSettings) (r r' : List Row) (s s' : List Source) (t t' : List Route) → g ≡ g' → r ≡ r' → s ≡ s' → t ≡ t' → made g r s t ≡ made g' r' s' t'
 head_same g g' r r' s s' t t' eg er es et =
     ap (λ x. made x r s t) eg ∙ ap (λ x. made g' x s t) er ∙ ap (λ x. made g' r' x t) es ∙ ap (made g' r' s') et
 
 -- settings
-setting_judged : (again : Bool) (head final : HeadGiven) (more : Given) → record head { settings = more } ≡ final
-    → (outcome (first_fault (None ∷ test again kinds.Repeated ∷ [])) more >>= λ (m : Given). Ok (record head { settings = m })) ≡ outcome (first_fault (None ∷ test again kinds.Repeated ∷ None ∷ [])) final
+setting_judged : (again : Bool) (head final : HeadGiven) (more : GivenSettings) → record head { settings = more } ≡ final
+    → (outcome (first_fault (None ∷ test again kinds.Repeated ∷ [])) more >>= λ (m : GivenSettings). Ok (record head { settings = m })) ≡ outcome (first_fault (None ∷ test again kinds.Repeated ∷ None ∷ [])) final
 setting_judged true head final more same = refl
 setting_judged false head final more same = ap Ok same
 
 setting_agrees : (after : List (List ℕ)) (name : Name) (value : ℕ) (said : List Said) → add_setting name value (head_given said) ≡ judged_head after said (Setting name value)
 unfolding add_setting
 setting_agrees after name value said =
-    ap (λ r. r >>= λ (more : Given). Ok (record (head_given said) { settings = more })) (put_agrees name value said)
+    ap (λ r. r >>= λ (more : GivenSettings). Ok (record (head_given said) { settings = more })) (put_agrees name value said)
     ∙ setting_judged _ (head_given said) (head_given (said ++ Setting name value ∷ [])) (given_of (said ++ Setting name value ∷ []))
     (head_same _ _ _ _ _ _ _ _ refl (sym (none_more row_said said (Setting name value) refl)) (sym (none_more source_said said (Setting name value) refl)) (sym (none_more route_said said (Setting name value) refl)))
 

@@ -4,7 +4,7 @@ use Rattle.std.specs.Prelude.{◌⊎◌}
 use Rattle.std.specs.List.{AllByRecursion}
 use Rattle.std.proofs.lemmas.Bool.{cases_lt, ltb-false, eqb-true, eqb-false, eq-eqb, ne_eqb}
 use Rattle.std.proofs.lemmas.List.Sums.{sum_by-append, sum_by-cons}
-use Rattle.he_text.specs.declared.draft.Order.{Order}
+use Rattle.he_text.specs.declared.draft.LastGroup.{LastGroup}
 use Rattle.he_text.specs.declared.fault.TextKind.{TextKind}
 use Rattle.he_text.specs.declared.fault.TextKind.TheVariants as kinds
 use Rattle.he_text.specs.declared.words.Word.{Word}
@@ -23,7 +23,7 @@ is_counted group = (ltb 1 group && ltb group 7) || (group == 8)
 abbrev pub counted_lines : ℕ → List (List ℕ) → ℕ
 counted_lines group lines = cond (is_counted group) (lines_with group lines) 0
 
-abbrev pub order_of : List (List ℕ) → Order
+abbrev pub order_of : List (List ℕ) → LastGroup
 order_of before = record { group = last_group 0 before; lines = counted_lines (last_group 0 before) before }
 
 -- no line is of a later group
@@ -71,8 +71,8 @@ order_more : (before : List (List ℕ)) (line : List ℕ) (group : ℕ) → grou
     → order_of (before ++ line ∷ []) ≡ record { group = group; lines = cond (is_counted group) (lines_with group before + 1) 0 }
 order_more before line group e =
     let last : last_group 0 (before ++ line ∷ []) ≡ group = last_more 0 before line ∙ e in
-    let at : ℕ → Order = λ g. record { group = g; lines = counted_lines g (before ++ line ∷ []) } in
-    let count : ℕ → Order = λ n. record { group = group; lines = cond (is_counted group) n 0 } in
+    let at : ℕ → LastGroup = λ g. record { group = g; lines = counted_lines g (before ++ line ∷ []) } in
+    let count : ℕ → LastGroup = λ n. record { group = group; lines = cond (is_counted group) n 0 } in
     ap at last ∙ ap count (lines_more group before line e)
 
 -- how many lines of the word's group there are is known from the last group's
@@ -88,7 +88,7 @@ known_lines before group false e counts under later =
     let less : last_group 0 before < group = ⊎_elim (λ (l : last_group 0 before < group). l) (λ (g : group ≤ last_group 0 before). absurd (other (omega arith))) (cases_lt (last_group 0 before) group) in
     sym (lines_none (last_group 0 before) group before under less)
 
-abbrev placed : ℕ → ℕ → Order
+abbrev placed : ℕ → ℕ → LastGroup
 placed group lines = record { group = group; lines = lines }
 
 counted_some : (group : ℕ) (most : ℕ × TextKind) (n : ℕ) (full : Bool) → cond full (Err most.1) (Ok (placed group (n + 1))) ≡ outcome (first_fault (None ∷ test full most.1 ∷ [])) (placed group (n + 1))
@@ -114,10 +114,10 @@ admit_later word tokens before line e under later = elim (counted_word word) [
       ∙ ap (λ m. outcome (first_fault (None ∷ excess m n ∷ [])) (order_of (before ++ line ∷ []))) (sym some.1)
 ]
   where
-    none_order : Bool → Order
+    none_order : Bool → LastGroup
     none_order b = record { group = group_of word; lines = cond b (lines_with (group_of word) before + 1) 0 }
 
-    some_order : Bool → Order
+    some_order : Bool → LastGroup
     some_order b = record { group = group_of word; lines = cond b (lines_with (group_of word) before + 1) 0 }
 
 by_group : (word : Word) (tokens : List (List ℕ)) (before : List (List ℕ)) (line : List ℕ) (earlier : Bool) → ltb (group_of word) (last_group 0 before) ≡ earlier → group_on line ≡ group_of word → Under (last_group 0 before) before

@@ -18,7 +18,7 @@ IsNext text from is_last nexts.More = (is_last ≡ false) × MayGoOn (drop from 
 IsNext text from is_last nexts.End = (is_last ≡ true) × (from ≡ length text)
 
 -- the fault is the text's, where it ends so, else that of every text that begins with these bytes; or memory was refused at
--- a line up to which nothing is wrong
+-- a line before which nothing is wrong
 abbrev pub TellsFor : Bool → List ℕ → ℕ → TextKind → Type 0
 TellsFor true text line kind = TellsFault line kind (fault_of text)
 TellsFor false text line kind = (more : List ℕ) → TellsFault line kind (fault_of (text ++ more))

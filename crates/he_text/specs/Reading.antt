@@ -1,6 +1,6 @@
 -- Mirrors the code: what the private readers answer, as functions on lists. What the lines of a race are stands in `Text`,
 -- what is wrong with them in `Faults`.
-use Rattle.std.specs.Prelude.{ℕ, ◌≡◌, ◌⊎◌, ◌<◌, ◌+◌, ◌++◌, ◌==◌, ◌&&◌, Bool, List, [], ◌∷◌, length, Option, Some, None, option_map, Result, Ok, Err, if◌then◌else◌, nat_le, nat_lt, unwrap_or, IsOk, IfErr, codes}
+use Rattle.std.specs.Prelude.{ℕ, ◌≡◌, ◌⊎◌, ◌≤◌, ◌+◌, ◌++◌, ◌==◌, ◌&&◌, Bool, List, [], ◌∷◌, length, Option, Some, None, option_map, Result, Ok, Err, if◌then◌else◌, nat_le, nat_lt, unwrap_or, IfErr, codes}
 use Rattle.std.specs.List.{list_any}
 use Rattle.std.specs.Option.{option_map_or}
 use Rattle.std.specs.Str.{bytes_eq}
@@ -25,8 +25,8 @@ use Rattle.he_select.specs.Hosts.{HostLists, same_source, same_route}
 use Rattle.he_select.specs.Standard.{standard_rows}
 use Rattle.he_select.specs.TableFaults.{table_fault, table_of}
 use Rattle.he_select.specs.Tables.{same_row}
-use Rattle.he_text.specs.declared.draft.Order.{Order}
-use Rattle.he_text.specs.declared.draft.Given.{Given}
+use Rattle.he_text.specs.declared.draft.LastGroup.{LastGroup}
+use Rattle.he_text.specs.declared.draft.GivenSettings.{GivenSettings}
 use Rattle.he_text.specs.declared.fault.TextKind.{TextKind}
 use Rattle.he_text.specs.declared.fault.TextKind.TheVariants as kinds
 use Rattle.he_text.specs.declared.limits.TheConstants.{MAX_LINE}
@@ -39,9 +39,9 @@ use Rattle.he_text.specs.Forms.{◌>>=◌, word_of, setting_in, row_in, host_sou
 use Rattle.he_text.specs.Parts.{lines_of, tokens_of}
 use Rattle.he_text.specs.Words.{group_of, most_lines, is_policy, is_end}
 
--- a call that failed did so as `read` does, or was refused memory where `read` finds nothing wrong
+-- a call that failed did so as `read` does, or was refused memory
 abbrev pub Fails : {B : Type 0} → TextKind → Result B TextKind → Type 0
-Fails kind read = ((kind ≡ kinds.Memory) × IsOk read) ⊎ (read ≡ Err kind)
+Fails kind read = (kind ≡ kinds.Memory) ⊎ (read ≡ Err kind)
 
 -- some addresses, and then what is read of the others
 abbrev pub prepend : List Ip → Result (List Ip) TextKind → Result (List Ip) TextKind
@@ -61,20 +61,20 @@ built (Ok race) = Ok race
 built (Err fault) = Err (kind_of fault)
 
 -- one more line of a word with a bound on its lines, of which there are so many
-unfoldable pub counted : ℕ → Option (ℕ × TextKind) → ℕ → Result Order TextKind
+unfoldable pub counted : ℕ → Option (ℕ × TextKind) → ℕ → Result LastGroup TextKind
 counted group None lines = Ok (record { group = group; lines = 0 })
 counted group (Some most) lines = if nat_le most.0 lines then Err most.1 else Ok (record { group = group; lines = lines + 1 })
 
 -- a line of the word, behind lines of which the last one's group has so many
-unfoldable pub admit : Word → Order → Result Order TextKind
-admit word order =
-    if nat_lt (group_of word) order.group then Err kinds.Word
-    else counted (group_of word) (most_lines word) (if group_of word == order.group then order.lines else 0)
+unfoldable pub admit : Word → LastGroup → Result LastGroup TextKind
+admit word so_far =
+    if nat_lt (group_of word) so_far.group then Err kinds.Word
+    else counted (group_of word) (most_lines word) (if group_of word == so_far.group then so_far.lines else 0)
 
-abbrev pub order_at_start : Order
-order_at_start = record { group = 0; lines = 0 }
+abbrev pub group_at_start : LastGroup
+group_at_start = record { group = 0; lines = 0 }
 
-abbrev pub none_given : Given
+abbrev pub none_given : GivenSettings
 none_given = record { resolution = None; attempt = None; count = None; limit = None }
 
 -- a value that may be given once
@@ -82,7 +82,7 @@ abbrev pub once : Option ℕ → ℕ → Result (Option ℕ) TextKind
 once None value = Ok (Some value)
 once (Some before) value = Err kinds.Repeated
 
-unfoldable pub put : Name → ℕ → Given → Result Given TextKind
+unfoldable pub put : Name → ℕ → GivenSettings → Result GivenSettings TextKind
 put Resolution value given = once given.resolution value >>= λ (more : Option ℕ). Ok (record given { resolution = more })
 put Attempt value given = once given.attempt value >>= λ (more : Option ℕ). Ok (record given { attempt = more })
 put Count value given = once given.count value >>= λ (more : Option ℕ). Ok (record given { count = more })
@@ -93,7 +93,7 @@ ranged (Ok settings) = Ok settings
 ranged (Err range) = Err kinds.Range
 
 -- the settings, where one that isn't given has its default
-unfoldable pub settings_from : Given → Result SettingValues TextKind
+unfoldable pub settings_from : GivenSettings → Result SettingValues TextKind
 settings_from given = ranged (settings_of
     (unwrap_or given.resolution DEFAULT_RESOLUTION)
     (unwrap_or given.attempt DEFAULT_ATTEMPT)
@@ -102,7 +102,7 @@ settings_from given = ranged (settings_of
 
 -- what the lines of the first four groups give
 pub record HeadGiven : Type 0 where
-  pub settings : Given
+  pub settings : GivenSettings
   pub rows : List Row
   pub sources : List Source
   pub routes : List Route
@@ -111,7 +111,7 @@ abbrev pub no_head : HeadGiven
 no_head = record { settings = none_given; rows = []; sources = []; routes = [] }
 
 unfoldable pub add_setting : Name → ℕ → HeadGiven → Result HeadGiven TextKind
-add_setting name value head = put name value head.settings >>= λ (more : Given). Ok (record head { settings = more })
+add_setting name value head = put name value head.settings >>= λ (more : GivenSettings). Ok (record head { settings = more })
 
 abbrev pub with_row : Row → HeadGiven → HeadGiven
 with_row row head = record head { rows = head.rows ++ row ∷ [] }
@@ -194,10 +194,10 @@ take_told words.Pause tokens race = pause_in tokens >>= λ pause. built (add_pau
 take_told words.End tokens race = end_in tokens >>= λ _. Ok race
 take_told _ tokens race = Err kinds.Word
 
-unfoldable pub take_line : List (List ℕ) → Order → Race → Result (Word × Order × Race) TextKind
-take_line line order race = do
+unfoldable pub take_line : List (List ℕ) → LastGroup → Race → Result (Word × LastGroup × Race) TextKind
+take_line line so_far race = do
   parts ← word_of line
-  next ← admit parts.0 order
+  next ← admit parts.0 so_far
   told ← take_told parts.0 parts.1 race
   Ok (parts.0, next, told)
 
@@ -216,11 +216,11 @@ at_line n (Ok x) = Ok x
 at_line n (Err kind) = Err (n, kind)
 
 -- reading on from line n: the race and what stands behind it
-unfoldable pub read_body : ℕ → Order → Race → List (List ℕ) → Result (Race × List (List ℕ)) (ℕ × TextKind)
-read_body n order race [] = Err (n, kinds.Unfinished)
-read_body n order race (line ∷ after) =
+unfoldable pub read_body : ℕ → LastGroup → Race → List (List ℕ) → Result (Race × List (List ℕ)) (ℕ × TextKind)
+read_body n so_far race [] = Err (n, kinds.Unfinished)
+read_body n so_far race (line ∷ after) =
     at_line n (wholeness (line ∷ after)) >>= λ _.
-    at_line n (take_line (tokens_of line) order race) >>= λ next.
+    at_line n (take_line (tokens_of line) so_far race) >>= λ next.
     if is_end next.0 then Ok (next.2, after) else read_body (n + 1) next.1 next.2 after
 
 -- the words of the first four groups
@@ -236,31 +236,31 @@ unfoldable pub head_of : List (List ℕ) → Option (Word × List (List ℕ))
 head_of line = head_part (word_of line)
 
 -- such a line, and whether it has a place, by what stands behind it
-unfoldable pub take_head : List (List ℕ) → Word × List (List ℕ) → Order → HeadGiven → Result (Order × HeadGiven) TextKind
-take_head after parts order head = do
-  next ← admit parts.0 order
+unfoldable pub take_head : List (List ℕ) → Word × List (List ℕ) → LastGroup → HeadGiven → Result (LastGroup × HeadGiven) TextKind
+take_head after parts so_far head = do
+  next ← admit parts.0 so_far
   more ← take_given (is_policy parts.0 && is_policy_next after) parts.0 parts.1 head
   Ok (next, more)
 
 -- what follows the lines of the first four groups
-unfoldable pub settle : ℕ → Order → HeadGiven → List (List ℕ) → Result (Race × List (List ℕ)) (ℕ × TextKind)
-settle n order head lines = at_line n (race_begun head) >>= λ race. read_body n order race lines
+unfoldable pub settle : ℕ → LastGroup → HeadGiven → List (List ℕ) → Result (Race × List (List ℕ)) (ℕ × TextKind)
+settle n so_far head lines = at_line n (race_begun head) >>= λ race. read_body n so_far race lines
 
 -- the lines of the first four groups, and then the others
-unfoldable pub read_head : ℕ → Order → HeadGiven → List (List ℕ) → Result (Race × List (List ℕ)) (ℕ × TextKind)
-read_head n order head [] = Err (n, kinds.Unfinished)
-read_head n order head (line ∷ after) =
+unfoldable pub read_head : ℕ → LastGroup → HeadGiven → List (List ℕ) → Result (Race × List (List ℕ)) (ℕ × TextKind)
+read_head n so_far head [] = Err (n, kinds.Unfinished)
+read_head n so_far head (line ∷ after) =
     at_line n (wholeness (line ∷ after)) >>= λ _.
     elim (head_of (tokens_of line)) [
-      | None ↦ settle n order head (line ∷ after)
-      | Some parts ↦ at_line n (take_head after parts order head) >>= λ next. read_head (n + 1) next.0 next.1 after
+      | None ↦ settle n so_far head (line ∷ after)
+      | Some parts ↦ at_line n (take_head after parts so_far head) >>= λ next. read_head (n + 1) next.0 next.1 after
     ]
 
 unfoldable pub read_lines : List (List ℕ) → Result (Race × List (List ℕ)) (ℕ × TextKind)
 read_lines [] = Err (1, kinds.Unfinished)
 read_lines (line ∷ after) =
     at_line 1 (wholeness (line ∷ after)) >>= λ _.
-    if bytes_eq line (codes "race 1") then read_head 2 order_at_start no_head after else Err (1, kinds.Header)
+    if bytes_eq line (codes "race 1") then read_head 2 group_at_start no_head after else Err (1, kinds.Header)
 
 -- a text was read: its race, how many bytes stand behind it, and how many lines it has
 pub record ReadsFirst (text : List ℕ) (race : Race) (left lines : ℕ) : Type 0 where
@@ -269,6 +269,6 @@ pub record ReadsFirst (text : List ℕ) (race : Race) (left lines : ℕ) : Type 
   pub read : read_lines (lines_of text) ≡ Ok (race, lines_of rest)
   pub passed : lines + length (lines_of rest) ≡ length (lines_of text)
 
--- a failed reading did so at line n as `read` does, or was refused memory there, where nothing is wrong up to this line
+-- a failed reading did so at line n as `read` does, or was refused memory there, where nothing is wrong before this line
 abbrev pub FailsAt : {B : Type 0} → ℕ → TextKind → Result B (ℕ × TextKind) → Type 0
-FailsAt n kind read = ((kind ≡ kinds.Memory) × IfErr read (λ fault. n < fault.0)) ⊎ (read ≡ Err (n, kind))
+FailsAt n kind read = ((kind ≡ kinds.Memory) × IfErr read (λ fault. n ≤ fault.0)) ⊎ (read ≡ Err (n, kind))

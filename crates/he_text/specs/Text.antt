@@ -128,6 +128,6 @@ BeginsWithRace text = (front : List ℕ) × (rest : List ℕ) × (race : Race) �
 abbrev pub IsLineOf : List ℕ → ℕ → Type 0
 IsLineOf text line = (1 ≤ line) × (line ≤ length (lines_of text))
 
--- the fault of a reading is the text's, or memory was refused at a line up to which nothing is wrong, it included
+-- the fault of a reading is the text's, or memory was refused at a line before which nothing is wrong
 abbrev pub TellsFault : ℕ → TextKind → Option (ℕ × TextKind) → Type 0
-TellsFault line kind fault = ((kind ≡ kinds.Memory) × MatchOption fault (Unit {0}) (λ f. line < f.0)) ⊎ (fault ≡ Some (line, kind))
+TellsFault line kind fault = ((kind ≡ kinds.Memory) × MatchOption fault (Unit {0}) (λ f. line ≤ f.0)) ⊎ (fault ≡ Some (line, kind))

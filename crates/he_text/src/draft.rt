@@ -1,41 +1,39 @@
 // What is known of a race while its lines are read.
 
 ghost use Rattle.std.specs.Prelude.{◌≡◌, ◌⊎◌, ◌≤◌, [], ◌∷◌, IsOk, Ok, Err, length, MatchResult};
-ghost use Rattle.he_plan.specs.declared.limits.TheConstants.{MAX_ADDRESSES};
 ghost use Rattle.he_text.specs.Left.{tokens_left};
-ghost use Rattle.he_text.specs.Reading.{Fails, admit, kind_of, once, put, settings_from, take_answer, take_listed, take_told, order_at_start, none_given};
+ghost use Rattle.he_text.specs.Reading.{Fails, admit, kind_of, once, put, settings_from, take_answer, take_listed, take_told, group_at_start, none_given};
 
 use crate::fault::TextKind;
 use crate::forms;
-use crate::forms::{AnswerLine, FEW_ADDRESSES, IpList};
+use crate::forms::AnswerLine;
 use crate::parts::Tokens;
 use crate::words::{Name, Word};
 use he_addr::Family;
 use he_plan::limits::{
-    DEFAULT_ATTEMPT, DEFAULT_COUNT, DEFAULT_LIMIT, DEFAULT_RESOLUTION, MAX_ADDRESSES,
+    DEFAULT_ATTEMPT, DEFAULT_COUNT, DEFAULT_LIMIT, DEFAULT_RESOLUTION,
 };
 use he_plan::{BuildFault, Settings, TimelineBuilder};
 use std::alloc::Allocator;
 
-// The order of the lines: the group of the last one, and how many lines of that group there are, if there may be only
-// so many.
+// The group of the last line that was read, and how many lines of that group there are, if there may be only so many.
 #[derive(Clone, Copy)]
-pub(crate) struct Order {
+pub(crate) struct LastGroup {
     group: u8,
     lines: usize,
 }
 
-impl Order {
+impl LastGroup {
     // No line behind the first one.
-    pub(crate) fn start() -> Order
-        ensures { result ≡ order_at_start }
+    pub(crate) fn start() -> LastGroup
+        ensures { result ≡ group_at_start }
     {
-        Order { group: 0, lines: 0 }
+        LastGroup { group: 0, lines: 0 }
     }
 
-    // The order with one more line, which begins with the word.
+    // The same with one more line, which begins with the word.
     #[tactic(auto, unfolding(crate::specs::Reading::admit, crate::specs::Reading::counted))]
-    pub(crate) fn admit(self, word: Word) -> Result<Order, TextKind>
+    pub(crate) fn admit(self, word: Word) -> Result<LastGroup, TextKind>
         ensures { result ≡ admit word self }
     {
         let group = word.group();
@@ -44,9 +42,9 @@ impl Order {
         }
         let lines = if group == self.group { self.lines } else { 0 };
         match word.most_lines() {
-            None => Ok(Order { group, lines: 0 }),
+            None => Ok(LastGroup { group, lines: 0 }),
             Some((most, fault)) if most <= lines => Err(fault),
-            Some(_) => Ok(Order {
+            Some(_) => Ok(LastGroup {
                 group,
                 lines: lines + 1,
             }),
@@ -56,18 +54,18 @@ impl Order {
 
 // The settings that a race gives.
 #[derive(Clone, Copy)]
-pub(crate) struct Given {
+pub(crate) struct GivenSettings {
     resolution: Option<u64>,
     attempt: Option<u64>,
     count: Option<u64>,
     limit: Option<u64>,
 }
 
-impl Given {
-    pub(crate) fn none() -> Given
+impl GivenSettings {
+    pub(crate) fn none() -> GivenSettings
         ensures { result ≡ none_given }
     {
-        Given {
+        GivenSettings {
             resolution: None,
             attempt: None,
             count: None,
@@ -77,23 +75,23 @@ impl Given {
 
     // The settings with one more.
     #[tactic(auto, unfolding(crate::specs::Reading::put))]
-    pub(crate) fn put(self, name: Name, value: u64) -> Result<Given, TextKind>
+    pub(crate) fn put(self, name: Name, value: u64) -> Result<GivenSettings, TextKind>
         ensures { result ≡ put name value self }
     {
         match name {
-            Name::Resolution => Ok(Given {
+            Name::Resolution => Ok(GivenSettings {
                 resolution: once(self.resolution, value)?,
                 ..self
             }),
-            Name::Attempt => Ok(Given {
+            Name::Attempt => Ok(GivenSettings {
                 attempt: once(self.attempt, value)?,
                 ..self
             }),
-            Name::Count => Ok(Given {
+            Name::Count => Ok(GivenSettings {
                 count: once(self.count, value)?,
                 ..self
             }),
-            Name::Limit => Ok(Given {
+            Name::Limit => Ok(GivenSettings {
                 limit: once(self.limit, value)?,
                 ..self
             }),
@@ -134,20 +132,18 @@ fn built(made: Result<(), BuildFault>) -> Result<(), TextKind>
     }
 }
 
-// Adds an answer with at most so many addresses to the race.
+// Adds an answer to the race.
 #[tactic(auto, unfolding(crate::specs::Reading::take_listed))]
-fn take_listed<const ROOM: usize, A: Allocator + Copy>(
+fn take_listed<A: Allocator + Copy>(
+    alloc: A,
     family: Family,
     given: AnswerLine,
     race: &mut TimelineBuilder<A>,
 ) -> Result<(), TextKind>
-    requires room { length (tokens_left given.tokens) ≤ ROOM }
-    requires small { ROOM ≤ MAX_ADDRESSES }
     ensures { MatchResult result (λ _. take_listed family given.entry.tick (tokens_left given.entry.tokens) race.old ≡ Ok race.new) (λ kind. Fails kind (take_listed family given.entry.tick (tokens_left given.entry.tokens) race.old)) }
 {
-    let mut ips = IpList::<ROOM>::none();
-    forms::listed(family, given.tokens, &mut ips)?;
-    built(race.answer(family, given.tick, ips.as_slice()))
+    let ips = forms::listed(alloc, family, given.tokens, given.count)?;
+    built(race.answer(family, given.tick, &ips))
 }
 
 // Adds the answer that one token gives to the race. Most answers have one address, and need no list.
@@ -170,6 +166,7 @@ fn take_only<A: Allocator + Copy>(
 
 #[tactic(auto, using(crate::proofs::FormLaws::answer_taken))]
 fn take_answer<A: Allocator + Copy>(
+    alloc: A,
     family: Family,
     tokens: Tokens,
     race: &mut TimelineBuilder<A>,
@@ -179,16 +176,15 @@ fn take_answer<A: Allocator + Copy>(
     let given = forms::answer(tokens)?;
     if given.count == 1 {
         take_only(family, given.tick, given.first, race)
-    } else if given.count <= FEW_ADDRESSES {
-        take_listed::<FEW_ADDRESSES, A>(family, given, race)
     } else {
-        take_listed::<MAX_ADDRESSES, A>(family, given, race)
+        take_listed(alloc, family, given, race)
     }
 }
 
 // Adds what a line of the other groups tells, behind its word, to the race.
 #[tactic(auto, unfolding(crate::specs::Reading::take_told))]
 pub(crate) fn take<A: Allocator + Copy>(
+    alloc: A,
     word: Word,
     tokens: Tokens,
     race: &mut TimelineBuilder<A>,
@@ -196,8 +192,8 @@ pub(crate) fn take<A: Allocator + Copy>(
     ensures { MatchResult result (λ _. take_told word (tokens_left tokens.entry) race.old ≡ Ok race.new) (λ kind. Fails kind (take_told word (tokens_left tokens.entry) race.old)) }
 {
     match word {
-        Word::Aaaa => take_answer(Family::V6, tokens, race),
-        Word::A => take_answer(Family::V4, tokens, race),
+        Word::Aaaa => take_answer(alloc, Family::V6, tokens, race),
+        Word::A => take_answer(alloc, Family::V4, tokens, race),
         Word::Connect => {
             let (ip, outcome) = forms::connect(tokens, race)?;
             built(race.outcome_of_known(ip, outcome))

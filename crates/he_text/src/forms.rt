@@ -11,7 +11,7 @@ mod selection;
 use crate::fault::TextKind;
 use crate::parts::Tokens;
 use crate::words::Name;
-pub(crate) use answers::{AnswerLine, FEW_ADDRESSES, IpList, address, answer, connect, listed};
+pub(crate) use answers::{AnswerLine, address, answer, connect, listed};
 use he_addr::read_number;
 use he_plan::limits::{
     MAX_ATTEMPT, MAX_COUNT, MAX_LIMIT, MAX_PAUSE_END, MAX_RESOLUTION, MAX_TICK, MIN_ATTEMPT,

@@ -8,7 +8,7 @@ ghost use Rattle.he_text.specs.declared.fault.TextKind.TheVariants as kinds;
 ghost use Rattle.he_text.specs.Left.{tokens_left};
 ghost use Rattle.he_text.specs.Reading.{Fails, no_head, add_setting, add_row, add_source, add_route, take_given, policy_from, host_from, race_begun};
 
-use crate::draft::Given;
+use crate::draft::GivenSettings;
 use crate::fault::TextKind;
 use crate::forms;
 use crate::parts::Tokens;
@@ -32,7 +32,7 @@ pub(crate) struct Scene<A: Allocator> {
 // The settings, rows, sources and routes that a race gives. The rows are a policy table once no more of them come.
 #[derive(Drop)]
 pub(crate) struct Head<A: Allocator> {
-    settings: Given,
+    settings: GivenSettings,
     rows: Vec<Row, A>,
     sources: Vec<Source, A>,
     routes: Vec<Route, A>,
@@ -51,7 +51,7 @@ impl<A: Allocator + Copy> Head<A> {
         ensures { result ≡ no_head }
     {
         Head {
-            settings: Given::none(),
+            settings: GivenSettings::none(),
             rows: Vec::new(alloc),
             sources: Vec::new(alloc),
             routes: Vec::new(alloc),
@@ -138,7 +138,7 @@ impl<A: Allocator + Copy> Head<A> {
     // What the race is made of in which nothing happens yet.
     #[tactic(auto, unfolding(crate::specs::Reading::race_begun))]
     pub(crate) fn scene(self, alloc: A) -> Result<Scene<A>, TextKind>
-        ensures { MatchResult result (λ scene. race_begun self ≡ Ok (empty_race scene.settings scene.policy scene.host)) (λ kind. (kind ≡ kinds.Memory) ⊎ (race_begun self ≡ Err kind)) }
+        ensures { MatchResult result (λ scene. race_begun self ≡ Ok (empty_race scene.settings scene.policy scene.host)) (λ kind. Fails kind (race_begun self)) }
     {
         let settings = self.settings.settings()?;
         let policy = policy(alloc, self.rows)?;

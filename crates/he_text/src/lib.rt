@@ -6,7 +6,7 @@
 //!
 //! Proved: `read_race` finds exactly the race's text that stands at the place, with its value (`specs/Text`), memory aside;
 //! where it answers a fault, that is the first check that fails on the least faulty line (`specs/Faults`), counted from 1 at
-//! the place, or memory was refused at a line of the text up to which nothing is wrong, it included; it answers None exactly
+//! the place, or memory was refused at a line of the text before which nothing is wrong; it answers None exactly
 //! where the text ends. A fault is that of each longer text too, unless what follows may mend it (`specs/Beginnings`): then
 //! some longer text has not this fault. The writers append exactly the texts of `specs/Written` and `specs/Orders`, and leave
 //! the vector as it was when they are refused memory. And by [`laws`]: a text is at most one race's, no race's text is the

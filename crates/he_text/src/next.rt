@@ -54,8 +54,8 @@ pub fn next_race<A: Allocator + Copy>(
     // A race's text that stands at `from` is found, with its value and its end, unless memory is refused.
     ensures complete { (end : ℕ) (race : Race) → end ≤ length text.now → IsRaceText (slice_range text.now from end) race → MatchResult result (λ found. found ≡ nexts.Race race end) (λ fault. fault.kind ≡ kinds.Memory) }
 
-    // A fault is that of the text, and of each longer one where the text may go on; or memory was refused at a line up
-    // to which nothing is wrong.
+    // A fault is that of the text, and of each longer one where the text may go on; or memory was refused at a line
+    // before which nothing is wrong.
     ensures within { IfErr result (λ fault. from < length text.now) }
     ensures fault { IfErr result (λ fault. TellsFor is_last (drop from text.now) fault.line fault.kind) }
     ensures line { IfErr result (λ fault. IsLineOf (drop from text.now) fault.line) }

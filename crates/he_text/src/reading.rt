@@ -8,13 +8,13 @@ ghost use Rattle.he_text.specs.declared.fault.TextKind.TheVariants as kinds;
 ghost use Rattle.he_text.specs.Faults.{begins_policy, is_policy_next};
 ghost use Rattle.he_text.specs.FaultSearch.{fault_of};
 ghost use Rattle.he_text.specs.Forms.{word_of};
-ghost use Rattle.he_text.specs.declared.draft.Order.{Order};
+ghost use Rattle.he_text.specs.declared.draft.LastGroup.{LastGroup};
 ghost use Rattle.he_text.specs.Left.{line_bytes, lines_left, tokens_left, HasRoom, IsAmong};
 ghost use Rattle.he_text.specs.Parts.{lines_of, tokens_of};
-ghost use Rattle.he_text.specs.Reading.{Fails, FailsAt, ReadsFirst, take_line, read_body, head_of, take_head, settle, read_head, read_lines, order_at_start, no_head};
+ghost use Rattle.he_text.specs.Reading.{Fails, FailsAt, ReadsFirst, take_line, read_body, head_of, take_head, settle, read_head, read_lines, group_at_start, no_head};
 ghost use Rattle.he_text.specs.Text.{IsRaceText, IsLineOf, TellsFault};
 
-use crate::draft::{Order, take};
+use crate::draft::{LastGroup, take};
 use crate::fault::{TextFault, TextKind};
 use crate::head::{Head, Scene};
 use crate::lines::Lines;
@@ -119,15 +119,16 @@ fn begins_policy(line: Line) -> bool
 // Takes a line of the other groups.
 #[tactic(auto, unfolding(crate::specs::Reading::take_line))]
 fn take_told<A: Allocator + Copy>(
+    alloc: A,
     line: Line,
-    order: Order,
+    so_far: LastGroup,
     race: &mut TimelineBuilder<A>,
-) -> Result<(Word, Order), TextKind>
-    ensures { MatchResult result (λ x. take_line (tokens_of (line_bytes line.entry)) order race.old ≡ Ok (x.0, x.1, race.new)) (λ kind. Fails kind (take_line (tokens_of (line_bytes line.entry)) order race.old)) }
+) -> Result<(Word, LastGroup), TextKind>
+    ensures { MatchResult result (λ x. take_line (tokens_of (line_bytes line.entry)) so_far race.old ≡ Ok (x.0, x.1, race.new)) (λ kind. Fails kind (take_line (tokens_of (line_bytes line.entry)) so_far race.old)) }
 {
     let (word, tokens) = first_word(line)?;
-    let next = order.admit(word)?;
-    take(word, tokens, race)?;
+    let next = so_far.admit(word)?;
+    take(alloc, word, tokens, race)?;
     Ok((word, next))
 }
 
@@ -137,40 +138,41 @@ fn take_given<A: Allocator + Copy>(
     word: Word,
     tokens: Tokens,
     rest: &[u8],
-    order: Order,
+    so_far: LastGroup,
     head: &mut Head<A>,
-) -> Result<Order, TextKind>
-    ensures { MatchResult result (λ next. take_head (lines_of rest.now) (word, tokens_left tokens.entry) order head.old ≡ Ok (next, head.new)) (λ kind. Fails kind (take_head (lines_of rest.now) (word, tokens_left tokens.entry) order head.old)) }
+) -> Result<LastGroup, TextKind>
+    ensures { MatchResult result (λ next. take_head (lines_of rest.now) (word, tokens_left tokens.entry) so_far head.old ≡ Ok (next, head.new)) (λ kind. Fails kind (take_head (lines_of rest.now) (word, tokens_left tokens.entry) so_far head.old)) }
 {
-    let next = order.admit(word)?;
+    let next = so_far.admit(word)?;
     let more = word.is_policy() && is_policy_next(rest);
     head.take(word, tokens, more)?;
     Ok(next)
 }
 
 // The lines of the first four groups, up to the first other line.
-fn read_head<A: Allocator + Copy>(alloc: A, lines: &mut Lines) -> Result<(Order, Head<A>), TextKind>
+fn read_head<A: Allocator + Copy>(alloc: A, lines: &mut Lines) -> Result<(LastGroup, Head<A>), TextKind>
     requires { HasRoom lines.old }
     ensures count { IsAmong lines.old lines.new }
-    ensures read { MatchResult result (λ x. read_head lines.old.number order_at_start no_head (lines_left lines.old) ≡ settle lines.new.number x.0 x.1 (lines_left lines.new)) (λ kind. FailsAt lines.new.number kind (read_head lines.old.number order_at_start no_head (lines_left lines.old))) }
+    ensures read { MatchResult result (λ x. read_head lines.old.number group_at_start no_head (lines_left lines.old) ≡ settle lines.new.number x.0 x.1 (lines_left lines.new)) (λ kind. FailsAt lines.new.number kind (read_head lines.old.number group_at_start no_head (lines_left lines.old))) }
     ensures room { HasRoom lines.new }
     ensures shorter { length lines.new.rest.now ≤ length lines.old.rest.now }
 {
-    let mut order = Order::start();
+    let mut so_far = LastGroup::start();
     let mut head = Head::none(alloc);
     loop {
         let (line, rest) = lines.next_line()?;
         let Some((word, tokens)) = head_word(line) else {
-            return Ok((order, head));
+            return Ok((so_far, head));
         };
-        order = take_given(word, tokens, rest, order, &mut head)?;
+        so_far = take_given(word, tokens, rest, so_far, &mut head)?;
         lines.pass(rest);
     }
 }
 
 // The other lines, up to the end of the race, each told to the race.
 fn read_told<A: Allocator + Copy>(
-    first: Order,
+    alloc: A,
+    first: LastGroup,
     race: &mut TimelineBuilder<A>,
     lines: &mut Lines,
 ) -> Result<(), TextKind>
@@ -179,22 +181,22 @@ fn read_told<A: Allocator + Copy>(
     ensures read { MatchResult result (λ _. read_body lines.old.number first race.old (lines_left lines.old) ≡ Ok (race.new, lines_left lines.new)) (λ kind. FailsAt lines.new.number kind (read_body lines.old.number first race.old (lines_left lines.old))) }
     ensures shorter { length lines.new.rest.now ≤ length lines.old.rest.now }
 {
-    let mut order = first;
+    let mut so_far = first;
     loop {
         let (line, rest) = lines.next_line()?;
-        let (word, next) = take_told(line, order, race)?;
+        let (word, next) = take_told(alloc, line, so_far, race)?;
         lines.pass(rest);
         if word.is_end() {
             return Ok(());
         }
-        order = next;
+        so_far = next;
     }
 }
 
 // The race that the other lines end.
 fn read_rest<A: Allocator + Copy>(
     alloc: A,
-    first: Order,
+    first: LastGroup,
     scene: Scene<A>,
     lines: &mut Lines,
 ) -> Result<Timeline<A>, TextKind>
@@ -205,7 +207,7 @@ fn read_rest<A: Allocator + Copy>(
     ensures shorter { length lines.new.rest.now ≤ length lines.old.rest.now }
 {
     let mut race = TimelineBuilder::new(alloc, scene.settings, scene.policy, scene.host);
-    match read_told(first, &mut race, lines) {
+    match read_told(alloc, first, &mut race, lines) {
         Ok(()) => Ok(race.finish()),
         Err(kind) => Err(kind),
     }
@@ -218,7 +220,7 @@ fn read_header(lines: &mut Lines) -> Result<(), TextKind>
     requires first { lines.old.number ≡ 1 }
     ensures passed { IfOk result (λ _. lines.new.number ≡ 2) }
     ensures count { IsAmong lines.old lines.new }
-    ensures read { MatchResult result (λ _. read_lines (lines_left lines.old) ≡ read_head lines.new.number order_at_start no_head (lines_left lines.new)) (λ kind. read_lines (lines_left lines.old) ≡ Err (lines.new.number, kind)) }
+    ensures read { MatchResult result (λ _. read_lines (lines_left lines.old) ≡ read_head lines.new.number group_at_start no_head (lines_left lines.new)) (λ kind. read_lines (lines_left lines.old) ≡ Err (lines.new.number, kind)) }
     ensures room { HasRoom lines.new }
     ensures shorter { length lines.new.rest.now ≤ length lines.old.rest.now }
 {
@@ -235,7 +237,7 @@ fn read_header(lines: &mut Lines) -> Result<(), TextKind>
 fn read_given<A: Allocator + Copy>(
     alloc: A,
     lines: &mut Lines,
-) -> Result<(Order, Head<A>), TextKind>
+) -> Result<(LastGroup, Head<A>), TextKind>
     requires room { HasRoom lines.old }
     requires first { lines.old.number ≡ 1 }
     ensures read { MatchResult result (λ x. read_lines (lines_left lines.old) ≡ settle lines.new.number x.0 x.1 (lines_left lines.new)) (λ kind. FailsAt lines.new.number kind (read_lines (lines_left lines.old))) }
@@ -248,24 +250,21 @@ fn read_given<A: Allocator + Copy>(
     read_head(alloc, lines)
 }
 
-// What the race is made of in which nothing happens yet. If memory is refused for it, that is told with the last line
-// that was read.
-fn start<A: Allocator + Copy>(alloc: A, head: Head<A>, lines: &Lines) -> Result<Scene<A>, TextFault>
-    requires { 2 ≤ lines.now.number }
-    ensures read { (order : Order) → MatchResult result (λ scene. settle lines.now.number order head (lines_left lines.now) ≡ read_body lines.now.number order (empty_race scene.settings scene.policy scene.host) (lines_left lines.now)) (λ fault. FailsAt fault.line fault.kind (settle lines.now.number order head (lines_left lines.now))) }
-    ensures line { IfErr result (λ fault. (1 ≤ fault.line) × (fault.line ≤ lines.now.number)) }
+// The race with which the text begins. If memory is refused for what the first four groups give, that is told with the
+// line behind them.
+#[inline(always)]
+fn read_whole<A: Allocator + Copy>(alloc: A, lines: &mut Lines) -> Result<Timeline<A>, TextKind>
+    requires room { HasRoom lines.old }
+    requires first { lines.old.number ≡ 1 }
+    ensures read { MatchResult result (λ told. read_lines (lines_left lines.old) ≡ Ok (told, lines_left lines.new)) (λ kind. FailsAt lines.new.number kind (read_lines (lines_left lines.old))) }
+    ensures fits { IfOk result (λ told. IsRace told) }
+    ensures passed { IfOk result (λ _. 2 ≤ lines.new.number) }
+    ensures count { IsAmong lines.old lines.new }
+    ensures shorter { length lines.new.rest.now ≤ length lines.old.rest.now }
 {
-    match head.scene(alloc) {
-        Ok(scene) => Ok(scene),
-        Err(kind) if kind.is_memory() => Err(TextFault {
-            line: lines.number() - 1,
-            kind,
-        }),
-        Err(kind) => Err(TextFault {
-            line: lines.number(),
-            kind,
-        }),
-    }
+    let (so_far, head) = read_given(alloc, lines)?;
+    let scene = head.scene(alloc)?;
+    read_rest(alloc, so_far, scene, lines)
 }
 
 // The race with which the text begins, how many bytes stand behind it, and how many lines it has.
@@ -280,17 +279,7 @@ pub(crate) fn read_first<A: Allocator + Copy>(
     ensures shorter { MatchResult result (λ x. x.1 ≤ length text.now) (λ _. Unit {0}) }
 {
     let mut lines = Lines::new(text);
-    let (order, head) = match read_given(alloc, &mut lines) {
-        Ok(given) => given,
-        Err(kind) => {
-            return Err(TextFault {
-                line: lines.number(),
-                kind,
-            });
-        }
-    };
-    let scene = start(alloc, head, &lines)?;
-    match read_rest(alloc, order, scene, &mut lines) {
+    match read_whole(alloc, &mut lines) {
         Ok(race) => Ok((race, lines.len(), lines.number() - 1)),
         Err(kind) => Err(TextFault {
             line: lines.number(),
@@ -319,7 +308,7 @@ pub fn read_race<A: Allocator + Copy>(
     // A race's text that stands at `from` is found, with its value and its end, unless memory is refused.
     ensures complete { (end : ℕ) (race : Race) → end ≤ length text.now → IsRaceText (slice_range text.now from end) race → MatchResult result (λ found. found ≡ Some (race, end)) (λ fault. fault.kind ≡ kinds.Memory) }
 
-    // A fault is that of the text, or of want of memory at a line up to which nothing is wrong.
+    // A fault is that of the text, or of want of memory at a line before which nothing is wrong.
     ensures fault { IfErr result (λ fault. TellsFault fault.line fault.kind (fault_of (drop from text.now))) }
     ensures line { IfErr result (λ fault. IsLineOf (drop from text.now) fault.line) }
 {

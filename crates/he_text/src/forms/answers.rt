@@ -5,7 +5,7 @@ ghost use Rattle.he_addr.specs.declared.ip.Family.{Family};
 ghost use Rattle.he_plan.specs.declared.limits.TheConstants.{MAX_ADDRESSES};
 ghost use Rattle.he_plan.specs.Race.{is_in_answer};
 ghost use Rattle.he_text.specs.Forms.{address_in, addresses_in, listed_in, answer_in, known_in, mark_in, connect_in};
-ghost use Rattle.he_text.specs.Reading.{with_tick};
+ghost use Rattle.he_text.specs.Reading.{Fails, with_tick};
 ghost use Rattle.he_text.specs.Left.{tokens_left};
 
 use super::number;
@@ -15,53 +15,6 @@ use he_addr::{Family, Ip, read_ip, read_ip_of};
 use he_plan::limits::{MAX_ADDRESSES, MAX_DURATION, MAX_TICK, MIN_DURATION};
 use he_plan::{Outcome, TimelineBuilder};
 use std::alloc::Allocator;
-use std::marker::Model;
-
-// How many addresses an answer mostly has at most. Their list is cleared in little time.
-pub(crate) const FEW_ADDRESSES: usize = 4;
-
-// The addresses of an answer. There are so few that they need no memory.
-#[derive(Drop)]
-pub(crate) struct IpList<const ROOM: usize> {
-    ips: [Ip; ROOM],
-    count: usize,
-}
-
-impl<const ROOM: usize> Model for IpList<ROOM> {
-    ghost use Rattle.std.specs.Prelude.{◌≡◌, ◌≤◌, List, length, take};
-    ghost use Rattle.he_addr.specs.declared.ip.Ip.{Ip};
-
-    ghost Value = { List Ip };
-
-    ghost view = { λ a. take a.count a.ips };
-
-    ghost invariant = { λ a. (a.count ≤ ROOM) × (length a.ips ≡ ROOM) };
-}
-
-impl<const ROOM: usize> IpList<ROOM> {
-    pub(crate) fn none() -> IpList<ROOM>
-        ensures { result ≡ [] }
-    {
-        IpList {
-            ips: [Ip::V4(0); ROOM],
-            count: 0,
-        }
-    }
-
-    fn push(&mut self, ip: Ip)
-        requires { length self.old < ROOM }
-        ensures { self.new ≡ self.old ++ ip ∷ [] }
-    {
-        self.ips[self.count] = ip;
-        self.count += 1;
-    }
-
-    pub(crate) fn as_slice(&self) -> &[Ip]
-        ensures { result.now ≡ self.now }
-    {
-        &self.ips[..self.count]
-    }
-}
 
 // An address of the family.
 pub(crate) fn address(family: Family, token: &[u8]) -> Result<Ip, TextKind>
@@ -73,38 +26,40 @@ pub(crate) fn address(family: Family, token: &[u8]) -> Result<Ip, TextKind>
     }
 }
 
-// Reads addresses into an empty list.
-fn addresses<const ROOM: usize>(
+// Reads addresses into an empty list, which has room for them.
+fn addresses<A: Allocator>(
     family: Family,
     tokens: Tokens,
-    ips: &mut IpList<ROOM>,
+    ips: &mut Vec<Ip, A>,
 ) -> Result<(), TextKind>
-    requires empty { ips.old ≡ [] }
-    requires room { length (tokens_left tokens) ≤ ROOM }
-    ensures { MatchResult result (λ _. addresses_in family (tokens_left tokens.entry) ≡ Ok ips.new) (λ kind. addresses_in family (tokens_left tokens.entry) ≡ Err kind) }
+    requires { ips.old.items ≡ [] }
+    ensures { MatchResult result (λ _. addresses_in family (tokens_left tokens.entry) ≡ Ok ips.new.items) (λ kind. Fails kind (addresses_in family (tokens_left tokens.entry))) }
 {
     let mut left = tokens;
     while let Some(token) = left.next() {
-        ips.push(address(family, token)?);
+        ips.push(address(family, token)?)?;
     }
     Ok(())
 }
 
-// Reads `none` alone, or addresses, into an empty list.
+// Reads `none` alone, or so many addresses.
 #[tactic(auto, unfolding(crate::specs::Forms::listed_in))]
-pub(crate) fn listed<const ROOM: usize>(
+pub(crate) fn listed<A: Allocator>(
+    alloc: A,
     family: Family,
     tokens: Tokens,
-    ips: &mut IpList<ROOM>,
-) -> Result<(), TextKind>
-    requires empty { ips.old ≡ [] }
-    requires room { length (tokens_left tokens) ≤ ROOM }
-    ensures { MatchResult result (λ _. listed_in family (tokens_left tokens.entry) ≡ Ok ips.new) (λ kind. listed_in family (tokens_left tokens.entry) ≡ Err kind) }
+    count: usize,
+) -> Result<Vec<Ip, A>, TextKind>
+    ensures { MatchResult result (λ ips. listed_in family (tokens_left tokens.entry) ≡ Ok ips.items) (λ kind. Fails kind (listed_in family (tokens_left tokens.entry))) }
 {
     let mut left = tokens;
     match (left.next(), left.next()) {
-        (Some(only), None) if only == b"none".as_slice() => Ok(()),
-        _ => addresses(family, tokens, ips),
+        (Some(only), None) if only == b"none".as_slice() => Ok(Vec::new(alloc)),
+        _ => {
+            let mut ips = Vec::with_capacity(alloc, count)?;
+            addresses(family, tokens, &mut ips)?;
+            Ok(ips)
+        }
     }
 }
 

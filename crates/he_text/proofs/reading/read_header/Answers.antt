@@ -4,7 +4,7 @@ use Rattle.std.specs.Str.{bytes_eq}
 use Rattle.he_text.specs.declared.fault.TextKind.TheVariants as kinds
 use Rattle.he_text.specs.Left.{line_bytes, lines_left}
 use Rattle.he_text.specs.Parts.{lines_of}
-use Rattle.he_text.specs.Reading.{read_head, read_lines, order_at_start, no_head}
+use Rattle.he_text.specs.Reading.{read_head, read_lines, group_at_start, no_head}
 use Rattle.he_text.proofs.ReadingLaws.{lines_unwhole, lines_begin, agrees, differs}
 use Rattle.he_text.proofs.reading.read_header.Goals as goal
 
@@ -28,5 +28,5 @@ returns-clause-read c =
     let same : bytes_eq (line_bytes c.in_ok-line.line) (codes "race 1") ≡ true = ap (λ (l : List ℕ). bytes_eq l (codes "race 1")) (sym c.bytes-header.ensures) ∙ agreeing in
     let number : c.pass.new.self.number ≡ 2 = c.pass.ensures.number ∙ ap (λ (n : ℕ). n + 1) c.requires.first in
     lines_begin (lines_left c.args.lines.now) (lines_of c.in_ok-line.rest.now) (line_bytes c.in_ok-line.line) true c.in_ok-line.ensures.parts c.in_ok-line.ensures.whole same
-    ∙ ap (λ (n : ℕ). read_head n order_at_start no_head (lines_of c.in_ok-line.rest.now)) (sym number)
-    ∙ ap (λ (rest : Bor (List ℕ)). read_head c.pass.new.self.number order_at_start no_head (lines_of rest.now)) (sym c.pass.ensures.rest)
+    ∙ ap (λ (n : ℕ). read_head n group_at_start no_head (lines_of c.in_ok-line.rest.now)) (sym number)
+    ∙ ap (λ (rest : Bor (List ℕ)). read_head c.pass.new.self.number group_at_start no_head (lines_of rest.now)) (sym c.pass.ensures.rest)

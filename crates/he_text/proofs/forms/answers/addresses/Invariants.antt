@@ -1,4 +1,4 @@
-use Rattle.std.proofs.Common.{◌≡◌, ◌+◌, ◌≤◌, length}
+use Rattle.std.proofs.Common.{◌≡◌, length}
 use Rattle.he_text.specs.Forms.{addresses_in}
 use Rattle.he_text.specs.Left.{tokens_left}
 use Rattle.he_text.specs.Reading.{prepend}
@@ -6,9 +6,7 @@ use Rattle.he_text.proofs.forms.answers.addresses.Given as goal
 
 -- the addresses so far, and what is read of the tokens that are left
 abbrev pub invariant-loop-token : goal.invariant-loop-token
-invariant-loop-token g l =
-    (prepend l.ips (addresses_in l.family (tokens_left l.left)) ≡ addresses_in l.family (tokens_left l.tokens))
-    × (length l.ips + length (tokens_left l.left) ≤ g.row.ROOM)
+invariant-loop-token g l = prepend l.ips.items (addresses_in l.family (tokens_left l.left)) ≡ addresses_in l.family (tokens_left l.tokens)
 
 abbrev pub decreases-loop-token : goal.decreases-loop-token
 decreases-loop-token g l = length (tokens_left l.left)
