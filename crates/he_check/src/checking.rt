@@ -9,8 +9,8 @@ use crate::explaining::explain_fault;
 use crate::fault::CheckFault;
 use crate::input::{Checked, check_input};
 use he_addr::{Memory, write_number};
-use he_stream::{InputStream, OutputStream, ReadFault, read_input, write_whole};
-use std::alloc::{AllocError, Allocator};
+use he_stream::{InputStream, OutputStream, take_input, write_whole};
+use std::alloc::Allocator;
 
 /// Reads an input of timelines to its end and checks it: where nothing is wrong it writes how many races and lines the
 /// input has, as `3 races, 27 lines`, and flushes the output.
@@ -51,31 +51,6 @@ pub fn check<A: Allocator + Copy, I: InputStream, O: OutputStream>(
             }
             Err(fault)
         }
-    }
-}
-
-// What an input gave, and whether it broke off after that.
-#[derive(Drop)]
-struct Given<A: Allocator> {
-    bytes: Vec<u8, A>,
-    is_broken: bool,
-}
-
-// Reads all that the input gives. It fails for want of memory alone.
-fn take_input<A: Allocator, I: InputStream>(alloc: A, input: &mut I) -> Result<Given<A>, AllocError>
-    ensures { IfOk result (λ given. Gives I.remaining I.takes input.old input.new given.bytes.items given.is_broken) }
-{
-    let mut bytes = Vec::new(alloc);
-    match read_input(input, &mut bytes) {
-        Ok(()) => Ok(Given {
-            bytes,
-            is_broken: false,
-        }),
-        Err(ReadFault::Failed | ReadFault::Bound) => Ok(Given {
-            bytes,
-            is_broken: true,
-        }),
-        Err(ReadFault::Memory) => Err(AllocError),
     }
 }
 

@@ -2,7 +2,7 @@
 ghost use Rattle.std.specs.Prelude.{◌≡◌, OnErr, OnOk};
 ghost use Rattle.std.specs.Io.{StartsWith};
 
-use crate::causes::find_cause;
+use crate::finding::find_sentence;
 use crate::place::find_line;
 use crate::showing::show_line;
 use he_text::TextFault;
@@ -36,10 +36,10 @@ fn explanation_of<A: Allocator + Copy>(
     fault: TextFault,
 ) -> Result<Vec<u8, A>, AllocError> {
     let place = find_line(input, fault.line);
-    let (mark, cause) = find_cause(place, fault.kind);
+    let (mark, sentence) = find_sentence(place, fault.kind);
     let mut text = Vec::new(alloc);
     show_line(place.line, mark.span(place.line), &mut text)?;
-    let sentence = format!(in alloc; "{cause}\n")?;
+    let sentence = format!(in alloc; "{sentence}\n")?;
     text.extend_from_slice(sentence.as_bytes())?;
     Ok(text)
 }

@@ -1,10 +1,11 @@
 //! Why an input is not right.
 ghost use Rattle.std.specs.Prelude.{◌≡◌};
+ghost use Rattle.he_check.specs.Checked.{check_fault};
 ghost use Rattle.he_check.specs.declared.fault.CheckFault.TheVariants.{Memory, Write};
 
 use he_addr::Memory;
 use he_stream::WriteFault;
-use he_text::TextFault;
+use he_text::{InputFault, TextFault, WalkFault};
 use std::alloc::AllocError;
 use thiserror::Error;
 
@@ -46,5 +47,17 @@ impl From<WriteFault> for CheckFault {
 
     fn from(_fault: WriteFault) -> CheckFault {
         CheckFault::Write
+    }
+}
+
+impl From<WalkFault> for CheckFault {
+    ghost from_gives = { λ fault told. told ≡ check_fault fault };
+
+    fn from(fault: WalkFault) -> CheckFault {
+        match fault {
+            WalkFault::Input(InputFault::Text(found)) => CheckFault::Text(found),
+            WalkFault::Input(InputFault::Read) => CheckFault::Read,
+            WalkFault::Memory => CheckFault::Memory,
+        }
     }
 }

@@ -1,44 +1,13 @@
 // What is wrong with one token of a line.
 
-use crate::cause::{Cause, Numbers};
-use crate::place::{LINE_END, Place, TOKEN_END, token, token_count};
-use crate::words::Word;
+use crate::place::{Place, first_word, token, token_count};
+use crate::sentence::{Numbers, Sentence};
 use he_addr::{Family, Ip, read_ip, read_ip_of, read_number, read_prefix, read_source};
-use he_plan::limits::{
-    MAX_ATTEMPT, MAX_COUNT, MAX_DURATION, MAX_LIMIT, MAX_PAUSE_END, MAX_RESOLUTION, MAX_TICK,
-    MIN_ATTEMPT, MIN_COUNT, MIN_DURATION, MIN_LIMIT,
-};
-use he_text::limits::{MAX_INTERFACE, MAX_LABEL, MAX_PRECEDENCE, MIN_INTERFACE};
+use he_plan::limits::{MAX_DURATION, MAX_PAUSE_END, MAX_TICK, MIN_DURATION};
+use he_text::limits::{MAX_INTERFACE, MAX_LABEL, MAX_PRECEDENCE, MIN_INTERFACE, MIN_PAUSE_END};
+use he_text::{LINE_END, Name, TOKEN_END, Word};
 
 const MILLISECONDS: &str = " milliseconds";
-
-const RESOLUTION: Numbers = Numbers {
-    what: "the resolution delay",
-    least: 0,
-    most: MAX_RESOLUTION,
-    unit: MILLISECONDS,
-};
-
-const ATTEMPT: Numbers = Numbers {
-    what: "the attempt delay",
-    least: MIN_ATTEMPT,
-    most: MAX_ATTEMPT,
-    unit: MILLISECONDS,
-};
-
-const COUNT: Numbers = Numbers {
-    what: "the count of the leading family",
-    least: MIN_COUNT,
-    most: MAX_COUNT,
-    unit: " addresses",
-};
-
-const LIMIT: Numbers = Numbers {
-    what: "the limit of a race",
-    least: MIN_LIMIT,
-    most: MAX_LIMIT,
-    unit: MILLISECONDS,
-};
 
 const PRECEDENCE: Numbers = Numbers {
     what: "the precedence of a row",
@@ -84,23 +53,23 @@ const PAUSE_FROM: Numbers = Numbers {
 
 const PAUSE_TO: Numbers = Numbers {
     what: "the first tick behind a pause",
-    least: 1,
+    least: MIN_PAUSE_END,
     most: MAX_PAUSE_END,
     unit: MILLISECONDS,
 };
 
 // The first token of the line that is wrong by itself, from left to right, and what is wrong with it.
-pub(crate) fn find_flaw(place: Place<'_>, word: Word) -> Option<(usize, Cause)> {
+pub(crate) fn find_flaw(place: Place<'_>, word: Word) -> Option<(usize, Sentence)> {
     for (at, text) in place.line.split(|byte| *byte == TOKEN_END).enumerate() {
-        if let Some(cause) = token_flaw(place, word, at, text) {
-            return Some((at, cause));
+        if let Some(sentence) = token_flaw(place, word, at, text) {
+            return Some((at, sentence));
         }
     }
     None
 }
 
 // What is wrong with the token at a place of the line, counted from 0.
-fn token_flaw(place: Place<'_>, word: Word, at: usize, text: &[u8]) -> Option<Cause> {
+fn token_flaw(place: Place<'_>, word: Word, at: usize, text: &[u8]) -> Option<Sentence> {
     match (word, at) {
         (_, 0) | (Word::End, _) => None,
         (Word::Set, 1) => name_flaw(text),
@@ -125,94 +94,92 @@ fn token_flaw(place: Place<'_>, word: Word, at: usize, text: &[u8]) -> Option<Ca
 
 // The number of a line `set NAME NUMBER`, by its name.
 fn setting_of(line: &[u8]) -> Option<Numbers> {
-    setting_named(token(line, 1))
+    let name = Name::read(token(line, 1))?;
+    let (what, unit) = match name {
+        Name::Resolution => ("the resolution delay", MILLISECONDS),
+        Name::Attempt => ("the attempt delay", MILLISECONDS),
+        Name::Count => ("the count of the leading family", " addresses"),
+        Name::Limit => ("the limit of a race", MILLISECONDS),
+    };
+    Some(Numbers {
+        what,
+        least: name.least(),
+        most: name.most(),
+        unit,
+    })
 }
 
-fn setting_named(name: &[u8]) -> Option<Numbers> {
-    if name == b"resolution".as_slice() {
-        Some(RESOLUTION)
-    } else if name == b"attempt".as_slice() {
-        Some(ATTEMPT)
-    } else if name == b"count".as_slice() {
-        Some(COUNT)
-    } else if name == b"limit".as_slice() {
-        Some(LIMIT)
-    } else {
-        None
-    }
-}
-
-fn name_flaw(text: &[u8]) -> Option<Cause> {
-    match setting_named(text) {
+fn name_flaw(text: &[u8]) -> Option<Sentence> {
+    match Name::read(text) {
         Some(_) => None,
-        None => Some(Cause::Plain(
+        None => Some(Sentence::Plain(
             "no such setting: known are resolution, attempt, count and limit",
         )),
     }
 }
 
-fn number_flaw(numbers: Numbers, text: &[u8]) -> Option<Cause> {
+fn number_flaw(numbers: Numbers, text: &[u8]) -> Option<Sentence> {
     match read_number(text) {
-        None => Some(Cause::NoNumber(numbers)),
+        None => Some(Sentence::NoNumber(numbers)),
         Some(number) if number < numbers.least || numbers.most < number => {
-            Some(Cause::OutOfRange(numbers))
+            Some(Sentence::OutOfRange(numbers))
         }
         Some(_) => None,
     }
 }
 
-fn prefix_flaw(text: &[u8]) -> Option<Cause> {
+fn prefix_flaw(text: &[u8]) -> Option<Sentence> {
     if read_prefix(text).is_some() {
         return None;
     }
     match read_source(text) {
-        Some(_) => Some(Cause::Plain("a prefix has no bit set past its length")),
-        None => Some(Cause::Plain(
+        Some(_) => Some(Sentence::Plain("a prefix has no bit set past its length")),
+        None => Some(Sentence::Plain(
             "a prefix is ADDRESS/LENGTH, the length at most 32 for IPv4 and 128 for IPv6",
         )),
     }
 }
 
-fn source_flaw(text: &[u8]) -> Option<Cause> {
+fn source_flaw(text: &[u8]) -> Option<Sentence> {
     match read_source(text) {
-        None => Some(Cause::Plain(
+        None => Some(Sentence::Plain(
             "a source is ADDRESS/LENGTH, the length at most 32 for IPv4 and 128 for IPv6",
         )),
         Some((ip, _)) if ip.is_usable() => None,
-        Some(_) => Some(Cause::Plain(
+        Some(_) => Some(Sentence::Plain(
             "a source's address is not unspecified, not multicast and not inside ::ffff:0:0/96",
         )),
     }
 }
 
 // A source is marked `deprecated`, `temporary`, or both in this order.
-fn source_mark_flaw(line: &[u8], at: usize, text: &[u8]) -> Option<Cause> {
+fn source_mark_flaw(line: &[u8], at: usize, text: &[u8]) -> Option<Sentence> {
     let is_deprecated = at == 3 && text == b"deprecated".as_slice();
     let may_be_temporary = at == 4 || token_count(line) == 4;
     let is_temporary = may_be_temporary && text == b"temporary".as_slice();
     if is_deprecated || is_temporary {
         return None;
     }
-    Some(Cause::Plain("a source may be marked `deprecated`, `temporary`, or both in this order"))
+    Some(Sentence::Plain("a source may be marked `deprecated`, `temporary`, or both in this order"))
 }
 
-fn route_mark_flaw(text: &[u8]) -> Option<Cause> {
+fn route_mark_flaw(text: &[u8]) -> Option<Sentence> {
     if text == b"tunnel".as_slice() {
         return None;
     }
-    Some(Cause::Plain("a route may be marked `tunnel`"))
+    Some(Sentence::Plain("a route may be marked `tunnel`"))
 }
 
 // An address of an answer, or `none` in place of all of them.
-fn address_flaw(family: Family, line: &[u8], text: &[u8]) -> Option<Cause> {
+fn address_flaw(family: Family, line: &[u8], text: &[u8]) -> Option<Sentence> {
     let is_none = text == b"none".as_slice();
     if is_none && token_count(line) == 3 || read_ip_of(family, text).is_some() {
         return None;
     }
     if is_none {
-        return Some(Cause::Plain("`none` stands alone, in place of the addresses"));
+        return Some(Sentence::Plain("`none` stands alone, in place of the addresses"));
     }
-    Some(Cause::Plain(match (family, read_ip(text)) {
+    Some(Sentence::Plain(match (family, read_ip(text)) {
         (Family::V6, Some(_)) => "an IPv4 address stands on the a line, not on the aaaa line",
         (Family::V4, Some(_)) => "an IPv6 address stands on the aaaa line, not on the a line",
         (Family::V6, None) => "this is no IPv6 address",
@@ -221,21 +188,21 @@ fn address_flaw(family: Family, line: &[u8], text: &[u8]) -> Option<Cause> {
 }
 
 // An address of a connection: one of an answer.
-fn known_flaw(place: Place<'_>, text: &[u8]) -> Option<Cause> {
+fn known_flaw(place: Place<'_>, text: &[u8]) -> Option<Sentence> {
     let Some(ip) = read_ip(text) else {
-        return Some(Cause::Plain("this is no address"));
+        return Some(Sentence::Plain("this is no address"));
     };
     for line in place.before.split(|byte| *byte == LINE_END) {
         if has_answered(line, ip) {
             return None;
         }
     }
-    Some(Cause::Plain("this is no address of the aaaa and a lines above"))
+    Some(Sentence::Plain("this is no address of the aaaa and a lines above"))
 }
 
 // Whether the line is an answer with this address.
 fn has_answered(line: &[u8], ip: Ip) -> bool {
-    match Word::of(line) {
+    match first_word(line) {
         Some(Word::Aaaa | Word::A) => {}
         _ => return false,
     }
@@ -247,9 +214,9 @@ fn has_answered(line: &[u8], ip: Ip) -> bool {
     false
 }
 
-fn outcome_flaw(text: &[u8]) -> Option<Cause> {
+fn outcome_flaw(text: &[u8]) -> Option<Sentence> {
     if text == b"ok".as_slice() || text == b"fail".as_slice() {
         return None;
     }
-    Some(Cause::Plain("a connection ends by `ok` or `fail`"))
+    Some(Sentence::Plain("a connection ends by `ok` or `fail`"))
 }

@@ -11,23 +11,23 @@
 //! or flush that failed, a first part. What is explained stands behind what the vector held, and a refused growth
 //! leaves it as it was.
 //!
-//! Only tested: what an explanation says. The line is looked at again for it, by checks of its own (`causes.rt`), so
+//! Only tested: what an explanation says. The line is looked at again for it, by checks of its own (`finding.rt`), so
 //! a wrong one would mislead, but leaves the fault's line and kind as they are. Of a fault whose cause these checks
 //! don't find, a sentence tells what faults of its kind are.
 #![tactic(auto)]
 
-mod cause;
-mod causes;
 pub mod checking;
 pub mod explaining;
 pub mod fault;
+mod finding;
 mod flaws;
+mod forms;
 pub mod input;
 pub mod limits;
 mod place;
 mod repeats;
+mod sentence;
 mod showing;
-mod words;
 
 pub use checking::check;
 pub use explaining::explain_fault;

@@ -1,12 +1,7 @@
 // Where a fault stands: a line, and the lines of its race before it.
 
+use he_text::{LINE_END, TOKEN_END, Word};
 use memchr::memchr;
-
-// The byte behind each line.
-pub(crate) const LINE_END: u8 = b'\n';
-
-// The byte between two tokens of a line.
-pub(crate) const TOKEN_END: u8 = b' ';
 
 // The line with which a race ends.
 const LAST_LINE: &[u8] = b"end";
@@ -71,6 +66,11 @@ pub(crate) fn token(line: &[u8], at: usize) -> &[u8] {
     line.split(|byte| *byte == TOKEN_END)
         .nth(at)
         .unwrap_or(b"".as_slice())
+}
+
+// The word that begins the line.
+pub(crate) fn first_word(line: &[u8]) -> Option<Word> {
+    Word::read(token(line, 0))
 }
 
 // How many tokens a line has.

@@ -1,17 +1,17 @@
 // What is given twice.
 
-use crate::cause::Cause;
-use crate::place::{LINE_END, Place, token, token_count};
-use crate::words::Word;
+use crate::place::{Place, first_word, token, token_count};
+use crate::sentence::Sentence;
 use he_addr::{read_ip, read_prefix, read_source};
+use he_text::{LINE_END, Word};
 
 // The token of the line that is given a second time, by its place from 0 on.
-pub(crate) fn find_repeat(place: Place<'_>, word: Word) -> Option<(usize, Cause)> {
+pub(crate) fn find_repeat(place: Place<'_>, word: Word) -> Option<(usize, Sentence)> {
     match word {
         Word::Aaaa | Word::A => find_answer(place, word),
         _ => {
             let line = find_earlier(place, word)?;
-            Some((1, Cause::Above(given_above(word), line)))
+            Some((1, Sentence::Above(given_above(word), line)))
         }
     }
 }
@@ -29,7 +29,7 @@ fn given_above(word: Word) -> &'static str {
 // The number of the earlier line of the word whose first token behind it says the same.
 fn find_earlier(place: Place<'_>, word: Word) -> Option<u64> {
     for (at, line) in place.before.split(|byte| *byte == LINE_END).enumerate() {
-        if Word::of(line) == Some(word) && is_same(word, token(line, 1), token(place.line, 1)) {
+        if first_word(line) == Some(word) && is_same(word, token(line, 1), token(place.line, 1)) {
             return Some(place.number(at));
         }
     }
@@ -50,20 +50,20 @@ fn is_same(word: Word, one: &[u8], other: &[u8]) -> bool {
 }
 
 // A second answer of the family, or an address that stands twice in one.
-fn find_answer(place: Place<'_>, word: Word) -> Option<(usize, Cause)> {
+fn find_answer(place: Place<'_>, word: Word) -> Option<(usize, Sentence)> {
     for (at, line) in place.before.split(|byte| *byte == LINE_END).enumerate() {
-        if Word::of(line) == Some(word) {
+        if first_word(line) == Some(word) {
             let said = match word {
                 Word::Aaaa => "the race has an aaaa line above",
                 _ => "the race has an a line above",
             };
-            return Some((0, Cause::Above(said, place.number(at))));
+            return Some((0, Sentence::Above(said, place.number(at))));
         }
     }
     let at = find_twin(place.line)?;
     Some((
         at,
-        Cause::Plain("this address stands in the answer already"),
+        Sentence::Plain("this address stands in the answer already"),
     ))
 }
 

@@ -10,9 +10,9 @@ use crate::fault::LiveFault;
 use crate::racing::live_race;
 use he_plan::Timeline;
 use he_race::Raced;
-use he_stream::{InputStream, OutputStream, ReadFault, read_input, write_whole};
+use he_stream::{InputStream, OutputStream, take_input, write_whole};
 use he_text::{NotOneRace, read_one_race, write_timeline, write_transcript};
-use std::alloc::{AllocError, AllocGlobal, Global};
+use std::alloc::{AllocGlobal, Global};
 use std::mem::drop;
 use std::net::Net;
 use std::random::RandomSource;
@@ -64,35 +64,6 @@ fn take_race<I: InputStream>(alloc: Global, input: &mut I) -> Result<Timeline, N
     match take_input(alloc, input) {
         Ok(given) => read_one_race(alloc, &given.bytes, given.is_broken),
         Err(_) => Err(NotOneRace::Memory),
-    }
-}
-
-// What an input gave, and whether it broke off after that.
-#[derive(Drop)]
-struct Given {
-    bytes: Vec<u8>,
-    is_broken: bool,
-}
-
-// Reads all that the input gives. It fails for want of memory alone.
-fn take_input<I: InputStream>(alloc: Global, input: &mut I) -> Result<Given, AllocError>
-    ensures { IfOk result (λ given. Gives I.remaining I.takes input.old input.new given.bytes.items given.is_broken) }
-{
-    let mut bytes = Vec::new(alloc);
-    match read_input(input, &mut bytes) {
-        Ok(()) => Ok(Given {
-            bytes,
-            is_broken: false,
-        }),
-        Err(ReadFault::Failed) => Ok(Given {
-            bytes,
-            is_broken: true,
-        }),
-        Err(ReadFault::Bound) => Ok(Given {
-            bytes,
-            is_broken: true,
-        }),
-        Err(ReadFault::Memory) => Err(AllocError),
     }
 }
 

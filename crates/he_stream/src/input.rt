@@ -1,8 +1,8 @@
 //! Reading an input to its end.
-ghost use Rattle.std.specs.Prelude.{◌≡◌, ◌+◌, ◌<◌, ◌≤◌, OnOk, length, take, drop, vec_len};
+ghost use Rattle.std.specs.Prelude.{◌≡◌, ◌+◌, ◌<◌, ◌≤◌, IfOk, OnOk, length, take, drop, vec_len};
 ghost use Rattle.std.specs.Io.{StartsWith, appended_bytes};
 ghost use Rattle.std.specs.Io.KnownBytes.{Consumes, IsAtEnd};
-ghost use Rattle.he_stream.specs.Input.{ReadsTo};
+ghost use Rattle.he_stream.specs.Input.{Gives, ReadsTo};
 ghost use Rattle.he_stream.specs.declared.limits.TheConstants.{READ_SIZE};
 ghost use Rattle.he_stream.specs.Pieces.{TakesPiece};
 ghost use Rattle.he_stream.specs.Steps.{Takes};
@@ -11,7 +11,7 @@ use crate::answer::Taken;
 use crate::fault::ReadFault;
 use crate::limits::{INPUT_ROOM, MOST_READS};
 use crate::stream::InputStream;
-use std::alloc::{AllocError, Allocator};
+use std::alloc::{AllocError, Allocator, Global};
 
 /// Reads the input to its end and appends what it gives to `bytes`.
 ///
@@ -39,6 +39,41 @@ pub fn read_input<S: InputStream, A: Allocator>(
     let (filled, result) = fill(input, bytes);
     bytes.truncate(filled);
     result
+}
+
+/// What an input gave.
+#[derive(Drop)]
+pub struct Given<A: Allocator = Global> {
+    /// All of its bytes.
+    pub bytes: Vec<u8, A>,
+    /// Whether it broke off behind them.
+    pub is_broken: bool,
+}
+
+/// Reads all that the input gives, to its end or to where it breaks off: a step failed, or 4,294,967,296 steps did not
+/// reach the end.
+///
+/// # Errors
+///
+/// `AllocError` where an allocation was refused.
+pub fn take_input<S: InputStream, A: Allocator>(
+    alloc: A,
+    input: &mut S,
+) -> Result<Given<A>, AllocError>
+    ensures { IfOk result (λ given. Gives S.remaining S.takes input.old input.new given.bytes.items given.is_broken) }
+{
+    let mut bytes = Vec::new(alloc);
+    match read_input(input, &mut bytes) {
+        Ok(()) => Ok(Given {
+            bytes,
+            is_broken: false,
+        }),
+        Err(ReadFault::Failed | ReadFault::Bound) => Ok(Given {
+            bytes,
+            is_broken: true,
+        }),
+        Err(ReadFault::Memory) => Err(AllocError),
+    }
 }
 
 // Reads to the end in place, and returns how many bytes of the vector are filled. What stands after

@@ -10,9 +10,7 @@ use crate::forms::AnswerLine;
 use crate::parts::Tokens;
 use crate::words::{Name, Word};
 use he_addr::Family;
-use he_plan::limits::{
-    DEFAULT_ATTEMPT, DEFAULT_COUNT, DEFAULT_LIMIT, DEFAULT_RESOLUTION,
-};
+use he_plan::limits::{DEFAULT_ATTEMPT, DEFAULT_COUNT, DEFAULT_LIMIT, DEFAULT_RESOLUTION};
 use he_plan::{BuildFault, Settings, TimelineBuilder};
 use std::alloc::Allocator;
 

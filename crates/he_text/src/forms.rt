@@ -2,21 +2,19 @@
 // to right; the first that is wrong decides.
 
 ghost use Rattle.std.specs.Prelude.{◌≡◌, ◌≤◌, IfOk};
-ghost use Rattle.he_text.specs.Forms.{number_from, setting_in, pause_in, end_in, least_value, most_value};
+ghost use Rattle.he_text.specs.Forms.{number_from, setting_in, pause_in, end_in};
 ghost use Rattle.he_text.specs.Left.{tokens_left};
 
 mod answers;
 mod selection;
 
 use crate::fault::TextKind;
+use crate::limits::MIN_PAUSE_END;
 use crate::parts::Tokens;
 use crate::words::Name;
 pub(crate) use answers::{AnswerLine, address, answer, connect, listed};
 use he_addr::read_number;
-use he_plan::limits::{
-    MAX_ATTEMPT, MAX_COUNT, MAX_LIMIT, MAX_PAUSE_END, MAX_RESOLUTION, MAX_TICK, MIN_ATTEMPT,
-    MIN_COUNT, MIN_LIMIT,
-};
+use he_plan::limits::{MAX_PAUSE_END, MAX_TICK};
 pub(crate) use selection::{route, row, source};
 
 #[tactic(auto, unfolding(crate::specs::Forms::number_from))]
@@ -34,28 +32,6 @@ fn number(low: u64, high: u64, token: &[u8]) -> Result<u64, TextKind>
     }
 }
 
-fn least(name: Name) -> u64
-    ensures { result ≡ least_value name }
-{
-    match name {
-        Name::Resolution => 0,
-        Name::Attempt => MIN_ATTEMPT,
-        Name::Count => MIN_COUNT,
-        Name::Limit => MIN_LIMIT,
-    }
-}
-
-fn most(name: Name) -> u64
-    ensures { result ≡ most_value name }
-{
-    match name {
-        Name::Resolution => MAX_RESOLUTION,
-        Name::Attempt => MAX_ATTEMPT,
-        Name::Count => MAX_COUNT,
-        Name::Limit => MAX_LIMIT,
-    }
-}
-
 // set NAME N
 #[tactic(auto, unfolding(crate::specs::Forms::setting_in))]
 pub(crate) fn setting(tokens: Tokens) -> Result<(Name, u64), TextKind>
@@ -67,7 +43,7 @@ pub(crate) fn setting(tokens: Tokens) -> Result<(Name, u64), TextKind>
     let Some(name) = Name::read(name) else {
         return Err(TextKind::Word);
     };
-    let value = number(least(name), most(name), value)?;
+    let value = number(name.least(), name.most(), value)?;
     Ok((name, value))
 }
 
@@ -81,7 +57,7 @@ pub(crate) fn pause(tokens: Tokens) -> Result<(u64, u64), TextKind>
         return Err(TextKind::Word);
     };
     let from = number(0, MAX_TICK, from)?;
-    let to = number(1, MAX_PAUSE_END, to)?;
+    let to = number(MIN_PAUSE_END, MAX_PAUSE_END, to)?;
     Ok((from, to))
 }
 

@@ -30,14 +30,16 @@ pub mod reading;
 pub mod timelines;
 pub mod transcripts;
 pub mod walks;
-mod words;
+pub mod words;
 mod writing;
 
 pub use fault::{TextFault, TextKind};
 pub use inputs::{InputFault, NotOneRace, read_one_race};
 pub use next::{Next, may_change, next_race};
 pub use orders::write_order;
+pub use parts::{LINE_END, TOKEN_END};
 pub use reading::read_race;
 pub use timelines::write_timeline;
 pub use transcripts::write_transcript;
 pub use walks::{Ending, Walk, WalkFault};
+pub use words::{Name, Word};

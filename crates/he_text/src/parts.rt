@@ -12,10 +12,10 @@ use memchr::{memchr, memchr_iter};
 use std::simd::prelude::*;
 
 /// The byte after each line.
-pub(crate) const LINE_END: u8 = b'\n';
+pub const LINE_END: u8 = b'\n';
 
 /// The byte between two tokens of a line.
-pub(crate) const TOKEN_END: u8 = b' ';
+pub const TOKEN_END: u8 = b' ';
 
 // The bytes of a vector. Most lines and nearly all tokens end among so many bytes, which are compared at once: a call
 // of `memchr` takes four times as long there, and a loop over the bytes longer still.

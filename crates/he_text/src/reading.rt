@@ -150,7 +150,10 @@ fn take_given<A: Allocator + Copy>(
 }
 
 // The lines of the first four groups, up to the first other line.
-fn read_head<A: Allocator + Copy>(alloc: A, lines: &mut Lines) -> Result<(LastGroup, Head<A>), TextKind>
+fn read_head<A: Allocator + Copy>(
+    alloc: A,
+    lines: &mut Lines,
+) -> Result<(LastGroup, Head<A>), TextKind>
     requires { HasRoom lines.old }
     ensures count { IsAmong lines.old lines.new }
     ensures read { MatchResult result (λ x. read_head lines.old.number group_at_start no_head (lines_left lines.old) ≡ settle lines.new.number x.0 x.1 (lines_left lines.new)) (λ kind. FailsAt lines.new.number kind (read_head lines.old.number group_at_start no_head (lines_left lines.old))) }

@@ -1,20 +1,24 @@
-// The words of timeline texts.
+//! The words of timeline texts.
 
 ghost use Rattle.std.specs.Prelude.{◌≡◌};
-ghost use Rattle.he_text.specs.Words.{word_in, name_in, group_of, is_policy, is_end, most_lines};
+ghost use Rattle.he_text.specs.Words.{word_in, name_in, group_of, is_policy, is_end, most_lines, spelling_of};
+ghost use Rattle.he_text.specs.Forms.{least_value, most_value};
 ghost use Rattle.he_text.specs.Reading.{is_head_word};
 
 use crate::fault::TextKind;
 use crate::limits::MAX_ANSWERS;
-use he_plan::limits::MAX_PAUSES;
+use he_plan::limits::{
+    MAX_ATTEMPT, MAX_COUNT, MAX_LIMIT, MAX_PAUSES, MAX_RESOLUTION, MIN_ATTEMPT, MIN_COUNT,
+    MIN_LIMIT,
+};
 use he_select::limits::{ROUTES, ROWS, SOURCES};
 
 /// The first line of a race.
 pub(crate) const HEADER: &[u8] = b"race 1";
 
-// The words that begin a line behind the first one.
-#[derive(Clone, Copy)]
-pub(crate) enum Word {
+/// The words that begin a line behind the first one, in the order in which the lines of a race stand.
+#[derive(Clone, Copy, Debug, PartialEq, Eq)]
+pub enum Word {
     Set,
     Policy,
     Source,
@@ -31,9 +35,9 @@ pub(crate) enum Word {
 const LAST_HEAD_GROUP: u8 = 4;
 
 impl Word {
-    // The word that a token spells.
+    /// The word that a token spells.
     #[tactic(auto, unfolding(crate::specs::Words::word_in))]
-    pub(crate) fn read(token: &[u8]) -> Option<Word>
+    pub fn read(token: &[u8]) -> Option<Word>
         ensures { result ≡ word_in token.now }
     {
         if token == b"set".as_slice() {
@@ -59,8 +63,25 @@ impl Word {
         }
     }
 
-    // The place of its lines among those of a race.
-    pub(crate) fn group(self) -> u8
+    /// How it is spelled.
+    pub fn spelling(self) -> &'static str
+        ensures { result.now ≡ spelling_of self }
+    {
+        match self {
+            Word::Set => "set",
+            Word::Policy => "policy",
+            Word::Source => "source",
+            Word::Route => "route",
+            Word::Aaaa => "aaaa",
+            Word::A => "a",
+            Word::Connect => "connect",
+            Word::Pause => "pause",
+            Word::End => "end",
+        }
+    }
+
+    /// The place of its lines among those of a race, from 1 on.
+    pub fn group(self) -> u8
         ensures { result ≡ group_of self }
     {
         match self {
@@ -102,8 +123,8 @@ impl Word {
         }
     }
 
-    // The most lines that begin with it, if there is a bound, and the fault of one more.
-    pub(crate) fn most_lines(self) -> Option<(usize, TextKind)>
+    /// The most lines of a race that begin with it, if there is a bound, and the fault of one more.
+    pub fn most_lines(self) -> Option<(usize, TextKind)>
         ensures { result ≡ most_lines self }
     {
         match self {
@@ -117,9 +138,9 @@ impl Word {
     }
 }
 
-// The settings' names.
-#[derive(Clone, Copy)]
-pub(crate) enum Name {
+/// The settings' names.
+#[derive(Clone, Copy, Debug, PartialEq, Eq)]
+pub enum Name {
     Resolution,
     Attempt,
     Count,
@@ -127,9 +148,33 @@ pub(crate) enum Name {
 }
 
 impl Name {
-    // The setting that a token names.
+    /// The least value of the setting.
+    pub fn least(self) -> u64
+        ensures { result ≡ least_value self }
+    {
+        match self {
+            Name::Resolution => 0,
+            Name::Attempt => MIN_ATTEMPT,
+            Name::Count => MIN_COUNT,
+            Name::Limit => MIN_LIMIT,
+        }
+    }
+
+    /// The greatest value of the setting.
+    pub fn most(self) -> u64
+        ensures { result ≡ most_value self }
+    {
+        match self {
+            Name::Resolution => MAX_RESOLUTION,
+            Name::Attempt => MAX_ATTEMPT,
+            Name::Count => MAX_COUNT,
+            Name::Limit => MAX_LIMIT,
+        }
+    }
+
+    /// The setting that a token names.
     #[tactic(auto, unfolding(crate::specs::Words::name_in))]
-    pub(crate) fn read(token: &[u8]) -> Option<Name>
+    pub fn read(token: &[u8]) -> Option<Name>
         ensures { result ≡ name_in token.now }
     {
         if token == b"resolution".as_slice() {

@@ -1,5 +1,9 @@
-use Rattle.he_check.specs.Steps.{IsUnderWay}
+use Rattle.std.proofs.Common.{◌-◌, length}
+use Rattle.he_check.specs.Steps.{HasCounted}
 use Rattle.he_check.proofs.input.check_input.Given as goal
 
-abbrev pub invariant-loop-races : goal.invariant-loop-races
-invariant-loop-races g l = IsUnderWay l.input l.from l.races
+abbrev pub invariant-loop-race : goal.invariant-loop-race
+invariant-loop-race g l = HasCounted l.input l.walk
+
+abbrev pub decreases-loop-race : goal.decreases-loop-race
+decreases-loop-race g l = length l.input - l.walk.end

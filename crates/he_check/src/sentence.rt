@@ -5,7 +5,7 @@ use std::fmt;
 
 // The part of a line that is wrong.
 #[derive(Clone, Copy)]
-pub(crate) enum Mark {
+pub(crate) enum WrongPart {
     // All of it.
     Line,
     // The token at this place, counted from 0.
@@ -14,15 +14,15 @@ pub(crate) enum Mark {
     From(usize),
 }
 
-impl Mark {
+impl WrongPart {
     pub(crate) fn span(self, line: &[u8]) -> Span {
         match self {
-            Mark::Line => Span {
+            WrongPart::Line => Span {
                 start: 0,
                 end: line.len(),
             },
-            Mark::Token(at) => token_span(line, at),
-            Mark::From(start) => Span {
+            WrongPart::Token(at) => token_span(line, at),
+            WrongPart::From(start) => Span {
                 start,
                 end: line.len(),
             },
@@ -41,7 +41,7 @@ pub(crate) struct Numbers {
 
 // What was expected, and what stands there instead.
 #[derive(Clone, Copy)]
-pub(crate) enum Cause {
+pub(crate) enum Sentence {
     // This sentence.
     Plain(&'static str),
     // No number.
@@ -52,6 +52,8 @@ pub(crate) enum Cause {
     Above(&'static str, u64),
     // There may be at most so many, by the words before and behind the number.
     Most(&'static str, u64, &'static str),
+    // A race may have at most so many lines that begin with the word.
+    MostLines(u64, &'static str),
     // A line with the first word comes behind one with the second.
     Order(&'static str, &'static str),
     // The pause before this one ends only at this tick.
@@ -70,33 +72,36 @@ pub(crate) struct SharedPrecedence {
     pub(crate) precedence: u64,
 }
 
-impl fmt::Display for Cause {
+impl fmt::Display for Sentence {
     fn fmt<W: fmt::Write>(&self, f: &mut fmt::Formatter<W>) -> fmt::Result {
         match self {
-            Cause::Plain(sentence) => f.write_str(sentence),
-            Cause::NoNumber(numbers) => {
+            Sentence::Plain(sentence) => f.write_str(sentence),
+            Sentence::NoNumber(numbers) => {
                 let what = numbers.what;
                 write!(
                     f,
                     "{what} is a number: one to ten digits without leading zeros"
                 )
             }
-            Cause::OutOfRange(numbers) => fmt::Display::fmt(numbers, f),
-            Cause::Above(what, line) => write!(f, "{what}, on line {line}"),
-            Cause::Most(before, most, behind) => write!(f, "{before} {most} {behind}"),
-            Cause::Order(word, last) => {
+            Sentence::OutOfRange(numbers) => fmt::Display::fmt(numbers, f),
+            Sentence::Above(what, line) => write!(f, "{what}, on line {line}"),
+            Sentence::Most(before, most, behind) => write!(f, "{before} {most} {behind}"),
+            Sentence::MostLines(most, word) => {
+                write!(f, "a race has at most {most} {word} lines")
+            }
+            Sentence::Order(word, last) => {
                 write!(
                     f,
                     "the {word} lines of a race stand before its {last} lines"
                 )
             }
-            Cause::PauseAbove(end) => {
+            Sentence::PauseAbove(end) => {
                 write!(
                     f,
                     "the pause above lasts until tick {end}, and this one begins before"
                 )
             }
-            Cause::Shared(shared) => fmt::Display::fmt(shared, f),
+            Sentence::Shared(shared) => fmt::Display::fmt(shared, f),
         }
     }
 }

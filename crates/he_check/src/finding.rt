@@ -1,45 +1,47 @@
 // Why the first fault of a text is one: its line is looked at again, with the checks of its kind in the order in which
 // the text was read.
 
-use crate::cause::{Cause, Mark, SharedPrecedence};
 use crate::flaws::find_flaw;
-use crate::place::{LINE_END, Place, TOKEN_END, token, token_count};
+use crate::forms::{form, least_tokens, most_tokens};
+use crate::place::{Place, first_word, token, token_count};
 use crate::repeats::find_repeat;
-use crate::words::Word;
+use crate::sentence::{Sentence, SharedPrecedence, WrongPart};
 use he_addr::read_number;
 use he_plan::limits::MAX_ADDRESSES;
 use he_select::PolicyFault;
-use he_text::TextKind;
-use he_text::inputs::MOST_RACES;
-use he_text::limits::MAX_LINE;
+use he_text::limits::{MAX_LINE, MOST_RACES};
+use he_text::{LINE_END, TOKEN_END, TextKind, Word};
 
 // The tokens of an answer before its addresses: the word and the tick.
 const ANSWER_HEAD: usize = 2;
 
-type Found = (Mark, Cause);
+type Found = (WrongPart, Sentence);
 
 // What is wrong with the line, by the kind of its fault. Where no check tells, it is what is said of that kind.
-pub(crate) fn find_cause(place: Place<'_>, kind: TextKind) -> Found {
-    let found = kind_cause(place, kind);
-    let (mark, cause) = found.unwrap_or((Mark::Line, Cause::Plain(general_cause(kind))));
-    spacing_cause(place.line, kind, mark).unwrap_or((mark, cause))
+pub(crate) fn find_sentence(place: Place<'_>, kind: TextKind) -> Found {
+    let found = kind_sentence(place, kind);
+    let (mark, sentence) = found.unwrap_or((
+        WrongPart::Line,
+        Sentence::Plain(general_sentence(kind)),
+    ));
+    spacing_sentence(place.line, kind, mark).unwrap_or((mark, sentence))
 }
 
-fn kind_cause(place: Place<'_>, kind: TextKind) -> Option<Found> {
+fn kind_sentence(place: Place<'_>, kind: TextKind) -> Option<Found> {
     match kind {
-        TextKind::Header => header_cause(place.line),
-        TextKind::Word => word_cause(place),
-        TextKind::Number | TextKind::Address | TextKind::Prefix => flaw_cause(place),
-        TextKind::Range => flaw_cause(place).or(pause_cause(place)),
-        TextKind::Repeated => repeat_cause(place),
-        TextKind::TooMany => many_cause(place),
-        TextKind::Unfinished => unfinished_cause(place.line),
-        TextKind::Policy(fault) => policy_cause(place, fault),
+        TextKind::Header => header_sentence(place.line),
+        TextKind::Word => word_sentence(place),
+        TextKind::Number | TextKind::Address | TextKind::Prefix => flaw_sentence(place),
+        TextKind::Range => flaw_sentence(place).or(pause_sentence(place)),
+        TextKind::Repeated => repeat_sentence(place),
+        TextKind::TooMany => many_sentence(place),
+        TextKind::Unfinished => unfinished_sentence(place.line),
+        TextKind::Policy(fault) => policy_sentence(place, fault),
         TextKind::Memory => None,
     }
 }
 
-fn general_cause(kind: TextKind) -> &'static str {
+fn general_sentence(kind: TextKind) -> &'static str {
     match kind {
         TextKind::Header => "a race begins with the line `race 1`",
         TextKind::Word =>
@@ -57,7 +59,7 @@ fn general_cause(kind: TextKind) -> &'static str {
 }
 
 // A line end, a space or an empty line that makes the part wrong.
-fn spacing_cause(line: &[u8], kind: TextKind, mark: Mark) -> Option<Found> {
+fn spacing_sentence(line: &[u8], kind: TextKind, mark: WrongPart) -> Option<Found> {
     match kind {
         TextKind::Header
         | TextKind::Word
@@ -69,7 +71,7 @@ fn spacing_cause(line: &[u8], kind: TextKind, mark: Mark) -> Option<Found> {
     if line.is_empty() {
         return Some((
             mark,
-            Cause::Plain("no empty line stands in a text or behind it"),
+            Sentence::Plain("no empty line stands in a text or behind it"),
         ));
     }
     let part = mark.span(line);
@@ -77,14 +79,14 @@ fn spacing_cause(line: &[u8], kind: TextKind, mark: Mark) -> Option<Found> {
         && let Some((b'\r', before)) = line.split_last()
     {
         return Some((
-            Mark::From(before.len()),
-            Cause::Plain("the line ends in CR LF; lines end in LF"),
+            WrongPart::From(before.len()),
+            Sentence::Plain("the line ends in CR LF; lines end in LF"),
         ));
     }
     match mark {
-        Mark::Token(_) if part.start == part.end => Some((
+        WrongPart::Token(_) if part.start == part.end => Some((
             mark,
-            Cause::Plain("a single space parts two tokens; none stands first or last on a line"),
+            Sentence::Plain("a single space parts two tokens; none stands first or last on a line"),
         )),
         _ => None,
     }
@@ -96,28 +98,28 @@ fn empty_token(line: &[u8]) -> Option<usize> {
         .position(|text| text.is_empty())
 }
 
-fn header_cause(line: &[u8]) -> Option<Found> {
+fn header_sentence(line: &[u8]) -> Option<Found> {
     let sentence = if line.starts_with(b"\xef\xbb\xbf".as_slice()) {
         "a text begins with its first line, without a byte order mark"
     } else {
         "a race begins with the line `race 1`"
     };
-    Some((Mark::Line, Cause::Plain(sentence)))
+    Some((WrongPart::Line, Sentence::Plain(sentence)))
 }
 
-fn word_cause(place: Place<'_>) -> Option<Found> {
-    let Some(word) = Word::of(place.line) else {
-        return Some((Mark::Token(0), Cause::Plain(no_word(place.line))));
+fn word_sentence(place: Place<'_>) -> Option<Found> {
+    let Some(word) = first_word(place.line) else {
+        return Some((WrongPart::Token(0), Sentence::Plain(no_word(place.line))));
     };
     if let Some(last) = last_word(place)
         && word.group() < last.group()
     {
         return Some((
-            Mark::Token(0),
-            Cause::Order(word.spelling(), last.spelling()),
+            WrongPart::Token(0),
+            Sentence::Order(word.spelling(), last.spelling()),
         ));
     }
-    form_cause(place.line, word).or(flaw_cause(place))
+    form_sentence(place.line, word).or(flaw_sentence(place))
 }
 
 fn no_word(line: &[u8]) -> &'static str {
@@ -132,121 +134,124 @@ fn no_word(line: &[u8]) -> &'static str {
 fn last_word(place: Place<'_>) -> Option<Word> {
     let mut last = None;
     for line in place.before.split(|byte| *byte == LINE_END) {
-        last = Word::of(line).or(last);
+        last = first_word(line).or(last);
     }
     last
 }
 
 // Too few or too many tokens, for an empty one where there is one.
-fn form_cause(line: &[u8], word: Word) -> Option<Found> {
+fn form_sentence(line: &[u8], word: Word) -> Option<Found> {
     let count = token_count(line);
-    let is_short = count < word.least_tokens();
-    let most = word.most_tokens().unwrap_or(count);
+    let is_short = count < least_tokens(word);
+    let most = most_tokens(word).unwrap_or(count);
     if !is_short && count <= most {
         return None;
     }
     let mark = match empty_token(line) {
-        Some(at) => Mark::Token(at),
-        None if is_short => Mark::From(line.len()),
-        None => Mark::Token(most),
+        Some(at) => WrongPart::Token(at),
+        None if is_short => WrongPart::From(line.len()),
+        None => WrongPart::Token(most),
     };
-    Some((mark, Cause::Plain(word.form())))
+    Some((mark, Sentence::Plain(form(word))))
 }
 
-fn flaw_cause(place: Place<'_>) -> Option<Found> {
-    let (at, cause) = find_flaw(place, Word::of(place.line)?)?;
-    Some((Mark::Token(at), cause))
+fn flaw_sentence(place: Place<'_>) -> Option<Found> {
+    let (at, sentence) = find_flaw(place, first_word(place.line)?)?;
+    Some((WrongPart::Token(at), sentence))
 }
 
 // A pause that does not end after it begins, or begins before the end of the one above.
-fn pause_cause(place: Place<'_>) -> Option<Found> {
+fn pause_sentence(place: Place<'_>) -> Option<Found> {
     let from = read_number(token(place.line, 1))?;
     let last = last_pause_end(place);
     if from < last {
-        return Some((Mark::Token(1), Cause::PauseAbove(last)));
+        return Some((WrongPart::Token(1), Sentence::PauseAbove(last)));
     }
-    Some((Mark::Token(2), Cause::Plain("a pause ends after it begins")))
+    Some((
+        WrongPart::Token(2),
+        Sentence::Plain("a pause ends after it begins"),
+    ))
 }
 
 // The end of the last pause above; 0 where there is none.
 fn last_pause_end(place: Place<'_>) -> u64 {
     let mut last = 0;
     for line in place.before.split(|byte| *byte == LINE_END) {
-        if Word::of(line) == Some(Word::Pause) {
+        if first_word(line) == Some(Word::Pause) {
             last = read_number(token(line, 2)).unwrap_or(last);
         }
     }
     last
 }
 
-fn repeat_cause(place: Place<'_>) -> Option<Found> {
-    let (at, cause) = find_repeat(place, Word::of(place.line)?)?;
-    Some((Mark::Token(at), cause))
+fn repeat_sentence(place: Place<'_>) -> Option<Found> {
+    let (at, sentence) = find_repeat(place, first_word(place.line)?)?;
+    Some((WrongPart::Token(at), sentence))
 }
 
-fn many_cause(place: Place<'_>) -> Option<Found> {
+fn many_sentence(place: Place<'_>) -> Option<Found> {
     if place.line.len() > MAX_LINE {
         return Some((
-            Mark::From(MAX_LINE),
-            Cause::Most("a line has at most", MAX_LINE as u64, "bytes"),
+            WrongPart::From(MAX_LINE),
+            Sentence::Most("a line has at most", MAX_LINE as u64, "bytes"),
         ));
     }
     if place.before.is_empty() {
         return Some((
-            Mark::Line,
-            Cause::Most("a text has at most", MOST_RACES as u64, "races"),
+            WrongPart::Line,
+            Sentence::Most("a text has at most", MOST_RACES as u64, "races"),
         ));
     }
-    let word = Word::of(place.line)?;
+    let word = first_word(place.line)?;
     match word.most_lines() {
-        Some((most, lines)) => Some((
-            Mark::Token(0),
-            Cause::Most("a race has at most", most as u64, lines),
+        Some((most, TextKind::TooMany)) => Some((
+            WrongPart::Token(0),
+            Sentence::MostLines(most as u64, word.spelling()),
         )),
-        None => Some((
-            Mark::Token(ANSWER_HEAD + MAX_ADDRESSES),
-            Cause::Most("an answer has at most", MAX_ADDRESSES as u64, "addresses"),
+        _ => Some((
+            WrongPart::Token(ANSWER_HEAD + MAX_ADDRESSES),
+            Sentence::Most("an answer has at most", MAX_ADDRESSES as u64, "addresses"),
         )),
     }
 }
 
-fn unfinished_cause(line: &[u8]) -> Option<Found> {
+fn unfinished_sentence(line: &[u8]) -> Option<Found> {
     let sentence = if line.is_empty() {
         "the text ends inside a race; a race ends with the line `end`"
     } else {
         "the text ends inside this line; each line ends with a line feed"
     };
-    Some((Mark::From(line.len()), Cause::Plain(sentence)))
+    Some((WrongPart::From(line.len()), Sentence::Plain(sentence)))
 }
 
-fn policy_cause(place: Place<'_>, fault: PolicyFault) -> Option<Found> {
+fn policy_sentence(place: Place<'_>, fault: PolicyFault) -> Option<Found> {
     match fault {
         PolicyFault::NoDefault => Some((
-            Mark::Token(0),
-            Cause::Plain(
+            WrongPart::Token(0),
+            Sentence::Plain(
                 "the rows up to this one are the whole policy table, and none of them is ::/0",
             ),
         )),
         PolicyFault::NoMapped => Some((
-            Mark::Token(0),
-            Cause::Plain(
+            WrongPart::Token(0),
+            Sentence::Plain(
                 "the rows up to this one are the whole policy table, and none of them is ::ffff:0:0/96",
             ),
         )),
-        PolicyFault::SharedPrecedence(row, later) => shared_cause(place, row, later),
+        PolicyFault::SharedPrecedence(row, later) => shared_sentence(place, row, later),
         _ => None,
     }
 }
 
 // Two rows of the table that share a precedence, by their places in it.
-fn shared_cause(place: Place<'_>, row: usize, later: usize) -> Option<Found> {
+fn shared_sentence(place: Place<'_>, row: usize, later: usize) -> Option<Found> {
     let head = lines_before_table(place);
     let row_line = place.number(head).saturating_add(row as u64);
     let later_line = place.number(head).saturating_add(later as u64);
     let precedence = precedence_of(place, head.saturating_add(row))?;
     Some((
-        Mark::Token(0),
-        Cause::Shared(SharedPrecedence {
+        WrongPart::Token(0),
+        Sentence::Shared(SharedPrecedence {
             row,
             later,
             row_line,
@@ -261,7 +266,7 @@ fn lines_before_table(place: Place<'_>) -> usize {
     place
         .before
         .split(|byte| *byte == LINE_END)
-        .take_while(|line| Word::of(line) != Some(Word::Policy))
+        .take_while(|line| first_word(line) != Some(Word::Policy))
         .count()
 }
 

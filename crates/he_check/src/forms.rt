@@ -1,0 +1,41 @@
+// What the lines look like, by the word that begins them.
+
+use he_text::Word;
+use he_text::limits::{ROUTE_MARKS, SOURCE_MARKS};
+
+pub(crate) fn form(word: Word) -> &'static str {
+    match word {
+        Word::Set => "a setting is `set NAME NUMBER`",
+        Word::Policy => "a row of the policy table is `policy PREFIX PRECEDENCE LABEL`",
+        Word::Source => {
+            "a source is `source ADDRESS/LENGTH INTERFACE`, then `deprecated` and `temporary` where it is"
+        }
+        Word::Route => "a route is `route PREFIX INTERFACE`, then `tunnel` where it is one",
+        Word::Aaaa => "the IPv6 answer is `aaaa TICK ADDRESS ..` or `aaaa TICK none`",
+        Word::A => "the IPv4 answer is `a TICK ADDRESS ..` or `a TICK none`",
+        Word::Connect => "an outcome is `connect ADDRESS ok TICKS` or `connect ADDRESS fail TICKS`",
+        Word::Pause => "a pause is `pause FROM TO`",
+        Word::End => "nothing stands behind `end` on its line",
+    }
+}
+
+// The most tokens of its lines, the word included.
+pub(crate) fn most_tokens(word: Word) -> Option<usize> {
+    match word {
+        Word::Set | Word::Pause => Some(3),
+        Word::Policy | Word::Connect => Some(4),
+        Word::Source => Some(3 + SOURCE_MARKS),
+        Word::Route => Some(3 + ROUTE_MARKS),
+        Word::Aaaa | Word::A => None,
+        Word::End => Some(1),
+    }
+}
+
+// The least tokens of its lines, the word included.
+pub(crate) fn least_tokens(word: Word) -> usize {
+    match word {
+        Word::Policy | Word::Connect => 4,
+        Word::End => 1,
+        _ => 3,
+    }
+}
