@@ -2,7 +2,7 @@
 
 ghost use Rattle.std.specs.Prelude.{◌≡◌, ◌⊎◌, ◌≤◌, [], ◌∷◌, IsOk, Ok, Err, length, MatchResult};
 ghost use Rattle.he_text.specs.Left.{tokens_left};
-ghost use Rattle.he_text.specs.Reading.{Fails, admit, kind_of, once, put, settings_from, take_answer, take_listed, take_told, group_at_start, none_given};
+ghost use Rattle.he_text.specs.Reading.{Fails, admit, once, put, settings_from, take_answer, take_listed, take_told, group_at_start, none_given};
 
 use crate::fault::TextKind;
 use crate::forms;
@@ -11,7 +11,7 @@ use crate::parts::Tokens;
 use crate::words::{Name, Word};
 use he_addr::Family;
 use he_plan::limits::{DEFAULT_ATTEMPT, DEFAULT_COUNT, DEFAULT_LIMIT, DEFAULT_RESOLUTION};
-use he_plan::{BuildFault, Settings, TimelineBuilder};
+use he_plan::{Settings, TimelineBuilder};
 use std::alloc::Allocator;
 
 // The group of the last line that was read, and how many lines of that group there are, if there may be only so many.
@@ -120,16 +120,6 @@ fn once(given: Option<u64>, value: u64) -> Result<Option<u64>, TextKind>
     }
 }
 
-// What a call of the builder did, its fault told as that of a text.
-fn built(made: Result<(), BuildFault>) -> Result<(), TextKind>
-    ensures { MatchResult made (λ _. result ≡ Ok tt) (λ fault. result ≡ Err (kind_of fault)) }
-{
-    match made {
-        Ok(()) => Ok(()),
-        Err(fault) => Err(TextKind::from(fault)),
-    }
-}
-
 // Adds an answer to the race.
 #[tactic(auto, unfolding(crate::specs::Reading::take_listed))]
 fn take_listed<A: Allocator + Copy>(
@@ -141,7 +131,7 @@ fn take_listed<A: Allocator + Copy>(
     ensures { MatchResult result (λ _. take_listed family given.entry.tick (tokens_left given.entry.tokens) race.old ≡ Ok race.new) (λ kind. Fails kind (take_listed family given.entry.tick (tokens_left given.entry.tokens) race.old)) }
 {
     let ips = forms::listed(alloc, family, given.tokens, given.count)?;
-    built(race.answer(family, given.tick, &ips))
+    Ok(race.answer(family, given.tick, &ips)?)
 }
 
 // Adds the answer that one token gives to the race. Most answers have one address, and need no list.
@@ -156,10 +146,10 @@ fn take_only<A: Allocator + Copy>(
     ensures { MatchResult result (λ _. take_listed family tick (token.now ∷ []) race.old ≡ Ok race.new) (λ kind. Fails kind (take_listed family tick (token.now ∷ []) race.old)) }
 {
     if token == b"none".as_slice() {
-        return built(race.answer(family, tick, &[]));
+        return Ok(race.answer(family, tick, &[])?);
     }
     let ip = forms::address(family, token)?;
-    built(race.answer(family, tick, &[ip]))
+    Ok(race.answer(family, tick, &[ip])?)
 }
 
 #[tactic(auto, using(crate::proofs::FormLaws::answer_taken))]
@@ -194,11 +184,11 @@ pub(crate) fn take<A: Allocator + Copy>(
         Word::A => take_answer(alloc, Family::V4, tokens, race),
         Word::Connect => {
             let (ip, outcome) = forms::connect(tokens, race)?;
-            built(race.outcome_of_known(ip, outcome))
+            Ok(race.outcome_of_known(ip, outcome)?)
         }
         Word::Pause => {
             let (from, to) = forms::pause(tokens)?;
-            built(race.pause(from, to))
+            Ok(race.pause(from, to)?)
         }
         Word::End => forms::end(tokens),
         _ => Err(TextKind::Word),

@@ -1,6 +1,6 @@
 // What is wrong with a text, and where.
 
-ghost use Rattle.std.specs.Prelude.{◌≡◌, ◌↔◌, IsTrue};
+ghost use Rattle.std.specs.Prelude.{◌≡◌};
 ghost use Rattle.he_text.specs.declared.fault.TextKind.TheVariants as kinds;
 ghost use Rattle.he_text.specs.Reading.{kind_of, table_kind, host_kind};
 
@@ -49,18 +49,6 @@ pub enum TextKind {
     /// Memory was refused while the line was read. It says nothing of the line.
     #[error("out of memory")]
     Memory,
-}
-
-impl TextKind {
-    // Whether it says nothing of the text.
-    pub(crate) fn is_memory(self) -> bool
-        ensures { IsTrue result ↔ (self ≡ kinds.Memory) }
-    {
-        match self {
-            TextKind::Memory => true,
-            _ => false,
-        }
-    }
 }
 
 /// The first fault of a text.

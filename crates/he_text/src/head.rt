@@ -13,7 +13,6 @@ use crate::fault::TextKind;
 use crate::forms;
 use crate::parts::Tokens;
 use crate::words::{Name, Word};
-use he_addr::Memory;
 use he_plan::Settings;
 use he_select::limits::ROWS;
 use he_select::{Host, Policy, PolicyFault, Route, Row, Source};
@@ -74,13 +73,11 @@ impl<A: Allocator + Copy> Head<A> {
         if row.repeats(&self.rows) {
             return Err(TextKind::Repeated);
         }
-        if !more {
-            check_table(&self.rows, row)?;
+        if !more && let Some(fault) = table_fault(&self.rows, row) {
+            return Err(TextKind::Policy(fault));
         }
-        match self.rows.push(row) {
-            Ok(()) => Ok(()),
-            Err(_) => Err(TextKind::Memory),
-        }
+        self.rows.push(row)?;
+        Ok(())
     }
 
     #[tactic(auto, unfolding(crate::specs::Reading::add_source))]
@@ -90,10 +87,8 @@ impl<A: Allocator + Copy> Head<A> {
         if source.repeats(&self.sources) {
             return Err(TextKind::Repeated);
         }
-        match self.sources.push(source) {
-            Ok(()) => Ok(()),
-            Err(_) => Err(TextKind::Memory),
-        }
+        self.sources.push(source)?;
+        Ok(())
     }
 
     #[tactic(auto, unfolding(crate::specs::Reading::add_route))]
@@ -103,10 +98,8 @@ impl<A: Allocator + Copy> Head<A> {
         if route.repeats(&self.routes) {
             return Err(TextKind::Repeated);
         }
-        match self.routes.push(route) {
-            Ok(()) => Ok(()),
-            Err(_) => Err(TextKind::Memory),
-        }
+        self.routes.push(route)?;
+        Ok(())
     }
 
     // Adds what a line of the first four groups gives, behind its word. Whether more rows follow it is told for a row.
@@ -136,13 +129,13 @@ impl<A: Allocator + Copy> Head<A> {
     }
 
     // What the race is made of in which nothing happens yet.
-    #[tactic(auto, unfolding(crate::specs::Reading::race_begun))]
+    #[tactic(auto, unfolding(crate::specs::Reading::race_begun, crate::specs::Reading::host_from))]
     pub(crate) fn scene(self, alloc: A) -> Result<Scene<A>, TextKind>
         ensures { MatchResult result (λ scene. race_begun self ≡ Ok (empty_race scene.settings scene.policy scene.host)) (λ kind. Fails kind (race_begun self)) }
     {
         let settings = self.settings.settings()?;
         let policy = policy(alloc, self.rows)?;
-        let host = host(self.sources, self.routes)?;
+        let host = Host::from_lists(self.sources, self.routes)?;
         Ok(Scene {
             settings,
             policy,
@@ -164,38 +157,13 @@ fn table_fault(rows: &[Row], last: Row) -> Option<PolicyFault>
     PolicyFault::find(&table[..count + 1])
 }
 
-fn check_table(rows: &[Row], last: Row) -> Result<(), TextKind>
-    ensures { result ≡ option_map_or Err (option_map kinds.Policy (table_fault (rows.now ++ last ∷ []))) (Ok tt) }
-{
-    match table_fault(rows, last) {
-        None => Ok(()),
-        Some(fault) => Err(TextKind::Policy(fault)),
-    }
-}
-
 // The table of the rows; where there is no row, the standard one.
 #[tactic(auto, unfolding(crate::specs::Reading::policy_from))]
 fn policy<A: Allocator + Copy>(alloc: A, rows: Vec<Row, A>) -> Result<Policy<A>, TextKind>
     ensures { MatchResult result (λ policy. policy_from rows.items ≡ Ok policy) (λ kind. Fails kind (policy_from rows.items)) }
 {
     if rows.is_empty() {
-        return match Policy::standard(alloc) {
-            Ok(policy) => Ok(policy),
-            Err(Memory) => Err(TextKind::Memory),
-        };
+        return Policy::standard(alloc).map_err(|_| TextKind::Memory);
     }
-    match Policy::from_list(rows) {
-        Ok(policy) => Ok(policy),
-        Err(fault) => Err(TextKind::from(fault)),
-    }
-}
-
-#[tactic(auto, unfolding(crate::specs::Reading::host_from))]
-fn host<A: Allocator>(sources: Vec<Source, A>, routes: Vec<Route, A>) -> Result<Host<A>, TextKind>
-    ensures { MatchResult result (λ host. host_from sources.items routes.items ≡ Ok host) (λ kind. Fails kind (host_from sources.items routes.items)) }
-{
-    match Host::from_lists(sources, routes) {
-        Ok(host) => Ok(host),
-        Err(fault) => Err(TextKind::from(fault)),
-    }
+    Ok(Policy::from_list(rows)?)
 }

@@ -13,7 +13,7 @@ ghost use Rattle.he_text.specs.Text.{IsLineOf, IsRaceText};
 use crate::fault::{TextFault, TextKind};
 use crate::laws::told_faults_stand;
 use crate::limits::MAX_LINE;
-use crate::parts::LINE_END;
+use crate::parts::{LINE_END, marks_in};
 use crate::reading::read_race;
 use he_plan::Timeline;
 use memchr::memrchr;
@@ -79,17 +79,10 @@ pub fn may_change(text: &[u8], fault: TextFault) -> bool
     match fault.kind {
         TextKind::Unfinished => true,
         TextKind::Policy(_) => {
-            line_count(text) == fault.line && may_become_policy(open_line(text))
+            marks_in(text, LINE_END) as u64 == fault.line && may_become_policy(open_line(text))
         }
         _ => false,
     }
-}
-
-// How many lines end in the text.
-fn line_count(text: &[u8]) -> u64
-    ensures { result ≡ line_count text.now }
-{
-    text.iter().filter(|byte| **byte == LINE_END).count() as u64
 }
 
 // What stands behind the last line end; all, where there is none.

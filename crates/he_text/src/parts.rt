@@ -229,7 +229,7 @@ fn count(text: &[u8], mark: u8) -> usize
 
 // How many bytes of the text are the mark.
 #[tactic(auto, using(crate::proofs::PartLaws::marks_within))]
-fn marks_in(text: &[u8], mark: u8) -> usize
+pub(crate) fn marks_in(text: &[u8], mark: u8) -> usize
     ensures value { result ≡ count_by (λ b. b == mark) text.now }
     ensures few { result ≤ length text.now }
 {

@@ -16,7 +16,7 @@ ghost use Rattle.he_text.specs.Text.{IsRaceText, IsLineOf, TellsFault};
 
 use crate::draft::{LastGroup, take};
 use crate::fault::{TextFault, TextKind};
-use crate::head::{Head, Scene};
+use crate::head::Head;
 use crate::lines::Lines;
 use crate::parts::{Line, Tokens};
 use crate::words::{HEADER, Word};
@@ -196,26 +196,6 @@ fn read_told<A: Allocator + Copy>(
     }
 }
 
-// The race that the other lines end.
-fn read_rest<A: Allocator + Copy>(
-    alloc: A,
-    first: LastGroup,
-    scene: Scene<A>,
-    lines: &mut Lines,
-) -> Result<Timeline<A>, TextKind>
-    requires { HasRoom lines.old }
-    ensures count { IsAmong lines.old lines.new }
-    ensures read { MatchResult result (λ told. read_body lines.old.number first (empty_race scene.settings scene.policy scene.host) (lines_left lines.old) ≡ Ok (told, lines_left lines.new)) (λ kind. FailsAt lines.new.number kind (read_body lines.old.number first (empty_race scene.settings scene.policy scene.host) (lines_left lines.old))) }
-    ensures fits { IfOk result (λ told. IsRace told) }
-    ensures shorter { length lines.new.rest.now ≤ length lines.old.rest.now }
-{
-    let mut race = TimelineBuilder::new(alloc, scene.settings, scene.policy, scene.host);
-    match read_told(alloc, first, &mut race, lines) {
-        Ok(()) => Ok(race.finish()),
-        Err(kind) => Err(kind),
-    }
-}
-
 // The first line.
 #[inline(always)]
 fn read_header(lines: &mut Lines) -> Result<(), TextKind>
@@ -236,23 +216,6 @@ fn read_header(lines: &mut Lines) -> Result<(), TextKind>
     Ok(())
 }
 
-// The first line, and the lines of the first four groups.
-fn read_given<A: Allocator + Copy>(
-    alloc: A,
-    lines: &mut Lines,
-) -> Result<(LastGroup, Head<A>), TextKind>
-    requires room { HasRoom lines.old }
-    requires first { lines.old.number ≡ 1 }
-    ensures read { MatchResult result (λ x. read_lines (lines_left lines.old) ≡ settle lines.new.number x.0 x.1 (lines_left lines.new)) (λ kind. FailsAt lines.new.number kind (read_lines (lines_left lines.old))) }
-    ensures passed { IfOk result (λ _. 2 ≤ lines.new.number) }
-    ensures count { IsAmong lines.old lines.new }
-    ensures room { HasRoom lines.new }
-    ensures shorter { length lines.new.rest.now ≤ length lines.old.rest.now }
-{
-    read_header(lines)?;
-    read_head(alloc, lines)
-}
-
 // The race with which the text begins. If memory is refused for what the first four groups give, that is told with the
 // line behind them.
 #[inline(always)]
@@ -265,9 +228,14 @@ fn read_whole<A: Allocator + Copy>(alloc: A, lines: &mut Lines) -> Result<Timeli
     ensures count { IsAmong lines.old lines.new }
     ensures shorter { length lines.new.rest.now ≤ length lines.old.rest.now }
 {
-    let (so_far, head) = read_given(alloc, lines)?;
+    read_header(lines)?;
+    let (so_far, head) = read_head(alloc, lines)?;
     let scene = head.scene(alloc)?;
-    read_rest(alloc, so_far, scene, lines)
+    let mut race = TimelineBuilder::new(alloc, scene.settings, scene.policy, scene.host);
+    match read_told(alloc, so_far, &mut race, lines) {
+        Ok(()) => Ok(race.finish()),
+        Err(kind) => Err(kind),
+    }
 }
 
 // The race with which the text begins, how many bytes stand behind it, and how many lines it has.

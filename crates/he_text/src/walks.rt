@@ -35,16 +35,6 @@ impl Ending {
             Ending::Whole
         }
     }
-
-    // Whether the input broke off.
-    fn breaks(self) -> bool
-        ensures { result ≡ breaks self }
-    {
-        match self {
-            Ending::Broken => true,
-            _ => false,
-        }
-    }
 }
 
 /// Why a walk stops.
@@ -136,28 +126,25 @@ impl Walk {
                 _ => Ok(None),
             };
         };
-        if fault.kind.is_memory() {
+        if let TextKind::Memory = fault.kind {
             return Err(WalkFault::Memory);
         }
         faults_stand();
         match ending {
             Ending::Open if may_change(rest, fault) => Ok(None),
-            _ => {
-                let found = fault_behind(ending.breaks(), self.lines, fault);
-                Err(WalkFault::Input(found))
-            }
+            _ => Err(WalkFault::Input(fault_behind(ending, self.lines, fault))),
         }
     }
 }
 
 // A fault behind so many lines. Where the input broke off, the text is unfinished for that alone.
-fn fault_behind(is_broken: bool, lines: u64, found: TextFault) -> InputFault
+fn fault_behind(ending: Ending, lines: u64, found: TextFault) -> InputFault
     requires { lines + found.line < 2 ^ 64 }
-    ensures { result ≡ fault_behind is_broken lines (found.line, found.kind) }
+    ensures { result ≡ fault_behind (breaks ending) lines (found.line, found.kind) }
 {
-    match found.kind {
-        TextKind::Unfinished if is_broken => InputFault::Read,
-        kind => InputFault::Text(TextFault {
+    match (found.kind, ending) {
+        (TextKind::Unfinished, Ending::Broken) => InputFault::Read,
+        (kind, _) => InputFault::Text(TextFault {
             line: lines + found.line,
             kind,
         }),

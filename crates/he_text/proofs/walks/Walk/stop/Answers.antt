@@ -7,8 +7,8 @@ use Rattle.he_text.proofs.WalkLaws.{fault_stops, line_small, race_goes_on}
 use Rattle.he_text.proofs.walks.Walk.stop.Goals as goal
 use Rattle.he_text.proofs.walks.Walk.stop.Goals.{in_default-ending-2-via-in-Open+else-may_change, in_default-ending-2-via-in_default-ending-2}
 
-pub fault_behind-found-requires : goal.fault_behind-found-requires
-fault_behind-found-requires g c =
+pub fault_behind-requires : goal.fault_behind-requires
+fault_behind-requires g c =
     let wrong : IsWrong c.args.self.races c.args.rest.now c.in-Some.fault = rw c.in-Some.is at c.requires.wrong in
     let small = line_small c.args.rest.now c.in-Some.fault.line wrong.line in
     let room : c.args.self.lines + length c.args.rest.now ≤ 9223372036854775808 = c.requires.within.room in
@@ -23,10 +23,10 @@ returns-in-Open-clause-found g c =
 pub returns-in_default-ending-2-clause-fault : goal.returns-in_default-ending-2-clause-fault
 returns-in_default-ending-2-clause-fault g c = λ more is_broken follows.
     let wrong : IsWrong c.args.self.races c.args.rest.now c.in-Some.fault = rw c.in-Some.is at c.requires.wrong in
-    let other : c.in-Some.fault.kind ≡ kinds.Memory → ⊥ = λ memory. let is = c.is_memory.ensures.1 memory in let not = c.if-is_memory.false in cc in
+    let other : c.in-Some.fault.kind ≡ kinds.Memory → ⊥ = c.in_default-kind.not-Memory in
     let stays : c.args.ending ≡ endings.Open → MayChange c.args.rest.now c.in-Some.fault.line c.in-Some.fault.kind → ⊥ = λ is may.
     elim c.in_default-ending-2.branch [
       | in_default-ending-2-via-in-Open+else-may_change w ↦ let told = w.may_change.ensures.1 may in let not = w.if-may_change.false in cc
       | in_default-ending-2-via-in_default-ending-2 w ↦ w.in_default-ending-2.not-Open is
     ] in
-    rw c.fault_behind-found.ensures (rw c.breaks.ensures (fault_stops c.faults_stand.ensures c.args.ending c.args.self.races c.args.self.lines c.args.rest.now c.in-Some.fault wrong other stays more is_broken follows))
+    rw c.fault_behind.ensures (fault_stops c.faults_stand.ensures c.args.ending c.args.self.races c.args.self.lines c.args.rest.now c.in-Some.fault wrong other stays more is_broken follows)
