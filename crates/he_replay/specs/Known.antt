@@ -3,8 +3,9 @@ use Rattle.std.specs.Prelude.{ℕ, ◌≡◌, ◌⊎◌, ◌++◌, Bool, true, f
 use Rattle.he_plan.specs.Race.{Race}
 use Rattle.he_text.specs.declared.fault.TextFault.{TextFault}
 use Rattle.he_text.specs.Beginnings.{IsPolicyFault}
-use Rattle.he_replay.specs.declared.output.InputFault.TheVariants.{Text}
-use Rattle.he_replay.specs.Output.{IsOutput, line_count}
+use Rattle.he_text.specs.declared.inputs.InputFault.TheVariants.{Text}
+use Rattle.he_text.specs.Inputs.{line_count}
+use Rattle.he_replay.specs.Output.{IsOutput}
 
 -- each input that begins with these bytes has this output and this fault, however it ends
 abbrev pub Stands : (List ℕ → Race → Type 0) → List ℕ → List ℕ → TextFault → Type 0

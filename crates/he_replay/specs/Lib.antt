@@ -1,10 +1,6 @@
 pub mod Actions
-pub mod Holding
 pub mod Known
-pub mod Limits
 pub mod Output
 pub mod Pieces
 pub mod Rounds
-pub mod Steps
 pub mod Stream
-pub mod Telling

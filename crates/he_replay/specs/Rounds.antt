@@ -1,50 +1,93 @@
--- Mirrors the code: one round, in which the races at the front of some bytes are told and their texts put into the output. It
--- helps the proofs; what is taken and put by a whole call stands in `Stream`.
-use Rattle.std.specs.Prelude.{ℕ, ◌≡◌, ◌≤◌, ◌⊎◌, ◌++◌, Bool, false, List, [], Option, None, Some, Result, Ok, Err, length}
+-- Mirrors the code: how a call goes through an input, round by round. It helps the proofs; what is taken and put by a whole
+-- call stands in `Stream`.
+use Rattle.std.specs.Prelude.{ℕ, ◌≡◌, ◌≤◌, ◌⊎◌, ◌++◌, Bool, List, [], Option, None, Some, Result, Ok, Err, length, drop}
 use Rattle.he_plan.specs.Race.{Race}
 use Rattle.he_stream.specs.declared.answer.Flushed.{Flushed}
 use Rattle.he_stream.specs.declared.answer.Put.{Put}
 use Rattle.he_stream.specs.Output.{PutsPart, PutsWhole}
-use Rattle.he_text.specs.declared.fault.TextFault.{TextFault}
-use Rattle.he_text.specs.Text.{IsRaceText}
+use Rattle.he_text.specs.declared.inputs.InputFault.{InputFault}
+use Rattle.he_text.specs.declared.inputs.InputFault.TheVariants as inputs
+use Rattle.he_text.specs.declared.walks.Ending.{Ending}
+use Rattle.he_text.specs.declared.walks.Ending.TheVariants as endings
+use Rattle.he_text.specs.declared.walks.Walk.{Walk}
+use Rattle.he_text.specs.Inputs.{AreRaceTexts, AreTexts, IsFaultBehind, line_count}
+use Rattle.he_text.specs.Ranges.{most_races}
+use Rattle.he_text.specs.Walks.{HasPassed, MayFollow}
 use Rattle.he_replay.specs.declared.fault.ReplayFault.{ReplayFault}
 use Rattle.he_replay.specs.declared.fault.ReplayFault.TheVariants as faults
-use Rattle.he_replay.specs.declared.output.InputFault.{InputFault}
-use Rattle.he_replay.specs.declared.telling.Told.{Told}
-use Rattle.he_replay.specs.Limits.{most_races}
-use Rattle.he_replay.specs.Output.{AreTexts, fault_at_end, fault_behind, line_count}
-use Rattle.he_replay.specs.Telling.{Tells}
+use Rattle.he_replay.specs.declared.rounds.Told.{Told}
+
+-- a text of the race was appended
+pub record WritesRace (IsText : List ℕ → Race → Type 0) (race : Race) (old new : List ℕ) : Type 0 where
+  pub told : List ℕ
+  pub is_told : IsText told race
+  pub appended : new ≡ old ++ told
+
+-- of bytes behind so many races and lines, the races that the walk passed were told
+pub record HasTold (IsText : List ℕ → Race → Type 0) (bytes : List ℕ) (races_before lines_before : ℕ) (text : List ℕ) (walk : Walk) : Type 0 where
+  pub races : List Race
+  pub passed : HasPassed bytes races_before lines_before races walk
+  pub few : walk.races ≤ most_races
+  pub told : AreTexts IsText races text
+
+-- what is wrong behind the races that the walk passed, with every input that goes on so
+abbrev pub IsFaultPast : Ending → List ℕ → Walk → Option InputFault → Type 0
+IsFaultPast ending bytes walk fault =
+    (more : List ℕ) (is_broken : Bool) → MayFollow ending more is_broken
+    → IsFaultBehind is_broken walk.races walk.lines (drop walk.end bytes ++ more) fault
+
+-- races more were told, whatever was told before
+abbrev pub TellsOn : (List ℕ → Race → Type 0) → List ℕ → Walk → List ℕ → List ℕ → Walk → Type 0
+TellsOn IsText bytes begun old new walk =
+    (races lines : ℕ) → HasTold IsText bytes races lines old begun → HasTold IsText bytes races lines new walk
+
+-- races more were told, and what is wrong behind them, if that is known
+pub record Tells (IsText : List ℕ → Race → Type 0) (ending : Ending) (bytes : List ℕ) (begun : Walk) (old new : List ℕ) (told : Told) : Type 0 where
+  pub on : TellsOn IsText bytes begun old new told.walk
+  pub fault_is : ((ending ≡ endings.Open) × (told.fault ≡ None)) ⊎ IsFaultPast ending bytes told.walk told.fault
+
+-- a round went on: these races were told of the bytes and put, and what stands behind them is held; there may be no text to
+-- put where more may follow
+pub record GoesOn {S : Type 0} (IsText : List ℕ → Race → Type 0) (contents : S → Option (List ℕ)) (puts : S → Put → S → Type 0) (flushes : S → Flushed → S → Type 0) (ending : Ending) (bytes : List ℕ) (from : Walk) (kept : List ℕ) (next : Walk) (first last : S) : Type 0 where
+  pub text : List ℕ
+  pub walk : Walk
+  pub told : HasTold IsText bytes from.races from.lines text walk
+  pub fault_is : (ending ≡ endings.Open) ⊎ IsFaultPast ending bytes walk None
+  pub put : PutsWhole contents puts flushes first last text ⊎ ((ending ≡ endings.Open) × (text ≡ []) × (first ≡ last))
+  pub held : kept ≡ drop walk.end bytes
+  pub at : next ≡ record { end = 0; races = walk.races; lines = walk.lines }
+
+-- all races at the front of the bytes were told and put, and this is wrong behind them
+pub record EndsWithFault {S : Type 0} (IsText : List ℕ → Race → Type 0) (contents : S → Option (List ℕ)) (puts : S → Put → S → Type 0) (flushes : S → Flushed → S → Type 0) (ending : Ending) (bytes : List ℕ) (from : Walk) (first last : S) (fault : InputFault) : Type 0 where
+  pub text : List ℕ
+  pub walk : Walk
+  pub told : HasTold IsText bytes from.races from.lines text walk
+  pub fault_is : IsFaultPast ending bytes walk (Some fault)
+  pub put : PutsWhole contents puts flushes first last text
+
+-- how a round ends: the bytes that are held then, or a fault
+abbrev pub PutsRound : {S : Type 0} → (List ℕ → Race → Type 0) → (S → Option (List ℕ)) → (S → Put → S → Type 0) → (S → Flushed → S → Type 0) → Ending → List ℕ → Walk → List ℕ → Walk → S → S → Result (Unit {0}) ReplayFault → Type 0
+PutsRound IsText contents puts flushes ending bytes from kept next first last (Ok done) =
+    GoesOn IsText contents puts flushes ending bytes from kept next first last
+PutsRound IsText contents puts flushes ending bytes from kept next first last (Err (faults.Text fault)) =
+    EndsWithFault IsText contents puts flushes ending bytes from first last (inputs.Text fault)
+PutsRound IsText contents puts flushes ending bytes from kept next first last (Err faults.Read) =
+    EndsWithFault IsText contents puts flushes ending bytes from first last inputs.Read
+PutsRound IsText contents puts flushes ending bytes from kept next first last (Err faults.Write) =
+    (text : List ℕ) × (walk : Walk) × HasTold IsText bytes from.races from.lines text walk × PutsPart contents puts flushes first last text
+PutsRound IsText contents puts flushes ending bytes from kept next first last (Err faults.Memory) = first ≡ last
 
 -- where a call stands: the races that were told, and the bytes that are held behind them. Took: what was taken so far;
 -- Done: what was put so far
-pub record IsAt (IsText : List ℕ → Race → Type 0) (held : List ℕ) (count lines : ℕ) (Took : List ℕ → Type 0) (Done : List ℕ → Type 0) : Type 0 where
+pub record IsAt (IsText : List ℕ → Race → Type 0) (held : List ℕ) (walk : Walk) (Took Done : List ℕ → Type 0) : Type 0 where
   pub races : List Race
   pub before : List ℕ
   pub text : List ℕ
-  pub whole : AreTexts IsRaceText races before
+  pub whole : AreRaceTexts races before
   pub told : AreTexts IsText races text
-  pub counted : length races ≡ count
-  pub few : count ≤ most_races
-  pub lined : lines ≡ line_count before
+  pub front : walk.end ≡ 0
+  pub counted : walk.races ≡ length races
+  pub few : walk.races ≤ most_races
+  pub lined : walk.lines ≡ line_count before
   pub took : Took (before ++ held)
   pub put : Done text
-
--- the text was put whole; or there was none to put, nor a fault, and more may follow
-abbrev pub PutsTold : Bool → Option TextFault → Type 0 → Type 0 → List ℕ → Type 0
-PutsTold is_last fault Whole Kept text = Whole ⊎ ((is_last ≡ false) × (fault ≡ None) × (text ≡ []) × Kept)
-
--- how a round ends
-abbrev pub PutsRound : {S : Type 0} → (List ℕ → Race → Type 0) → (S → Option (List ℕ)) → (S → Put → S → Type 0) → (S → Flushed → S → Type 0) → Bool → ℕ → List ℕ → S → S → Result Told ReplayFault → Type 0
-PutsRound IsText contents puts flushes is_last races bytes first last (Ok told) =
-    (text : List ℕ) × Tells IsText is_last races bytes text told
-    × PutsTold is_last told.fault (PutsWhole contents puts flushes first last text) (first ≡ last) text
-PutsRound IsText contents puts flushes is_last races bytes first last (Err faults.Memory) = first ≡ last
-PutsRound IsText contents puts flushes is_last races bytes first last (Err faults.Write) =
-    (text : List ℕ) × (told : Told) × Tells IsText is_last races bytes text told × PutsPart contents puts flushes first last text
-PutsRound IsText contents puts flushes is_last races bytes first last (Err faults.Read) = ⊥
-PutsRound IsText contents puts flushes is_last races bytes first last (Err (faults.Text fault)) = ⊥
-
--- what is wrong with an input whose bytes all were told, its line counted over the whole input
-abbrev pub told_fault : Bool → ℕ → Option TextFault → Option InputFault
-told_fault is_broken lines None = fault_at_end is_broken
-told_fault is_broken lines (Some found) = Some (fault_behind is_broken lines (found.line, found.kind))

@@ -3,21 +3,21 @@ use Rattle.std.specs.Prelude.{ℕ, ◌≡◌, ◌≤◌, ◌⊎◌, ◌++◌, Bo
 use Rattle.he_explain.specs.Course.{IsExplanation}
 use Rattle.he_plan.specs.Race.{Race}
 use Rattle.he_text.specs.declared.fault.TextFault.{TextFault}
-use Rattle.he_text.specs.Text.{IsRaceText}
+use Rattle.he_text.specs.declared.inputs.InputFault.{InputFault}
+use Rattle.he_text.specs.declared.inputs.InputFault.TheVariants as inputs
+use Rattle.he_text.specs.Inputs.{AreRaceTexts, AreTexts}
+use Rattle.he_text.specs.Ranges.{most_races}
 use Rattle.he_replay.specs.Known.{Stands}
-use Rattle.he_replay.specs.Limits.{most_races}
-use Rattle.he_replay.specs.Output.{AreTexts, IsOutput, IsTranscriptText, IsOrderText}
-use Rattle.he_replay.specs.declared.output.InputFault.{InputFault}
-use Rattle.he_replay.specs.declared.output.InputFault.TheVariants as inputs
+use Rattle.he_replay.specs.Output.{IsOutput, IsTranscriptText, IsOrderText}
 use Rattle.he_replay.specs.declared.fault.ReplayFault.{ReplayFault}
 use Rattle.he_replay.specs.declared.fault.ReplayFault.TheVariants.{Text, Read, Write, Memory}
 
 -- the input was given, whole or up to where it broke off, and its whole output, of this fault, was put in
-pub record PutsOutput (IsText : List ℕ → Race → Type 0) (Given : List ℕ → Bool → Type 0) (Whole : List ℕ → Type 0) (fault : Option InputFault) : Type 0 where
+pub record PutsOutput (IsText : List ℕ → Race → Type 0) (Gave : List ℕ → Bool → Type 0) (Whole : List ℕ → Type 0) (fault : Option InputFault) : Type 0 where
   pub input : List ℕ
   pub is_broken : Bool
   pub text : List ℕ
-  pub given : Given input is_broken
+  pub gave : Gave input is_broken
   pub output : IsOutput IsText input is_broken text fault
   pub written : Whole text
 
@@ -35,28 +35,28 @@ pub record TellsSome (IsText : List ℕ → Race → Type 0) (input text : List 
   pub before : List ℕ
   pub rest : List ℕ
   pub parts : input ≡ before ++ rest
-  pub whole : AreTexts IsRaceText races before
+  pub whole : AreRaceTexts races before
   pub few : length races ≤ most_races
   pub told : AreTexts IsText races text
 
 -- of the input these bytes were taken, whether there are more or not, and this was done with a text of some first races of them
-pub record PutsSome (IsText : List ℕ → Race → Type 0) (Given : List ℕ → Bool → Type 0) (Taken : List ℕ → Type 0) (Done : List ℕ → Type 0) : Type 0 where
+pub record PutsSome (IsText : List ℕ → Race → Type 0) (Gave : List ℕ → Bool → Type 0) (Taken : List ℕ → Type 0) (Done : List ℕ → Type 0) : Type 0 where
   pub input : List ℕ
   pub text : List ℕ
-  pub taken : Taken input ⊎ ((is_broken : Bool) × Given input is_broken)
+  pub taken : Taken input ⊎ ((is_broken : Bool) × Gave input is_broken)
   pub told : TellsSome IsText input text
   pub written : Done text
 
--- Given: what the input gave, and whether it broke off after that; Taken: what was taken of an input that was not read
+-- Gave: what the input gave, and whether it broke off after that; Taken: what was taken of an input that was not read
 -- further; Whole: the text of which all was put into the output and then flushed; Part: the text of which a first part was
 -- put in, until that failed; Put: the text of which all was put in and flushed, or nothing where there is none
 abbrev pub Streams : (List ℕ → Race → Type 0) → (List ℕ → Bool → Type 0) → (List ℕ → Type 0) → (List ℕ → Type 0) → (List ℕ → Type 0) → (List ℕ → Type 0) → Result (Unit {0}) ReplayFault → Type 0
-Streams IsText Given Taken Whole Part Put (Ok done) = PutsOutput IsText Given Whole None
-Streams IsText Given Taken Whole Part Put (Err (Text fault)) =
-    PutsOutput IsText Given Whole (Some (inputs.Text fault)) ⊎ PutsSure IsText Taken Whole fault
-Streams IsText Given Taken Whole Part Put (Err Read) = PutsOutput IsText Given Whole (Some inputs.Read)
-Streams IsText Given Taken Whole Part Put (Err Write) = PutsSome IsText Given Taken Part
-Streams IsText Given Taken Whole Part Put (Err Memory) = PutsSome IsText Given Taken Put
+Streams IsText Gave Taken Whole Part Put (Ok done) = PutsOutput IsText Gave Whole None
+Streams IsText Gave Taken Whole Part Put (Err (Text fault)) =
+    PutsOutput IsText Gave Whole (Some (inputs.Text fault)) ⊎ PutsSure IsText Taken Whole fault
+Streams IsText Gave Taken Whole Part Put (Err Read) = PutsOutput IsText Gave Whole (Some inputs.Read)
+Streams IsText Gave Taken Whole Part Put (Err Write) = PutsSome IsText Gave Taken Part
+Streams IsText Gave Taken Whole Part Put (Err Memory) = PutsSome IsText Gave Taken Put
 
 -- the transcripts of the input's races
 abbrev pub Replays : (List ℕ → Bool → Type 0) → (List ℕ → Type 0) → (List ℕ → Type 0) → (List ℕ → Type 0) → (List ℕ → Type 0) → Result (Unit {0}) ReplayFault → Type 0

@@ -3,8 +3,8 @@ ghost use Rattle.he_stream.specs.Input.{Gives, GivesSoFar};
 ghost use Rattle.he_stream.specs.Output.{PutsAndEnds, PutsInRounds, PutsRoundsPart};
 ghost use Rattle.he_replay.specs.Stream.{Explanations};
 
-use crate::content::Content;
 use crate::fault::ReplayFault;
+use crate::race_texts::Content;
 use crate::streaming::stream_races;
 use he_stream::{InputStream, OutputStream};
 use std::alloc::Allocator;

@@ -1,25 +1,23 @@
 //! Laws of what is written for an input, each the contract of a function that runs nothing.
 ghost use Rattle.std.specs.Prelude.{◌≡◌, ℕ, Bool, List, Option, Some};
 ghost use Rattle.he_text.specs.declared.fault.TextFault.{TextFault};
-ghost use Rattle.he_replay.specs.declared.content.Content.{Content};
+ghost use Rattle.he_text.specs.declared.inputs.InputFault.{InputFault};
+ghost use Rattle.he_text.specs.declared.inputs.InputFault.TheVariants.{Text};
 ghost use Rattle.he_pool.specs.declared.limits.TheConstants.{LEAST_WORKERS, MOST_WORKERS};
 ghost use Rattle.he_pool.specs.Limits.{least_workers, most_workers};
-ghost use Rattle.he_replay.specs.declared.limits.TheConstants.{MOST_RACES};
-ghost use Rattle.he_replay.specs.declared.output.InputFault.{InputFault};
-ghost use Rattle.he_replay.specs.declared.output.InputFault.TheVariants.{Text};
+ghost use Rattle.he_replay.specs.declared.race_texts.Content.{Content};
 ghost use Rattle.he_replay.specs.Known.{IsKnown};
-ghost use Rattle.he_replay.specs.Limits.{most_races};
 ghost use Rattle.he_replay.specs.Output.{IsOutput, IsTextOf};
 
 use he_plan::laws::one_transcript;
-use he_text::laws::{begins_where_no_fault, faults_stand, one_race_first};
+use he_text::inputs::one_input;
+use he_text::laws::faults_stand;
 
 /// An input, and whether it broke off, have one output and one fault.
 pub fn one_output()
     ensures { (content : Content) (input : List ℕ) (is_broken : Bool) (text other : List ℕ) (fault other_fault : Option InputFault) → IsOutput (IsTextOf content) input is_broken text fault → IsOutput (IsTextOf content) input is_broken other other_fault → (text ≡ other) × (fault ≡ other_fault) }
 {
-    one_race_first();
-    begins_where_no_fault();
+    one_input();
     one_transcript();
 }
 
@@ -31,9 +29,8 @@ pub fn faults_are_known()
     faults_stand();
 }
 
-/// The limits are the numbers that the definitions name.
+/// The limits are the numbers that the definitions name. That of the races is he_text's (`he_text::laws::ranges`).
 pub fn limits_of_replays()
-    ensures races { MOST_RACES ≡ most_races }
     ensures least { LEAST_WORKERS ≡ least_workers }
     ensures most { MOST_WORKERS ≡ most_workers }
 {}

@@ -26,22 +26,17 @@
 #![tactic(auto)]
 
 pub mod actions;
-mod beginning;
-pub mod content;
 pub mod explaining;
 pub mod fault;
 pub mod laws;
 pub mod limits;
-mod line_ends;
 pub mod ordering;
-pub mod output;
 mod pieces;
-mod reading;
+pub mod race_texts;
 pub mod replaying;
 mod rounds;
 mod sharing;
 mod streaming;
-mod telling;
 
 pub use actions::{Action, run_action};
 pub use explaining::explanations;

@@ -5,17 +5,17 @@ ghost use Rattle.std.specs.Prelude.{◌≡◌, ◌≤◌, ◌<◌, [], IfOk, dro
 ghost use denote.Param.Send.{Frees, IsSend, IsSync};
 ghost use Rattle.he_board.specs.Passes.{IsPassOf, jobs_of};
 ghost use Rattle.he_pool.specs.declared.limits.TheConstants.{LEAST_WORKERS, MOST_WORKERS};
-ghost use Rattle.he_replay.specs.declared.limits.TheConstants.{MOST_RACES};
+ghost use Rattle.he_text.specs.Walks.{IsWithin};
 ghost use Rattle.he_replay.specs.Output.{IsTranscriptText};
 ghost use Rattle.he_replay.specs.Pieces.{ArePieces, IsPiece, MayTake};
-ghost use Rattle.he_replay.specs.Telling.{Begins, IsTelling};
+ghost use Rattle.he_replay.specs.Rounds.{HasTold, TellsOn};
 
-use crate::beginning::Begun;
-use crate::content::Content;
 use crate::limits::{LEAST_WORKERS, MOST_PIECES, MOST_RACES, MOST_WORKERS, PIECE_BYTES};
+use crate::race_texts::Content;
+use crate::rounds::{Part, tell_races};
 use crate::streaming::RACE_END;
-use crate::telling::{Part, tell_races};
 use he_board::{Board, Pass};
+use he_text::{Ending, Walk};
 use memchr::memmem;
 use std::alloc::{AllocError, Allocator};
 use std::thread;
@@ -28,8 +28,8 @@ pub(crate) struct Piece<A: Allocator> {
     from: usize,
     // The texts of the transcripts.
     text: Vec<u8, A>,
-    // How many races they are, and where in the piece they end.
-    begun: Begun,
+    // The walk over the piece: how many races they are, and where in it they end.
+    walk: Walk,
 }
 
 // How many pieces so many bytes have: the last one has what is too short for another.
@@ -161,7 +161,7 @@ fn tell_piece<A: Allocator + Copy>(
     count: usize,
 ) -> Result<Piece<A>, AllocError>
     requires { number < count }
-    ensures { IfOk result (λ piece. IsPiece bytes.now piece.from piece.text.items piece.begun) }
+    ensures { IfOk result (λ piece. IsPiece bytes.now piece.from piece.text.items piece.walk) }
 {
     let from = piece_start(bytes, number);
     let end = if number + 1 == count {
@@ -170,8 +170,8 @@ fn tell_piece<A: Allocator + Copy>(
         piece_start(bytes, number + 1)
     };
     let mut text = Vec::new(alloc);
-    let begun = tell_range(alloc, bytes, from, end, &mut text)?;
-    Ok(Piece { from, text, begun })
+    let walk = tell_range(alloc, bytes, from, end, &mut text)?;
+    Ok(Piece { from, text, walk })
 }
 
 // Where the piece of this number begins: behind the first race that ends so many pieces' bytes from the start or more.
@@ -195,52 +195,40 @@ fn tell_range<A: Allocator + Copy>(
     from: usize,
     end: usize,
     text: &mut Vec<u8, A>,
-) -> Result<Begun, AllocError>
+) -> Result<Walk, AllocError>
     requires from { from ≤ length bytes.now }
     requires end { end ≤ length bytes.now }
     requires none { text.old.items ≡ [] }
-    ensures { IfOk result (λ begun. IsTelling IsTranscriptText (drop from bytes.now) text.new.items begun.end begun.count) }
+    ensures { IfOk result (HasTold IsTranscriptText (drop from bytes.now) 0 0 text.new.items) }
 {
     if end <= from {
-        return Ok(Begun::NOTHING);
+        return Ok(Walk::START);
     }
-    let piece = &bytes[from..end];
     let part = Part {
-        reach: piece.len(),
-        is_last: false,
-        races: 0,
+        begun: Walk::START,
+        reach: end - from,
+        ending: Ending::Open,
     };
-    let told = tell_races(
-        alloc,
-        piece,
-        part,
-        Begun::NOTHING,
-        Content::Transcript,
-        text,
-    )?;
-    Ok(Begun {
-        end: told.end,
-        count: told.count,
-    })
+    let told = tell_races(alloc, &bytes[from..end], part, Content::Transcript, text)?;
+    Ok(told.walk)
 }
 
-// Appends the texts of first races of the bytes, behind so many races that were told before: of the pieces with which
-// the bytes begin, as long as each is races to its end and all of them together are few enough.
+// Appends the texts of first races of the bytes, at whose front the walk stands: of the pieces with which the bytes
+// begin, as long as each is races to its end and all of them together are few enough.
 pub(crate) fn join_pieces<A: Allocator>(
     bytes: &[u8],
-    races: usize,
+    walk: Walk,
     pieces: &[Piece<A>],
     text: &mut Vec<u8, A>,
-) -> Result<Begun, AllocError>
-    requires few { races ≤ MOST_RACES }
+) -> Result<Walk, AllocError>
+    requires within { IsWithin bytes.now walk }
     requires told { ArePieces bytes.now pieces.now }
-    requires none { text.old.items ≡ [] }
-    ensures { IfOk result (Begins IsTranscriptText races bytes.now text.new.items) }
+    ensures { IfOk result (TellsOn IsTranscriptText bytes.now walk text.old.items text.new.items) }
 {
-    let mut begun = Begun::NOTHING;
+    let mut begun = walk;
     for _passes in 0..pieces.len() {
         let before = begun.end;
-        begun = join_some(bytes, races, pieces, begun, text)?;
+        begun = join_some(bytes, begun, pieces, text)?;
         if begun.end == before {
             return Ok(begun);
         }
@@ -251,23 +239,23 @@ pub(crate) fn join_pieces<A: Allocator>(
 // Appends the text of each piece that begins where those end that were appended before.
 fn join_some<A: Allocator>(
     bytes: &[u8],
-    races: usize,
+    before: Walk,
     pieces: &[Piece<A>],
-    before: Begun,
     text: &mut Vec<u8, A>,
-) -> Result<Begun, AllocError>
+) -> Result<Walk, AllocError>
+    requires within { IsWithin bytes.now before }
     requires told { ArePieces bytes.now pieces.now }
-    requires begun { Begins IsTranscriptText races bytes.now text.old.items before }
-    ensures { IfOk result (Begins IsTranscriptText races bytes.now text.new.items) }
+    ensures within { IfOk result (IsWithin bytes.now) }
+    ensures told { IfOk result (TellsOn IsTranscriptText bytes.now before text.old.items text.new.items) }
 {
     let mut begun = before;
     for piece in pieces {
-        let room = MOST_RACES - races - begun.count;
-        if piece.from == begun.end && piece.begun.count <= room {
+        if piece.from == begun.end && piece.walk.races <= MOST_RACES - begun.races {
             text.extend_from_slice(&piece.text)?;
-            begun = Begun {
-                end: begun.end + piece.begun.end,
-                count: begun.count + piece.begun.count,
+            begun = Walk {
+                end: begun.end + piece.walk.end,
+                races: begun.races + piece.walk.races,
+                lines: begun.lines + piece.walk.lines,
             };
         }
     }

@@ -4,9 +4,9 @@ ghost use Rattle.he_stream.specs.Input.{Gives, GivesSoFar};
 ghost use Rattle.he_stream.specs.Output.{PutsAndEnds, PutsInRounds, PutsRoundsPart};
 ghost use Rattle.he_replay.specs.Stream.{Replays};
 
-use crate::content::Content;
 use crate::fault::ReplayFault;
 use crate::limits::{LEAST_WORKERS, MOST_WORKERS};
+use crate::race_texts::Content;
 use crate::sharing::stream_shared;
 use crate::streaming::stream_races;
 use he_stream::{InputStream, OutputStream};

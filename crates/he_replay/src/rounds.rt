@@ -1,76 +1,157 @@
-//! Rounds: what stands ready of an input is told, and its text put into the output.
-ghost use Rattle.std.specs.Prelude.{◌≡◌, ◌+◌, ◌≤◌, ◌<◌, ◌^◌, MatchOption};
-ghost use Rattle.he_replay.specs.Output.{IsTextOf, fault_at_end, fault_behind};
-ghost use Rattle.he_replay.specs.Rounds.{PutsRound, told_fault};
-ghost use Rattle.he_replay.specs.Telling.{Begins};
+//! Rounds: the races that stand ready in the bytes that are held are told, each before the next is read, and their texts
+//! put into the output.
+ghost use Rattle.std.specs.Prelude.{◌≡◌, ◌+◌, ◌-◌, ◌≤◌, ◌^◌, IfOk, OnOk, drop, take, vec_len};
+ghost use Rattle.he_text.specs.Walks.{IsWithin};
+ghost use Rattle.he_replay.specs.Output.{IsTextOf};
+ghost use Rattle.he_replay.specs.Rounds.{HasTold, PutsRound, Tells};
 
-use crate::beginning::Begun;
-use crate::content::Content;
 use crate::fault::ReplayFault;
-use crate::output::InputFault;
-use crate::telling::{Part, Told, tell_races};
+use crate::limits::{ARENA_BYTES, MOST_RACES};
+use crate::race_texts::Content;
+use bumpalo::Bump;
 use he_stream::{OutputStream, write_whole};
-use he_text::{TextFault, TextKind};
-use std::alloc::Allocator;
+use he_text::{Ending, InputFault, Walk, WalkFault};
+use std::alloc::{AllocError, Allocator};
 
-// Tells the races at the front of the bytes, behind those with which it begins, and puts the texts of all into the
-// output: as one text, which is flushed. Where nothing follows the bytes, or something is wrong with them, the output is flushed though there be no
-// text. The memory of `text` is used again.
+// What a call holds of its input, and what it told of it before.
+#[derive(Drop)]
+pub(crate) struct Held<A: Allocator> {
+    // The bytes that were taken and not told yet, and behind them room for the next step.
+    pub(crate) bytes: Vec<u8, A>,
+    pub(crate) filled: usize,
+    // The room for the next step.
+    pub(crate) room: usize,
+    // The walk over the input, at the front of the bytes: the races that were told, and their lines.
+    pub(crate) walk: Walk,
+    // How many of the bytes were looked at when a race in them was not whole yet.
+    pub(crate) tried: usize,
+}
+
+impl<A: Allocator> Held<A> {
+    // Nothing is taken yet, and the first step gets so much room.
+    pub(crate) fn new(alloc: A, room: usize) -> Held<A>
+        ensures empty { (result.filled ≡ 0) × (result.walk ≡ record { end = 0; races = 0; lines = 0 }) }
+        ensures room { result.room ≡ room }
+    {
+        Held {
+            bytes: Vec::new(alloc),
+            filled: 0,
+            room,
+            walk: Walk::START,
+            tried: 0,
+        }
+    }
+}
+
+// What is asked of some bytes of an input.
+#[derive(Clone, Copy)]
+pub(crate) struct Part {
+    // How far the walk over them has come, whose races are told already.
+    pub(crate) begun: Walk,
+    // How far races are looked for: none is read that begins there or behind it, unless nothing follows the bytes, or
+    // nothing may follow the races.
+    pub(crate) reach: usize,
+    // What follows the bytes.
+    pub(crate) ending: Ending,
+}
+
+impl Part {
+    // Whether the walk goes on that has come so far.
+    fn goes_on(&self, walk: Walk) -> bool {
+        self.ending != Ending::Open || walk.end < self.reach || walk.races == MOST_RACES
+    }
+}
+
+// What was told of some bytes.
+#[derive(Clone, Copy)]
+pub(crate) struct Told {
+    // How far the walk came.
+    pub(crate) walk: Walk,
+    // What is wrong with the input behind that.
+    pub(crate) fault: Option<InputFault>,
+}
+
+// Tells the races at the front of the bytes that are held, behind those with which the part begins, puts the texts of
+// all into the output, and forgets these races. The texts are put as one, which is flushed. Where nothing follows the
+// bytes, or something is wrong with them, the output is flushed though there be no text. The memory of `text` is used
+// again.
 pub(crate) fn put_round<A: Allocator + Copy, O: OutputStream>(
     alloc: A,
-    bytes: &[u8],
+    held: &mut Held<A>,
     part: Part,
-    begun: Begun,
     content: Content,
     text: &mut Vec<u8, A>,
     output: &mut O,
-) -> Result<Told, ReplayFault>
-    requires { Begins (IsTextOf content) part.races bytes.now text.old.items begun }
-    ensures { PutsRound (IsTextOf content) O.contents O.puts O.flushes part.is_last part.races bytes.now output.old output.new result }
+) -> Result<(), ReplayFault>
+    requires within { held.old.filled ≤ vec_len held.old.bytes }
+    requires lines { held.old.walk.lines + held.old.filled ≤ 2 ^ 54 }
+    requires begun { HasTold (IsTextOf content) (take held.old.filled held.old.bytes.items) held.old.walk.races held.old.walk.lines text.old.items part.begun }
+    ensures within { OnOk result (held.new.filled ≤ vec_len held.new.bytes) }
+    ensures room { OnOk result (held.new.room ≡ held.old.room) }
+    ensures size { OnOk result (held.new.walk.lines + held.new.filled ≤ held.old.walk.lines + held.old.filled) }
+    ensures told { PutsRound (IsTextOf content) O.contents O.puts O.flushes part.ending
+        (take held.old.filled held.old.bytes.items) held.old.walk
+        (take held.new.filled held.new.bytes.items) held.new.walk output.old output.new result }
 {
-    let told = tell_races(alloc, bytes, part, begun, content, text)?;
-    if part.is_last || told.fault.is_some() || !text.is_empty() {
+    let bytes = &held.bytes[..held.filled];
+    let told = tell_races(alloc, bytes, part, content, text)?;
+    if part.ending != Ending::Open || told.fault.is_some() || !text.is_empty() {
         write_whole(output, text.as_slice())?;
     }
-    Ok(told)
+    match told.fault {
+        Some(InputFault::Text(fault)) => return Err(ReplayFault::Text(fault)),
+        Some(InputFault::Read) => return Err(ReplayFault::Read),
+        None => {}
+    }
+    let all = part.reach == held.filled;
+    forget(&mut held.bytes, told.walk.end, held.filled);
+    held.filled -= told.walk.end;
+    held.walk = Walk {
+        end: 0,
+        ..told.walk
+    };
+    held.tried = if all { held.filled } else { 0 };
+    Ok(())
 }
 
-// What is wrong with an input whose bytes all were told, behind so many lines.
-pub(crate) fn told_fault(
-    is_broken: bool,
-    lines: u64,
-    fault: Option<TextFault>,
-) -> Option<InputFault>
-    requires { MatchOption fault (Unit {0}) (λ found. lines + found.line < 2 ^ 64) }
-    ensures { result ≡ told_fault is_broken lines fault }
+// Moves the filled bytes behind the place to the front.
+fn forget<A: Allocator>(bytes: &mut Vec<u8, A>, end: usize, filled: usize)
+    requires place { end ≤ filled }
+    requires within { filled ≤ vec_len bytes.old }
+    ensures same { vec_len bytes.new ≡ vec_len bytes.old }
+    ensures kept { take (filled - end) bytes.new.items ≡ drop end (take filled bytes.old.items) }
 {
-    match fault {
-        None => fault_at_end(is_broken),
-        Some(found) => Some(fault_behind(is_broken, lines, found)),
-    }
+    bytes.copy_within(end..filled, 0);
 }
 
-// What is wrong with an input that ends behind whole races.
-fn fault_at_end(is_broken: bool) -> Option<InputFault>
-    ensures { result ≡ fault_at_end is_broken }
+// Appends the texts that are asked for of the races at the front of the bytes, behind those with which the part begins.
+// No race is kept when the walk goes on to the next: a race stands in an arena, whose memory the next one takes again.
+pub(crate) fn tell_races<A: Allocator + Copy>(
+    alloc: A,
+    bytes: &[u8],
+    part: Part,
+    content: Content,
+    text: &mut Vec<u8, A>,
+) -> Result<Told, AllocError>
+    requires { IsWithin bytes.now part.begun }
+    ensures { IfOk result (Tells (IsTextOf content) part.ending bytes.now part.begun text.old.items text.new.items) }
 {
-    if is_broken {
-        Some(InputFault::Read)
-    } else {
-        None
+    let mut arena = Bump::try_with_capacity(alloc, ARENA_BYTES)?;
+    let mut walk = part.begun;
+    while part.goes_on(walk) {
+        match walk.next(&arena, bytes, part.ending) {
+            Ok(Some(race)) => content.write(&arena, &race, text)?,
+            Ok(None) => break,
+            Err(WalkFault::Input(fault)) => {
+                return Ok(Told {
+                    walk,
+                    fault: Some(fault),
+                });
+            }
+            Err(WalkFault::Memory) => return Err(AllocError),
+        }
+        // An arena that can't be reset is no fault: it grows.
+        let _ = arena.reset();
     }
-}
-
-// A fault behind so many lines. Where the input broke off, the text is unfinished for that alone.
-fn fault_behind(is_broken: bool, lines: u64, found: TextFault) -> InputFault
-    requires { lines + found.line < 2 ^ 64 }
-    ensures { result ≡ fault_behind is_broken lines (found.line, found.kind) }
-{
-    match found.kind {
-        TextKind::Unfinished if is_broken => InputFault::Read,
-        kind => InputFault::Text(TextFault {
-            line: lines + found.line,
-            kind,
-        }),
-    }
+    Ok(Told { walk, fault: None })
 }

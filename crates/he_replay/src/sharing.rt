@@ -1,23 +1,24 @@
 //! An input whose races workers share.
-ghost use Rattle.std.specs.Prelude.{◌≤◌, ◌+◌, IfOk, take, vec_len};
+ghost use Rattle.std.specs.Prelude.{◌≡◌, ◌≤◌, ◌+◌, ◌^◌, IfOk, take, vec_len};
 ghost use Rattle.he_stream.specs.Input.{Gives, GivesSoFar};
 ghost use Rattle.he_stream.specs.Output.{PutsAndEnds, PutsInRounds, PutsRoundsPart};
 ghost use Rattle.he_pool.specs.declared.limits.TheConstants.{LEAST_WORKERS, MOST_WORKERS};
-ghost use Rattle.he_replay.specs.declared.limits.TheConstants.{MOST_RACES};
+ghost use Rattle.he_text.specs.Ranges.{most_races};
 ghost use Rattle.he_replay.specs.Output.{IsTranscriptText};
+ghost use Rattle.he_replay.specs.Rounds.{HasTold};
 ghost use Rattle.he_replay.specs.Stream.{Streams};
-ghost use Rattle.he_replay.specs.Telling.{Begins};
 
-use crate::beginning::{Begun, begin_alone};
-use crate::content::Content;
 use crate::fault::ReplayFault;
 use crate::limits::{
-    FIRST_ROOM, LEAST_WORKERS, MOST_RACES, MOST_SHARED_ROOM, MOST_WORKERS, PIECES_OF_A_WORKER,
+    FIRST_ROOM, LEAST_WORKERS, MOST_SHARED_ROOM, MOST_WORKERS, PIECES_OF_A_WORKER,
 };
 use crate::pieces::{join_pieces, piece_count, tell_pieces};
-use crate::streaming::{Held, end_held, next_room, tell_held};
+use crate::race_texts::Content;
+use crate::rounds::Held;
+use crate::streaming::{end_held, next_room, tell_held};
 use he_stream::limits::MOST_READS;
 use he_stream::{InputStream, OutputStream, Taken, take_piece};
+use he_text::Walk;
 use std::alloc::{AllocError, Allocator};
 use std::thread::Threads;
 
@@ -48,11 +49,11 @@ pub(crate) fn stream_shared<
                 held.room = next_room(held.room, count, MOST_SHARED_ROOM);
             }
             Taken::Interrupted => {}
-            Taken::End => return end_held(alloc, &held, false, content, &mut text, output),
-            Taken::Failed => return end_held(alloc, &held, true, content, &mut text, output),
+            Taken::End => return end_held(alloc, &mut held, false, content, &mut text, output),
+            Taken::Failed => return end_held(alloc, &mut held, true, content, &mut text, output),
         }
     }
-    end_held(alloc, &held, true, content, &mut text, output)
+    end_held(alloc, &mut held, true, content, &mut text, output)
 }
 
 // Tells first races of the bytes that are held where so many more were taken: none, where the bytes are few.
@@ -63,22 +64,23 @@ fn begin_shared<R: Threads + Sync, A: Allocator + Copy + Send + Sync>(
     count: usize,
     workers: u16,
     text: &mut Vec<u8, A>,
-) -> Result<Begun, AllocError>
+) -> Result<Walk, AllocError>
     requires some { LEAST_WORKERS ≤ workers }
     requires few { workers ≤ MOST_WORKERS }
     requires within { held.now.filled + count ≤ vec_len held.now.bytes }
-    requires races { held.now.races ≤ MOST_RACES }
-    ensures { IfOk result (Begins IsTranscriptText held.now.races (take (held.now.filled + count) held.now.bytes.items) text.new.items) }
+    requires front { (held.now.walk.end ≡ 0) × (held.now.walk.races ≤ most_races) }
+    requires lines { held.now.walk.lines + held.now.filled + count ≤ 2 ^ 54 }
+    ensures { IfOk result (HasTold IsTranscriptText (take (held.now.filled + count) held.now.bytes.items) held.now.walk.races held.now.walk.lines text.new.items) }
 {
+    text.clear();
     let bytes = &held.bytes[..held.filled + count];
     let pieces = piece_count(bytes.len());
     let enough = enough_workers(pieces, workers);
     if enough == LEAST_WORKERS {
-        return Ok(begin_alone(text));
+        return Ok(held.walk);
     }
     let told = tell_pieces(rt, alloc, bytes, pieces, enough)?;
-    text.clear();
-    join_pieces(bytes, held.races, &told, text)
+    join_pieces(bytes, held.walk, &told, text)
 }
 
 // So many of the workers that each has enough pieces to be worth its thread, and at least one.

@@ -1,9 +1,9 @@
-//! What is written of a race.
+//! What is written of a race, and its text.
 ghost use Rattle.std.specs.Prelude.{◌≡◌, ◌++◌, OnOk};
 ghost use Rattle.he_explain.specs.Course.{IsExplanation};
 ghost use Rattle.he_text.specs.Written.{transcript_text};
 ghost use Rattle.he_replay.specs.Output.{IsOrderText, IsTextOf, IsTranscriptText};
-ghost use Rattle.he_replay.specs.Steps.{WritesRace};
+ghost use Rattle.he_replay.specs.Rounds.{WritesRace};
 
 use crate::limits::ORDER_ROOM;
 use he_explain::write_explanation;
