@@ -9,11 +9,12 @@ use Rattle.he_text.specs.declared.fault.TextKind.TheVariants as kinds
 use Rattle.he_text.specs.Beginnings.{FaultStands, IsPolicyFault, MayChange}
 use Rattle.he_text.specs.FaultSearch.{fault_of}
 use Rattle.he_text.specs.Parts.{lines_of}
-use Rattle.he_replay.specs.declared.output.InputFault.{InputFault}
-use Rattle.he_replay.specs.declared.output.InputFault.TheVariants.{Text, Read}
+use Rattle.he_text.specs.declared.inputs.InputFault.{InputFault}
+use Rattle.he_text.specs.declared.inputs.InputFault.TheVariants.{Text, Read}
+use Rattle.he_text.specs.Inputs.{IsFaultBehind, fault_behind, line_count}
+use Rattle.he_text.proofs.WalkLaws.{line_count-append}
 use Rattle.he_replay.specs.Known.{IsKnown}
-use Rattle.he_replay.specs.Output.{IsFault, IsOutput, fault_behind, line_count}
-use Rattle.he_replay.proofs.Races.{line_count-append}
+use Rattle.he_replay.specs.Output.{IsOutput}
 
 -- a fault that is told of an input that broke off is told of one that ended too
 however_it_ends : (is_broken : Bool) (lines n : ℕ) (kind : TextKind) (fault : TextFault) → Some (Text fault) ≡ Some (fault_behind true lines (n, kind)) → Some (Text fault) ≡ Some (fault_behind is_broken lines (n, kind))
@@ -58,8 +59,8 @@ module _
     (faults_stand : (text : List ℕ) (line : ℕ) (kind : TextKind) → fault_of text ≡ Some (line, kind) → MayChange text line kind ⊎ FaultStands text line kind)
   where
     -- a fault of what stands behind whole races of a broken input stands whatever follows, or is a policy table's
-    known_behind : (count lines : ℕ) (rest : List ℕ) (fault : TextFault) → IsFault true count lines rest (Some (Text fault))
-        → ((more : List ℕ) (is_broken : Bool) → IsFault is_broken count lines (rest ++ more) (Some (Text fault))) ⊎ (IsPolicyFault fault.kind × (fault.line ≡ lines + line_count rest))
+    known_behind : (count lines : ℕ) (rest : List ℕ) (fault : TextFault) → IsFaultBehind true count lines rest (Some (Text fault))
+        → ((more : List ℕ) (is_broken : Bool) → IsFaultBehind is_broken count lines (rest ++ more) (Some (Text fault))) ⊎ (IsPolicyFault fault.kind × (fault.line ≡ lines + line_count rest))
     known_behind count lines [] fault is = cc
     known_behind count lines (byte ∷ rest) fault (inl most) = inl (λ more is_broken. inl most)
     known_behind count lines (byte ∷ rest) fault (inr (few, (n, kind), is, told)) =
@@ -71,16 +72,19 @@ module _
     pub known : (IsText : List ℕ → Race → Type 0) (input : List ℕ) (is_broken : Bool) (text : List ℕ) (fault : TextFault) → IsOutput IsText input is_broken text (Some (Text fault)) → IsKnown IsText input is_broken text fault
     known IsText input false text fault output = inl refl
     known IsText input true text fault output =
-        elim (known_behind (length output.races) (line_count output.before) output.rest fault output.fault_is) [
+        let has = output.has in
+        elim (known_behind (length output.races) (line_count has.before) has.rest fault has.fault_is) [
           | inl stands ↦ inr (inl (λ more is_broken. record {
             races = output.races;
-            before = output.before;
-            rest = output.rest ++ more;
-            parts = ap (λ i. i ++ more) output.parts ∙ append_assoc output.before output.rest more;
-            whole = output.whole;
-            few = output.few;
+            has = record {
+              before = has.before;
+              rest = has.rest ++ more;
+              parts = ap (λ i. i ++ more) has.parts ∙ append_assoc has.before has.rest more;
+              whole = has.whole;
+              few = has.few;
+              fault_is = stands more is_broken;
+            };
             told = output.told;
-            fault_is = stands more is_broken;
           }))
-          | inr (table, line) ↦ inr (inr (refl, table, line ∙ sym (line_count-append output.before output.rest) ∙ sym (ap line_count output.parts)))
+          | inr (table, line) ↦ inr (inr (refl, table, line ∙ sym (line_count-append has.before has.rest) ∙ sym (ap line_count has.parts)))
         ]

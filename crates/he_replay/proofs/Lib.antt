@@ -2,8 +2,6 @@ pub mod Ends
 pub mod Further
 pub mod Input
 pub mod Known
-pub mod Lines
 pub mod Moved
 pub mod OneOutput
-pub mod Races
 pub mod Told

@@ -1,29 +1,14 @@
--- An input has one output: it begins with the same races, and none may follow them.
-use Rattle.std.proofs.Common.{ℕ, ◌≡◌, ◌+◌, ◌≤◌, ◌++◌, ◌↔◌, List, [], ◌∷◌, length, Bool, Option, Some, None, ap, sym, ◌∙◌, refl, arith, inl, inr, subst, append_assoc, length-append, codes}
-use Rattle.std.proofs.lemmas.List.{append_cancel_left}
-use Rattle.std.specs.Option.{option_map_or}
+-- An input has one output: it has one list of races, and each of them has one text.
+use Rattle.std.proofs.Common.{ℕ, ◌≡◌, ◌++◌, List, [], ◌∷◌, Bool, Option, ap, sym, ◌∙◌, subst}
 use Rattle.he_explain.specs.Course.{explanation_text}
 use Rattle.he_plan.specs.Race.{Race}
 use Rattle.he_plan.specs.Transcript.{Report, IsTranscript}
-use Rattle.he_text.specs.declared.fault.TextKind.{TextKind}
-use Rattle.he_text.specs.FaultSearch.{fault_of}
-use Rattle.he_text.specs.Parts.{lines_of}
-use Rattle.he_text.specs.Text.{BeginsWithRace, IsRaceText}
+use Rattle.he_text.specs.declared.inputs.InputFault.{InputFault}
+use Rattle.he_text.specs.Inputs.{AreTexts, HasRaces}
 use Rattle.he_text.specs.Written.{transcript_text}
-use Rattle.he_replay.specs.declared.content.Content.{Content}
-use Rattle.he_replay.specs.declared.content.Content.TheVariants as contents
-use Rattle.he_replay.specs.Limits.{most_races}
-use Rattle.he_replay.specs.declared.output.InputFault.{InputFault}
-use Rattle.he_replay.specs.Output.{AreTexts, IsFault, IsOutput, IsTextOf, fault_behind, line_count}
-
-no_race_in_nothing : BeginsWithRace [] → ⊥
-no_race_in_nothing (front, rest, race, is, text) =
-    let none : length front ≡ 0 = let all = ap length is in omega (arith, length-append front rest) in
-    no_lines front none text.lines text.parts
-  where
-    no_lines : (front : List ℕ) → length front ≡ 0 → (lines : List (List ℕ)) → lines_of front ≡ codes "race 1" ∷ lines ++ codes "end" ∷ [] ∷ [] → ⊥
-    no_lines [] none lines parts = let long = ap length parts in omega (arith, length-append lines (codes "end" ∷ [] ∷ []))
-    no_lines (byte ∷ front) none lines parts = omega arith
+use Rattle.he_replay.specs.declared.race_texts.Content.{Content}
+use Rattle.he_replay.specs.declared.race_texts.Content.TheVariants as contents
+use Rattle.he_replay.specs.Output.{IsOutput, IsTextOf}
 
 same_texts : (IsText : List ℕ → Race → Type 0) → ((race : Race) (text other : List ℕ) → IsText text race → IsText other race → text ≡ other)
     → (races : List Race) (text other : List ℕ) → AreTexts IsText races text → AreTexts IsText races other → text ≡ other
@@ -32,53 +17,10 @@ same_texts IsText one (race ∷ races) text other (first, more, split, is, are) 
     split ∙ ap (λ f. f ++ more) (one race first other_first is other_is)
     ∙ ap (λ m. other_first ++ m) (same_texts IsText one races more other_more are other_are) ∙ sym other_split
 
-same_fault : (is_broken : Bool) (count lines : ℕ) (rest : List ℕ) (fault other : Option InputFault) → IsFault is_broken count lines rest fault → IsFault is_broken count lines rest other → fault ≡ other
-same_fault is_broken count lines [] fault other is other_is = is ∙ sym other_is
-same_fault is_broken count lines (byte ∷ rest) fault other (inl is) (inl other_is) = is.1 ∙ sym other_is.1
-same_fault is_broken count lines (byte ∷ rest) fault other (inl is) (inr (few, found, other_is, told)) = let most = is.0 in absurd (omega arith)
-same_fault is_broken count lines (byte ∷ rest) fault other (inr (few, found, other_is, told)) (inl is) = let most = is.0 in absurd (omega arith)
-same_fault is_broken count lines (byte ∷ rest) fault other (inr (few, found, is, told)) (inr (other_few, other_found, other_is, other_told)) =
-    let same : found ≡ other_found = ap (λ (o : Option (ℕ × TextKind)). option_map_or (λ p. p) o found) (sym is ∙ other_is) in
-    told ∙ ap (λ f. Some (fault_behind is_broken lines f)) same ∙ sym other_told
-
 module _
-    (one_first : (front rest other_front other_rest : List ℕ) (race other : Race) → IsRaceText front race → IsRaceText other_front other → front ++ rest ≡ other_front ++ other_rest → (front ≡ other_front) × (race ≡ other))
-    (begins : (text : List ℕ) → BeginsWithRace text ↔ (fault_of text ≡ None))
+    (one_input : (input : List ℕ) (is_broken : Bool) (races others : List Race) (fault other_fault : Option InputFault) → HasRaces input is_broken races fault → HasRaces input is_broken others other_fault → (races ≡ others) × (fault ≡ other_fault))
     (one_transcript : (race : Race) (x y : Report) → IsTranscript race x → IsTranscript race y → x ≡ y)
   where
-    -- a race may follow only where there are as many as may be
-    closed : (is_broken : Bool) (count lines : ℕ) (rest : List ℕ) (fault : Option InputFault) → IsFault is_broken count lines rest fault → BeginsWithRace rest → count ≡ most_races
-    closed is_broken count lines [] fault is race = absurd (no_race_in_nothing race)
-    closed is_broken count lines (byte ∷ rest) fault (inl is) race = is.0
-    closed is_broken count lines (byte ∷ rest) fault (inr (few, found, is, told)) race =
-        let none : fault_of (byte ∷ rest) ≡ None = (begins (byte ∷ rest)).0 race in
-        let bad : None ≡ Some found = sym none ∙ is in
-        cc
-
-    same_races : (n : ℕ) (races others : List Race) (front rest other_front other_rest : List ℕ) → AreTexts IsRaceText races front → AreTexts IsRaceText others other_front → front ++ rest ≡ other_front ++ other_rest
-        → (BeginsWithRace rest → n + length races ≡ most_races) → (BeginsWithRace other_rest → n + length others ≡ most_races) → n + length races ≤ most_races → n + length others ≤ most_races
-        → (races ≡ others) × (front ≡ other_front) × (rest ≡ other_rest)
-    same_races n [] [] front rest other_front other_rest none other_none same ends other_ends few other_few =
-        (refl, none ∙ sym other_none, ap (λ f. f ++ rest) (sym none) ∙ same ∙ ap (λ f. f ++ other_rest) other_none)
-    same_races n [] (other ∷ others) front rest other_front other_rest none (first, more, split, is, are) same ends other_ends few other_few =
-        let parts : rest ≡ first ++ (more ++ other_rest) = ap (λ f. f ++ rest) (sym none) ∙ same ∙ ap (λ f. f ++ other_rest) split ∙ append_assoc first more other_rest in
-        let most : n + 0 ≡ most_races = ends (first, more ++ other_rest, other, parts, is) in
-        absurd (omega arith)
-    same_races n (race ∷ races) [] front rest other_front other_rest (first, more, split, is, are) none same ends other_ends few other_few =
-        let parts : other_rest ≡ first ++ (more ++ rest) = ap (λ f. f ++ other_rest) (sym none) ∙ sym same ∙ ap (λ f. f ++ rest) split ∙ append_assoc first more rest in
-        let most : n + 0 ≡ most_races = other_ends (first, more ++ rest, race, parts, is) in
-        absurd (omega arith)
-    same_races n (race ∷ races) (other ∷ others) front rest other_front other_rest (first, more, split, is, are) (other_first, other_more, other_split, other_is, other_are) same ends other_ends few other_few =
-        let joined : first ++ (more ++ rest) ≡ other_first ++ (other_more ++ other_rest) =
-        sym (append_assoc first more rest) ∙ ap (λ f. f ++ rest) (sym split) ∙ same ∙ ap (λ f. f ++ other_rest) other_split ∙ append_assoc other_first other_more other_rest in
-        let one = one_first first (more ++ rest) other_first (other_more ++ other_rest) race other is other_is joined in
-        let later : more ++ rest ≡ other_more ++ other_rest = append_cancel_left first _ _ (joined ∙ ap (λ f. f ++ (other_more ++ other_rest)) (sym one.0)) in
-        let all = same_races (n + 1) races others more rest other_more other_rest are other_are later (λ h. let e = ends h in omega arith) (λ h. let e = other_ends h in omega arith) (omega arith) (omega arith) in (
-          ap (λ r. r ∷ races) one.1 ∙ ap (λ rs. other ∷ rs) all.0,
-          split ∙ ap (λ f. f ++ more) one.0 ∙ ap (λ m. other_first ++ m) all.1 ∙ sym other_split,
-          all.2,
-        )
-
     one_text : (content : Content) (race : Race) (text other : List ℕ) → IsTextOf content text race → IsTextOf content other race → text ≡ other
     one_text contents.Transcript race text other (report, is, written) (other_report, other_is, other_written) =
         written ∙ ap transcript_text (one_transcript race report other_report is other_is) ∙ sym other_written
@@ -89,14 +31,6 @@ module _
     pub one_output : (content : Content) (input : List ℕ) (is_broken : Bool) (text other : List ℕ) (fault other_fault : Option InputFault)
         → IsOutput (IsTextOf content) input is_broken text fault → IsOutput (IsTextOf content) input is_broken other other_fault → (text ≡ other) × (fault ≡ other_fault)
     one_output content input is_broken text other fault other_fault x y =
-        let all = same_races 0 x.races y.races x.before x.rest y.before y.rest x.whole y.whole (sym x.parts ∙ y.parts)
-        (λ h. let e = closed is_broken (length x.races) (line_count x.before) x.rest fault x.fault_is h in omega arith)
-        (λ h. let e = closed is_broken (length y.races) (line_count y.before) y.rest other_fault y.fault_is h in omega arith)
-        (let few = x.few in omega arith) (let few = y.few in omega arith) in
+        let same = one_input input is_broken x.races y.races fault other_fault x.has y.has in
         let Told : List Race → Type 0 = λ races. AreTexts (IsTextOf content) races text in
-        let Counted : List Race → Type 0 = λ races. IsFault is_broken (length races) (line_count x.before) x.rest fault in
-        let Lines : List ℕ → Type 0 = λ before. IsFault is_broken (length y.races) (line_count before) x.rest fault in
-        let Rest : List ℕ → Type 0 = λ rest. IsFault is_broken (length y.races) (line_count y.before) rest fault in (
-          same_texts (IsTextOf content) (one_text content) y.races text other (subst Told all.0 x.told) y.told,
-          same_fault is_broken (length y.races) (line_count y.before) y.rest fault other_fault (subst Rest all.2 (subst Lines all.1 (subst Counted all.0 x.fault_is))) y.fault_is,
-        )
+        (same_texts (IsTextOf content) (one_text content) y.races text other (subst Told same.0 x.told) y.told, same.1)

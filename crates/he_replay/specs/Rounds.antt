@@ -46,14 +46,29 @@ pub record Tells (IsText : List ℕ → Race → Type 0) (ending : Ending) (byte
   pub on : TellsOn IsText bytes begun old new told.walk
   pub fault_is : ((ending ≡ endings.Open) × (told.fault ≡ None)) ⊎ IsFaultPast ending bytes told.walk told.fault
 
--- a round went on: these races were told of the bytes and put, and what stands behind them is held; there may be no text to
--- put where more may follow
+-- the text was put, or there was none and more may follow
+abbrev pub PutsAny : {S : Type 0} → (S → Option (List ℕ)) → (S → Put → S → Type 0) → (S → Flushed → S → Type 0) → Ending → List ℕ → S → S → Type 0
+PutsAny contents puts flushes ending text first last =
+    PutsWhole contents puts flushes first last text ⊎ ((ending ≡ endings.Open) × (text ≡ []) × (first ≡ last))
+
+-- how the text of what was told is put: what is wrong with the input is told behind it
+abbrev pub PutsTold : {S : Type 0} → (S → Option (List ℕ)) → (S → Put → S → Type 0) → (S → Flushed → S → Type 0) → Ending → Told → List ℕ → S → S → Result Walk ReplayFault → Type 0
+PutsTold contents puts flushes ending told text first last (Ok walk) =
+    (walk ≡ told.walk) × (told.fault ≡ None) × PutsAny contents puts flushes ending text first last
+PutsTold contents puts flushes ending told text first last (Err (faults.Text fault)) =
+    (told.fault ≡ Some (inputs.Text fault)) × PutsWhole contents puts flushes first last text
+PutsTold contents puts flushes ending told text first last (Err faults.Read) =
+    (told.fault ≡ Some inputs.Read) × PutsWhole contents puts flushes first last text
+PutsTold contents puts flushes ending told text first last (Err faults.Write) = PutsPart contents puts flushes first last text
+PutsTold contents puts flushes ending told text first last (Err faults.Memory) = ⊥
+
+-- a round went on: these races were told of the bytes and put, and what stands behind them is held
 pub record GoesOn {S : Type 0} (IsText : List ℕ → Race → Type 0) (contents : S → Option (List ℕ)) (puts : S → Put → S → Type 0) (flushes : S → Flushed → S → Type 0) (ending : Ending) (bytes : List ℕ) (from : Walk) (kept : List ℕ) (next : Walk) (first last : S) : Type 0 where
   pub text : List ℕ
   pub walk : Walk
   pub told : HasTold IsText bytes from.races from.lines text walk
   pub fault_is : (ending ≡ endings.Open) ⊎ IsFaultPast ending bytes walk None
-  pub put : PutsWhole contents puts flushes first last text ⊎ ((ending ≡ endings.Open) × (text ≡ []) × (first ≡ last))
+  pub put : PutsAny contents puts flushes ending text first last
   pub held : kept ≡ drop walk.end bytes
   pub at : next ≡ record { end = 0; races = walk.races; lines = walk.lines }
 

@@ -250,7 +250,8 @@ fn join_some<A: Allocator>(
 {
     let mut begun = before;
     for piece in pieces {
-        if piece.from == begun.end && piece.walk.races <= MOST_RACES - begun.races {
+        let room = MOST_RACES - begun.races;
+        if piece.from == begun.end && piece.walk.races <= room {
             text.extend_from_slice(&piece.text)?;
             begun = Walk {
                 end: begun.end + piece.walk.end,

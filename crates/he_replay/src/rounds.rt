@@ -1,9 +1,10 @@
 //! Rounds: the races that stand ready in the bytes that are held are told, each before the next is read, and their texts
 //! put into the output.
-ghost use Rattle.std.specs.Prelude.{◌≡◌, ◌+◌, ◌-◌, ◌≤◌, ◌^◌, IfOk, OnOk, drop, take, vec_len};
+ghost use Rattle.std.specs.Prelude.{◌≡◌, ◌+◌, ◌-◌, ◌≤◌, ◌^◌, false, IfOk, OnOk, drop, take, vec_len};
+ghost use Rattle.he_text.specs.declared.walks.Ending.TheVariants as endings;
 ghost use Rattle.he_text.specs.Walks.{IsWithin};
 ghost use Rattle.he_replay.specs.Output.{IsTextOf};
-ghost use Rattle.he_replay.specs.Rounds.{HasTold, PutsRound, Tells};
+ghost use Rattle.he_replay.specs.Rounds.{HasTold, PutsRound, PutsTold, Tells};
 
 use crate::fault::ReplayFault;
 use crate::limits::{ARENA_BYTES, MOST_RACES};
@@ -57,7 +58,9 @@ pub(crate) struct Part {
 
 impl Part {
     // Whether the walk goes on that has come so far.
-    fn goes_on(&self, walk: Walk) -> bool {
+    fn goes_on(&self, walk: Walk) -> bool
+        ensures { result ≡ false → self.now.ending ≡ endings.Open }
+    {
         self.ending != Ending::Open || walk.end < self.reach || walk.races == MOST_RACES
     }
 }
@@ -95,23 +98,33 @@ pub(crate) fn put_round<A: Allocator + Copy, O: OutputStream>(
 {
     let bytes = &held.bytes[..held.filled];
     let told = tell_races(alloc, bytes, part, content, text)?;
-    if part.ending != Ending::Open || told.fault.is_some() || !text.is_empty() {
-        write_whole(output, text.as_slice())?;
-    }
-    match told.fault {
-        Some(InputFault::Text(fault)) => return Err(ReplayFault::Text(fault)),
-        Some(InputFault::Read) => return Err(ReplayFault::Read),
-        None => {}
-    }
+    let walk = put_told(part.ending, told, text.as_slice(), output)?;
     let all = part.reach == held.filled;
-    forget(&mut held.bytes, told.walk.end, held.filled);
-    held.filled -= told.walk.end;
-    held.walk = Walk {
-        end: 0,
-        ..told.walk
-    };
+    forget(&mut held.bytes, walk.end, held.filled);
+    held.filled -= walk.end;
+    held.walk = Walk { end: 0, ..walk };
     held.tried = if all { held.filled } else { 0 };
     Ok(())
+}
+
+// Puts the text of what was told into the output, and answers how far the walk came. Where more may follow, nothing is
+// wrong and there is no text, nothing is put.
+fn put_told<O: OutputStream>(
+    ending: Ending,
+    told: Told,
+    text: &[u8],
+    output: &mut O,
+) -> Result<Walk, ReplayFault>
+    ensures { PutsTold O.contents O.puts O.flushes ending told text.now output.old output.new result }
+{
+    if ending != Ending::Open || told.fault.is_some() || !text.is_empty() {
+        write_whole(output, text)?;
+    }
+    match told.fault {
+        None => Ok(told.walk),
+        Some(InputFault::Text(fault)) => Err(ReplayFault::Text(fault)),
+        Some(InputFault::Read) => Err(ReplayFault::Read),
+    }
 }
 
 // Moves the filled bytes behind the place to the front.

@@ -1,5 +1,6 @@
-use Rattle.he_replay.specs.declared.content.Content.TheVariants as contents
+use Rattle.he_replay.specs.Output.{IsTranscriptText}
+use Rattle.he_replay.proofs.Told.{none_told}
 use Rattle.he_replay.proofs.sharing.begin_shared.Goals as goal
 
 pub returns-then-enough-eq-LEAST_WORKERS : goal.returns-then-enough-eq-LEAST_WORKERS
-returns-then-enough-eq-LEAST_WORKERS g c = c.begin_alone.ensures contents.Transcript c.args.held.now.races _ c.requires.races
+returns-then-enough-eq-LEAST_WORKERS g c = none_told IsTranscriptText _ c.args.held.now.walk _ c.requires.front.0 c.requires.front.1 c.clear.ensures.items

@@ -1,7 +1,7 @@
 use Rattle.std.proofs.Common.{rules, ◌-◌, ◌≤◌, ◌∙◌, ℕ, List, ap, take, length}
 use Rattle.std.proofs.lemmas.List.{places}
 use Rattle.he_replay.proofs.Moved.{moved}
-use Rattle.he_replay.proofs.streaming.forget.Goals as goal
+use Rattle.he_replay.proofs.rounds.forget.Goals as goal
 
 pub returns-clause-kept : goal.returns-clause-kept
 returns-clause-kept g c =
