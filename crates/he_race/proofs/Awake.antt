@@ -12,7 +12,8 @@ use Rattle.he_plan.proofs.Bools.{before, clash, lt_test, or_none, outside}
 use Rattle.he_plan.proofs.Growing.{pause-away}
 use Rattle.he_plan.proofs.Lawful.{is_paused-more, seen_past-more}
 use Rattle.he_plan.proofs.Starting.{IsSeen-seen, SeesOwn, SeesOwn-free}
-use Rattle.he_race.specs.Recording.{first_after, slept}
+use Rattle.he_race.specs.Kept.{first_after}
+use Rattle.he_race.specs.Recording.{slept}
 
 -- nothing of the script is passed over before the tick
 abbrev pub NonePassed : Race → ℕ → ℕ → Type 0

@@ -16,7 +16,7 @@ use Rattle.he_plan.proofs.Bools.{and_left, and_right, le_from, le_test}
 use Rattle.he_plan.proofs.Few.{left_of, untried_fewer}
 use Rattle.he_plan.proofs.InTurn.{in_turn-follow}
 use Rattle.he_race.specs.Answered.{is_taken}
-use Rattle.he_race.specs.Recording.{first_after, taken, taken_of}
+use Rattle.he_race.specs.Kept.{first_after, taken, taken_of}
 
 no_longer : (race : Race) (done xs : List Attempt) → Follow race done xs → length xs ≤ left_of race done
 no_longer race done [] f = omega arith

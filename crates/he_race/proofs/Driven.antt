@@ -30,9 +30,9 @@ use Rattle.he_race.specs.declared.scripted.ScriptedTrial.{ScriptedTrial}
 use Rattle.he_race.specs.declared.ticker.Ticker.{Ghosts as TickerOf}
 use Rattle.he_race.specs.Following.{Follows, GivesScripts, IsAsScripted, IsConnecting, IsScript, IsUnderWay, SeesAs, is_held}
 use Rattle.he_race.specs.Racing.{AsksFor, GoesOn, LivePolls, PollsFrom, RacePolls}
-use Rattle.he_race.specs.Recording.{first_after}
+use Rattle.he_race.specs.Kept.{first_after, IsLive}
 use Rattle.he_race.specs.Running.{IsScripted, scripted_trial}
-use Rattle.he_race.specs.Turns.{Goes, IsLive, IsNew, PolledAt, PolledFrom, Turned, begun}
+use Rattle.he_race.specs.Turns.{Goes, IsNew, PolledAt, PolledFrom, Turned, begun}
 use Rattle.he_race.specs.Wheel.{Asks, Jumps, Wheel, counted, last_tick, moved}
 use Rattle.he_race.proofs.Finished.{ended-late, ended-polled}
 use Rattle.he_race.proofs.Onward.{follows-on}

@@ -15,7 +15,7 @@ use Rattle.he_plan.proofs.Growing.{pauses-over}
 use Rattle.he_plan.proofs.Planned.{last_of-some}
 use Rattle.he_plan.proofs.Starting.{SeesOwn, SeesOwn-free, any_filter}
 use Rattle.he_race.specs.Answered.{earliest, is_taken, untaken_tick}
-use Rattle.he_race.specs.Recording.{first_after}
+use Rattle.he_race.specs.Kept.{first_after}
 
 taken_by : (turn : Option ℕ) (t : ℕ) (reply : Reply) → IfSome turn (λ n. n ≤ t) → IsTaken turn reply → reply.tick ≤ t
 taken_by None t reply by h = absurd h

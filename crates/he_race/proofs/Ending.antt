@@ -15,7 +15,8 @@ use Rattle.he_plan.specs.Race.{Race, Reply}
 use Rattle.he_plan.specs.Transcript.{AreKnown, failures, greatest, is_exhausted, result_of, without_winner}
 use Rattle.he_plan.proofs.Bools.{le_test}
 use Rattle.he_plan.proofs.Dueness.{finish-failed, finish-silent, finish-succeeded}
-use Rattle.he_race.specs.Recording.{EndedBy, EndsRace, HasSuccess, IsEnded, is_won}
+use Rattle.he_race.specs.Kept.{IsEnded}
+use Rattle.he_race.specs.Recording.{EndedBy, EndsRace, HasSuccess, is_won}
 
 -- what became of an attempt by the stop
 Settled : ℕ → Bool → Fate → Type 0

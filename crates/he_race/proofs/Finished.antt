@@ -24,9 +24,10 @@ use Rattle.he_race.specs.declared.live.Unfinished.{Unfinished}
 use Rattle.he_race.specs.declared.scripted.ScriptedTrial.{ScriptedTrial}
 use Rattle.he_race.specs.Answered.{is_tried_out_by}
 use Rattle.he_race.specs.Following.{Follows, IsAsScripted, IsConnecting, IsScript, SeesAs, is_held}
-use Rattle.he_race.specs.Recording.{EndsRace, first_after, slept}
+use Rattle.he_race.specs.Kept.{first_after, IsLive}
+use Rattle.he_race.specs.Recording.{EndsRace, slept}
 use Rattle.he_race.specs.Running.{IsScripted, scripted_trial}
-use Rattle.he_race.specs.Turns.{EndsLate, EndsPolled, IsLive, Sweep, begun, is_over}
+use Rattle.he_race.specs.Turns.{EndsLate, EndsPolled, Sweep, begun, is_over}
 use Rattle.he_race.proofs.Awake.{free-slept, sees-by}
 use Rattle.he_race.proofs.Onward.{above-turn, due-four, due-six, free-end, polled-at, sees-end, slept_outcomes}
 use Rattle.he_race.proofs.Replayed.{EndsAfter, SeesAlike, none-told, replays-script, same-attempt}

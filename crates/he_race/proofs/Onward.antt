@@ -34,10 +34,11 @@ use Rattle.he_race.specs.declared.trial.Trial.{Ghosts as TrialOf}
 use Rattle.he_race.specs.Answered.{earliest}
 use Rattle.he_race.specs.Attempt.{due_of}
 use Rattle.he_race.specs.Following.{EndsFrom, Follows, IsAsScripted, IsConnecting, IsScript, SeesAs, is_held}
-use Rattle.he_race.specs.Recording.{first_after, slept}
+use Rattle.he_race.specs.Kept.{first_after, IsLive}
+use Rattle.he_race.specs.Recording.{slept}
 use Rattle.he_race.specs.Running.{IsScripted, scripted_trial}
 use Rattle.he_race.specs.Scripted.{script, script_of, tick_of}
-use Rattle.he_race.specs.Turns.{ArePolled, BeginsNext, Goes, IsLive, StaysAs, Sweep, asked_tick, begun, unpolled}
+use Rattle.he_race.specs.Turns.{ArePolled, BeginsNext, Goes, StaysAs, Sweep, asked_tick, begun, unpolled}
 use Rattle.he_race.proofs.Awake.{free-slept, sees-by, sees-same}
 use Rattle.he_race.proofs.Recorded.{due_later, get_last, own_ip}
 use Rattle.he_race.proofs.Runs.{at_false, seen_from, seen_rises}

@@ -16,7 +16,8 @@ use Rattle.he_race.specs.declared.race.RaceFuture.{RaceFuture}
 use Rattle.he_race.specs.declared.ticker.Ticker.{Ghosts as TickerOf}
 use Rattle.he_race.specs.declared.trial.Trial.{Ghosts as TrialOf}
 use Rattle.he_race.specs.Racing.{RacePolls, PollsFrom, fault_of}
-use Rattle.he_race.specs.Turns.{GivesFrom, IsLive, PolledAt, PolledFrom, Replays, Turned}
+use Rattle.he_race.specs.Kept.{IsLive}
+use Rattle.he_race.specs.Turns.{GivesFrom, PolledAt, PolledFrom, Replays, Turned}
 use Rattle.he_race.proofs.Turning.{alike-later, slept-alike}
 
 module _ {C Conn Run T : Type 0} (connector : ConnectorOf C Conn Run) (trial : TrialOf Run Conn) (ticker : TickerOf T) where

@@ -30,7 +30,8 @@ use Rattle.he_plan.proofs.Lawful.{seen_past-more}
 use Rattle.he_plan.proofs.Planned.{last_of-more}
 use Rattle.he_plan.proofs.Ranges.{same_ip-sym}
 use Rattle.he_plan.proofs.Starting.{IsSeen-seen}
-use Rattle.he_race.specs.Recording.{Begins, EndedBy, FailedBelow, HasSuccess, InTurn, Rests, ended_by, first_after, taken, unrecorded}
+use Rattle.he_race.specs.Kept.{Begins, FailedBelow, InTurn, Rests, first_after, taken}
+use Rattle.he_race.specs.Recording.{EndedBy, HasSuccess, ended_by, unrecorded}
 use Rattle.he_race.proofs.Counted.{all_taken_later, due_taken, turn_by}
 use Rattle.he_race.proofs.DueTicks.{due_starts}
 

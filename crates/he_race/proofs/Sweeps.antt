@@ -22,8 +22,10 @@ use Rattle.he_race.specs.declared.live.Unfinished.{Unfinished}
 use Rattle.he_race.specs.declared.trial.Trial.{Ghosts as TrialOf}
 use Rattle.he_race.specs.Answered.{earliest}
 use Rattle.he_race.specs.Attempt.{AttemptPolls, due_of}
-use Rattle.he_race.specs.Recording.{EndsRace, MakesOne, first_after}
-use Rattle.he_race.specs.Turns.{ArePolled, AsksInTime, BeginsFrom, BeginsOne, BeginsAt, EndsPolled, EndsWith, Goes, GoesOn, IsLive, LeftBy, PolledAt, PolledFrom, PollsAt, Replays, StartsOne, Sweep, Turned, TurnsFrom, asked_tick, begun, first_of, is_over, told, unpolled}
+use Rattle.he_race.specs.Kept.{MakesOne, first_after, IsLive}
+use Rattle.he_race.specs.Recording.{EndsRace}
+use Rattle.he_race.specs.Polling.{AsksInTime, BeginsFrom, BeginsOne, EndsWith, GoesOn, LeftBy, PollsAt, TurnsFrom}
+use Rattle.he_race.specs.Turns.{ArePolled, BeginsAt, EndsPolled, Goes, PolledAt, PolledFrom, Replays, StartsOne, Sweep, Turned, asked_tick, begun, first_of, is_over, told, unpolled}
 use Rattle.he_race.proofs.Turning.{alike-later, drop-set, take-set}
 
 -- an element that stands at i is the first of those from i on

@@ -26,8 +26,10 @@ use Rattle.he_race.specs.declared.live.Live.{Live}
 use Rattle.he_race.specs.declared.live.Unfinished.{Unfinished}
 use Rattle.he_race.specs.declared.trial.Trial.{Ghosts as TrialOf}
 use Rattle.he_race.specs.Answered.{is_tried_out_by}
-use Rattle.he_race.specs.Recording.{Begins, EndedBy, EndsRace, FailedBelow, InTurn, IsEnded, MakesOne, ended_by, slept}
-use Rattle.he_race.specs.Turns.{Answers, IsUnfinished, Polled, Records, are_untold, is_connection, is_over}
+use Rattle.he_race.specs.Kept.{Begins, FailedBelow, InTurn, IsEnded, MakesOne, IsUnfinished, are_untold}
+use Rattle.he_race.specs.Recording.{EndedBy, EndsRace, ended_by, slept}
+use Rattle.he_race.specs.Polling.{Answers, Polled, Records}
+use Rattle.he_race.specs.Turns.{is_connection, is_over}
 use Rattle.he_race.proofs.Recorded.{finished, underway-told}
 
 pub take-set : {X : Type 0} (xs : List X) (i : ℕ) (a : X) → take i (slice_set xs i a) ≡ take i xs

@@ -19,7 +19,8 @@ use Rattle.he_race.specs.declared.faults.ConnectFault.{ConnectFault}
 use Rattle.he_race.specs.declared.live.Unfinished.{Unfinished}
 use Rattle.he_race.specs.declared.trial.Trial.{Ghosts as TrialOf}
 use Rattle.he_race.specs.Recording.{ended_by, slept}
-use Rattle.he_race.specs.Turns.{IsUnfinished, StartsOne, are_untold, told}
+use Rattle.he_race.specs.Kept.{IsUnfinished, are_untold}
+use Rattle.he_race.specs.Turns.{StartsOne, told}
 use Rattle.he_race.proofs.Onward.{take_all_of}
 use Rattle.he_race.proofs.Turning.{drop-set, take-set}
 use Rattle.he_race.proofs.Recorded.{get_last, next_untried, same_ip-is, tried_made}

@@ -22,10 +22,9 @@ use Rattle.he_race.specs.declared.live.Raced.{Raced}
 use Rattle.he_race.specs.declared.live.Unfinished.{Unfinished}
 use Rattle.he_race.specs.declared.race.RaceFuture.{RaceFuture}
 use Rattle.he_race.specs.declared.scripted.ScriptedTrial.{ScriptedTrial}
-use Rattle.he_race.specs.Recording.{first_after}
+use Rattle.he_race.specs.Kept.{first_after, IsLive}
 use Rattle.he_race.specs.Running.{IsScripted, scripted_trial}
 use Rattle.he_race.specs.Scripted.{script_of}
-use Rattle.he_race.specs.Turns.{IsLive}
 use Rattle.he_race.specs.Wheel.{Wheel}
 
 -- a script: a race within its ranges, as each timeline is

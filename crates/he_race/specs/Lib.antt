@@ -1,6 +1,8 @@
 pub mod Answered
 pub mod Attempt
 pub mod Following
+pub mod Kept
+pub mod Polling
 pub mod Racing
 pub mod Recording
 pub mod Running

@@ -1,19 +1,12 @@
--- What a reader must believe of a race that is being run: what a turn does, what is kept between two polls, and what the
--- race ends with. The public contracts of `RaceFuture` cite it.
-use Rattle.std.specs.Prelude.{ℕ, ◌≡◌, ◌+◌, ◌-◌, ◌<◌, ◌≤◌, ◌==◌, ◌&&◌, ◌||◌, ◌⊎◌, ◌++◌, ⊤, length, min, nat_le, not, Bool, true, false, IsTrue, MatchBool, List, [], ◌∷◌, slice_get, Option, Some, None, is_some, option_map, Result, Ok, Err}
-use Rattle.std.specs.List.{All, Contains, list_any, remove, slice_set}
+-- What a turn of a race that is being run does, and what the race ends with: the public contracts of `RaceFuture` cite it.
+use Rattle.std.specs.Prelude.{ℕ, ◌≡◌, ◌+◌, ◌-◌, ◌<◌, ◌==◌, ◌&&◌, ◌||◌, ◌⊎◌, ◌++◌, length, min, nat_le, Bool, true, false, MatchBool, List, [], ◌∷◌, Option, Some, None, is_some, option_map, Result, Ok, Err}
 use Rattle.futures.specs.declared.task.Poll.{Poll}
 use Rattle.futures.specs.declared.task.Poll.TheVariants.{Ready, Pending}
-use Rattle.he_addr.specs.declared.ip.Ip.{Ip}
-use Rattle.he_addr.specs.Ip.{same_ip}
 use Rattle.he_plan.specs.declared.attempts.Attempt.{Attempt}
-use Rattle.he_plan.specs.declared.outcome.Outcome.{Outcome}
 use Rattle.he_plan.specs.Agreement.{AreAlike}
 use Rattle.he_plan.specs.Building.{with_outcome}
-use Rattle.he_plan.specs.Race.{Race, has_outcome}
-use Rattle.he_plan.specs.Timeline.{IsRace}
+use Rattle.he_plan.specs.Race.{Race}
 use Rattle.he_plan.specs.Transcript.{IsTranscript}
-use Rattle.he_plan.specs.Underway.{IsUnderway}
 use Rattle.he_race.specs.declared.attempt.AttemptFuture.{AttemptFuture}
 use Rattle.he_race.specs.declared.attempt.AttemptFuture.TheVariants.{Sleeping}
 use Rattle.he_race.specs.declared.attempt.Finish.{Finish}
@@ -21,35 +14,22 @@ use Rattle.he_race.specs.declared.connector.Connector.{Ghosts as ConnectorOf}
 use Rattle.he_race.specs.declared.recorder.Recorder.{Recorder}
 use Rattle.he_race.specs.declared.faults.ConnectFault.{ConnectFault}
 use Rattle.he_race.specs.declared.faults.RaceFault.{RaceFault}
-use Rattle.he_race.specs.declared.faults.RaceFault.TheVariants as faults
-use Rattle.he_race.specs.declared.limits.TheConstants.{MAX_POLL_TICK}
 use Rattle.he_race.specs.declared.live.Live.{Live}
 use Rattle.he_race.specs.declared.live.Unfinished.{Unfinished}
 use Rattle.he_race.specs.declared.live.Raced.{Raced}
 use Rattle.he_race.specs.declared.live.AfterPoll.{AfterPoll}
-use Rattle.he_race.specs.declared.live.AfterPoll.TheVariants as after_polls
 use Rattle.he_race.specs.declared.trial.Trial.{Ghosts as TrialOf}
 use Rattle.he_race.specs.Answered.{earliest, is_tried_out_by}
-use Rattle.he_race.specs.Attempt.{AttemptPolls, CanPoll, due_of}
-use Rattle.he_race.specs.Recording.{EndsRace, IsRecorder, ended_by, is_won, slept, unrecorded}
+use Rattle.he_race.specs.Attempt.{AttemptPolls, due_of}
+use Rattle.he_race.specs.Recording.{EndsRace, ended_by, is_won, slept, unrecorded}
+use Rattle.he_race.specs.Kept.{IsLive}
+use Rattle.he_race.specs.declared.faults.RaceFault.TheVariants as faults
+use Rattle.he_race.specs.declared.live.AfterPoll.TheVariants as after_polls
 
 -- an attempt's answer is a connection
 abbrev pub is_connection : {Conn : Type 0} → Result Conn ConnectFault → Bool
 is_connection (Ok conn) = true
 is_connection (Err fault) = false
-
--- at the tick an attempt of the race answered, and how it ended is recorded, after the ticks since its start
-pub record Records {Conn : Type 0} (old : Recorder) (now : ℕ) (answer : Result Conn ConnectFault) (new : Recorder) : Type 0 where
-  pub x : Attempt
-  pub made : Contains old.underway.attempts x
-  pub first : has_outcome x.ip old.recorded.outcomes ≡ false
-  pub is : new ≡ record old { recorded = with_outcome old.recorded x.ip (ended_by (is_connection answer) (now - x.tick)) }
-  pub valid : IsRace new.recorded
-
--- a pending attempt changes nothing of the record
-abbrev pub Answers : {Conn : Type 0} → Recorder → ℕ → Option (Result Conn ConnectFault) → Recorder → Type 0
-Answers old now None new = new ≡ old
-Answers old now (Some answer) new = Records old now answer new
 
 -- the record replays: its transcript is that of the rules, and there is a winner's connection exactly where the race
 -- was won
@@ -101,12 +81,6 @@ pub record Sweep (C Conn Run : Type 0) : Type 0 where
 abbrev pub unpolled : {C Conn Run : Type 0} → C → Recorder → Sweep C Conn Run
 unpolled c recorder = record { connector = c; recorder = recorder; pending = []; first = None }
 
--- no address of these attempts has an outcome, and none stands twice
-abbrev pub are_untold : {C Conn Run : Type 0} → List (Ip × Outcome) → List (Unfinished C Conn Run) → Bool
-are_untold told [] = true
-are_untold told (o ∷ os) =
-    not (has_outcome o.attempt.ip told) && not (list_any (λ p. same_ip p.attempt.ip o.attempt.ip) os) && are_untold told os
-
 -- a race before its first turn: nothing is recorded, and no attempt was made
 pub record IsNew {C Conn Run : Type 0} (race : Race) (live : Live C Conn Run) : Type 0 where
   pub recorded : live.recorder.recorded ≡ unrecorded race
@@ -119,17 +93,6 @@ abbrev pub begun : {C Conn Run : Type 0} → C → Live C Conn Run → ℕ → S
 begun c live now = unpolled c (record live.recorder { recorded = slept live.recorder.recorded live.recorder.due now })
 
 module _ {C Conn Run : Type 0} (connector : ConnectorOf C Conn Run) (trial : TrialOf Run Conn) where
-  -- an attempt of the race that may be polled
-  pub record IsUnfinished (xs : List Attempt) (o : Unfinished C Conn Run) : Type 0 where
-    pub made : Contains xs o.attempt
-    pub can : CanPoll connector trial o.future
-
-  -- what is kept between two polls
-  pub record IsLive (live : Live C Conn Run) : Type 0 where
-    pub recorder : IsRecorder live.recorder
-    pub unfinished : All (IsUnfinished live.recorder.underway.attempts) live.unfinished.items
-    pub untold : IsTrue (are_untold live.recorder.recorded.outcomes live.unfinished.items)
-
   -- the least of the due tick and the ticks at which an unfinished attempt is due
   abbrev pub asked_tick : ℕ → List (Unfinished C Conn Run) → ℕ
   asked_tick due [] = due
@@ -150,23 +113,6 @@ module _ {C Conn Run : Type 0} (connector : ConnectorOf C Conn Run) (trial : Tri
       (answer : Poll (Finish Conn)) × (c : C) × (future : AttemptFuture C Conn Run)
       × AttemptPolls connector trial from.connector o.future now answer c future
       × ArePolled now (after_poll from o now answer c future) os to
-
-  -- the attempt that stands at `i`, the answer of its poll, and what is left of it
-  abbrev pub LeftBy : Live C Conn Run → ℕ → ℕ → Unfinished C Conn Run → Poll (Finish Conn) → AttemptFuture C Conn Run → Option (Result Conn ConnectFault) → Live C Conn Run → Type 0
-  LeftBy old i now o Pending future answer new =
-      (answer ≡ None) × (new.recorder ≡ old.recorder) × (new.unfinished.items ≡ slice_set old.unfinished.items i (record o { future = future }))
-  LeftBy old i now o (Ready f) future answer new =
-      (answer ≡ Some f.result) × (new.recorder ≡ told old.recorder o.attempt now f.result)
-      × (new.unfinished.items ≡ remove (slice_set old.unfinished.items i (record o { future = future })) i)
-
-  -- the attempt that stands at `i` is polled once
-  pub record PollsAt (c : C) (old : Live C Conn Run) (i now : ℕ) (answer : Option (Result Conn ConnectFault)) (c' : C) (new : Live C Conn Run) : Type 0 where
-    pub o : Unfinished C Conn Run
-    pub at : slice_get old.unfinished.items i ≡ Some o
-    pub polled : Poll (Finish Conn)
-    pub future : AttemptFuture C Conn Run
-    pub polls : AttemptPolls connector trial c o.future now polled c' future
-    pub left : LeftBy old i now o polled future answer new
 
   -- an attempt that was made begins at its start
   pub record BeginsAt (c : C) (x : Attempt) (c' : C) (o : Unfinished C Conn Run) : Type 0 where
@@ -191,26 +137,6 @@ module _ {C Conn Run : Type 0} (connector : ConnectorOf C Conn Run) (trial : Tri
   abbrev pub StartsOne : C → ℕ → List Attempt → List Attempt → List (Unfinished C Conn Run) → C → List (Unfinished C Conn Run) → Type 0
   StartsOne c now xs all os c' new = StaysAs c xs all os c' new ⊎ BeginsNext c now xs all os c' new
 
-  abbrev pub BeginsOne : C → Option Attempt → List (Unfinished C Conn Run) → C → List (Unfinished C Conn Run) → Type 0
-  BeginsOne c None os c' new = (c' ≡ c) × (new ≡ os)
-  BeginsOne c (Some x) os c' new = (o : Unfinished C Conn Run) × BeginsAt c x c' o × (new ≡ os ++ o ∷ [])
-
-  -- the attempt that stands at `made`, if there is one, begins, and stands after the others
-  abbrev pub BeginsFrom : C → List Attempt → ℕ → List (Unfinished C Conn Run) → C → List (Unfinished C Conn Run) → Type 0
-  BeginsFrom c all made os c' new = BeginsOne c (slice_get all made) os c' new
-
-  -- the end of a turn that goes on: the attempt that is due begins
-  pub record Continues (c : C) (old : Live C Conn Run) (now : ℕ) (c' : C) (new : Live C Conn Run) (tick : ℕ) : Type 0 where
-    pub recorded : new.recorder.recorded ≡ old.recorder.recorded
-    pub starts : StartsOne c now old.recorder.underway.attempts new.recorder.underway.attempts old.unfinished.items c' new.unfinished.items
-    pub kept : IsLive new
-    pub turn : new.recorder.turn ≡ Some now
-    pub asked : tick ≡ asked_tick new.recorder.due new.unfinished.items
-
-  abbrev pub GoesOn : C → Live C Conn Run → ℕ → C → AfterPoll C Conn Run → Type 0
-  GoesOn c old now c' (after_polls.Ended raced) = ⊥
-  GoesOn c old now c' (after_polls.Waits new tick) = Continues c old now c' new tick
-
   -- a turn that goes on: each unfinished attempt was polled, the race is not over, and the attempt that is due begins
   pub record Goes (from : Sweep C Conn Run) (os : List (Unfinished C Conn Run)) (now : ℕ) (c' : C) (new : Live C Conn Run) (tick : ℕ) : Type 0 where
     pub swept : Sweep C Conn Run
@@ -218,7 +144,7 @@ module _ {C Conn Run : Type 0} (connector : ConnectorOf C Conn Run) (trial : Tri
     pub going : is_over swept.recorder now swept.pending (is_some swept.first) ≡ false
     pub recorded : new.recorder.recorded ≡ swept.recorder.recorded
     pub starts : StartsOne swept.connector now swept.recorder.underway.attempts new.recorder.underway.attempts swept.pending c' new.unfinished.items
-    pub kept : IsLive new
+    pub kept : IsLive connector trial new
     pub alike : AreAlike from.recorder.recorded new.recorder.recorded
     pub pauses : new.recorder.recorded.pauses ≡ from.recorder.recorded.pauses
     pub turn : new.recorder.turn ≡ Some now
@@ -245,11 +171,6 @@ module _ {C Conn Run : Type 0} (connector : ConnectorOf C Conn Run) (trial : Tri
     pub winner : raced.winner ≡ None
     pub replays : Replays from.recorder.recorded raced
 
-  -- a turn at or before the limit, once what was slept is recorded
-  abbrev pub TurnsFrom : Sweep C Conn Run → List (Unfinished C Conn Run) → ℕ → C → AfterPoll C Conn Run → Type 0
-  TurnsFrom from os now c' (after_polls.Ended raced) = EndsPolled from os now c' raced
-  TurnsFrom from os now c' (after_polls.Waits new tick) = Goes from os now c' new tick
-
   -- a turn at the tick ends the race or goes on
   abbrev pub Turned : C → Live C Conn Run → ℕ → C → AfterPoll C Conn Run → Type 0
   Turned c live now c' (after_polls.Ended raced) =
@@ -266,20 +187,3 @@ module _ {C Conn Run : Type 0} (connector : ConnectorOf C Conn Run) (trial : Tri
   -- a poll at the tick; a tick past the limit counts as the one after it
   abbrev pub PolledAt : C → Live C Conn Run → ℕ → C → AfterPoll C Conn Run → Type 0
   PolledAt c live now c' step = PolledFrom live.recorder.turn c live (min now (live.recorder.recorded.settings.limit + 1)) c' step
-
--- the tick that is asked for may be
-abbrev pub AsksInTime : {C Conn Run : Type 0} → AfterPoll C Conn Run → Type 0
-AsksInTime (after_polls.Ended raced) = ⊤
-AsksInTime (after_polls.Waits new tick) = tick ≤ MAX_POLL_TICK
-
--- the race has ended, with this record and this connection
-abbrev pub EndsWith : {C Conn Run : Type 0} → Race → Option Conn → AfterPoll C Conn Run → Type 0
-EndsWith race winner (after_polls.Ended raced) = Replays race raced × (raced.recorded ≡ race) × (raced.winner ≡ winner)
-EndsWith race winner (after_polls.Waits new tick) = ⊥
-
--- after all attempts were polled: outcomes are recorded, and nothing else has changed
-pub record Polled (old new : Recorder) : Type 0 where
-  pub is : new ≡ record old { recorded = new.recorded }
-  pub alike : AreAlike old.recorded new.recorded
-  pub pauses : new.recorded.pauses ≡ old.recorded.pauses
-  pub underway : IsUnderway old.recorded old.underway → IsUnderway new.recorded old.underway

@@ -7,8 +7,10 @@ ghost use Rattle.he_plan.specs.Agreement.{AreAlike};
 ghost use Rattle.he_plan.specs.Underway.{IsUnderway};
 ghost use Rattle.he_race.specs.declared.limits.TheConstants.{MAX_POLL_TICK};
 ghost use Rattle.he_race.specs.Attempt.{CanPoll};
-ghost use Rattle.he_race.specs.Recording.{InTurn, IsEnded, first_after, unrecorded};
-ghost use Rattle.he_race.specs.Turns.{Answers, ArePolled, AsksInTime, BeginsAt, BeginsFrom, EndsWith, GoesOn, IsLive, IsNew, IsUnfinished, Polled, PolledAt, PollsAt, Turned, TurnsFrom, are_untold, asked_tick, first_of, is_connection, is_over, unpolled};
+ghost use Rattle.he_race.specs.Kept.{InTurn, IsEnded, first_after, IsLive, IsUnfinished, are_untold};
+ghost use Rattle.he_race.specs.Recording.{unrecorded};
+ghost use Rattle.he_race.specs.Polling.{Answers, AsksInTime, BeginsFrom, EndsWith, GoesOn, Polled, PollsAt, TurnsFrom};
+ghost use Rattle.he_race.specs.Turns.{ArePolled, BeginsAt, IsNew, PolledAt, Turned, asked_tick, first_of, is_connection, is_over, unpolled};
 
 use crate::attempt::{AttemptFuture, Finish};
 use crate::connector::Connector;

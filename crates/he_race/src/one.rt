@@ -7,7 +7,7 @@ ghost use Rattle.he_plan.specs.Race.{Race};
 ghost use Rattle.he_plan.specs.Transcript.{IsTranscript};
 ghost use Rattle.he_race.specs.Following.{GivesScripts, IsUnderWay};
 ghost use Rattle.he_race.specs.Racing.{RacePolls};
-ghost use Rattle.he_race.specs.Turns.{IsLive};
+ghost use Rattle.he_race.specs.Kept.{IsLive};
 
 use crate::alone::Alone;
 use crate::connector::Connector;

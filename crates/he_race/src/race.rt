@@ -7,7 +7,8 @@ ghost use Rattle.futures.specs.Task.{Covers, Keeps};
 ghost use Rattle.he_race.specs.Recording.{unrecorded};
 ghost use Rattle.he_race.specs.contracts.race.RaceFuture.{the_row};
 ghost use Rattle.he_race.specs.Racing.{RacePolls, fault_of};
-ghost use Rattle.he_race.specs.Turns.{GivesOf, IsLive, IsNew};
+ghost use Rattle.he_race.specs.Kept.{IsLive};
+ghost use Rattle.he_race.specs.Turns.{GivesOf, IsNew, GivesOf};
 
 use crate::connector::Connector;
 use crate::faults::{RaceFault, TickFault};
@@ -65,7 +66,7 @@ impl<C: Connector, T: Ticker> Future for RaceFuture<C, T> {
     type Output = Result<Raced<C::Conn>, RaceFault>;
 
     ghost use Rattle.std.specs.Prelude.{IfSome};
-    ghost use Rattle.he_race.specs.Turns.{GivesOf, IsLive};
+    ghost use Rattle.he_race.specs.Kept.{IsLive};
 
     ghost can_poll = { λ s. IfSome s.live (IsLive C.Connector C.Run.Trial) };
 

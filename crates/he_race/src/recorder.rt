@@ -16,7 +16,8 @@ ghost use Rattle.he_plan.specs.Timeline.{IsRace, duration_of, is_answer, is_dura
 ghost use Rattle.he_plan.specs.Transcript.{IsTranscript};
 ghost use Rattle.he_plan.specs.Underway.{IsUnderway};
 ghost use Rattle.he_race.specs.Answered.{earliest, is_taken, is_tried_out_by, untaken_tick, with_reply};
-ghost use Rattle.he_race.specs.Recording.{Begins, InTurn, IsRecorder, IsEnded, MakesOne, Rests, ended_by, first_after, is_won, slept, unrecorded};
+ghost use Rattle.he_race.specs.Kept.{Begins, InTurn, IsRecorder, IsEnded, MakesOne, Rests, first_after};
+ghost use Rattle.he_race.specs.Recording.{ended_by, is_won, slept, unrecorded};
 
 use he_addr::{Family, Ip, Memory};
 use he_plan::{

@@ -1,7 +1,7 @@
 use Rattle.std.proofs.Common.{sym, subst}
 use Rattle.std.specs.List.{Contains}
 use Rattle.std.proofs.lemmas.List.Elements.{All-push}
-use Rattle.he_race.specs.Turns.{IsUnfinished}
+use Rattle.he_race.specs.Kept.{IsUnfinished}
 use Rattle.he_race.proofs.Turning.{contains-at}
 use Rattle.he_race.proofs.live.with_made.Goals as goal
 

@@ -1,4 +1,3 @@
-use Rattle.std.proofs.Common.{arith}
 use Rattle.he_race.proofs.Recorded.{none_yet, rests-ok, rests-still}
 use Rattle.he_race.proofs.recorder.start_due.Goals as goal
 

@@ -5,8 +5,8 @@ use Rattle.he_plan.specs.declared.attempts.Attempt.{Attempt}
 use Rattle.he_plan.specs.Attempts.{AreNextInTurn}
 use Rattle.he_plan.specs.Race.{Race}
 use Rattle.he_race.specs.declared.limits.TheConstants.{MAX_POLL_TICK}
-use Rattle.he_race.specs.Recording.{first_after}
-use Rattle.he_race.specs.Turns.{IsUnfinished, StartsOne, are_untold}
+use Rattle.he_race.specs.Kept.{first_after, IsUnfinished, are_untold}
+use Rattle.he_race.specs.Turns.{StartsOne}
 use Rattle.he_race.proofs.Sweeps.{starts-one}
 use Rattle.he_race.proofs.Turning.{unfinished-later}
 use Rattle.he_race.proofs.Untold.{untold-started}

@@ -3,7 +3,8 @@ use Rattle.std.proofs.lemmas.List.Elements.{All-set}
 use Rattle.futures.specs.declared.task.Poll.TheVariants.{Pending, Ready}
 use Rattle.he_plan.specs.declared.attempts.Attempt.{Attempt}
 use Rattle.he_race.specs.declared.recorder.Recorder.{Recorder}
-use Rattle.he_race.specs.Turns.{IsUnfinished, told}
+use Rattle.he_race.specs.Kept.{IsUnfinished}
+use Rattle.he_race.specs.Turns.{told}
 use Rattle.he_race.proofs.Turning.{All-left}
 use Rattle.he_race.proofs.Untold.{ended-told, same-at, same-attempt, stands-at, untold-at, untold-gone, untold-set}
 use Rattle.he_race.proofs.live.Live.poll_one.Goals as goal

@@ -1,6 +1,6 @@
 use Rattle.std.proofs.Common.{◌≡◌, ◌∙◌, true, false, is_some, sym, ap, subst, arith}
 use Rattle.he_plan.proofs.Bools.{or_left_none}
-use Rattle.he_race.specs.Recording.{InTurn}
+use Rattle.he_race.specs.Kept.{InTurn}
 use Rattle.he_race.specs.Turns.{is_over, unpolled}
 use Rattle.he_race.proofs.Sweeps.{ended-swept, gone-on}
 use Rattle.he_race.proofs.Turning.{ended-turn, ends-turn, going-early, same_limit, underway-still}

@@ -1,5 +1,5 @@
 use Rattle.std.proofs.Common.{ℕ, ◌+◌, ◌≤◌, ◌∙◌, ap, min, rules}
-use Rattle.he_race.specs.Recording.{first_after}
+use Rattle.he_race.specs.Kept.{first_after}
 use Rattle.he_race.proofs.Sweeps.{polled-again, polled-turn, turn-in_time}
 use Rattle.he_race.proofs.live.Live.step.Goals as goal
 

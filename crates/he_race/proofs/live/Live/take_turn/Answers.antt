@@ -3,7 +3,7 @@ use Rattle.std.specs.List.{All}
 use Rattle.he_plan.specs.Agreement.{AreAlike}
 use Rattle.he_race.specs.declared.recorder.Recorder.{Recorder}
 use Rattle.he_race.specs.Recording.{slept}
-use Rattle.he_race.specs.Turns.{IsUnfinished}
+use Rattle.he_race.specs.Kept.{IsUnfinished}
 use Rattle.he_race.proofs.Sweeps.{turned-late, turned-run}
 use Rattle.he_race.proofs.Turning.{ended-late, ends-late, same_limit, slept-alike}
 use Rattle.he_race.proofs.Untold.{slept-outcomes}
