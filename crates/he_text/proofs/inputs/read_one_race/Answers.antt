@@ -1,8 +1,6 @@
 use Rattle.std.proofs.Common.{[], arith}
 use Rattle.he_text.specs.Inputs.{IsNotOne}
 use Rattle.he_text.specs.WalkSteps.{not_one}
-use Rattle.he_text.specs.Walks.{IsWalkFault}
-use Rattle.he_text.specs.declared.walks.Ending.{Ending}
 use Rattle.he_text.proofs.WalkLaws.{err_handed, fault_not_one, first_passed, none_passed}
 use Rattle.he_text.proofs.inputs.read_one_race.Goals as goal
 

@@ -1,5 +1,4 @@
 use Rattle.std.proofs.Common.{◌≡◌, ℕ, List, Result, Ok, sym, ◌∙◌, ap, subst}
-use Rattle.std.specs.Prelude.{MatchResult}
 use Rattle.he_plan.specs.Building.{empty_race}
 use Rattle.he_plan.specs.Race.{Race}
 use Rattle.he_text.specs.declared.fault.TextKind.{TextKind}

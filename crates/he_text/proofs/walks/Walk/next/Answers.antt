@@ -1,6 +1,4 @@
-use Rattle.std.proofs.Common.{ℕ, ◌≡◌, ◌+◌, ◌-◌, ◌<◌, ◌≤◌, List, [], rules, refl, arith, length, take, drop, inr, sym, subst, length-drop, ap, ◌∙◌}
-use Rattle.std.proofs.lemmas.List.{take_rest}
-use Rattle.he_text.specs.Inputs.{line_count}
+use Rattle.std.proofs.Common.{◌+◌, ◌-◌, ◌≤◌, rules, refl, arith, length, take, drop, inr, ap}
 use Rattle.he_text.specs.Parts.{lines_of}
 use Rattle.he_text.specs.Ranges.{most_races}
 use Rattle.he_text.proofs.FaultTexts.{tells_fault}
