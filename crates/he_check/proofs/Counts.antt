@@ -1,9 +1,9 @@
 -- One race more of an input that is checked, and how its walk ends.
-use Rattle.std.proofs.Common.{ℕ, ◌≡◌, List, [], ◌∷◌, ◌++◌, length, take, drop, Bool, Option, Some, None, sym, ◌∙◌, ap, refl, arith}
+use Rattle.std.proofs.Common.{ℕ, ◌≡◌, List, [], ◌∷◌, ◌++◌, length, take, Bool, Option, Some, ◌∙◌, ap, arith}
 use Rattle.std.proofs.lemmas.List.{take_all}
 use Rattle.he_plan.specs.Race.{Race}
-use Rattle.he_text.specs.Inputs.{HasRaces, line_count}
-use Rattle.he_text.specs.Walks.{EndsAt, IsNextOf, IsWalkFault, IsWithin, PassesRace, ending_of}
+use Rattle.he_text.specs.Inputs.{line_count}
+use Rattle.he_text.specs.Walks.{IsNextOf, IsWalkFault, IsWithin, PassesRace, ending_of}
 use Rattle.he_text.specs.declared.inputs.InputFault.TheVariants as inputs
 use Rattle.he_text.specs.declared.walks.Walk.{Walk}
 use Rattle.he_text.specs.declared.walks.WalkFault.{WalkFault}

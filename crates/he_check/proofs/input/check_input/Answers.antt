@@ -1,5 +1,5 @@
 use Rattle.he_check.specs.Checked.{IsWrong, check_fault}
-use Rattle.he_text.proofs.WalkLaws.{err_handed, none_passed}
+use Rattle.he_text.proofs.WalkLaws.{err_handed}
 use Rattle.he_check.proofs.Counts.{end_right, fault_wrong, one_more}
 use Rattle.he_check.proofs.input.check_input.Goals as goal
 
