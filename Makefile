@@ -1,5 +1,5 @@
-# What a newcomer needs. The README says what each does and how long it takes.
-.PHONY: help race test edits install examples explained hostile refused hosts fuzz manual
+# What a newcomer needs. README.md and CONTRIBUTING.md say what each is for and how long it takes.
+.PHONY: help race test edits install examples documents explained hostile refused hosts fuzz manual kit program
 
 PREFIX ?= /usr/local
 RACE ?= crates/cases/data/ipv6-late-but-within-delay-leads.timeline
@@ -13,9 +13,10 @@ help:
 	@echo 'make race RACE=FILE        replays the races of a file the same way'
 	@echo 'make test                  the gate: proves every crate, tries the wrong edits, runs the tests and the program'
 	@echo 'make edits                 tries the wrong edits that the gate leaves out: each must be refused'
-	@echo 'make install PREFIX=DIR    proves and builds the program, and puts it at DIR/bin/he, its manual page and its'
-	@echo '                           completion below DIR/share'
+	@echo 'make install PREFIX=DIR    proves and builds the program, and puts it at DIR/bin/he, its manual page,'
+	@echo '                           completion and licence below DIR/share'
 	@echo 'make examples HE=FILE      runs a built program over all examples'
+	@echo 'make documents HE=FILE     runs the command lines of the documents, and compares what stands below them'
 	@echo 'make hostile HE=FILE       runs a built program over streams that fail, open pipes, too little memory'
 	@echo 'make refused HE=FILE       refuses each allocation of a built program in turn, also of a live race, and those of'
 	@echo '                           the races that the crate cases runs'
@@ -25,42 +26,56 @@ help:
 	@echo 'make explained HE=FILE     compares what a built program explains with its transcripts and orders'
 	@echo 'make manual HE=FILE        compares the help of a built program with its manual page and its completion'
 
-race:
-	@cd crates/he_tool && rt try -- replay < $(abspath $(RACE))
+# What a target needs, each told in one line where it lacks.
+kit:
+	@command -v rt > /dev/null || { echo 'make: no command rt: the kit is not installed, or not on the path' >&2; exit 1; }
 
-test:
+program:
+	@test -x $(HE) || { echo 'make: no program $(HE): make install, and give HE=PREFIX/bin/he' >&2; exit 1; }
+
+race: kit
+	@test -r $(RACE) || { echo 'make: no file $(RACE)' >&2; exit 1; }
+	@echo 'builds the program with nothing proved, and runs it: a minute or two' >&2
+	@log=$$(mktemp); trap 'rm -f $$log' EXIT; \
+	(cd crates/he_tool && rt try -- replay < $(abspath $(RACE)) 2> $$log) || { status=$$?; cat $$log >&2; exit $$status; }
+
+test: kit
 	rt ci
 
-edits:
+edits: kit
 	scripts/edits $(CRATES)
 
-install:
+install: kit
 	cd crates/he_tool && rt run -- --version
 	install -D -m 755 crates/he_tool/out/he_tool $(PREFIX)/bin/he
 	install -D -m 644 docs/he.1 $(PREFIX)/share/man/man1/he.1
 	install -D -m 644 completions/he.bash $(PREFIX)/share/bash-completion/completions/he
+	install -D -m 644 LICENSE $(PREFIX)/share/doc/he/LICENSE
 
-examples:
+examples: program
 	scripts/examples $(HE)
 
-hostile:
+documents: program
+	scripts/documents $(HE)
+
+hostile: program
 	scripts/hostile $(HE)
 
-hosts:
+hosts: program
 	scripts/hosts $(HE)
 
-fuzz:
+fuzz: program
 	scripts/fuzz $(HE) --large --seed $(SEED)
 	scripts/fuzz $(HE) --seconds $(SECONDS) --seed $(SEED)
 
-manual:
+manual: program
 	scripts/manual $(HE)
 
-explained:
+explained: program
 	scripts/explained $(HE)
 
-refused: $(CASES)
+refused: program $(CASES)
 	scripts/refused $(HE) $(CASES)
 
-crates/cases/out/cases:
+crates/cases/out/cases: | kit
 	cd crates/cases && rt run
