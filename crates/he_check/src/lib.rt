@@ -5,11 +5,11 @@
 //! below the part that is wrong, and what was expected there.
 //!
 //! Proved: a check tells the input's first fault, by kind and line (`HasRaces` of he_text's `specs/Inputs`), and
-//! where there is none the number of its races and lines (`specs/Checked`). What he_replay tells of an input is
-//! defined in the same words; no law ties the two. Over streams, whatever they do (`specs/Stream`): the whole input
-//! is read, the numbers are written and flushed where nothing is wrong, and else nothing is written; after a write
-//! or flush that failed, a first part. What is explained stands behind what the vector held, and a refused growth
-//! leaves it as it was.
+//! where there is none the number of its races and lines (`specs/Checked`). A replay goes through its input by the
+//! same definition, so both tell one fault. Over streams, whatever they do (`specs/Stream`): the whole input is read,
+//! the numbers are written and flushed where nothing is wrong, and else nothing is written; after a write or flush
+//! that failed, a first part. What is explained stands behind what the vector held, and a refused growth leaves it as
+//! it was.
 //!
 //! Only tested: what an explanation says. The line is looked at again for it, by checks of its own (`finding.rt`), so
 //! a wrong one would mislead, but leaves the fault's line and kind as they are. Of a fault whose cause these checks

@@ -19,7 +19,7 @@ use Rattle.he_text.specs.FaultSearch.{at_line_number, fault_from, fault_in, faul
 use Rattle.he_text.specs.Forms.{word_of, said_in}
 use Rattle.he_text.specs.Parts.{pieces_of, lines_of, tokens_of}
 use Rattle.he_text.specs.Said.{Said, Setting, PolicyRow, HostSource, HostRoute, Answer, Told, Paused, Ended, rows_given}
-use Rattle.he_text.specs.Text.{IsRaceText, TellsFault}
+use Rattle.he_text.specs.Text.{IsRaceText}
 use Rattle.he_text.proofs.CompleteFaults.{begins_right, right_begins}
 use Rattle.he_text.proofs.CompleteTexts.{no_longer}
 use Rattle.he_text.proofs.OpenLines.{open_of, one_in_front, policy_may_follow}
@@ -442,25 +442,6 @@ stands text n kind h = elim (may_or_not text n kind) [
 
 pub not_earlier : (text more : List ℕ) (n : ℕ) (kind : TextKind) → fault_of text ≡ Some (n, kind) → NotBefore n (fault_of (text ++ more))
 not_earlier text more n kind h = in_later (lines_of text) (lines_of (text ++ more)) n kind (parts_go_on 10 text more) h
-
-farther : (n m : ℕ) (later : Option (ℕ × TextKind)) → n ≤ m → NotBefore m later → NotBefore n later
-farther n m None lt h = tt
-farther n m (Some f) lt h = omega arith
-
--- what a call tells of a first part it may tell of the whole
-pub tells : (text more : List ℕ) (n : ℕ) (kind : TextKind) → TellsFault n kind (fault_of text) → MayChange text n kind ⊎ TellsFault n kind (fault_of (text ++ more))
-tells text more n kind told = elim told [
-  | inr is ↦ elim (stands text n kind is) [ inl may ↦ inl may | inr same ↦ inr (inr (same more)) ]
-  | inl memory ↦ by_fault (fault_of text) refl memory.0 memory.1
-]
-  where
-    by_fault : (fault : Option (ℕ × TextKind)) → fault_of text ≡ fault → kind ≡ kinds.Memory → NotBefore n fault → MayChange text n kind ⊎ TellsFault n kind (fault_of (text ++ more))
-    by_fault None e refused later =
-        let P : Option (ℕ × TextKind) → Type 0 = NotBefore n in
-        let begins = right_begins text e in
-        let none : fault_of (text ++ more) ≡ None = begins_right (text ++ more) (begins.0, begins.1 ++ more, begins.2, ap (λ t. t ++ more) begins.3 ∙ append_assoc begins.0 begins.1 more, begins.4) in
-        inr (inl (refused, subst P (sym none) tt))
-    by_fault (Some f) e refused later = inr (inl (refused, farther n f.0 (fault_of (text ++ more)) later (not_earlier text more f.0 f.1 e)))
 
 -- the race with which a text begins is one
 pub one_race_first : (front rest other_front other_rest : List ℕ) (race other : Race) → IsRaceText front race → IsRaceText other_front other → front ++ rest ≡ other_front ++ other_rest

@@ -26,7 +26,6 @@ mod LineTexts
 mod LoopLaws
 mod Mending
 mod NextLines
-mod NextRaces
 mod OneInput
 mod OpenLines
 mod OrderLaws

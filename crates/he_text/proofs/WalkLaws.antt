@@ -7,11 +7,10 @@ use Rattle.std.proofs.lemmas.List.Splits.{length-slice_split}
 use Rattle.std.proofs.lemmas.List.Sums.{count_by-le-length, sum_by-append}
 use Rattle.std.proofs.Math.Seq.{take-add}
 use Rattle.he_plan.specs.Race.{Race}
-use Rattle.he_text.specs.Beginnings.{FaultStands, MayChange}
+use Rattle.he_text.specs.Beginnings.{FaultStands, MayChange, MayGoOn}
 use Rattle.he_text.specs.FaultSearch.{fault_of}
 use Rattle.he_plan.specs.Timeline.{IsRace}
 use Rattle.he_text.specs.Inputs.{AreTexts, HasRaces, IsFaultBehind, IsNotOne, fault_at_end, fault_behind, line_count}
-use Rattle.he_text.specs.Next.{MayGoOn}
 use Rattle.he_text.specs.Parts.{lines_of}
 use Rattle.he_text.specs.Ranges.{most_races}
 use Rattle.he_text.specs.Reading.{ReadsFirst}
@@ -29,9 +28,22 @@ use Rattle.he_text.specs.declared.walks.Walk.{Walk}
 use Rattle.he_text.specs.declared.walks.WalkFault.{WalkFault}
 use Rattle.he_text.specs.declared.walks.WalkFault.TheVariants as faults
 use Rattle.he_text.proofs.FaultTexts.{race_at}
-use Rattle.he_text.proofs.NextRaces.{goes_on}
+use Rattle.he_text.proofs.Mending.{mendable_changes}
 use Rattle.he_text.proofs.PartLaws.{parts_counted}
 use Rattle.he_text.proofs.RaceTexts.{begins_with_race}
+
+-- want of memory is no fault that what follows may mend
+not_memory : (text : List ℕ) (n : ℕ) (kind : TextKind) → MayChange text n kind → kind ≡ kinds.Memory → ⊥
+not_memory text n kind may memory =
+    elim may [
+      | inl unfinished ↦ let wrong : kinds.Unfinished ≡ kinds.Memory = sym unfinished ∙ memory in cc
+      | inr table ↦ let wrong : kinds.Policy table.0.0 ≡ kinds.Memory = sym table.0.1 ∙ memory in cc
+    ]
+
+-- what is told of a text and may change depends on what follows
+goes_on : (text : List ℕ) (line : ℕ) (kind : TextKind) → TellsFault line kind (fault_of text) → MayChange text line kind → MayGoOn text
+goes_on text line kind (inl memory) may = absurd (not_memory text line kind may memory.0)
+goes_on text line kind (inr is) may = inr (line, kind, is, mendable_changes text line kind is may)
 
 pub AreTexts-append : (IsText : List ℕ → Race → Type 0) (races : List Race) (text : List ℕ) → AreTexts IsText races text
     → (others : List Race) (more : List ℕ) → AreTexts IsText others more → AreTexts IsText (races ++ others) (text ++ more)

@@ -37,3 +37,7 @@ IsTableFaultAtEnd text n kind = IsPolicyFault kind × PolicyMayFollow text n
 -- a fault that what follows may mend
 abbrev pub MayChange : List ℕ → ℕ → TextKind → Type 0
 MayChange text n kind = (kind ≡ kinds.Unfinished) ⊎ IsTableFaultAtEnd text n kind
+
+-- what the text is depends on what follows it: it is empty, or has a fault that not every text has that begins with its bytes
+abbrev pub MayGoOn : List ℕ → Type 0
+MayGoOn text = (text ≡ []) ⊎ ((line : ℕ) × (kind : TextKind) × (fault_of text ≡ Some (line, kind)) × FaultChanges text line kind)

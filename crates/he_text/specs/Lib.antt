@@ -6,7 +6,6 @@ pub mod Forms
 pub mod InRange
 pub mod Inputs
 pub mod Left
-pub mod Next
 pub mod Orders
 pub mod Parts
 pub mod Ranges

@@ -7,8 +7,8 @@ use Rattle.he_text.specs.declared.walks.Ending.TheVariants as endings
 use Rattle.he_text.specs.declared.walks.Walk.{Walk}
 use Rattle.he_text.specs.declared.walks.WalkFault.{WalkFault}
 use Rattle.he_text.specs.declared.walks.WalkFault.TheVariants as faults
+use Rattle.he_text.specs.Beginnings.{MayGoOn}
 use Rattle.he_text.specs.Inputs.{AreRaceTexts, IsFaultBehind, line_count}
-use Rattle.he_text.specs.Next.{MayGoOn}
 use Rattle.he_text.specs.Ranges.{most_races}
 use Rattle.he_text.specs.Text.{IsRaceText}
 

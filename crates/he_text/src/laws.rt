@@ -15,7 +15,7 @@ ghost use Rattle.he_text.specs.InRange.{RaceInRange};
 ghost use Rattle.he_text.specs.Ranges.{line_end, token_end, most_line_bytes, most_answers, most_source_marks, most_route_marks, most_u16, least_pause_end, most_races};
 ghost use Rattle.he_text.specs.Forms.{said_in};
 ghost use Rattle.he_text.specs.Said.{Said, Ended};
-ghost use Rattle.he_text.specs.Text.{Says, IsAllowed, IsRaceText, BeginsWithRace, TellsFault};
+ghost use Rattle.he_text.specs.Text.{Says, IsAllowed, IsRaceText, BeginsWithRace};
 ghost use Rattle.he_text.specs.Written.{timeline_text};
 
 use crate::ranges::timeline_range;
@@ -71,12 +71,6 @@ pub fn first_faults()
 /// What follows a text brings no fault on an earlier line than the text's own. Runs nothing.
 pub fn faults_come_no_earlier()
     ensures { (text more : List ℕ) (line : ℕ) (kind : TextKind) → fault_of text ≡ Some (line, kind) → MatchOption (fault_of (text ++ more)) (Unit {0}) (λ fault. line ≤ fault.0) }
-{}
-
-/// What `read_race` tells of a first part of a text it may tell of the whole, unless what follows may change it. Runs
-/// nothing.
-pub fn told_faults_stand()
-    ensures { (text more : List ℕ) (line : ℕ) (kind : TextKind) → TellsFault line kind (fault_of text) → MayChange text line kind ⊎ TellsFault line kind (fault_of (text ++ more)) }
 {}
 
 /// The program's constants are the numbers of the definitions (`specs/Ranges`). Runs nothing.

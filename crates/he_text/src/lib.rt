@@ -14,6 +14,7 @@
 //! read back, whatever follows it.
 #![tactic(auto)]
 
+mod changes;
 mod draft;
 pub mod fault;
 mod forms;
@@ -22,7 +23,6 @@ pub mod inputs;
 pub mod laws;
 pub mod limits;
 mod lines;
-pub mod next;
 pub mod orders;
 mod parts;
 mod ranges;
@@ -35,7 +35,6 @@ mod writing;
 
 pub use fault::{TextFault, TextKind};
 pub use inputs::{InputFault, NotOneRace, read_one_race};
-pub use next::{Next, may_change, next_race};
 pub use orders::write_order;
 pub use parts::{LINE_END, TOKEN_END};
 pub use reading::read_race;

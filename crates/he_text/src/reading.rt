@@ -262,7 +262,7 @@ pub(crate) fn read_first<A: Allocator + Copy>(
 /// The race that begins at `from`, and the place behind it; None exactly where the text ends at `from`. A race is
 /// `race 1`, then lines in the order of their groups, and `end`, each with a line end. Where the text from there on
 /// begins with no race, the fault is that of its least faulty line, counted from 1 at `from`, and on it of the first
-/// check that fails; `Memory` may come before that fault, with a line that is right, as are those before it.
+/// check that fails; or memory was refused at a line before which nothing is wrong: that fault is `Memory`.
 pub fn read_race<A: Allocator + Copy>(
     alloc: A,
     text: &[u8],

@@ -4,11 +4,11 @@ ghost use Rattle.he_text.specs.Inputs.{fault_behind};
 ghost use Rattle.he_text.specs.WalkSteps.{StopsAt, breaks};
 ghost use Rattle.he_text.specs.Walks.{EndsAt, IsNextOf, IsWalkFault, IsWithin, ending_of};
 
+use crate::changes::may_change;
 use crate::fault::{TextFault, TextKind};
 use crate::inputs::InputFault;
 use crate::laws::faults_stand;
 use crate::limits::MOST_RACES;
-use crate::next::may_change;
 use crate::reading::read_first;
 use he_plan::Timeline;
 use std::alloc::Allocator;

@@ -2,6 +2,6 @@
 #![tactic(auto)]
 
 #[cfg(test)]
-mod next;
+mod walks;
 #[cfg(test)]
 mod written;

@@ -3,7 +3,7 @@ use Rattle.std.proofs.lemmas.Bool.{eqb-true}
 use Rattle.he_text.specs.declared.fault.TextKind.{TextKind}
 use Rattle.he_text.specs.Beginnings.{MayChange}
 use Rattle.he_text.proofs.OpenLines.{table_stands}
-use Rattle.he_text.proofs.next.may_change.Goals as goal
+use Rattle.he_text.proofs.changes.may_change.Goals as goal
 
 pub returns-else-marks_in-fault : goal.returns-else-marks_in-fault
 returns-else-marks_in-fault c =

@@ -1,8 +1,8 @@
-// What is told of the first race of a text that may go on, or that ends. Each growth is refused in turn: what is
+// What a walk tells of the first race of a text that may go on, or that ends. Each growth is refused in turn: what is
 // refused is told as want of memory, and what isn't is told as ever.
 
 use he_select::PolicyFault;
-use he_text::{Next, TextFault, TextKind, next_race};
+use he_text::{Ending, InputFault, TextKind, Walk, WalkFault};
 use refusing::{MOST_RUNS, Refusing};
 use std::mem::drop;
 
@@ -40,60 +40,61 @@ const LONGEST_LINE: usize = 4_096;
 enum Told {
     // A race, and the place behind it.
     Race(usize),
-    More,
-    End,
+    // No race: the text ends, or what stands there depends on what follows.
+    None,
     // The line of a fault, and its kind.
     Fault(u64, TextKind),
+    // Want of memory.
+    Memory,
+    // A broken end, or a walk that is not where its answer says.
+    Else,
 }
 
-// A text, how many of its bytes are there, whether the text ends with them, and what is told of it.
-type Row = (&'static [u8], usize, bool, Told);
+// A text, how many of its bytes are there, what follows them, and what is told of it.
+type Row = (&'static [u8], usize, Ending, Told);
 
 static ROWS: [Row; 15] = [
-    (RACE, 156, false, Told::Race(156)),
-    (RACE, 155, false, Told::More),
-    (RACE, 155, true, Told::Fault(9, TextKind::Unfinished)),
-    (RACE, 0, false, Told::More),
-    (RACE, 0, true, Told::End),
-    (b"race 3\n", 7, false, Told::Fault(1, TextKind::Header)),
-    (ROW, ROW_BYTES, false, Told::More),
-    (ROW, ROW_BYTES, true, NO_TABLE),
-    (ROW, 27, false, Told::More),
-    (ROW, 30, false, Told::More),
-    (ROW, ROW_AND_WORD, false, Told::More),
-    (ROW, 32, false, Told::More),
-    (ROW, 32, true, NO_TABLE),
-    (ROW_BEFORE_A_SOURCE, 25, false, NO_TABLE),
-    (ROW_BEFORE_ANOTHER_WORD, 31, false, NO_TABLE),
+    (RACE, 156, Ending::Open, Told::Race(156)),
+    (RACE, 155, Ending::Open, Told::None),
+    (RACE, 155, Ending::Whole, Told::Fault(9, TextKind::Unfinished)),
+    (RACE, 0, Ending::Open, Told::None),
+    (RACE, 0, Ending::Whole, Told::None),
+    (b"race 3\n", 7, Ending::Open, Told::Fault(1, TextKind::Header)),
+    (ROW, ROW_BYTES, Ending::Open, Told::None),
+    (ROW, ROW_BYTES, Ending::Whole, NO_TABLE),
+    (ROW, 27, Ending::Open, Told::None),
+    (ROW, 30, Ending::Open, Told::None),
+    (ROW, ROW_AND_WORD, Ending::Open, Told::None),
+    (ROW, 32, Ending::Open, Told::None),
+    (ROW, 32, Ending::Whole, NO_TABLE),
+    (ROW_BEFORE_A_SOURCE, 25, Ending::Open, NO_TABLE),
+    (ROW_BEFORE_ANOTHER_WORD, 31, Ending::Open, NO_TABLE),
 ];
 
-fn told_of<'h>(next: Result<Next<&'h Refusing>, TextFault>) -> Told {
-    match next {
-        Ok(Next::Race(race, end)) => {
+// What a walk tells of the bytes. It passes a race that it answers, and else stays.
+fn told_of(heap: &Refusing, bytes: &[u8], ending: Ending) -> Told {
+    let mut walk = Walk::START;
+    match walk.next(heap, bytes, ending) {
+        Ok(Some(race)) => {
             drop(race);
-            Told::Race(end)
+            Told::Race(walk.end)
         }
-        Ok(Next::More) => Told::More,
-        Ok(Next::End) => Told::End,
-        Err(fault) => Told::Fault(fault.line, fault.kind),
+        _ if walk != Walk::START => Told::Else,
+        Ok(None) => Told::None,
+        Err(WalkFault::Memory) => Told::Memory,
+        Err(WalkFault::Input(InputFault::Text(fault))) => Told::Fault(fault.line, fault.kind),
+        Err(WalkFault::Input(InputFault::Read)) => Told::Else,
     }
 }
 
 // Whether what is told of the row is what is wanted, or want of memory where a growth was refused.
 fn is_well(heap: &Refusing, row: &Row) -> bool {
-    let (text, bytes, is_last, wanted) = row;
+    let (text, bytes, ending, wanted) = row;
     let Some(part) = text.get(..*bytes) else {
         return false;
     };
-    let told = told_of(next_race(heap, part, 0, *is_last));
-    told == *wanted || heap.has_refused() && is_memory(told)
-}
-
-fn is_memory(told: Told) -> bool {
-    match told {
-        Told::Fault(_, kind) => kind == TextKind::Memory,
-        _ => false,
-    }
+    let told = told_of(heap, part, *ending);
+    told == *wanted || heap.has_refused() && told == Told::Memory
 }
 
 // How many growths of the row were refused one after the other, up to the first run that is granted all; None if a run
@@ -136,11 +137,11 @@ fn row_before_a_long_line() -> [u8; ROW_BYTES + LONGEST_LINE + 1] {
     text
 }
 
-// What is told of the first bytes of a text that may go on; that it ends, where it has not so many.
+// What is told of the first bytes of a text that may go on.
 fn told_of_first(heap: &Refusing, text: &[u8], bytes: usize) -> Told {
     match text.get(..bytes) {
-        Some(part) => told_of(next_race(heap, part, 0, false)),
-        None => Told::End,
+        Some(part) => told_of(heap, part, Ending::Open),
+        None => Told::Else,
     }
 }
 
@@ -149,6 +150,6 @@ fn line_that_becomes_too_long(rt: HostRuntime) {
     let heap = Refusing::new(rt.alloc());
     let text = row_before_a_long_line();
     let longest = ROW_BYTES + LONGEST_LINE;
-    assert!(rt; told_of_first(&heap, &text, longest) == Told::More);
+    assert!(rt; told_of_first(&heap, &text, longest) == Told::None);
     assert!(rt; told_of_first(&heap, &text, longest + 1) == NO_TABLE);
 }

@@ -5,7 +5,7 @@ use Rattle.he_text.specs.Beginnings.{EndsIn}
 use Rattle.he_text.specs.Inputs.{line_count}
 use Rattle.he_text.specs.Parts.{lines_of}
 use Rattle.he_text.proofs.OpenLines.{ends_behind, ends_whole}
-use Rattle.he_text.proofs.next.open_line.Goals as goal
+use Rattle.he_text.proofs.changes.open_line.Goals as goal
 
 pub returns-in-Some : goal.returns-in-Some
 returns-in-Some c =

@@ -4,7 +4,7 @@ use Rattle.std.specs.List.{starts_with}
 use Rattle.he_text.specs.Beginnings.{MayBecomePolicy}
 use Rattle.he_text.specs.declared.limits.TheConstants.{MAX_LINE}
 use Rattle.he_text.proofs.OpenLines.{becomes}
-use Rattle.he_text.proofs.next.may_become_policy.Goals as goal
+use Rattle.he_text.proofs.changes.may_become_policy.Goals as goal
 
 abbrev Tells : List ℕ → Bool → Type 0
 Tells rest b = IsTrue b ↔ MayBecomePolicy rest
