@@ -1,5 +1,5 @@
 -- How a call goes on after a step of the input and a round, and what it comes to where it ends.
-use Rattle.std.proofs.Common.{ℕ, suc, ◌≡◌, ◌+◌, ◌≤◌, ◌++◌, ◌∙◌, List, [], take, drop, Bool, Option, Some, None, Result, Ok, Err, ap, sym, subst, refl, arith, inl, inr, append_assoc, take-take}
+use Rattle.std.proofs.Common.{ℕ, suc, ◌≡◌, ◌+◌, ◌≤◌, ◌++◌, ◌∙◌, List, [], take, drop, Bool, true, false, Option, Some, None, Result, Ok, Err, ap, sym, subst, refl, arith, inl, inr, append_assoc, take-take}
 use Rattle.std.proofs.lemmas.List.{append-nil}
 use Rattle.std.proofs.Math.Seq.{take-add}
 use Rattle.std.proofs.KnownBytes.{Consumes-kept, Consumes-trans}
