@@ -176,7 +176,7 @@ module _ {S : Type 0} (IsText : List ℕ → Race → Type 0) (contents : S → 
           | inl goes_on ↦ absurd (not_open is_broken goes_on)
           | inr is ↦ elim on.put [
               | inl put ↦ ends_output on.text on.walk None on.told is put
-              | inr (goes_on, none) ↦ absurd (not_open is_broken goes_on)
+              | inr none ↦ absurd (not_open is_broken none.0)
             ]
         ]
         ends_given kept next (Err (faults.Text fault)) ends = inl (ends_fault (inputs.Text fault) ends)
