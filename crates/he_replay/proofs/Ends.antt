@@ -175,9 +175,9 @@ module _ {S : Type 0} (IsText : List ℕ → Race → Type 0) (contents : S → 
         ends_given kept next (Ok done) on = elim on.fault_is [
           | inl goes_on ↦ absurd (not_open is_broken goes_on)
           | inr is ↦ elim on.put [
-              | inl put ↦ ends_output on.text on.walk None on.told is put
-              | inr none ↦ absurd (not_open is_broken none.0)
-            ]
+            | inl put ↦ ends_output on.text on.walk None on.told is put
+            | inr none ↦ absurd (not_open is_broken none.0)
+          ]
         ]
         ends_given kept next (Err (faults.Text fault)) ends = inl (ends_fault (inputs.Text fault) ends)
         ends_given kept next (Err faults.Read) ends = ends_fault inputs.Read ends
