@@ -1,5 +1,5 @@
 -- How a call goes on after a step of the input and a round, and what it comes to where it ends.
-use Rattle.std.proofs.Common.{ℕ, suc, ◌≡◌, ◌+◌, ◌≤◌, ◌++◌, ◌∙◌, List, [], take, drop, Bool, Option, Some, None, Result, Ok, Err, ap, sym, subst, refl, arith, inl, inr, append_assoc, take-take}
+use Rattle.std.proofs.Common.{ℕ, suc, ◌≡◌, ◌+◌, ◌≤◌, ◌++◌, ◌∙◌, List, [], take, drop, Bool, true, false, Option, Some, None, Result, Ok, Err, ap, sym, subst, refl, arith, inl, inr, append_assoc, take-take}
 use Rattle.std.proofs.lemmas.List.{append-nil}
 use Rattle.std.proofs.Math.Seq.{take-add}
 use Rattle.std.proofs.KnownBytes.{Consumes-kept, Consumes-trans}
@@ -175,9 +175,9 @@ module _ {S : Type 0} (IsText : List ℕ → Race → Type 0) (contents : S → 
         ends_given kept next (Ok done) on = elim on.fault_is [
           | inl goes_on ↦ absurd (not_open is_broken goes_on)
           | inr is ↦ elim on.put [
-              | inl put ↦ ends_output on.text on.walk None on.told is put
-              | inr (goes_on, none) ↦ absurd (not_open is_broken goes_on)
-            ]
+            | inl put ↦ ends_output on.text on.walk None on.told is put
+            | inr none ↦ absurd (not_open is_broken none.0)
+          ]
         ]
         ends_given kept next (Err (faults.Text fault)) ends = inl (ends_fault (inputs.Text fault) ends)
         ends_given kept next (Err faults.Read) ends = ends_fault inputs.Read ends

@@ -1,6 +1,5 @@
 -- Races that were told as a walk passed them.
-use Rattle.std.proofs.Common.{ℕ, ◌≡◌, ◌+◌, ◌≤◌, ◌^◌, ◌++◌, ◌==◌, ◌∙◌, List, [], ◌∷◌, take, drop, length, sym, ap, subst, arith, length-append, length-drop, length-take, take-take, Result, Ok, Err}
-use Rattle.std.specs.Result.{IfOk}
+use Rattle.std.proofs.Common.{ℕ, ◌≡◌, ◌+◌, ◌≤◌, ◌^◌, ◌++◌, ◌==◌, ◌∙◌, List, [], ◌∷◌, take, drop, length, sym, ap, subst, arith, length-append, length-drop, length-take, take-take}
 use Rattle.std.proofs.lemmas.List.Sums.{count_by-le-length}
 use Rattle.std.proofs.Math.Seq.{take-add}
 use Rattle.he_plan.specs.Race.{Race}
@@ -113,9 +112,3 @@ within_told IsText bytes text races lines walk told most =
     let few = told_lines IsText bytes text races lines walk told in
     let place = told.passed.within in
     record { place = place; few = told.few; room = omega (arith, few, place, most, length-drop {A = ℕ}) }
-
--- where races more were told, if memory was not refused
-pub all_told : {E : Type 0} (IsText : List ℕ → Race → Type 0) (bytes old new : List ℕ) (races lines : ℕ) (begun : Walk) (result : Result Walk E) → HasTold IsText bytes races lines old begun
-    → IfOk result (TellsOn IsText bytes begun old new) → IfOk result (HasTold IsText bytes races lines new)
-all_told IsText bytes old new races lines begun (Ok walk) before on = on races lines before
-all_told IsText bytes old new races lines begun (Err fault) before on = tt

@@ -37,7 +37,7 @@ loop-piece-preserved g c =
               room = omega (arith, left, lines, beyond, next, place, length-drop {A = ℕ});
             },
             λ races lines told. subst (λ (text : List ℕ). HasTold IsTranscriptText bytes races lines text _) (sym joined)
-            (more_told IsTranscriptText bytes c.loop-piece.text.items piece.text.items races lines c.loop-piece.begun piece.walk _ (before.1 races lines told) (subst Told next here.told) refl most),
+                (more_told IsTranscriptText bytes c.loop-piece.text.items piece.text.items races lines c.loop-piece.begun piece.walk _ (before.1 races lines told) (subst Told next here.told) refl most),
           ))
       | else-piece-begun w ↦ rw w.text-is (rw w.begun-is before)
     ]

@@ -1,4 +1,4 @@
-use Rattle.std.proofs.Common.{ℕ, ◌≡◌, ◌≤◌, ◌⊎◌, List, Ok, Err, None, ap, arith, length-take, refl, subst, sym, take}
+use Rattle.std.proofs.Common.{ℕ, ◌≡◌, ◌⊎◌, List, Ok, Err, None, ap, arith, length-take, refl, subst, sym, take}
 use Rattle.he_text.specs.declared.walks.Ending.TheVariants as endings
 use Rattle.he_text.specs.Walks.{IsWithin}
 use Rattle.he_replay.specs.Output.{IsTextOf}
