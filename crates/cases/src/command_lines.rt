@@ -46,6 +46,9 @@ a 0 none
 end
 ";
 
+// A race that is given up before an answer comes.
+const NO_TIME: &[u8] = b"race 1\nset limit 1\nend\n";
+
 const TWO_RACES: &[u8] = b"race 1\nend\nrace 1\nend\n";
 
 const READ_LINE: &[u8] = b"he: cannot read the input\n";
@@ -75,7 +78,7 @@ type Row = (
     &'static [u8],
 );
 
-static ROWS: [Row; 51] = [
+static ROWS: [Row; 55] = [
     (&["he", "replay"], TEXT, Streams::Whole, 0, TRANSCRIPT, b""),
     (
         &["he", "replay", "--workers", "1"],
@@ -328,6 +331,38 @@ static ROWS: [Row; 51] = [
         0,
         b"exhausted ",
         b"",
+    ),
+    (
+        &["he", "live", "--port", "1", "--must-connect"],
+        NO_ADDRESS,
+        Streams::Whole,
+        3,
+        b"exhausted ",
+        b"",
+    ),
+    (
+        &["he", "live", "--must-connect", "--port", "1"],
+        NO_TIME,
+        Streams::Whole,
+        3,
+        b"limit 1\n",
+        b"",
+    ),
+    (
+        &["he", "live", "--port", "1", "--must-connect"],
+        NO_ADDRESS,
+        Streams::FailsToFlush,
+        1,
+        b"exhausted",
+        WRITE_LINE,
+    ),
+    (
+        &["he", "replay", "--must-connect"],
+        TEXT,
+        Streams::Whole,
+        2,
+        b"",
+        b"error: ",
     ),
     (
         &["he", "live", "--port=65535"],

@@ -1,5 +1,5 @@
 -- What a run of the program has done, by its exit status.
-use Rattle.std.specs.Prelude.{◌≡◌, ◌≢◌, ◌≤◌, ◌⊎◌, ℕ, Bool, List, Result, Ok, Err}
+use Rattle.std.specs.Prelude.{◌≡◌, ◌≢◌, ◌≤◌, ◌⊎◌, ℕ, Bool, true, List, Result, Ok, Err}
 use Rattle.clap.specs.Values.{kind_of}
 use Rattle.clap.specs.declared.error.Error.{Error}
 use Rattle.clap.specs.declared.error.kind.ErrorKind.{ErrorKind}
@@ -8,17 +8,26 @@ use Rattle.he_check.specs.declared.fault.CheckFault.{CheckFault}
 use Rattle.he_check.specs.Stream.{Checks}
 use Rattle.he_live.specs.declared.fault.LiveFault.{LiveFault}
 use Rattle.he_live.specs.Live.{Lives}
+use Rattle.he_plan.specs.declared.transcript.Outcome3.{Outcome3}
+use Rattle.he_plan.specs.declared.transcript.Outcome3.TheVariants as results
 use Rattle.he_replay.specs.Actions.{HasWorkers, RunsAction}
 use Rattle.he_replay.specs.declared.fault.ReplayFault.{ReplayFault}
 use Rattle.he_command.specs.declared.command.Request.{Request}
 use Rattle.he_command.specs.declared.command.Request.TheVariants.{Action, Check, Live}
 use Rattle.he_command.specs.declared.limits.TheConstants.{LEAST_PORT}
-use Rattle.he_command.specs.declared.run.TheConstants.{DONE, FAULT, USAGE}
+use Rattle.he_command.specs.declared.run.TheConstants.{DONE, FAULT, NO_CONNECTION, USAGE}
 
 -- the status that tells how a command ended
 abbrev pub status_of : {Fault : Type 0} → Result (Unit {0}) Fault → ℕ
 status_of (Ok done) = DONE
 status_of (Err fault) = FAULT
+
+-- the status of a live race: that there is no connection is told where one had to be made
+abbrev pub status_of_live : Bool → Result Outcome3 LiveFault → ℕ
+status_of_live must (Err fault) = FAULT
+status_of_live true (Ok (results.Exhausted tick)) = NO_CONNECTION
+status_of_live true (Ok (results.Limit tick)) = NO_CONNECTION
+status_of_live must (Ok result) = DONE
 
 -- help or the version was asked for
 abbrev pub IsHelp : ErrorKind → Type 0
@@ -44,7 +53,7 @@ pub record AnswersLine (kind : ErrorKind) (Whole Part : List ℕ → Type 0) (Ke
 abbrev pub IsRequest : Request → Type 0
 IsRequest (Action action) = HasWorkers action
 IsRequest Check = Unit {0}
-IsRequest (Live port) = LEAST_PORT ≤ port
+IsRequest (Live port must) = LEAST_PORT ≤ port
 
 -- what was asked for was done, and the status tells how that ended. Given, Taken, Ended, Failed and Put as `RunsAction` has
 -- them: of a text that is put in rounds; Whole, Part and Kept as `Lives` has them: of one text
@@ -53,8 +62,8 @@ RunsRequest (Action action) Given Taken Ended Failed Put Whole Part Kept status 
     (result : Result (Unit {0}) ReplayFault) × RunsAction action Given Taken Ended Failed Put result × (status ≡ status_of result)
 RunsRequest Check Given Taken Ended Failed Put Whole Part Kept status =
     (result : Result (Unit {0}) CheckFault) × Checks Given Whole Part Kept result × (status ≡ status_of result)
-RunsRequest (Live port) Given Taken Ended Failed Put Whole Part Kept status =
-    (result : Result (Unit {0}) LiveFault) × Lives Given Whole Part Kept result × (status ≡ status_of result)
+RunsRequest (Live port must) Given Taken Ended Failed Put Whole Part Kept status =
+    (result : Result Outcome3 LiveFault) × Lives Given Whole Part Kept result × (status ≡ status_of_live must result)
 
 -- what comes of a line: what it asks for was done; or it asks for nothing that is done, and the input is Unread
 abbrev pub RunsLine : Result Request Error → (List ℕ → Bool → Type 0) → (List ℕ → Type 0) → Type 0 → (List ℕ → Type 0) → (List ℕ → Type 0) → (List ℕ → Type 0) → (List ℕ → Type 0) → (List ℕ → Type 0) → Type 0 → ℕ → Type 0

@@ -3,7 +3,7 @@ ghost use Rattle.std.specs.Prelude.{◌≤◌, IfOk};
 ghost use Rattle.he_command.specs.Run.{IsRequest};
 
 use crate::limits::{DEFAULT_WORKERS, DEFAULT_WORKERS_TEXT, LEAST_PORT};
-use clap::{Arg, ArgMatches, Command, Error, value_parser};
+use clap::{Arg, ArgAction, ArgMatches, Command, Error, value_parser};
 use he_replay::Action;
 use he_replay::limits::{LEAST_WORKERS, MOST_WORKERS};
 use std::alloc::{AllocError, Global};
@@ -15,8 +15,9 @@ pub enum Request {
     Action(Action),
     /// To check the input, and to explain its first fault.
     Check,
-    /// To run the race of the input on real sockets, each address at this port, 1 to 65,535.
-    Live { port: u16 },
+    /// To run the race of the input on real sockets, each address at this port, 1 to 65,535. The status tells no
+    /// connection where `must_connect`.
+    Live { port: u16, must_connect: bool },
 }
 
 const ABOUT: &str =
@@ -34,12 +35,15 @@ const LIVE_ABOUT: &str = "Races real connections, and writes what happened and a
 
 const PORT_HELP: &str = "The TCP port at which each address is connected to, 1 to 65535";
 
+const MUST_CONNECT_HELP: &str =
+    "Ends with status 3 where no connection was made: the race was exhausted, or met its limit";
+
 const WORKERS_HELP: &str =
     "The most workers that share the races, 1 to 64; the output is the same for each number";
 
 const EXIT_STATUS: &str = "\
 Exit status: 0 when all is done; 1 after a fault, which standard error tells; 2 for a
-command line that is refused.";
+command line that is refused; 3 where `live --must-connect` made no connection.";
 
 const REPLAY_EXAMPLE: &str = "\
 Standard input is a timeline text: for each race the host's addresses and routes, the
@@ -181,8 +185,9 @@ To keep the record, and to replay it:
   he live --port 8080 < race.txt | sed -n '/^race 1$/,$p' > record.txt
   he replay < record.txt
 
-Exit status: 0 when all is done, whether a connection was made or not; 1 after a
-fault, with one line on standard error; 2 for a command line that is refused.";
+Exit status: 0 when all is done, whether a connection was made or not; 3 in place of
+that with --must-connect where none was made; 1 after a fault, with one line on
+standard error; 2 for a command line that is refused.";
 
 // The whole command line of the program.
 fn command<'a>(alloc: Global) -> Result<Command<'a>, AllocError> {
@@ -208,7 +213,8 @@ fn command<'a>(alloc: Global) -> Result<Command<'a>, AllocError> {
     let live = Command::new(alloc, "live")
         .about(LIVE_ABOUT)
         .after_help(LIVE_EXAMPLE)
-        .arg(port(alloc))?;
+        .arg(port(alloc))?
+        .arg(must_connect(alloc))?;
     Command::new(alloc, "he")
         .bin_name("he")?
         .version("1.0.0")
@@ -232,6 +238,14 @@ fn port<'a>(alloc: Global) -> Arg<'a> {
         .help(PORT_HELP)
 }
 
+// Whether `he live` tells by its status that no connection was made.
+fn must_connect<'a>(alloc: Global) -> Arg<'a> {
+    Arg::new(alloc, "must-connect")
+        .long("must-connect")
+        .action(ArgAction::SetTrue)
+        .help(MUST_CONNECT_HELP)
+}
+
 /// Reads the words of a command line, of which the first is the program's name.
 ///
 /// # Errors
@@ -247,6 +261,7 @@ pub fn read_words<'a>(alloc: Global, words: &'a [&'a str]) -> Result<Request, Er
         Some(("check", _)) => Request::Check,
         Some(("live", live)) => Request::Live {
             port: port_of(live),
+            must_connect: live.get_flag("must-connect"),
         },
         Some((_, replay)) => Request::Action(Action::Replay {
             workers: workers_of(replay),

@@ -21,4 +21,4 @@ pub mod limits;
 pub mod run;
 
 pub use command::{Request, read_words};
-pub use run::{DONE, FAULT, USAGE, report, report_not_text, run_line, run_words};
+pub use run::{DONE, FAULT, NO_CONNECTION, USAGE, report, report_not_text, run_line, run_words};

@@ -4,13 +4,14 @@ ghost use Rattle.clap.specs.Values.{kind_of};
 ghost use Rattle.he_stream.specs.Input.{Gives, GivesSoFar};
 ghost use Rattle.he_stream.specs.Output.{PutsAndEnds, PutsInRounds, PutsPart, PutsRoundsPart, PutsWhole};
 ghost use Rattle.he_command.specs.declared.command.Request.TheVariants.{Check};
-ghost use Rattle.he_command.specs.Run.{AnswersLine, IsRequest, RunsLine, RunsRequest, Shows, status_of};
+ghost use Rattle.he_command.specs.Run.{AnswersLine, IsRequest, RunsLine, RunsRequest, Shows, status_of, status_of_live};
 
 use crate::command::{Request, read_words};
 use clap::Error;
 use clap::error::ErrorKind;
 use he_check::check;
-use he_live::live;
+use he_live::{LiveFault, live};
+use he_plan::Outcome3;
 use he_replay::{ReplayFault, run_action};
 use he_stream::{InputStream, OutputStream, write_whole};
 use std::alloc::{AllocGlobal, Global};
@@ -30,6 +31,9 @@ pub const FAULT: u8 = 1;
 
 /// The exit status of a command line that was refused.
 pub const USAGE: u8 = 2;
+
+/// The exit status of a live race that had to make a connection and made none.
+pub const NO_CONNECTION: u8 = 3;
 
 /// Runs the command line `words`, of which the first is the program's name, and answers the exit
 /// status. Output and help that was asked for go to `output`; what is wrong goes to `faults`. What
@@ -116,7 +120,9 @@ where
             report_end(run_action(rt, alloc, action, input, output), faults)
         }
         Request::Check => run_check(alloc, input, output, faults),
-        Request::Live { port } => report_end(live(rt, alloc, input, output, port), faults),
+        Request::Live { port, must_connect } => {
+            report_race(live(rt, alloc, input, output, port), must_connect, faults)
+        }
     }
 }
 
@@ -191,6 +197,21 @@ fn report_end<E: Display + Drop, F: Write>(end: Result<(), E>, faults: &mut F) -
 {
     match end {
         Ok(()) => DONE,
+        Err(fault) => report(fault, faults),
+    }
+}
+
+// Says how a live race ended, and answers the exit status.
+fn report_race<F: Write>(
+    end: Result<Outcome3, LiveFault>,
+    must_connect: bool,
+    faults: &mut F,
+) -> u8
+    ensures { result ≡ status_of_live must_connect end }
+{
+    match end {
+        Ok(Outcome3::Exhausted(_) | Outcome3::Limit(_)) if must_connect => NO_CONNECTION,
+        Ok(_) => DONE,
         Err(fault) => report(fault, faults),
     }
 }

@@ -3,6 +3,7 @@ use Rattle.std.specs.Prelude.{ℕ, ◌≡◌, ◌⊎◌, ◌++◌, Bool, List, [
 use Rattle.he_plan.specs.Agreement.{AreAlike}
 use Rattle.he_plan.specs.Race.{Race}
 use Rattle.he_plan.specs.Transcript.{IsTranscript, Report}
+use Rattle.he_plan.specs.declared.transcript.Outcome3.{Outcome3}
 use Rattle.he_text.specs.Inputs.{HasRaces, IsNotOne}
 use Rattle.he_text.specs.Written.{timeline_text, transcript_text}
 use Rattle.he_text.specs.declared.inputs.InputFault.TheVariants as inputs
@@ -15,14 +16,15 @@ use Rattle.he_live.specs.declared.fault.LiveFault.TheVariants as faults
 abbrev pub IsRunFault : LiveFault → Type 0
 IsRunFault fault = (fault ≡ faults.Runtime) ⊎ (fault ≡ faults.Memory)
 
--- the text of a race that was run: a transcript and then a record, which has the race's settings, policy, host and
--- answers and replays to this transcript
-pub record IsLiveText (race : Race) (text : List ℕ) : Type 0 where
+-- the text of a race that was run, and how it ended: a transcript and then a record, which has the race's settings, policy,
+-- host and answers and replays to this transcript
+pub record IsLiveText (race : Race) (text : List ℕ) (result : Outcome3) : Type 0 where
   pub recorded : Race
   pub report : Report
   pub alike : AreAlike race recorded
   pub transcript : IsTranscript recorded report
   pub told : text ≡ transcript_text report ++ timeline_text recorded
+  pub ended : result ≡ report.result
 
 -- what is wrong with the input, as the fault tells it
 abbrev pub fault_of_input : NotOneRace → LiveFault
@@ -45,20 +47,20 @@ pub record GivesNone (Given : List ℕ → Bool → Type 0) (why : NotOneRace) :
   pub given : Given input is_broken
   pub none : IsNotOne input is_broken why
 
--- the input is one race, and this is the text of a run of it
-pub record GivesText (Given : List ℕ → Bool → Type 0) (text : List ℕ) : Type 0 where
+-- the input is one race, and this is the text of a run of it, which ended so
+pub record GivesText (Given : List ℕ → Bool → Type 0) (text : List ℕ) (result : Outcome3) : Type 0 where
   pub race : Race
   pub given : GivesOne Given race
-  pub run : IsLiveText race text
+  pub run : IsLiveText race text result
 
 -- Given: what the input gave, and whether it broke off after that; Whole and Part: the text of which all was put into
 -- the output and then flushed, or a first part until that failed; Kept: nothing was put into the output.
--- A run's text is written whole; a fault of the input, of the event loop or of memory comes before any of it is.
-abbrev pub Lives : (List ℕ → Bool → Type 0) → (List ℕ → Type 0) → (List ℕ → Type 0) → Type 0 → Result (Unit {0}) LiveFault → Type 0
-Lives Given Whole Part Kept (Ok done) = (text : List ℕ) × GivesText Given text × Whole text
+-- A run's text is written whole, and how it ended is told; a fault of the input, of the event loop or of memory comes before any of it is.
+abbrev pub Lives : (List ℕ → Bool → Type 0) → (List ℕ → Type 0) → (List ℕ → Type 0) → Type 0 → Result Outcome3 LiveFault → Type 0
+Lives Given Whole Part Kept (Ok result) = (text : List ℕ) × GivesText Given text result × Whole text
 Lives Given Whole Part Kept (Err (faults.Text fault)) = GivesNone Given (ones.Fault (inputs.Text fault)) × Kept
 Lives Given Whole Part Kept (Err faults.OneRace) = GivesNone Given ones.Count × Kept
 Lives Given Whole Part Kept (Err faults.Read) = GivesNone Given (ones.Fault inputs.Read) × Kept
-Lives Given Whole Part Kept (Err faults.Write) = (text : List ℕ) × GivesText Given text × Part text
+Lives Given Whole Part Kept (Err faults.Write) = (text : List ℕ) × (result : Outcome3) × GivesText Given text result × Part text
 Lives Given Whole Part Kept (Err faults.Runtime) = (race : Race) × GivesOne Given race × Kept
 Lives Given Whole Part Kept (Err faults.Memory) = Kept

@@ -8,7 +8,7 @@ ghost use Rattle.he_live.specs.Reading.{ReadsOne};
 
 use crate::fault::LiveFault;
 use crate::racing::live_race;
-use he_plan::Timeline;
+use he_plan::{Outcome3, Timeline};
 use he_race::Raced;
 use he_stream::{InputStream, OutputStream, take_input, write_whole};
 use he_text::{NotOneRace, read_one_race, write_timeline, write_transcript};
@@ -21,7 +21,7 @@ use std::time::Clock;
 use tokio::net::TcpStream;
 
 /// Reads one race to the end of the input, runs it on real sockets at the port ([`live_race`]), and writes its
-/// transcript and then its record, a timeline that replays to this transcript.
+/// transcript and then its record, a timeline that replays to this transcript. Answers how the race ended.
 ///
 /// Of the input's race the settings, policy, host and answers are looked at alone. The whole output is made before the
 /// first byte of it is written: after `Write` a first part was written, after any other fault nothing. It is flushed
@@ -42,7 +42,7 @@ pub fn live<R, I, O>(
     input: &mut I,
     output: &mut O,
     port: u16,
-) -> Result<(), LiveFault>
+) -> Result<Outcome3, LiveFault>
 where
     R: Wait + Clock + RandomSource + AllocGlobal + Net,
     I: InputStream,
@@ -52,9 +52,11 @@ where
         (PutsPart O.contents O.puts O.flushes output.old output.new) (output.new ≡ output.old) result }
 {
     let timeline = take_race(alloc, input)?;
-    let text = race_text(rt, alloc, &timeline, port);
+    let told = race_text(rt, alloc, &timeline, port);
     drop(timeline);
-    Ok(write_whole(output, text?.as_slice())?)
+    let (text, ended) = told?;
+    write_whole(output, text.as_slice())?;
+    Ok(ended)
 }
 
 // Reads the race of an input to its end.
@@ -67,17 +69,23 @@ fn take_race<I: InputStream>(alloc: Global, input: &mut I) -> Result<Timeline, N
     }
 }
 
-// Runs the race, and answers what is written of it.
-fn race_text<R>(rt: &R, alloc: Global, timeline: &Timeline, port: u16) -> Result<Vec<u8>, LiveFault>
+// Runs the race, and answers what is written of it, and how it ended.
+fn race_text<R>(
+    rt: &R,
+    alloc: Global,
+    timeline: &Timeline,
+    port: u16,
+) -> Result<(Vec<u8>, Outcome3), LiveFault>
 where
     R: Wait + Clock + RandomSource + AllocGlobal + Net,
-    ensures text { IfOk result (λ text. IsLiveText timeline.now text.items) }
+    ensures text { IfOk result (λ told. IsLiveText timeline.now told.0.items told.1) }
     ensures fault { IfErr result IsRunFault }
 {
     let raced = live_race(rt, alloc, timeline, port)?;
+    let ended = raced.transcript.result();
     let text = raced_text(alloc, &raced);
     drop(raced);
-    text
+    Ok((text?, ended))
 }
 
 // The transcript and then the record.

@@ -2,6 +2,7 @@
 
 use crate::homes::{End, Lender, ONE, REFUSED, Result3, Wanted, descriptors, race, replays};
 use he_live::live;
+use he_plan::Outcome3;
 use he_stream::{FromReader, ToWriter};
 use std::io::Read;
 use std::mem::drop;
@@ -220,17 +221,18 @@ fn a_hundred_races_leave_no_socket(rt: HostRuntime) -> Result<(), Fail> {
     Ok(())
 }
 
-// Whether what `live` writes is a transcript that begins so, and a record that replays to it.
+// Whether `live` tells that the race was won where it is to be, and writes a transcript with an attempt, and a record that
+// replays to it.
 fn is_told<R: Lender + Net<Listener = TcpListener, Stream = StdStream>>(
     rt: &R,
     port: u16,
-    begins: &[u8],
+    wins: bool,
 ) -> Result<bool, Fail> {
     let mut input = FromReader::new(FakeReader::new(ONE, 7));
     let mut output = ToWriter::new(Vec::new(rt.alloc()));
-    let told = live(rt, rt.alloc(), &mut input, &mut output, port);
-    told?;
-    is_recorded(rt, output.writer(), begins)
+    let ended = live(rt, rt.alloc(), &mut input, &mut output, port)?;
+    let is_won = matches!(ended, Outcome3::Won(..));
+    Ok(is_won == wins && is_recorded(rt, output.writer(), b"attempt 0 ")?)
 }
 
 fn is_recorded<R: Lender>(rt: &R, written: &[u8], begins: &[u8]) -> Result<bool, Fail> {
@@ -247,8 +249,8 @@ fn is_recorded<R: Lender>(rt: &R, written: &[u8], begins: &[u8]) -> Result<bool,
 #[test]
 fn what_is_written_replays(rt: HostRuntime) -> Result<(), Fail> {
     let (listener, port) = listen(&rt, IpAddr::V4(OPEN), 0)?;
-    assert!(rt; is_told(&rt, port, b"attempt 0 ")?);
+    assert!(rt; is_told(&rt, port, true)?);
     drop(listener);
-    assert!(rt; is_told(&rt, port, b"attempt 0 ")?);
+    assert!(rt; is_told(&rt, port, false)?);
     Ok(())
 }
