@@ -11,7 +11,8 @@ use Rattle.he_replay.specs.Output.{IsOutput}
 abbrev pub Stands : (List ℕ → Race → Type 0) → List ℕ → List ℕ → TextFault → Type 0
 Stands IsText input text fault = (more : List ℕ) (is_broken : Bool) → IsOutput IsText (input ++ more) is_broken text (Some (Text fault))
 
--- the fault of a policy table on the last line that has a line end, where the input broke off: more rows might have followed
+-- the fault of a policy table on the last line that has a line end, where the input broke off: more rows might have
+-- followed
 abbrev pub IsTableBroken : List ℕ → Bool → TextFault → Type 0
 IsTableBroken input is_broken fault = (is_broken ≡ true) × IsPolicyFault fault.kind × (fault.line ≡ line_count input)
 

@@ -24,7 +24,8 @@ IsTextOf contents.Transcript = IsTranscriptText
 IsTextOf contents.Order = IsOrderText
 IsTextOf contents.Explanation = IsExplanation
 
--- the text that is written for an input, and what is wrong with the input: a text of each of its races up to the first fault
+-- the text that is written for an input, and what is wrong with the input: a text of each of its races up to the
+-- first fault
 pub record IsOutput (IsText : List ℕ → Race → Type 0) (input : List ℕ) (is_broken : Bool) (text : List ℕ) (fault : Option InputFault) : Type 0 where
   pub races : List Race
   pub has : HasRaces input is_broken races fault

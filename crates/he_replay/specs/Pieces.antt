@@ -1,5 +1,5 @@
--- Mirrors the code: pieces of some bytes, which workers take from a board and tell. It helps the proofs; what is written
--- for an input stands in `Output`.
+-- Mirrors the code: pieces of some bytes, which workers take from a board and tell. It helps the proofs; what is
+-- written for an input stands in `Output`.
 use Rattle.std.specs.Prelude.{ℕ, ◌≤◌, List, All, drop, length}
 use Rattle.he_board.specs.declared.board.Board.{Board}
 use Rattle.he_board.specs.declared.pass.Pass.{Pass}

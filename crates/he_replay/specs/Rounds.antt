@@ -1,5 +1,5 @@
--- Mirrors the code: how a call goes through an input, round by round. It helps the proofs; what is taken and put by a whole
--- call stands in `Stream`.
+-- Mirrors the code: how a call goes through an input, round by round. It helps the proofs; what is taken and put by a
+-- whole call stands in `Stream`.
 use Rattle.std.specs.Prelude.{ℕ, ◌≡◌, ◌≤◌, ◌⊎◌, ◌++◌, Bool, List, [], Option, None, Some, Result, Ok, Err, length, drop}
 use Rattle.he_plan.specs.Race.{Race}
 use Rattle.he_stream.specs.declared.answer.Flushed.{Flushed}

@@ -21,7 +21,8 @@ pub record PutsOutput (IsText : List ℕ → Race → Type 0) (Gave : List ℕ �
   pub output : IsOutput IsText input is_broken text fault
   pub written : Whole text
 
--- of the input these bytes were taken, and no more, and the whole output of every input that begins with them was put in
+-- of the input these bytes were taken, and no more, and the whole output of every input that begins with them was put
+-- in
 pub record PutsSure (IsText : List ℕ → Race → Type 0) (Taken : List ℕ → Type 0) (Whole : List ℕ → Type 0) (fault : TextFault) : Type 0 where
   pub input : List ℕ
   pub text : List ℕ
@@ -39,7 +40,8 @@ pub record TellsSome (IsText : List ℕ → Race → Type 0) (input text : List 
   pub few : length races ≤ most_races
   pub told : AreTexts IsText races text
 
--- of the input these bytes were taken, whether there are more or not, and this was done with a text of some first races of them
+-- of the input these bytes were taken, whether there are more or not, and this was done with a text of some first
+-- races of them
 pub record PutsSome (IsText : List ℕ → Race → Type 0) (Gave : List ℕ → Bool → Type 0) (Taken : List ℕ → Type 0) (Done : List ℕ → Type 0) : Type 0 where
   pub input : List ℕ
   pub text : List ℕ
@@ -48,8 +50,9 @@ pub record PutsSome (IsText : List ℕ → Race → Type 0) (Gave : List ℕ →
   pub written : Done text
 
 -- Gave: what the input gave, and whether it broke off after that; Taken: what was taken of an input that was not read
--- further; Whole: the text of which all was put into the output and then flushed; Part: the text of which a first part was
--- put in, until that failed; Put: the text of which all was put in and flushed, or nothing where there is none
+-- further; Whole: the text of which all was put into the output and then flushed; Part: the text of which a first
+-- part was put in, until that failed; Put: the text of which all was put in and flushed, or nothing where there is
+-- none
 abbrev pub Streams : (List ℕ → Race → Type 0) → (List ℕ → Bool → Type 0) → (List ℕ → Type 0) → (List ℕ → Type 0) → (List ℕ → Type 0) → (List ℕ → Type 0) → Result (Unit {0}) ReplayFault → Type 0
 Streams IsText Gave Taken Whole Part Put (Ok done) = PutsOutput IsText Gave Whole None
 Streams IsText Gave Taken Whole Part Put (Err (Text fault)) =

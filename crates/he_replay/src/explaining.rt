@@ -9,13 +9,13 @@ use crate::streaming::stream_races;
 use he_stream::{InputStream, OutputStream};
 use std::alloc::Allocator;
 
-/// Reads timelines to the end of the input and writes for each why it went as it did: the order of its addresses, each
-/// from the second on with the rule that puts it behind the one before (RFC 6724 section 6), then what happened at which
-/// tick, each attempt with what started it (RFC 8305 sections 3 to 5).
+/// Reads timelines to the end of the input and writes for each why it went as it did: the order of its addresses,
+/// each from the second on with the rule that puts it behind the one before (RFC 6724 section 6), then what happened
+/// at which tick, each attempt with what started it (RFC 8305 sections 3 to 5).
 ///
-/// The explanations are written as the races come: when a step of the input has given the last line of a race, what is asked
-/// for of all races that are whole by then is written and flushed before the next step. No more is held than the bytes
-/// of one race and one step, one race, and the text of the races that one step completes.
+/// The explanations are written as the races come: when a step of the input has given the last line of a race, what
+/// is asked for of all races that are whole by then is written and flushed before the next step. No more is held than
+/// the bytes of one race and one step, one race, and the text of the races that one step completes.
 ///
 /// After `Text` and `Read` all that the input before the fault asks for was written, after `Write` a first part of it,
 /// after `Memory` what some first races ask for. The output is flushed at the end, after `Text` and `Read` too. After

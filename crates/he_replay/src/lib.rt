@@ -12,16 +12,16 @@
 //! ended, where nothing that follows could change it, in which case the input may not be read further, or of a policy
 //! table in which the input broke off (`laws`).
 //!
-//! Where races come faster than they are told, and more than one worker may be taken, `replay` cuts the bytes of a step
-//! into pieces behind races. Each worker takes pieces from a board (`he_board`), reads them and writes the transcripts
-//! of their races, in a thread of its own. Proved, for every number of workers and every order of their steps: the
-//! clauses of `replay`.
+//! Where races come faster than they are told, and more than one worker may be taken, `replay` cuts the bytes of a
+//! step into pieces behind races. Each worker takes pieces from a board (`he_board`), reads them and writes the
+//! transcripts of their races, in a thread of its own. Proved, for every number of workers and every order of their
+//! steps: the clauses of `replay`.
 //!
-//! `replay_batch` (`he_pool`), which shares the attempts of races that are in memory, is offered here too; `replay` does
-//! not go through it.
+//! `replay_batch` (`he_pool`), which shares the attempts of races that are in memory, is offered here too; `replay`
+//! does not go through it.
 //!
-//! Only tested: that `replay` and `orders` tell want of memory only where a growth was refused, that they write what is
-//! asked for of a race before they read on, and that they read nothing after a failed write. Neither proved nor
+//! Only tested: that `replay` and `orders` tell want of memory only where a growth was refused, that they write what
+//! is asked for of a race before they read on, and that they read nothing after a failed write. Neither proved nor
 //! tested: where bytes are cut for workers, that their pieces are told at once, and any speed.
 #![tactic(auto)]
 

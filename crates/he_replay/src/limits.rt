@@ -23,13 +23,13 @@ pub const MOST_ROOM: usize = 1_048_576;
 /// The most room for a read of which workers share the races, in bytes: their threads are made anew for each read.
 pub const MOST_SHARED_ROOM: usize = 4_194_304;
 
-/// The bytes that the arena has at first in which a race is kept while it is told: the calling thread has one, and each
-/// worker. Races of a few addresses need less, so they take no memory anew.
+/// The bytes that the arena has at first in which a race is kept while it is told: the calling thread has one, and
+/// each worker. Races of a few addresses need less, so they take no memory anew.
 pub const ARENA_BYTES: usize = 65_536;
 
 /// The room that the text of an order has at first, in bytes: one of three addresses mostly needs no more.
 pub const ORDER_ROOM: usize = 128;
 
-/// The bytes behind the last whole race that are held before they are looked at for a fault, where more are ready to be
-/// taken. Most races are shorter, so that their bytes are read once.
+/// The bytes behind the last whole race that are held before they are looked at for a fault, where more are ready to
+/// be taken. Most races are shorter, so that their bytes are read once.
 pub const TRIED_BYTES: usize = 32_768;

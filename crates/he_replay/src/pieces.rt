@@ -1,6 +1,6 @@
-//! The first races of some bytes, told by workers. The bytes are cut into pieces behind races. Each worker takes pieces
-//! from a board that all share, reads them and writes the transcripts of their races, in a thread of its own; and these
-//! are put together in the order of the races.
+//! The first races of some bytes, told by workers. The bytes are cut into pieces behind races. Each worker takes
+//! pieces from a board that all share, reads them and writes the transcripts of their races, in a thread of its own;
+//! and these are put together in the order of the races.
 ghost use Rattle.std.specs.Prelude.{◌≡◌, ◌≤◌, ◌<◌, [], IfOk, drop, length};
 ghost use denote.Param.Send.{Frees, IsSend, IsSync};
 ghost use Rattle.he_board.specs.Passes.{IsPassOf, jobs_of};

@@ -22,9 +22,9 @@ use std::thread::Threads;
 /// the bytes of one race and one step, and the transcripts of the races that one step completes.
 ///
 /// One worker, the calling thread, reads each race and follows it to its end before the next. More share the bytes of
-/// one step: these are cut into pieces behind races (`limits::PIECE_BYTES` each, or more), each worker takes pieces until
-/// none is left, reads them and writes the transcripts of their races, in a thread of its own, and all are put together
-/// in the order of the races. No more workers are taken than have `limits::PIECES_OF_A_WORKER` pieces each.
+/// one step: these are cut into pieces behind races (`limits::PIECE_BYTES` each, or more), each worker takes pieces
+/// until none is left, reads them and writes the transcripts of their races, in a thread of its own, and all are put
+/// together in the order of the races. No more workers are taken than have `limits::PIECES_OF_A_WORKER` pieces each.
 ///
 /// After `Text` and `Read` all that the input before the fault asks for was written, after `Write` a first part of it,
 /// after `Memory` the transcripts of some first races. The output is flushed at the end, after `Text` and `Read` too.

@@ -1,5 +1,5 @@
-//! Rounds: the races that stand ready in the bytes that are held are told, each before the next is read, and their texts
-//! put into the output.
+//! Rounds: the races that stand ready in the bytes that are held are told, each before the next is read, and their
+//! texts put into the output.
 ghost use Rattle.std.specs.Prelude.{◌≡◌, ◌+◌, ◌-◌, ◌≤◌, ◌^◌, false, IfOk, OnOk, drop, take, vec_len};
 ghost use Rattle.he_text.specs.declared.walks.Ending.TheVariants as endings;
 ghost use Rattle.he_text.specs.Walks.{IsWithin};
@@ -137,8 +137,9 @@ fn forget<A: Allocator>(bytes: &mut Vec<u8, A>, end: usize, filled: usize)
     bytes.copy_within(end..filled, 0);
 }
 
-// Appends the texts that are asked for of the races at the front of the bytes, behind those with which the part begins.
-// No race is kept when the walk goes on to the next: a race stands in an arena, whose memory the next one takes again.
+// Appends the texts that are asked for of the races at the front of the bytes, behind those with which the part
+// begins. No race is kept when the walk goes on to the next: a race stands in an arena, whose memory the next one
+// takes again.
 pub(crate) fn tell_races<A: Allocator + Copy>(
     alloc: A,
     bytes: &[u8],

@@ -132,9 +132,10 @@ pub(crate) fn end_held<A: Allocator + Copy, O: OutputStream>(
     put_round(alloc, held, part, content, text, output)
 }
 
-// How far races are looked for in the bytes, of which those from `searched` on are new: to the end of the last race that
-// ends there, or, for a fault behind it, through all of them. That is tried where nothing more was ready to be taken, or
-// where the rest is longer than most races are, but not before the rest is twice as long as when it was tried last.
+// How far races are looked for in the bytes, of which those from `searched` on are new: to the end of the last race
+// that ends there, or, for a fault behind it, through all of them. That is tried where nothing more was ready to be
+// taken, or where the rest is longer than most races are, but not before the rest is twice as long as when it was
+// tried last.
 fn reach_of(bytes: &[u8], searched: usize, is_short: bool, tried: usize) -> usize
     requires { searched ≤ length bytes.now }
 {

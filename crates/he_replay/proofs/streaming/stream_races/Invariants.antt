@@ -8,8 +8,8 @@ use Rattle.he_replay.specs.Output.{IsTextOf}
 use Rattle.he_replay.specs.Rounds.{IsAt}
 use Rattle.he_replay.proofs.streaming.stream_races.Given as goal
 
--- what is filled was taken and not told; what was taken before was told and put in rounds; each step so far went on; and there is
--- room for the next
+-- what is filled was taken and not told; what was taken before was told and put in rounds; each step so far went on;
+-- and there is room for the next
 abbrev pub invariant-loop-steps : goal.invariant-loop-steps
 invariant-loop-steps g l =
     (l.held.filled ≤ vec_len l.held.bytes) × (l.held.walk.lines + l.held.filled ≤ READ_SIZE * l._steps)
