@@ -1,5 +1,5 @@
 # What a newcomer needs. README.md and CONTRIBUTING.md say what each is for and how long it takes.
-.PHONY: help race test edits install examples documents explained hostile refused hosts fuzz manual kit program
+.PHONY: help race test edits install examples documents explained hostile refused hosts captures fuzz manual kit program
 
 PREFIX ?= /usr/local
 RACE ?= crates/cases/data/ipv6-late-but-within-delay-leads.timeline
@@ -20,7 +20,9 @@ help:
 	@echo 'make hostile HE=FILE       runs a built program over streams that fail, open pipes, too little memory'
 	@echo 'make refused HE=FILE       refuses each allocation of a built program in turn, also of a live race, and those of'
 	@echo '                           the races that the crate cases runs'
-	@echo 'make hosts HE=FILE         tries tools/host-lines on recorded hosts, and has a built program read its lines'
+	@echo 'make hosts HE=FILE         tries tools/host-lines on recorded hosts, has a built program read its lines, and tries'
+	@echo '                           the command line of tools/race-text'
+	@echo 'make captures HE=FILE      tries tools/from-capture and tools/compare-done on packet captures, where tshark is there'
 	@echo 'make fuzz SECONDS=60 SEED=1 HE=FILE'
 	@echo '                           compares a built program with a plain reading of the rules, on texts that are drawn'
 	@echo 'make explained HE=FILE     compares what a built program explains with its transcripts and orders'
@@ -63,6 +65,9 @@ hostile: program
 
 hosts: program
 	scripts/hosts $(HE)
+
+captures: program
+	scripts/captures $(HE)
 
 fuzz: program
 	scripts/fuzz $(HE) --large --seed $(SEED)
