@@ -1,5 +1,5 @@
 # What a newcomer needs. README.md and CONTRIBUTING.md say what each is for and how long it takes.
-.PHONY: help race test edits install examples documents explained hostile refused hosts captures fuzz manual kit program
+.PHONY: help race test edits install examples documents explained hostile refused hosts captures live fuzz manual kit program
 
 PREFIX ?= /usr/local
 RACE ?= crates/cases/data/ipv6-late-but-within-delay-leads.timeline
@@ -23,6 +23,7 @@ help:
 	@echo 'make hosts HE=FILE         tries tools/host-lines on recorded hosts, has a built program read its lines, and tries'
 	@echo '                           the command line of tools/race-text'
 	@echo 'make captures HE=FILE      tries tools/from-capture and tools/compare-done on packet captures, where tshark is there'
+	@echo 'make live HE=FILE          runs live races of a built program, and looks from the other side at what it did'
 	@echo 'make fuzz SECONDS=60 SEED=1 HE=FILE'
 	@echo '                           compares a built program with a plain reading of the rules, on texts that are drawn'
 	@echo 'make explained HE=FILE     compares what a built program explains with its transcripts and orders'
@@ -68,6 +69,9 @@ hosts: program
 
 captures: program
 	scripts/captures $(HE)
+
+live: program
+	scripts/live $(HE)
 
 fuzz: program
 	scripts/fuzz $(HE) --large --seed $(SEED)
