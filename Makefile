@@ -20,16 +20,10 @@ help:
 	@echo 'make hostile HE=FILE       runs a built program over streams that fail, open pipes, too little memory'
 	@echo 'make refused HE=FILE       refuses each allocation of a built program in turn, also of a live race, and those of'
 	@echo '                           the races that the crate cases runs'
-<<<<<<< HEAD
-	@echo 'make hosts HE=FILE         tries tools/host-lines on recorded hosts, has a built program read its lines, and tries'
-	@echo '                           the command line of tools/race-text'
-	@echo 'make captures HE=FILE      tries tools/from-capture and tools/compare-done on packet captures, where tshark is there'
-	@echo 'make live HE=FILE          runs live races of a built program, and looks from the other side at what it did'
-=======
 	@echo 'make hosts HE=FILE         tries tools/host-lines on recorded hosts, has a built program read its lines,'
 	@echo '                           and tries the command line of tools/race-text'
 	@echo 'make captures HE=FILE      tries tools/from-capture and tools/compare-done on packet captures; needs tshark'
->>>>>>> wt-capture
+	@echo 'make live HE=FILE          runs live races of a built program, and looks from the other side at what it did'
 	@echo 'make fuzz SECONDS=60 SEED=1 HE=FILE'
 	@echo '                           compares a built program with a plain reading of the rules, on texts that are drawn'
 	@echo 'make explained HE=FILE     compares what a built program explains with its transcripts and orders'
