@@ -202,11 +202,7 @@ fn report_end<E: Display + Drop, F: Write>(end: Result<(), E>, faults: &mut F) -
 }
 
 // Says how a live race ended, and answers the exit status.
-fn report_race<F: Write>(
-    end: Result<Outcome3, LiveFault>,
-    must_connect: bool,
-    faults: &mut F,
-) -> u8
+fn report_race<F: Write>(end: Result<Outcome3, LiveFault>, must_connect: bool, faults: &mut F) -> u8
     ensures { result ≡ status_of_live must_connect end }
 {
     match end {

@@ -56,10 +56,20 @@ type Row = (&'static [u8], usize, Ending, Told);
 static ROWS: [Row; 15] = [
     (RACE, 156, Ending::Open, Told::Race(156)),
     (RACE, 155, Ending::Open, Told::None),
-    (RACE, 155, Ending::Whole, Told::Fault(9, TextKind::Unfinished)),
+    (
+        RACE,
+        155,
+        Ending::Whole,
+        Told::Fault(9, TextKind::Unfinished),
+    ),
     (RACE, 0, Ending::Open, Told::None),
     (RACE, 0, Ending::Whole, Told::None),
-    (b"race 3\n", 7, Ending::Open, Told::Fault(1, TextKind::Header)),
+    (
+        b"race 3\n",
+        7,
+        Ending::Open,
+        Told::Fault(1, TextKind::Header),
+    ),
     (ROW, ROW_BYTES, Ending::Open, Told::None),
     (ROW, ROW_BYTES, Ending::Whole, NO_TABLE),
     (ROW, 27, Ending::Open, Told::None),
