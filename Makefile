@@ -11,7 +11,8 @@ SEED ?= 1
 help:
 	@echo 'make race                  replays an example race, with the program unproved: the fastest way to see a transcript'
 	@echo 'make race RACE=FILE        replays the races of a file the same way'
-	@echo 'make test                  the gate: proves every crate, tries the wrong edits, runs the tests and the program'
+	@echo 'make test                  the gate (proves every crate, tries the wrong edits, runs the tests), and then tries the'
+	@echo '                           built program as a whole: all of examples to fuzz below, in two minutes'
 	@echo 'make edits                 tries the wrong edits that the gate leaves out: each must be refused'
 	@echo 'make install PREFIX=DIR    proves and builds the program, and puts it at DIR/bin/he, its manual page,'
 	@echo '                           completion and licence below DIR/share'
@@ -44,6 +45,7 @@ race: kit
 
 test: kit
 	rt ci
+	scripts/whole crates/he_tool/out/he_tool crates/cases/out/cases
 
 edits: kit
 	scripts/edits $(CRATES)
