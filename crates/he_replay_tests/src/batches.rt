@@ -260,7 +260,15 @@ fn refused_workers_hand_back_their_pass(rt: HostRuntime) {
 }
 
 // The numbers of races of batches, and of workers.
-static SIZES: [(usize, u16); 7] = [(0, 1), (0, 7), (1, 1), (1, 7), (64, 7), (1_024, 1), (1_024, 7)];
+static SIZES: [(usize, u16); 7] = [
+    (0, 1),
+    (0, 7),
+    (1, 1),
+    (1, 7),
+    (64, 7),
+    (1_024, 1),
+    (1_024, 7),
+];
 
 #[test]
 fn batches_of_any_size(rt: HostRuntime) {
@@ -271,12 +279,7 @@ fn batches_of_any_size(rt: HostRuntime) {
 }
 
 // Whether a batch of so many races is done and right.
-fn run_batch<R: Threads + Sync>(
-    rt: &R,
-    alloc: Global,
-    size: usize,
-    workers: u16,
-) -> Option<bool> {
+fn run_batch<R: Threads + Sync>(rt: &R, alloc: Global, size: usize, workers: u16) -> Option<bool> {
     let timelines = timelines_of(alloc, size)?;
     if timelines.len() > MOST_RACES || workers < 1 || workers > 64 {
         return None;
