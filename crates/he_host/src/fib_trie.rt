@@ -23,21 +23,28 @@ pub enum TrieLine {
     Other,
 }
 
+fn is_own(first: &[u8], line: &[u8]) -> bool {
+    let (Some(second), Some(third)) = (field(line, 1), field(line, 2)) else {
+        return false;
+    };
+    first == b"/32".as_slice() && second == b"host".as_slice() && third == b"LOCAL".as_slice()
+}
+
 /// What a line says.
 pub fn read_trie_line(line: &[u8]) -> TrieLine {
     let Some(first) = field(line, 0) else {
         return TrieLine::Other;
     };
-    if first == b"|--" {
+    if first == b"|--".as_slice() {
         return TrieLine::Leaf(field(line, 1).and_then(|text| read_ip_of(Family::V4, text)));
     }
-    if first == b"Local:" {
+    if first == b"Local:".as_slice() {
         return TrieLine::Heading(true);
     }
-    if first == b"Main:" || first == b"Id" {
+    if first == b"Main:".as_slice() || first == b"Id".as_slice() {
         return TrieLine::Heading(false);
     }
-    if first == b"/32" && field(line, 1) == Some(b"host") && field(line, 2) == Some(b"LOCAL") {
+    if is_own(first, line) {
         return TrieLine::OwnAddress;
     }
     TrieLine::Other

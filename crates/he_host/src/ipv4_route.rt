@@ -71,7 +71,7 @@ pub fn read_v4_route(line: &[u8], interfaces: &[Interface<'_>]) -> Result<Metere
     let metric = read_number(field(line, METRIC).ok_or(Why::Unclear)?).ok_or(Why::Unclear)?;
     let mask = address(line, MASK).ok_or(Why::Unclear)?;
     let prefix = masked(number, mask).ok_or(Why::Unclear)?;
-    if flags & REJECT != 0 || name == b"*" {
+    if flags & REJECT != 0 || name == b"*".as_slice() {
         return Err(Why::Unreachable);
     }
     let interface = find_up(interfaces, name).ok_or(Why::Down)?;

@@ -12,8 +12,6 @@ pub mod interface;
 pub mod ipv4_route;
 pub mod ipv6_route;
 pub mod left_out;
-#[cfg(test)]
-mod tests;
 
 pub use gathering::{Files, FoundHost, host_of_files};
 pub use interface::Interface;
