@@ -60,6 +60,7 @@ fn place_of(routes: &[Route], prefix: Prefix) -> Option<usize> {
 }
 
 // Routes, and beside each its metric.
+#[derive(Drop)]
 struct Routes<A: Allocator> {
     routes: Vec<Route, A>,
     metrics: Vec<u64, A>,

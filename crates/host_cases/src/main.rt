@@ -8,6 +8,7 @@
 use he_addr::{write_prefix, write_source};
 use he_host::fields::field;
 use he_host::{File, Files, FoundHost, Interface, LeftOut, Why, host_of_files};
+use std::alloc::Global;
 use std::{fs, io};
 
 fn main(rt: HostRuntime) -> io::Result<()> {
@@ -25,7 +26,7 @@ fn main(rt: HostRuntime) -> io::Result<()> {
 }
 
 fn read(rt: &HostRuntime, name: &str, file: &str) -> io::Result<Vec<u8>> {
-    let path = format!(rt.alloc(); "{name}.{file}")?;
+    let path = format!(in rt.alloc(); "{name}.{file}")?;
     fs::read(rt, path.as_str())
 }
 
@@ -73,7 +74,7 @@ fn show_host(rt: &HostRuntime, found: &FoundHost<Global>) -> io::Result<()> {
     }
     for route in found.host.routes() {
         let mut text = Vec::new(rt.alloc());
-        if write_prefix(route.prefix, &mut text).is_ok() {
+        if write_prefix(route.prefix, route.prefix.is_v4(), &mut text).is_ok() {
             let tunnel = if route.tunnel { " tunnel" } else { "" };
             let number = route.interface;
             let spelled = std::str::from_utf8(text.as_slice()).unwrap_or("?");
