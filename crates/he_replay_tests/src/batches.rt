@@ -1,5 +1,5 @@
 // Batches of four races: which jobs the gate is told of, that workers run at the same time, what the pass tells at the
-// end, and what is answered where memory is refused.
+// end, and what is answered where memory is refused. And batches of other sizes.
 ghost use Rattle.std.specs.Prelude.{◌≡◌};
 ghost use Rattle.he_board.specs.declared.limits.TheConstants.{PARTS};
 ghost use Rattle.he_board.specs.Passes.{IsPassOf, jobs_of, notes, races_of};
@@ -8,7 +8,8 @@ use crate::gates::{EACH_JOB, Held, Holding};
 use he_addr::Memory;
 use he_board::{Board, PARTS, Pass};
 use he_plan::{Timeline, Transcript};
-use he_replay::{batch_jobs, replay_batch};
+use he_replay::limits::MOST_RACES;
+use he_replay::{NoGate, batch_jobs, replay_batch};
 use he_text::{read_race, write_transcript};
 use refusing::{Refusing, each_growth_refused};
 use std::alloc::{Allocator, Global};
@@ -79,11 +80,12 @@ const RACES: usize = 4;
 // The most turns for which a gate holds a worker.
 const TURNS: u64 = 300_000_000;
 
-fn timelines_of<A: Allocator + Copy>(alloc: A) -> Option<Vec<Timeline<A>, A>> {
+// So many races: the four of the text, again and again.
+fn timelines_of<A: Allocator + Copy>(alloc: A, count: usize) -> Option<Vec<Timeline<A>, A>> {
     let mut timelines = Vec::new(alloc);
     let mut from = 0;
-    for _ in 0..RACES {
-        from = append_race(alloc, from, &mut timelines)?;
+    for _ in 0..count {
+        from = append_race(alloc, from % TEXT.len(), &mut timelines)?;
     }
     Some(timelines)
 }
@@ -129,7 +131,7 @@ fn run<R: Threads + Sync, A: Allocator + Copy + Send + Sync>(
     workers: u16,
     gate: &Holding,
 ) -> Option<Ended> {
-    let timelines = timelines_of(alloc)?;
+    let timelines = timelines_of(alloc, RACES)?;
     run_timelines(rt, alloc, &timelines, workers, gate)
 }
 
@@ -255,4 +257,50 @@ fn refused_workers_hand_back_their_pass(rt: HostRuntime) {
         });
         assert!(rt; refused > 10);
     }
+}
+
+// The numbers of races of batches, and of workers.
+static SIZES: [(usize, u16); 7] = [(0, 1), (0, 7), (1, 1), (1, 7), (64, 7), (1_024, 1), (1_024, 7)];
+
+#[test]
+fn batches_of_any_size(rt: HostRuntime) {
+    for (size, workers) in &SIZES {
+        let is_right = run_batch(&rt, rt.alloc(), *size, *workers);
+        assert_eq!(rt; (*size, *workers, is_right), (*size, *workers, Some(true)));
+    }
+}
+
+// Whether a batch of so many races is done and right.
+fn run_batch<R: Threads + Sync>(
+    rt: &R,
+    alloc: Global,
+    size: usize,
+    workers: u16,
+) -> Option<bool> {
+    let timelines = timelines_of(alloc, size)?;
+    if timelines.len() > MOST_RACES || workers < 1 || workers > 64 {
+        return None;
+    }
+    let Ok((board, pass)) = Board::new(alloc, batch_jobs(&timelines), timelines.len()) else {
+        return None;
+    };
+    let (_, told) = replay_batch(rt, alloc, &timelines, &board, pass, workers, &NoGate);
+    Some(are_repeated(alloc, told, size))
+}
+
+// Whether these are so many transcripts: those of the four races, again and again.
+fn are_repeated(alloc: Global, told: Result<Vec<Transcript>, Memory>, size: usize) -> bool {
+    let Ok(transcripts) = told else {
+        return false;
+    };
+    let mut written = Vec::new(alloc);
+    for transcript in &transcripts {
+        if write_transcript(transcript, &mut written).is_err() {
+            return false;
+        }
+    }
+    transcripts.len() == size
+        && written
+            .chunks(TRANSCRIPTS.len())
+            .all(|chunk| TRANSCRIPTS.starts_with(chunk))
 }
