@@ -8,15 +8,18 @@ needs: python3, its standard library alone
 usage: scripts/plain.py replay < TEXT
        scripts/plain.py order < TEXT
 """
+import pathlib
 import re
 import sys
 from collections import namedtuple
 from functools import lru_cache
 
-MOST_RACES = 1024
-MOST_LINE_BYTES = 4096
-MOST_LISTED = 64
-MOST_PAUSES = 136
+ROOT = pathlib.Path(__file__).resolve().parent.parent
+# The limits of a text stand in docs/FORMAT.md: what there is at most, and how many.
+LIMITS = re.findall(r"^\| ([^|]+) \| ([0-9,]+) \|$", (ROOT / "docs/FORMAT.md").read_text(), re.MULTILINE)
+MOST_RACES, MOST_LINE_BYTES, MOST_LISTED, MOST_ADDRESSES, MOST_PAUSES = [
+    next(int(most.replace(",", "")) for what, most in LIMITS if what.startswith(begin))
+    for begin in ("races", "bytes of a line", "`policy`", "addresses", "`pause`")]
 MOST_TICK = 3_600_000
 MOST_PAUSE_END = 3_600_001
 MOST_WORD = 65_535
@@ -538,7 +541,7 @@ class Reader:
                 "rtt": 3, "used": 2, "connect": 4, "pause": 3, "end": 1}
         if length < least[word] or length > most.get(word, length):
             raise Fault("word")
-        if word in ("aaaa", "a") and length - 2 > MOST_LISTED:
+        if word in ("aaaa", "a") and length - 2 > MOST_ADDRESSES:
             raise Fault("too many")
 
     def set(self, tokens):

@@ -29,12 +29,12 @@ pub fn keys_are_ordered()
     ensures { (tick place other_tick other_place : ℕ) → place < PLACES → other_place < PLACES → ((key_of tick place < key_of other_tick other_place) ↔ ((tick < other_tick) ⊎ (tick ≡ other_tick) × (place < other_place))) }
 {}
 
-/// The limits of a board, as numbers: 131,072 jobs, 1,024 races, 128 places, 1,048,576 parts and ticks up to 7,200,000
+/// The limits of a board, as numbers: 2,097,152 jobs, 4,096 races, 512 places, 1,048,576 parts and ticks up to 7,200,000
 /// (milliseconds). What a winner word holds while nothing was offered is 2^64 - 1.
 pub fn limits_as_numbers()
-    ensures jobs { JOBS ≡ 131072 }
-    ensures races { RACES ≡ 1024 }
-    ensures places { PLACES ≡ 128 }
+    ensures jobs { JOBS ≡ 2097152 }
+    ensures races { RACES ≡ 4096 }
+    ensures places { PLACES ≡ 512 }
     ensures parts { PARTS ≡ 1048576 }
     ensures last_tick { LAST_TICK ≡ 7200000 }
     ensures no_offer { NO_OFFER ≡ 18446744073709551615 }

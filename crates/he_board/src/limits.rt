@@ -1,16 +1,16 @@
 //! The limits of a board, all in one place.
 
 /// The most jobs of a board.
-pub const JOBS: usize = 131_072;
+pub const JOBS: usize = 2_097_152;
 
 /// The most races of a board.
-pub const RACES: usize = 1_024;
+pub const RACES: usize = 4_096;
 
 /// The parts of the pass that comes with a board.
 pub const PARTS: u32 = 1_048_576;
 
 /// The places of a race, from 0 on. Also the factor of the tick in a key.
-pub const PLACES: usize = 128;
+pub const PLACES: usize = 512;
 
 /// The last tick at which an attempt can be offered.
 pub const LAST_TICK: u64 = 7_200_000;

@@ -21,22 +21,22 @@ fn board_walk(rt: HostRuntime) {
     let least = board.least(&mut pass, 0);
     let winner = board.winner(&mut pass, 0);
     assert!(rt; parts == (524_288, 524_288) && pass.parts() == 1_048_576);
-    assert!(rt; (before, seen, found, least) == (NO_OFFER, 40_961, 40_961, 40_960));
+    assert!(rt; (before, seen, found, least) == (NO_OFFER, 163_841, 163_841, 163_840));
     assert!(rt; taken == (true, false) && winner == Some((320, 0)));
 }
 
 #[test]
 fn sizes(rt: HostRuntime) {
     let alloc = rt.alloc();
-    let jobs = Board::new(alloc, 131_073, 0).err();
-    let races = Board::new(alloc, 0, 1_025).err();
+    let jobs = Board::new(alloc, 2_097_153, 0).err();
+    let races = Board::new(alloc, 0, 4_097).err();
     assert!(rt; jobs == Some(BoardFault::Size) && races == Some(BoardFault::Size));
     assert!(rt; Board::new(alloc, 0, 0).is_ok());
-    let Ok((board, mut pass)) = Board::new(alloc, 131_072, 1_024) else {
+    let Ok((board, mut pass)) = Board::new(alloc, 2_097_152, 4_096) else {
         assert!(rt; false, "memory is granted");
         return;
     };
-    assert!(rt; board.take(&mut pass, 131_071) && board.winner(&mut pass, 1_023).is_none());
+    assert!(rt; board.take(&mut pass, 2_097_151) && board.winner(&mut pass, 4_095).is_none());
 }
 
 // A board whose growth is refused is not made, for want of memory.

@@ -22,7 +22,7 @@ pub struct Checked {
 /// # Errors
 ///
 /// - `Text` with the first fault of the text, its line counted over the whole input from 1; of an input with more
-///   than 1,024 races that is `TooMany` at the first line of the next one.
+///   than 4,096 races that is `TooMany` at the first line of the next one.
 /// - `Read` where the input broke off and its text has no fault before that.
 /// - `Memory` where an allocation was refused.
 pub fn check_input<A: Allocator + Copy>(

@@ -28,6 +28,6 @@ pub record AreRanges : Type 0 where
   pub pause_end_most : MAX_PAUSE_END ≡ 3600001
   pub finish_most : MAX_FINISH ≡ 7200000
   -- addresses of an answer, attempts and pauses of a race
-  pub addresses_most : MAX_ADDRESSES ≡ 64
-  pub attempts_most : MAX_ATTEMPTS ≡ 128
-  pub pauses_most : MAX_PAUSES ≡ 136
+  pub addresses_most : MAX_ADDRESSES ≡ 256
+  pub attempts_most : MAX_ATTEMPTS ≡ 512
+  pub pauses_most : MAX_PAUSES ≡ 520

@@ -29,7 +29,7 @@ pub enum BuildFault {
     /// before, that ends after 3,600,001 or that begins before the end of the last one.
     #[error("out of range")]
     Range,
-    /// More than 64 addresses, or a pause after 136.
+    /// More addresses than `MAX_ADDRESSES`, or a pause after `MAX_PAUSES`.
     #[error("too many")]
     TooMany,
     /// An address of the other family, or an outcome for an address that stands in no answer.

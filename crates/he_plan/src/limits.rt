@@ -50,13 +50,13 @@ pub const MAX_PAUSE_END: u64 = 3_600_001;
 pub const MAX_FINISH: u64 = 7_200_000;
 
 /// The most addresses of an answer.
-pub const MAX_ADDRESSES: usize = 64;
+pub const MAX_ADDRESSES: usize = 256;
 
 /// The most attempts of a race: both answers' addresses.
-pub const MAX_ATTEMPTS: usize = 128;
+pub const MAX_ATTEMPTS: usize = 512;
 
 /// The most pauses of a race.
-pub const MAX_PAUSES: usize = 136;
+pub const MAX_PAUSES: usize = 520;
 
 const _: () = prove!(MIN_ATTEMPT > 0 && MIN_ATTEMPT <= MAX_ATTEMPT);
 

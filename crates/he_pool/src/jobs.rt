@@ -43,7 +43,7 @@ pub(crate) fn first_jobs<A: Allocator + Copy>(
     Ok(firsts)
 }
 
-// One job for each usable address of the race's answers: at most 128.
+// One job for each usable address of the race's answers: at most `MAX_ATTEMPTS`.
 fn job_count<A: Allocator>(timeline: &Timeline<A>) -> usize
     ensures value { result ≡ job_count timeline.now }
     ensures few { result ≤ PLACES }

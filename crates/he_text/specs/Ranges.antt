@@ -11,7 +11,7 @@ token_end = 32
 
 -- the most bytes of a line, its line end not counted
 abbrev pub most_line_bytes : ℕ
-most_line_bytes = 4096
+most_line_bytes = 16384
 
 -- the most lines with the answer of one family
 abbrev pub most_answers : ℕ
@@ -34,4 +34,4 @@ least_pause_end = 1
 
 -- the most races that a text may have
 abbrev pub most_races : ℕ
-most_races = 1024
+most_races = 4096

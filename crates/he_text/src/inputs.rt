@@ -47,7 +47,7 @@ pub enum NotOneRace {
 /// # Errors
 ///
 /// - `Fault` with the first thing that is wrong with the input, whatever the number of races before it: a fault of its
-///   text, of which a race above the 1,024th is one (`TooMany` at its first line), or `Read` where the input broke off
+///   text, of which a race above the 4,096th is one (`TooMany` at its first line), or `Read` where the input broke off
 ///   and its text has no fault before that.
 /// - `Count` where nothing is wrong, but the input has no race, or more than one.
 /// - `Memory` where an allocation was refused.

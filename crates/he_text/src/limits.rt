@@ -1,7 +1,7 @@
 // The limits of texts. Those of a race stand with its timeline.
 
 /// The most bytes of a line, its line end not counted.
-pub const MAX_LINE: usize = 4_096;
+pub const MAX_LINE: usize = 16_384;
 
 /// The greatest precedence of a policy row.
 pub const MAX_PRECEDENCE: u64 = 65_535;
@@ -28,4 +28,4 @@ pub const MAX_ANSWERS: usize = 1;
 pub const MIN_PAUSE_END: u64 = 1;
 
 /// The most races of a text.
-pub const MOST_RACES: usize = 1_024;
+pub const MOST_RACES: usize = 4_096;

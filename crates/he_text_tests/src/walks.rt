@@ -34,7 +34,7 @@ const ROW_BYTES: usize = 24;
 
 const ROW_AND_WORD: usize = 31;
 
-const LONGEST_LINE: usize = 4_096;
+const LONGEST_LINE: usize = 16_384;
 
 #[derive(Clone, Copy, PartialEq, Eq)]
 enum Told {
