@@ -175,20 +175,20 @@ delay_is race r done last next free over none from = by_before (nat_lt (seen rac
 
 -- the floor let it start, where the delay is not over
 module _ (race : Race) (r : IsRace race) (done : List Attempt) (last next : Attempt) (floor : ℕ) where
-  failed : ℕ
+  abbrev failed : ℕ
   failed = last_failure race done
 
-  floor_end : ℕ
+  abbrev floor_end : ℕ
   floor_end = last.tick + floor
 
-  both_before : IsByFloor race done next.tick last floor → IsFirst race done last next.tick → CameFrom race done next.tick (reply_of race (family_of next.ip))
+  both_before : next.tick ≤ race.settings.limit → IsByFloor race done next.tick last floor → IsFirst race done last next.tick → CameFrom race done next.tick (reply_of race (family_of next.ip))
       → seen race floor_end < next.tick → seen race failed < next.tick → IsLaterBy race done last next (LaterAnswer (family_of next.ip))
-  both_before by none from before failed_before =
+  both_before inside by none from before failed_before =
       let end : ℕ = max floor_end failed in
       let is : IsSeen race end (seen race end) = IsSeen-seen race r end in
       late_by race r done last next (seen race end) is.holds.1 (omega (arith, seen_max race r floor_end failed, before, failed_before))
       (λ m after. inr (some_at race.settings.floor floor (λ n. (last.tick + n ≤ m) × HaveFailed race done m) by.0
-      (omega (arith, after, is.holds.0), all_from race r next.tick m done by.1 (omega (arith, seen_more race r failed end (omega arith), after)))))
+      (omega (arith, after, is.holds.0), all_from race r next.tick m done inside by.1 (omega (arith, seen_more race r failed end (omega arith), after)))))
       none from
 
   at_failure : last_of done ≡ Some last → IsByFloor race done next.tick last floor → next.tick ≤ seen race failed
@@ -216,37 +216,37 @@ module _ (race : Race) (r : IsRace race) (done : List Attempt) (last next : Atte
       let more : seen race failed ≤ seen race floor_end = seen_more race r failed floor_end (not_before floor_end failed less) in
       at_floor free by (elim late [ inl k ↦ k | inr k ↦ omega (arith, more, k) ])
 
-  by_both : last_of done ≡ Some last → IsFree race next.tick → IsByFloor race done next.tick last floor → IsFirst race done last next.tick
+  by_both : last_of done ≡ Some last → next.tick ≤ race.settings.limit → IsFree race next.tick → IsByFloor race done next.tick last floor → IsFirst race done last next.tick
       → CameFrom race done next.tick (reply_of race (family_of next.ip)) → (b c : Bool) → nat_lt (seen race floor_end) next.tick ≡ b → nat_lt (seen race failed) next.tick ≡ c
       → IsLaterBy race done last next (if b && c then LaterAnswer (family_of next.ip) else (if nat_lt floor_end failed then LastFailure failed else Floor last.place floor))
-  by_both e free by none from true true k l = both_before by none from (lt_from (seen race floor_end) next.tick k) (lt_from (seen race failed) next.tick l)
-  by_both e free by none from true false k l = by_later e free by (inr (not_before (seen race failed) next.tick l)) (nat_lt floor_end failed) refl
-  by_both e free by none from false c k l = by_later e free by (inl (not_before (seen race floor_end) next.tick k)) (nat_lt floor_end failed) refl
+  by_both e inside free by none from true true k l = both_before inside by none from (lt_from (seen race floor_end) next.tick k) (lt_from (seen race failed) next.tick l)
+  by_both e inside free by none from true false k l = by_later e free by (inr (not_before (seen race failed) next.tick l)) (nat_lt floor_end failed) refl
+  by_both e inside free by none from false c k l = by_later e free by (inl (not_before (seen race floor_end) next.tick k)) (nat_lt floor_end failed) refl
 
-floor_is : (race : Race) → IsRace race → (done : List Attempt) (last next : Attempt) → last_of done ≡ Some last → IsFree race next.tick
+floor_is : (race : Race) → IsRace race → (done : List Attempt) (last next : Attempt) → last_of done ≡ Some last → next.tick ≤ race.settings.limit → IsFree race next.tick
     → next.tick < last.tick + race.settings.attempt → HasWaited race done next.tick last → IsFirst race done last next.tick
     → CameFrom race done next.tick (reply_of race (family_of next.ip)) → (o : Option ℕ) → race.settings.floor ≡ o
     → IsLaterBy race done last next (floor_cause race last (last_failure race done) next o)
-floor_is race r done last next e free early (inl over) none from o is = absurd (omega (arith, over, early))
-floor_is race r done last next e free early (inr waited) none from None is =
+floor_is race r done last next e inside free early (inl over) none from o is = absurd (omega (arith, over, early))
+floor_is race r done last next e inside free early (inr waited) none from None is =
     absurd (subst (λ o. IsSomeAnd o (λ floor. (last.tick + floor ≤ next.tick) × HaveFailed race done next.tick)) is waited)
-floor_is race r done last next e free early (inr waited) none from (Some floor) is =
+floor_is race r done last next e inside free early (inr waited) none from (Some floor) is =
     let k : (last.tick + floor ≤ next.tick) × HaveFailed race done next.tick =
     subst (λ o. IsSomeAnd o (λ floor. (last.tick + floor ≤ next.tick) × HaveFailed race done next.tick)) is waited
     in
-    by_both race r done last next floor e free (is, k.1, k.0, early) none from
+    by_both race r done last next floor e inside free (is, k.1, k.0, early) none from
     (nat_lt (seen race (last.tick + floor)) next.tick) (nat_lt (seen race (last_failure race done)) next.tick) refl refl
 
-later_is : (race : Race) → IsRace race → (done : List Attempt) (last next : Attempt) → last_of done ≡ Some last → MayFollow race done next.tick last
+later_is : (race : Race) → IsRace race → (done : List Attempt) (last next : Attempt) → last_of done ≡ Some last → next.tick ≤ race.settings.limit → MayFollow race done next.tick last
     → IsFirst race done last next.tick → CameFrom race done next.tick (reply_of race (family_of next.ip))
     → IsLaterBy race done last next (later_cause race last (last_failure race done) next)
-later_is race r done last next e now none from = by_delay (nat_lt next.tick (last.tick + race.settings.attempt)) refl
+later_is race r done last next e inside now none from = by_delay (nat_lt next.tick (last.tick + race.settings.attempt)) refl
   where
     by_delay : (b : Bool) → nat_lt next.tick (last.tick + race.settings.attempt) ≡ b
         → IsLaterBy race done last next
         (if b then floor_cause race last (last_failure race done) next race.settings.floor else delay_cause race last next)
     by_delay true k =
-        floor_is race r done last next e now.free (lt_from next.tick (last.tick + race.settings.attempt) k) now.waited none from race.settings.floor refl
+        floor_is race r done last next e inside now.free (lt_from next.tick (last.tick + race.settings.attempt) k) now.waited none from race.settings.floor refl
     by_delay false k = delay_is race r done last next now.free (not_before next.tick (last.tick + race.settings.attempt) k) none from
 
 -- the least tick at which one may start
@@ -265,7 +265,7 @@ stands_by race r done next None e least from =
 stands_by race r done next (Some last) e least from =
     let At : ℕ → Option Attempt → Type 0 = λ s o. MatchOption o (MayBegin race s) (MayFollow race done s) in
     let now : MayFollow race done next.tick last = subst (At next.tick) e least.holds.1 in
-    later_is race r done last next e now
+    later_is race r done last next e (omega (arith, least.holds.0)) now
     (λ s before may. absurd (omega (arith, before, least.least s (omega (arith, before, least.holds.0), subst (At s) (sym e) may)))) from
 
 pub causes_stand : CausesStand

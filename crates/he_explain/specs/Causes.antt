@@ -1,5 +1,5 @@
 -- Why an attempt of a race starts at its tick, and not at an earlier one (RFC 8305 sections 3 and 5; the floor is our own).
-use Rattle.std.specs.Prelude.{ℕ, ◌+◌, ◌&&◌, if◌then◌else◌, List, [], ◌∷◌, max, Bool, Option, Some, None, nat_lt}
+use Rattle.std.specs.Prelude.{ℕ, ◌+◌, ◌&&◌, if◌then◌else◌, List, [], ◌∷◌, max, min, Bool, Option, Some, None, nat_lt}
 use Rattle.std.specs.List.{list_any}
 use Rattle.std.specs.Option.{option_map_or}
 use Rattle.he_addr.specs.Ip.{family_of, is_usable}
@@ -20,13 +20,14 @@ first_cause_by race (Some aaaa) t =
     if nat_lt t (seen race aaaa.tick) then ResolutionDelay
     else (if list_any is_usable aaaa.addresses then AaaaAnswer else BothAnswers)
 
--- the tick at which an attempt that starts at `start` fails, pauses not looked at; 0 where it doesn't
-abbrev pub failure_by : ℕ → Option Outcome → ℕ
-failure_by start (Some (outcomes.Fail duration)) = start + duration
-failure_by start _ = 0
+-- the tick at which an attempt that starts at `start` fails, but at most the limit, pauses not looked at; 0 where it
+-- doesn't fail
+abbrev pub failure_by : ℕ → ℕ → Option Outcome → ℕ
+failure_by limit start (Some (outcomes.Fail duration)) = min (start + duration) limit
+failure_by limit start _ = 0
 
 abbrev pub failure_of : Race → Attempt → ℕ
-failure_of race x = failure_by x.tick (outcome_of race x.ip)
+failure_of race x = failure_by race.settings.limit x.tick (outcome_of race x.ip)
 
 -- the latest of the failures of these attempts
 abbrev pub last_failure : Race → List Attempt → ℕ

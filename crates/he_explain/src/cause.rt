@@ -78,12 +78,15 @@ pub fn is_held<A: Allocator>(
     }
 }
 
-/// The tick at which the attempt fails, pauses not looked at; 0 where it doesn't.
+/// The tick at which the attempt fails, but at most the race's limit, pauses not looked at; 0 where it doesn't fail.
 pub fn failure_of<A: Allocator>(timeline: &Timeline<A>, attempt: Attempt) -> u64
     ensures { result ≡ failure_of timeline.now attempt }
 {
     match timeline.outcome(attempt.ip) {
-        Some(Outcome::Fail(duration)) => attempt.tick + duration,
+        Some(Outcome::Fail(duration)) => {
+            let limit = timeline.settings().limit();
+            attempt.tick.saturating_add(duration).min(limit)
+        }
         Some(Outcome::Ok(_)) | None => 0,
     }
 }
