@@ -56,8 +56,7 @@ starts_follow : (race : Race) (winner : Option (ℕ × ℕ)) (done xs : List Att
     → AreStarts race done (start_events race (last_of done) (last_failure race done) (map (line_of race winner) xs))
 starts_follow race winner done [] f = tt
 starts_follow race winner done (x ∷ xs) f =
-    let rest : List Line = map (line_of race winner) xs in
-    (
+    let rest : List Line = map (line_of race winner) xs in (
       x,
       f.0,
       refl,

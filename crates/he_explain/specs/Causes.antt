@@ -1,4 +1,5 @@
--- Why an attempt of a race starts at its tick, and not at an earlier one (RFC 8305 sections 3 and 5; the floor is our own).
+-- Why an attempt of a race starts at its tick, and not at an earlier one (RFC 8305 sections 3 and 5, and the floor of our
+-- own).
 use Rattle.std.specs.Prelude.{ℕ, ◌+◌, ◌&&◌, if◌then◌else◌, List, [], ◌∷◌, max, min, Bool, Option, Some, None, nat_lt}
 use Rattle.std.specs.List.{list_any}
 use Rattle.std.specs.Option.{option_map_or}
@@ -34,9 +35,9 @@ abbrev pub last_failure : Race → List Attempt → ℕ
 last_failure race [] = 0
 last_failure race (x ∷ done) = max (failure_of race x) (last_failure race done)
 
--- a later attempt that starts before the Connection Attempt Delay is over, after attempts of which the last one to fail
--- fails at `failed`: the floor after the one before, or that failure if it comes later, unless both were seen at an
--- earlier tick; then no address was left, and the answer with this one came later
+-- a later attempt that starts before the Connection Attempt Delay is over, behind failures of which the last is at
+-- `failed`: the floor after the attempt before, or that failure if it comes later, unless both were seen at an earlier
+-- tick; then no address was left, and the answer with this one came later
 abbrev pub floor_cause : Race → Attempt → ℕ → Attempt → Option ℕ → Cause
 floor_cause race last failed next None = AttemptDelay last.place race.settings.attempt
 floor_cause race last failed next (Some floor) =
@@ -55,8 +56,8 @@ later_cause race last failed next =
     if nat_lt next.tick (last.tick + race.settings.attempt) then floor_cause race last failed next race.settings.floor
     else delay_cause race last next
 
--- the cause of an attempt, behind the one before it, if there is one, and behind the failures of all before it, of which
--- the last one is at `failed`
+-- the cause of an attempt, behind the one before it, if there is one, and behind failures of which the last is at
+-- `failed`
 abbrev pub cause_of : Race → Option Attempt → ℕ → Attempt → Cause
 cause_of race None failed next = first_cause_by race race.aaaa next.tick
 cause_of race (Some last) failed next = later_cause race last failed next

@@ -46,16 +46,16 @@ IsFirstBy race t (Floor place floor) = ⊥
 IsFirstBy race t (LastFailure tick) = ⊥
 IsFirstBy race t (LaterAnswer family) = ⊥
 
--- every attempt so far has failed at t, where the floor has passed since the last start, and the Connection Attempt Delay
--- has not
+-- at t every attempt so far has failed, and the floor has passed since the last start, but not the Connection Attempt
+-- Delay
 abbrev pub IsByFloor : Race → List Attempt → ℕ → Attempt → ℕ → Type 0
 IsByFloor race done t last floor =
     (race.settings.floor ≡ Some floor) × HaveFailed race done t × (last.tick + floor ≤ t) × (t < last.tick + race.settings.attempt)
 
--- and of a later attempt: the Connection Attempt Delay after the last one is over at its tick; or every attempt so far has
--- failed before that, and the floor after the last one is over at its tick, or its tick is the first by which they have; or
--- the last attempt was waited for long enough before, the answer of the address's family is seen at the attempt's tick,
--- and at no earlier one at which the client could act, and had waited, a received address was untried
+-- and of a later attempt: the Connection Attempt Delay after the last one is over at its tick; or it is not, but every
+-- attempt so far has failed, and the floor after the last one is over at that tick; or they have failed by that tick
+-- and by no earlier one; or the last one was waited for before, the answer of the address's family is seen at the
+-- attempt's tick, and at no earlier one at which the client could act, and had waited, a received address was untried
 abbrev pub IsLaterBy : Race → List Attempt → Attempt → Attempt → Cause → Type 0
 IsLaterBy race done last next AaaaAnswer = ⊥
 IsLaterBy race done last next BothAnswers = ⊥
