@@ -1,7 +1,7 @@
 // Laws of what two races have in common and of what stays when a race grows, each the contract of a function that does
 // nothing.
 
-ghost use Rattle.std.specs.Prelude.{All, ◌≡◌, ℕ, ◌<◌, ◌≤◌, ◌↔◌, ◌++◌, List, [], ◌∷◌, false, Some, Ok, IsTrue, nat_lt};
+ghost use Rattle.std.specs.Prelude.{All, ◌≡◌, ℕ, ◌+◌, ◌<◌, ◌≤◌, ◌↔◌, ◌++◌, List, [], ◌∷◌, false, Some, Ok, IsTrue, nat_lt};
 ghost use Rattle.std.specs.List.{list_all};
 ghost use Rattle.he_addr.specs.declared.ip.Family.{Family};
 ghost use Rattle.he_addr.specs.declared.ip.Ip.{Ip};
