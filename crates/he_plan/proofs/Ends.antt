@@ -1,5 +1,5 @@
 -- An attempt that was made ends: no other one is of its address, so what became of the others stays.
-use Rattle.std.proofs.Common.{◌≡◌, ℕ, zero, suc, ◌+◌, ◌≤◌, ◌<◌, ◌&&◌, ◌||◌, ◌++◌, Bool, true, false, List, [], ◌∷◌, find, if◌then◌else◌, length, map, max, set, take, get_or, Option, Some, None, IfSome, nat_eq, nat_le, nat_lt, refl, sym, ◌∙◌, ap, subst, arith, length-append, length-take}
+use Rattle.std.proofs.Common.{◌≡◌, ℕ, zero, suc, ◌+◌, ◌≤◌, ◌<◌, ◌&&◌, ◌||◌, ◌++◌, Bool, true, false, not, List, [], ◌∷◌, find, if◌then◌else◌, length, map, max, set, take, get_or, Option, Some, None, IfSome, nat_eq, nat_le, nat_lt, refl, sym, ◌∙◌, ap, subst, arith, length-append, length-take}
 use Rattle.std.specs.List.{Contains, list_all, list_any, slice_get}
 use Rattle.std.specs.Option.{option_map}
 use Rattle.std.proofs.lemmas.Bool.{cases_lt}
@@ -35,7 +35,7 @@ use Rattle.he_plan.proofs.Starting.{IsSeen-seen}
 not_tried : (race : Race) (done : List Attempt) (next : Attempt) → IsNext race done next → is_tried done next.ip ≡ false
 not_tried race done next is = by_test (is_tried done next.ip) (found_passes (is_untried done) (order_at race next.tick) next.ip is.ip)
   where
-    by_test : (b : Bool) → (if b then false else true) ≡ true → b ≡ false
+    by_test : (b : Bool) → not b ≡ true → b ≡ false
     by_test true h = cc
     by_test false h = refl
 
