@@ -115,8 +115,8 @@ alike_at : (race : Race) → IsRace race → (x : Attempt) (outcome : Outcome) �
 alike_at race r x outcome silent [] k a = absurd a
 alike_at race r x outcome silent (y ∷ xs) zero a = (
   λ t below. subst (λ (z : Attempt). has_failed race t z ≡ has_failed (with_outcome race x.ip outcome) t z) (sym a.0)
-  (ap (has_failed_by race t x.tick) (silent_is race.outcomes x.ip silent)
-  ∙ sym (ap (has_failed_by race t x.tick) (outcome-own race x.ip outcome silent) ∙ late_fails race r t x.tick outcome below)),
+      (ap (has_failed_by race t x.tick) (silent_is race.outcomes x.ip silent)
+      ∙ sym (ap (has_failed_by race t x.tick) (outcome-own race x.ip outcome silent) ∙ late_fails race r t x.tick outcome below)),
   rest_alike race x.ip outcome (x.tick + duration_of outcome) xs a.1,
 )
 alike_at race r x outcome silent (y ∷ xs) (suc k) a =
