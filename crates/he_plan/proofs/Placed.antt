@@ -10,7 +10,7 @@ use Rattle.he_addr.specs.declared.ip.Ip.{Ip}
 use Rattle.he_plan.specs.Race.{has_ip, is_told, told_of}
 use Rattle.he_plan.specs.Timeline.{are_distinct, are_told_once}
 use Rattle.he_plan.proofs.Bools.{and_both, and_left, and_right}
-use Rattle.he_plan.proofs.Addressed.{distinct_never, found_is, no_by, not_by, set_next}
+use Rattle.he_plan.proofs.Addressed.{found_is, no_by, not_by, set_grows}
 use Rattle.he_plan.proofs.ByAddress.{IsSame, looked_up, none_before}
 use Rattle.indexmap.proofs.MapLemmas.{Found-position, some_index}
 
@@ -32,14 +32,8 @@ place_next {V} eq same told keys new i d once below is grown =
     let ips : List Ip = keys_of told in
     let own : get_or ips i d.0 ≡ (get_or told i d).0 = get_or-map (λ (p : Ip × V). p.0) told i d d.0 below in
     let within : i < length ips = subst (λ n. i < n) (sym (length-map told _)) below in
-    let absent : has_ip (get_or ips i d.0) (take i ips) ≡ false = unless (has_ip (get_or ips i d.0) (take i ips)) (λ there. sym (distinct_never ips i d.0 within there) ∙ distinct_keys told ∙ once) in
-    set_next eq same keys new ips i d.0 within is
-    (found_is eq same (get_or ips i d.0) keys ∙ ap (has_ip (get_or ips i d.0)) is ∙ absent)
+    set_grows eq same keys new ips i d.0 (distinct_keys told ∙ once) within is
     (grown ∙ ap (λ (x : Ip). cond (list_any (eq x) keys) keys (keys ++ x ∷ [])) (sym own))
-  where
-    unless : (b : Bool) → (b ≡ true → false ≡ true) → b ≡ false
-    unless true against = sym (against refl)
-    unless false against = refl
 
 -- what is told at the place of its address
 pub value_at : {V : Type 0} (eq : Ip → Ip → Bool) → IsSame eq → (ip : Ip) (keys : List Ip) (told : List (Ip × V)) → keys ≡ keys_of told → (place : ℕ) (d : Ip × V) → position (eq ip) keys ≡ Some place → (place < length told) × (Some (get_or told place d).1 ≡ told_of told ip)
