@@ -8,7 +8,7 @@ ghost use Rattle.he_plan.specs.Equality.{same_history, same_rtt};
 ghost use Rattle.he_plan.specs.Race.{has_ip, is_told, known_of, rtt_in};
 ghost use Rattle.he_plan.specs.Timeline.{are_distinct, are_told_once};
 
-use crate::told::Told;
+use crate::by_address::ByAddress;
 use he_addr::Ip;
 use he_select::Known;
 use indexmap::IndexSet;
@@ -23,7 +23,7 @@ type Addresses<A> = IndexSet<Ip, BuildHasherDefault<FoldHasher>, A>;
 // memory.
 #[derive(Drop)]
 pub(crate) struct History<A: Allocator> {
-    rtts: Told<u64, A>,
+    rtts: ByAddress<u64, A>,
     used: Addresses<A>,
 }
 
@@ -41,7 +41,7 @@ impl<A: Allocator + Copy> History<A> {
         ensures { result ≡ empty_history }
     {
         History {
-            rtts: Told::none(alloc),
+            rtts: ByAddress::none(alloc),
             used: IndexSet::new(alloc),
         }
     }

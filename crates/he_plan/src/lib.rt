@@ -33,6 +33,7 @@ mod addresses;
 pub mod agreement;
 pub mod attempts;
 pub mod builder;
+mod by_address;
 pub mod due;
 pub mod finish;
 mod history;
@@ -46,7 +47,6 @@ mod queue;
 pub mod settings;
 mod starts;
 pub mod timeline;
-mod told;
 pub mod transcript;
 pub mod underway;
 

@@ -16,7 +16,7 @@ use crate::history::History;
 use crate::limits::{MAX_DURATION, MAX_PAUSE_END, MIN_DURATION};
 use crate::outcome::Outcome;
 use crate::settings::Settings;
-use crate::told::Told;
+use crate::by_address::ByAddress;
 use he_addr::{Family, Ip, Memory};
 use he_select::{Host, Known, Policy};
 use std::alloc::{AllocError, Allocator, Global};
@@ -48,7 +48,7 @@ pub struct Timeline<A: Allocator = Global> {
     aaaa: Option<Answer<A>>,
     a: Option<Answer<A>>,
     history: History<A>,
-    outcomes: Told<Outcome, A>,
+    outcomes: ByAddress<Outcome, A>,
     pauses: Vec<(u64, u64), A>,
 }
 
@@ -79,7 +79,7 @@ impl<A: Allocator + Copy> Timeline<A> {
             aaaa: None,
             a: None,
             history: History::none(alloc),
-            outcomes: Told::none(alloc),
+            outcomes: ByAddress::none(alloc),
             pauses: Vec::new(alloc),
         }
     }

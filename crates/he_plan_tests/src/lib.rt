@@ -5,6 +5,8 @@
 #[cfg(test)]
 mod hosts;
 #[cfg(test)]
+mod known;
+#[cfg(test)]
 mod memory;
 #[cfg(test)]
 mod plain;

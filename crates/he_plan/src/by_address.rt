@@ -21,13 +21,13 @@ type Places<A> = IndexSet<Ip, BuildHasherDefault<FoldHasher>, A>;
 
 // What is told of addresses, in the order in which it was given, of no address twice.
 #[derive(Drop)]
-pub(crate) struct Told<V: Copy, A: Allocator> {
+pub(crate) struct ByAddress<V: Copy, A: Allocator> {
     told: Vec<(Ip, V), A>,
     // the addresses of `told` in its order, or none while they are few: then they are looked for one by one
     places: Places<A>,
 }
 
-impl<V: Copy, A: Allocator> Model for Told<V, A> {
+impl<V: Copy, A: Allocator> Model for ByAddress<V, A> {
     ghost use Rattle.std.specs.Prelude.{List, ◌≡◌, ◌⊎◌, []};
     ghost use Rattle.std.specs.Map.{keys_of};
     ghost use Rattle.he_addr.specs.declared.ip.Ip.{Ip};
@@ -39,11 +39,11 @@ impl<V: Copy, A: Allocator> Model for Told<V, A> {
     ghost invariant = { λ t. (t.places.keys ≡ []) ⊎ (t.places.keys ≡ keys_of t.told.items) };
 }
 
-impl<V: Copy, A: Allocator + Copy> Told<V, A> {
-    pub(crate) fn none(alloc: A) -> Told<V, A>
+impl<V: Copy, A: Allocator + Copy> ByAddress<V, A> {
+    pub(crate) fn none(alloc: A) -> ByAddress<V, A>
         ensures { result ≡ [] }
     {
-        Told {
+        ByAddress {
             told: Vec::new(alloc),
             places: IndexSet::new(alloc),
         }
@@ -80,7 +80,7 @@ impl<V: Copy, A: Allocator + Copy> Told<V, A> {
     }
 }
 
-impl<V: Copy, A: Allocator> Told<V, A> {
+impl<V: Copy, A: Allocator> ByAddress<V, A> {
     pub(crate) fn has(&self, ip: Ip) -> bool
         ensures { result ≡ is_told ip self.now }
     {
@@ -103,7 +103,7 @@ impl<V: Copy, A: Allocator> Told<V, A> {
         }
     }
 
-    pub(crate) fn copy<B: Allocator + Copy>(&self, alloc: B) -> Result<Told<V, B>, AllocError>
+    pub(crate) fn copy<B: Allocator + Copy>(&self, alloc: B) -> Result<ByAddress<V, B>, AllocError>
         requires { are_told_once self.now ≡ true }
         ensures { IfOk result (λ copy. copy ≡ self.now) }
     {
@@ -113,7 +113,7 @@ impl<V: Copy, A: Allocator> Told<V, A> {
         } else {
             places_of(alloc, &told, told.len())?
         };
-        Ok(Told { told, places })
+        Ok(ByAddress { told, places })
     }
 
     pub(crate) fn as_slice(&self) -> &[(Ip, V)]

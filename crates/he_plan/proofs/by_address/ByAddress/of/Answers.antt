@@ -4,7 +4,7 @@ use Rattle.he_addr.specs.declared.ip.Ip.{Ip}
 use Rattle.he_plan.specs.Race.{told_of}
 use Rattle.he_plan.proofs.ByAddress.{same_as}
 use Rattle.he_plan.proofs.Placed.{are_some, value_at, value_nowhere}
-use Rattle.he_plan.proofs.told.Told.of.Goals as goal
+use Rattle.he_plan.proofs.by_address.ByAddress.of.Goals as goal
 
 pub returns-in-Some : goal.returns-in-Some
 returns-in-Some g c =

@@ -3,7 +3,7 @@ use Rattle.he_addr.specs.contracts.ip.IpPartialEq.TheImpl.{eq-value}
 use Rattle.he_plan.specs.Race.{is_told}
 use Rattle.he_plan.proofs.ByAddress.{same_as}
 use Rattle.he_plan.proofs.Placed.{are_some, key_there}
-use Rattle.he_plan.proofs.told.Told.has.Goals as goal
+use Rattle.he_plan.proofs.by_address.ByAddress.has.Goals as goal
 
 pub returns-else-is_empty : goal.returns-else-is_empty
 returns-else-is_empty g c =

@@ -5,7 +5,7 @@ use Rattle.he_addr.specs.declared.ip.Ip.{Ip}
 use Rattle.he_plan.specs.Timeline.{are_told_once}
 use Rattle.he_plan.proofs.ByAddress.{same_as}
 use Rattle.he_plan.proofs.Placed.{once_before, place_last}
-use Rattle.he_plan.proofs.told.Told.push.Goals as goal
+use Rattle.he_plan.proofs.by_address.ByAddress.push.Goals as goal
 
 pub make_places-requires-clause-once : goal.make_places-requires-clause-once
 make_places-requires-clause-once g c =
