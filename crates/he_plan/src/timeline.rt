@@ -12,11 +12,11 @@ ghost use Rattle.he_plan.specs.Finish.{outcome_of, outcome_in};
 ghost use Rattle.he_plan.specs.Planning.{are_ahead};
 ghost use Rattle.he_plan.specs.Building.{empty_race, with_answer, with_outcome, with_pause, with_rtt, with_used};
 
+use crate::by_address::ByAddress;
 use crate::history::History;
 use crate::limits::{MAX_DURATION, MAX_PAUSE_END, MIN_DURATION};
 use crate::outcome::Outcome;
 use crate::settings::Settings;
-use crate::by_address::ByAddress;
 use he_addr::{Family, Ip, Memory};
 use he_select::{Host, Known, Policy};
 use std::alloc::{AllocError, Allocator, Global};
