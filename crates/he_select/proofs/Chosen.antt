@@ -44,11 +44,12 @@ labelled_sound rows [] = refl
 labelled_sound rows (source ∷ sources) = ap (λ t. is_sound_source source && t) (labelled_sound rows sources)
 
 -- the standings that the code makes of a list, by the labels that it took before
-pub all_standings : (input : SelectionInput) (labelled : List LabelledSource) (standings : List Standing)
-    → labelled ≡ map (labelled_of input.rows) input.sources → standings ≡ map (λ one. standing_from input.rows input.routes labelled (told_of input.known) one.ip) input.known
+pub all_standings : (input : SelectionInput) (labelled : List LabelledSource) (told : List Known) (standings : List Standing)
+    → labelled ≡ map (labelled_of input.rows) input.sources → told ≡ told_of input.known → standings ≡ map (λ one. standing_from input.rows input.routes labelled told one.ip) input.known
     → standings ≡ map (standing_of input) (map (λ one. one.ip) input.known)
-all_standings input labelled standings by_label is =
-    is ∙ ap (λ l. map (λ (one : Known). standing_from input.rows input.routes l (told_of input.known) one.ip) input.known) by_label ∙ each_made input.known
+all_standings input labelled told standings by_label by_told is =
+    is ∙ ap (λ t. map (λ (one : Known). standing_from input.rows input.routes labelled t one.ip) input.known) by_told
+    ∙ ap (λ l. map (λ (one : Known). standing_from input.rows input.routes l (told_of input.known) one.ip) input.known) by_label ∙ each_made input.known
   where
     each_made : (ones : List Known) → map (λ one. standing_from input.rows input.routes (map (labelled_of input.rows) input.sources) (told_of input.known) one.ip) ones ≡ map (standing_of input) (map (λ one. one.ip) ones)
     each_made [] = refl

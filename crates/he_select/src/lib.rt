@@ -15,10 +15,10 @@
 //! its source is the candidate than which none is better by the rules of section 5; each address that `order` answers
 //! stands at the place that equals the number of addresses preferred to it by the rules of section 6, and so does each
 //! that `order_known` answers, by rules 8a and 8b too, the lower known round trip time and the address used before;
-//! `order_known_with_standings` answers the same list, and the rule between two is the first that decides. Under an admitted table this preference is a
-//! comparison of keys, one number for each rule, and so a strict total order, usable addresses have exactly one such
-//! list, and the order of some of them is that of all without the others ([`laws`]). Each rule stands in `specs/` as a
-//! definition under its name in the RFC.
+//! `order_known_with_standings` answers the same list, and the rule between two is the first that decides. Under an
+//! admitted table this preference is a comparison of keys, one number for each rule, and so a strict total order, usable
+//! addresses have exactly one such list, and the order of some of them is that of all without the others ([`laws`]).
+//! Each rule stands in `specs/` as a definition under its name in the RFC.
 //!
 //! Only tested, in he_select_tests: that memory suffices where it is there. The texts of the faults are in no clause.
 #![tactic(auto)]

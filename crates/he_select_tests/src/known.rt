@@ -29,27 +29,51 @@ type Case = ([(Ip, Option<u64>, bool); 3], [Ip; 3]);
 // what is told first counts.
 static CASES: [Case; 6] = [
     (
-        [(SIX_A, None, false), (SIX_B, Some(80), false), (FOUR_A, Some(1), false)],
+        [
+            (SIX_A, None, false),
+            (SIX_B, Some(80), false),
+            (FOUR_A, Some(1), false),
+        ],
         [SIX_B, SIX_A, FOUR_A],
     ),
     (
-        [(SIX_A, Some(80), false), (SIX_B, Some(30), false), (FOUR_A, None, false)],
+        [
+            (SIX_A, Some(80), false),
+            (SIX_B, Some(30), false),
+            (FOUR_A, None, false),
+        ],
         [SIX_B, SIX_A, FOUR_A],
     ),
     (
-        [(SIX_A, Some(80), false), (SIX_B, None, true), (FOUR_A, None, false)],
+        [
+            (SIX_A, Some(80), false),
+            (SIX_B, None, true),
+            (FOUR_A, None, false),
+        ],
         [SIX_A, SIX_B, FOUR_A],
     ),
     (
-        [(SIX_A, None, false), (SIX_B, None, true), (FOUR_A, None, false)],
+        [
+            (SIX_A, None, false),
+            (SIX_B, None, true),
+            (FOUR_A, None, false),
+        ],
         [SIX_B, SIX_A, FOUR_A],
     ),
     (
-        [(SIX_A, None, true), (SIX_B, Some(u64::MAX), false), (FOUR_A, None, false)],
+        [
+            (SIX_A, None, true),
+            (SIX_B, Some(u64::MAX), false),
+            (FOUR_A, None, false),
+        ],
         [SIX_B, SIX_A, FOUR_A],
     ),
     (
-        [(SIX_A, Some(80), false), (SIX_B, Some(30), false), (SIX_A, Some(1), true)],
+        [
+            (SIX_A, Some(80), false),
+            (SIX_B, Some(30), false),
+            (SIX_A, Some(1), true),
+        ],
         [SIX_B, SIX_A, SIX_A],
     ),
 ];

@@ -33,7 +33,7 @@ returns g c =
     let input : SelectionInput = record { rows = c.args.rows.now; sources = c.args.sources.now; routes = c.args.routes.now; known = c.args.known.now } in
     let ips : List Ip = map (λ (one : Known). one.ip) c.args.known.now in
     let labelled : c.deref.result.now ≡ map (labelled_of c.args.rows.now) c.args.sources.now = c.deref.ensures.value ∙ c.in_ok-labelled.ensures in
-    let made : c.in_ok-standings.standings.items ≡ map (standing_of input) ips = all_standings input c.deref.result.now c.in_ok-standings.standings.items labelled c.in_ok-standings.ensures.standings in
+    let made : c.in_ok-standings.standings.items ≡ map (standing_of input) ips = all_standings input c.deref.result.now c.told.result.now c.in_ok-standings.standings.items labelled c.told.ensures c.in_ok-standings.ensures.standings in
     let keyed : c.deref_mut.result.now ≡ map (destination_key input) (members_from 0 ips) =
     c.deref_mut.ensures.value ∙ all_keys input ips c.deref-2.result.now c.in_ok-keys.keys.items (c.deref-2.ensures.value ∙ made) c.in_ok-keys.ensures in
     let kept = length_permutation c.deref_mut.result.now c.sort.new.keys c.sort.ensures.permutation ∙ ap (λ (l : List Key). length l) c.deref_mut.ensures.value in

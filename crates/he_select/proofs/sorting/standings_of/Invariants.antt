@@ -6,5 +6,5 @@ use Rattle.he_select.proofs.sorting.standings_of.Given as goal
 
 abbrev pub invariant-loop-one : goal.invariant-loop-one
 invariant-loop-one g l =
-    (l.standings.items ++ map (λ one. standing_from l.rows l.routes l.sources l.told.now one.ip) (drop l.one-index l.known) ≡ map (λ one. standing_from l.rows l.routes l.sources l.told.now one.ip) l.known)
+    (l.standings.items ++ map (λ one. standing_from l.rows l.routes l.sources l.told one.ip) (drop l.one-index l.known) ≡ map (λ one. standing_from l.rows l.routes l.sources l.told one.ip) l.known)
     × AllWithin (λ one. InRange one.ip) l.known 0 l.one-index
