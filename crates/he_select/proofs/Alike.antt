@@ -1,6 +1,6 @@
 -- The order looks at what is known of its own addresses alone.
 use Rattle.std.proofs.Common.{◌≡◌, ℕ, ◌+◌, ◌==◌, Bool, false, List, [], ◌∷◌, map, refl, sym, ◌∙◌, ap, subst, slice_get}
-use Rattle.std.specs.Prelude.{Option, None, Some, count_by, find, cond, filter_map, length}
+use Rattle.std.specs.Prelude.{Option, None, Some, count_by, find, cond, filter_map, length, option_map}
 use Rattle.std.specs.List.{cons_option, range_with_len}
 use Rattle.std.specs.declared.cmp.Ordering.{Ordering}
 use Rattle.std.specs.Ordering.{bool_cmp, is_lt, nat_cmp}
@@ -8,9 +8,10 @@ use Rattle.he_addr.specs.declared.ip.Ip.{Ip}
 use Rattle.he_select.specs.declared.known.Known.{Known}
 use Rattle.he_select.specs.declared.policy.Row.{Row}
 use Rattle.he_select.specs.Hosts.{HostLists}
+use Rattle.he_select.specs.LabelledRules.{labelled_of}
 use Rattle.he_select.specs.Preference.{IsOrder, Member, avoids_deprecated_source, avoids_unreachable, destination_rules, leaves_unchanged, member_at, members_from, order_of, prefers, prefers_higher_precedence, prefers_longest_match, prefers_matching_label, prefers_matching_scope, prefers_native_transport, prefers_smaller_scope}
 use Rattle.he_select.specs.Rules.{first_of}
-use Rattle.he_select.specs.Selection.{SelectionInput, candidates, known_input, known_rtt, known_used, nothing_known, rtt_or_unknown, selection_input, source_of, source_rules}
+use Rattle.he_select.specs.Selection.{SelectionInput, candidates, known_input, known_rtt, known_used, nothing_known, route_of, rtt_or_unknown, selection_input, source_of, source_rules}
 use Rattle.he_select.specs.Standing.{standing_of}
 use Rattle.he_select.proofs.Arranged.{count-same}
 use Rattle.he_select.proofs.Counting.{Each, each_at}
@@ -48,7 +49,7 @@ module _ (rows : List Row) (host : HostLists) (known other : List Known) where
 
   pub standing_alike : (ip : Ip) → Alike ip → standing_of this ip ≡ standing_of that ip
   unfolding source_of candidates source_rules
-  standing_alike ip alike = standing_knowing rows _ _ known other ip alike.0 alike.1
+  standing_alike ip alike = standing_knowing rows (route_of this ip) (option_map (labelled_of rows) (source_of this ip)) known other ip alike.0 alike.1
 
   pub standings_alike : (ips : List Ip) → Each Alike ips → map (standing_of this) ips ≡ map (standing_of that) ips
   standings_alike [] each = refl
