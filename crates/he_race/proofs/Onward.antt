@@ -115,7 +115,7 @@ module _ {C : Type 0} (connector : ConnectorOf C (Unit {0}) ScriptedTrial) (race
   abbrev Polled : Sweep C (Unit {0}) ScriptedTrial → List Held → Type 0
   Polled to os = Sweeps connector race ss.valid c made at f.awake paused to os
 
-  begun_at : (z : Race) → z.outcomes ≡ live.recorder.recorded.outcomes → AreAlike race z → Sweeps connector race ss.valid c made at f.awake z.pauses (unpolled c (record live.recorder { recorded = z })) live.unfinished.items
+  begun_at : (z : Race) → z.outcomes ≡ live.recorder.recorded.outcomes → AreAlike race z → Sweeps connector race ss.valid c made at f.awake z.pauses (unpolled c z made) live.unfinished.items
   begun_at z same alike = record {
     still = refl;
     attempts = refl;
@@ -218,7 +218,7 @@ module _ {C : Type 0} (connector : ConnectorOf C (Unit {0}) ScriptedTrial) (race
     due = k.due;
   }
 
-  module _ (to : Sweep C (Unit {0}) ScriptedTrial) (w : Polled to []) (new : Live C (Unit {0}) ScriptedTrial) (recorded : new.recorder.recorded ≡ to.recorder.recorded) (live_on : IsLive connector scripted_trial new) (turned : new.recorder.turn ≡ Some at) (tick : ℕ) (asked : tick ≡ asked_tick connector scripted_trial new.recorder.due new.unfinished.items) (c' : C) where
+  module _ (to : Sweep C (Unit {0}) ScriptedTrial) (w : Polled to []) (new : Live C (Unit {0}) ScriptedTrial) (recorded : new.recorder.recorded ≡ to.recorded) (live_on : IsLive connector scripted_trial new) (turned : new.recorder.turn ≡ Some at) (tick : ℕ) (asked : tick ≡ asked_tick connector scripted_trial new.recorder.due new.unfinished.items) (c' : C) where
     alike_on : AreAlike race new.recorder.recorded
     alike_on = subst (AreAlike race) (sym recorded) w.alike
 
@@ -245,10 +245,10 @@ module _ {C : Type 0} (connector : ConnectorOf C (Unit {0}) ScriptedTrial) (race
             let by : asked_tick connector scripted_trial new.recorder.due new.unfinished.items ≤ new.recorder.due = asked-early connector scripted_trial new.recorder.due new.unfinished.items in
             omega arith
 
-    none_began : StaysAs connector scripted_trial to.connector to.recorder.underway.attempts new.recorder.underway.attempts to.pending c' new.unfinished.items → Goes_on new tick c'
+    none_began : StaysAs connector scripted_trial to.connector to.attempts new.recorder.underway.attempts to.pending c' new.unfinished.items → Goes_on new tick c'
     none_began s =
         let same : new.recorder.underway.attempts ≡ made = s.none ∙ w.attempts in
-        let held : list_all (is_held to.pending to.recorder.recorded) made ≡ true = subst (λ (os : List Held). list_all (is_held os to.recorder.recorded) made ≡ true) (append-nil to.pending) w.held in
+        let held : list_all (is_held to.pending to.recorded) made ≡ true = subst (λ (os : List Held). list_all (is_held os to.recorded) made ≡ true) (append-nil to.pending) w.held in
         let up : tick ≤ asked_tick connector scripted_trial new.recorder.due to.pending = omega (arith, asked, ap (asked_tick connector scripted_trial new.recorder.due) s.same) in
         let connecting : All (IsConnecting race made (next_tick tick)) to.pending = still_connecting made (λ y h. h) tick new.recorder.due to.pending up w.pending in
         record {
@@ -277,7 +277,7 @@ module _ {C : Type 0} (connector : ConnectorOf C (Unit {0}) ScriptedTrial) (race
         ]
 
     -- the attempt that begins connects as the script says
-    began_future : (n : BeginsNext connector scripted_trial to.connector at to.recorder.underway.attempts new.recorder.underway.attempts to.pending c' new.unfinished.items) → (c' ≡ c) × (n.o.future ≡ Connecting (Ok (script_of race n.x.ip n.x.tick)) (n.x.tick + 1) true)
+    began_future : (n : BeginsNext connector scripted_trial to.connector at to.attempts new.recorder.underway.attempts to.pending c' new.unfinished.items) → (c' ≡ c) × (n.o.future ≡ Connecting (Ok (script_of race n.x.ip n.x.tick)) (n.x.tick + 1) true)
     began_future n =
         let b = at_false _ _ (nat_lt n.x.tick n.x.tick) (not_lt n.x.tick n.x.tick (omega arith)) n.begins.polls.1 in
         let own : IsScripted connector race to.connector = subst (IsScripted connector race) (sym w.still) sc in
@@ -294,10 +294,10 @@ module _ {C : Type 0} (connector : ConnectorOf C (Unit {0}) ScriptedTrial) (race
         by_outcome None lasts = tt
         by_outcome (Some out) lasts = seen_rises race ss.valid (max tick (at + 1)) (x.tick + duration_of out) (omega (arith, lasts.0))
 
-    one_began : BeginsNext connector scripted_trial to.connector at to.recorder.underway.attempts new.recorder.underway.attempts to.pending c' new.unfinished.items → Goes_on new tick c'
+    one_began : BeginsNext connector scripted_trial to.connector at to.attempts new.recorder.underway.attempts to.pending c' new.unfinished.items → Goes_on new tick c'
     one_began n =
         let same : new.recorder.underway.attempts ≡ made ++ n.x ∷ [] = n.more ∙ ap (λ (xs : List Attempt). xs ++ n.x ∷ []) w.attempts in
-        let held : list_all (is_held to.pending to.recorder.recorded) made ≡ true = subst (λ (os : List Held). list_all (is_held os to.recorder.recorded) made ≡ true) (append-nil to.pending) w.held in
+        let held : list_all (is_held to.pending to.recorded) made ≡ true = subst (λ (os : List Held). list_all (is_held os to.recorded) made ≡ true) (append-nil to.pending) w.held in
         let next : IsNext new.recorder.recorded made n.x = is_next in
         let clear : IsFree race n.x.tick = subst (IsFree race) (sym n.at) f.awake in
         let begins : IsNext race made n.x = next_script race new.recorder.recorded ss.valid is_race alike_on (free-end new.recorder.recorded is_race alike_on pauses_on) made n.x clear next in
@@ -309,8 +309,8 @@ module _ {C : Type 0} (connector : ConnectorOf C (Unit {0}) ScriptedTrial) (race
         record {
           still = b.0;
           in_turn = subst (AreNextInTurn race) (sym same) (in_turn-more race made n.x f.in_turn begins);
-          told = rw (same, recorded) (more_told race made n.x to.recorder.recorded.outcomes w.told);
-          held = rw (same, recorded, n.next) (held_more to.pending n.o n.x to.recorder.recorded n.begins.attempt held);
+          told = rw (same, recorded) (more_told race made n.x to.recorded.outcomes w.told);
+          held = rw (same, recorded, n.next) (held_more to.pending n.o n.x to.recorded n.begins.attempt held);
           connecting = rw (same, n.next) (All-push (IsConnecting race (made ++ n.x ∷ []) (next_tick tick)) to.pending n.o connecting (began_connecting n.o n.x n.begins.attempt n.at b.1 (omega arith)));
         }
       where
@@ -320,17 +320,17 @@ module _ {C : Type 0} (connector : ConnectorOf C (Unit {0}) ScriptedTrial) (race
             let turn : AreNextInTurn new.recorder.recorded (made ++ n.x ∷ []) = subst (AreNextInTurn new.recorder.recorded) same live_on.recorder.rests.made.in_turn in
             subst (λ (xs : List Attempt). IsNext new.recorder.recorded xs n.x) (take_all_of made n.x) (turn (length made) n.x (get_last made n.x))
 
-    pub goes-on : StaysAs connector scripted_trial to.connector to.recorder.underway.attempts new.recorder.underway.attempts to.pending c' new.unfinished.items ⊎ BeginsNext connector scripted_trial to.connector at to.recorder.underway.attempts new.recorder.underway.attempts to.pending c' new.unfinished.items → Follows race new (next_tick tick) × (c' ≡ c)
+    pub goes-on : StaysAs connector scripted_trial to.connector to.attempts new.recorder.underway.attempts to.pending c' new.unfinished.items ⊎ BeginsNext connector scripted_trial to.connector at to.attempts new.recorder.underway.attempts to.pending c' new.unfinished.items → Follows race new (next_tick tick) × (c' ≡ c)
     goes-on (inl s) = let g : Goes_on new tick c' = none_began s in (follows new tick c' kept_on g, g.still)
     goes-on (inr n) = let g : Goes_on new tick c' = one_began n in (follows new tick c' kept_on g, g.still)
 
   -- a turn that goes on is at the tick at which the ticker stands
   turn_at : (now : ℕ) (c' : C) (new : Live C (Unit {0}) ScriptedTrial) (tick : ℕ) → now ≡ min at (live.recorder.recorded.settings.limit + 1) → Goes connector scripted_trial (begun c live now) live.unfinished.items now c' new tick → now ≡ at
   turn_at now c' new tick is g =
-      let early : now < g.swept.recorder.recorded.settings.limit = going-early g.swept.recorder now g.swept.pending (is_some g.swept.first) g.going in
-      let one : new.recorder.recorded.settings.limit ≡ (begun c live now).recorder.recorded.settings.limit = same_limit (begun c live now).recorder.recorded new.recorder.recorded g.alike in
-      let two : (begun c live now).recorder.recorded.settings.limit ≡ live.recorder.recorded.settings.limit = same_limit live.recorder.recorded (slept live.recorder.recorded live.recorder.due now) (slept-alike live.recorder.recorded live.recorder.due now) in
-      let three : new.recorder.recorded.settings.limit ≡ g.swept.recorder.recorded.settings.limit = ap (λ (z : Race). z.settings.limit) g.recorded in
+      let early : now < g.swept.recorded.settings.limit = going-early g.swept.recorded g.swept.attempts now g.swept.pending (is_some g.swept.first) g.going in
+      let one : new.recorder.recorded.settings.limit ≡ (begun c live now).recorded.settings.limit = same_limit (begun c live now).recorded new.recorder.recorded g.alike in
+      let two : (begun c live now).recorded.settings.limit ≡ live.recorder.recorded.settings.limit = same_limit live.recorder.recorded (slept live.recorder.recorded live.recorder.due now) (slept-alike live.recorder.recorded live.recorder.due now) in
+      let three : new.recorder.recorded.settings.limit ≡ g.swept.recorded.settings.limit = ap (λ (z : Race). z.settings.limit) g.recorded in
       omega arith
 
   pub follows-on : (now : ℕ) (c' : C) (new : Live C (Unit {0}) ScriptedTrial) (tick : ℕ) → now ≡ min at (live.recorder.recorded.settings.limit + 1) → Goes connector scripted_trial (begun c live now) live.unfinished.items now c' new tick → Follows race new (next_tick tick) × (c' ≡ c) × (new.recorder.turn ≡ Some at)
