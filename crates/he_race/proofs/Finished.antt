@@ -29,76 +29,38 @@ use Rattle.he_race.specs.Recording.{EndsRace, slept}
 use Rattle.he_race.specs.Running.{IsScripted, scripted_trial}
 use Rattle.he_race.specs.Turns.{EndsLate, EndsPolled, Sweep, begun, is_over}
 use Rattle.he_race.proofs.Awake.{free-slept, sees-by}
+use Rattle.he_race.proofs.Held.{held-all}
 use Rattle.he_race.proofs.Onward.{above-turn, due-four, due-six, free-end, polled-at, sees-end, slept_outcomes}
-use Rattle.he_race.proofs.Replayed.{EndsAfter, SeesAlike, none-told, replays-script, same-attempt}
+use Rattle.he_race.proofs.Replayed.{EndsAfter, SeesAlike, ends-sooner, replays-script}
 use Rattle.he_race.proofs.Runs.{seen_from}
 use Rattle.he_race.proofs.Swept.{IsPending, Sweeps}
 use Rattle.he_race.proofs.Turning.{alike-later, same_limit, slept-alike}
 
--- what passes for all passes for one
-at_one : (p : Attempt → Bool) (xs : List Attempt) (x : Attempt) → list_all p xs ≡ true → Contains xs x → p x ≡ true
-at_one p xs x h made = All-contains (λ (y : Attempt). p y ≡ true) xs x (each xs h) made
-  where
-    each : (ys : List Attempt) → list_all p ys ≡ true → (k : ℕ) (d : Attempt) → k < length ys → p (get_or ys k d) ≡ true
-    each [] h k d lt = absurd (let none : ⊥ = omega arith in none)
-    each (y ∷ ys) h zero d lt = and_left (p y) (list_all p ys) h
-    each (y ∷ ys) h (suc k) d lt = each ys (and_right (p y) (list_all p ys) h) k d (omega arith)
-
-abbrev Held : Type 0 → Type 0
-Held C = Unfinished C (Unit {0}) ScriptedTrial
-
-module _ {C : Type 0} where
-  -- what holds of each unfinished attempt holds of one without an outcome
-  held_one : (race end : Race) (xs : List Attempt) → AreNextInTurn race xs → (Q : Attempt → Type 0) (os : List (Held C)) → All (λ (o : Held C). Contains xs o.attempt × Q o.attempt) os → (x : Attempt) → Contains xs x → list_any (λ (o : Held C). same_ip o.attempt.ip x.ip) os ≡ true → Q x
-  held_one race end xs turn Q [] h x made k = cc
-  held_one race end xs turn Q (o ∷ os) h x made k =
-      let P : Held C → Type 0 = λ p. Contains xs p.attempt × Q p.attempt in
-      elim (or_one (same_ip o.attempt.ip x.ip) (list_any (λ (p : Held C). same_ip p.attempt.ip x.ip) os) k) [
-        | inl here ↦ let own : P o = All-head P o os h in subst Q (same-attempt race xs turn x o.attempt made own.0 here) own.1
-        | inr there ↦ held_one race end xs turn Q os (All-tail P o os h) x made there
-      ]
-
-  one_held : (os : List (Held C)) (end : Race) (x : Attempt) → is_held os end x ≡ true → outcome_of end x.ip ≡ None → list_any (λ (o : Held C). same_ip o.attempt.ip x.ip) os ≡ true
-  one_held os end x h none = elim (or_one (list_any (λ (o : Held C). same_ip o.attempt.ip x.ip) os) (has_outcome x.ip end.outcomes) h) [
-    | inl held ↦ held
-    | inr told ↦ absurd (clash (has_outcome x.ip end.outcomes) told (none-told end.outcomes x.ip none))
-  ]
-
-  -- what holds of each unfinished attempt holds of each without an outcome
-  pub held-all : (race end : Race) (xs : List Attempt) → AreNextInTurn race xs → (Q : Attempt → Type 0) (os : List (Held C)) → All (λ (o : Held C). Contains xs o.attempt × Q o.attempt) os → list_all (is_held os end) xs ≡ true → (x : Attempt) → Contains xs x → outcome_of end x.ip ≡ None → Q x
-  held-all race end xs turn Q os h held x made none =
-      held_one race end xs turn Q os h x made (one_held os end x (at_one (is_held os end) xs x held made) none)
-
 module _ {C : Type 0} (connector : ConnectorOf C (Unit {0}) ScriptedTrial) (race : Race) (ss : IsScript race) (c : C) (sc : IsScripted connector race c) (live : Live C (Unit {0}) ScriptedTrial) (at : ℕ) (f : Follows race live at) (kept : IsLive connector scripted_trial live) where
+  abbrev Held : Type 0
+  Held = Unfinished C (Unit {0}) ScriptedTrial
+
   abbrev made : List Attempt
   made = live.recorder.underway.attempts
 
-  abbrev IsLeft : ℕ → Held C → Type 0
+  abbrev IsLeft : ℕ → Held → Type 0
   IsLeft tick o = Contains made o.attempt × EndsAfter race tick o.attempt
 
-  -- an attempt that doesn't end by a tick
-  ends_after : (low tick : ℕ) (x : Attempt) → tick ≤ low → EndsAfter race low x → EndsAfter race tick x
-  ends_after low tick x up h = by_outcome (outcome_of race x.ip) h
-    where
-      by_outcome : (o : Option Outcome) → IfSome o (λ outcome. low < seen race (x.tick + duration_of outcome)) → IfSome o (λ outcome. tick < seen race (x.tick + duration_of outcome))
-      by_outcome None h = tt
-      by_outcome (Some outcome) h = let k : low < seen race (x.tick + duration_of outcome) = h in omega arith
-
-  pending_left : (o : Held C) → IsPending connector race ss.valid c made at f.awake o → IsLeft at o
+  pending_left : (o : Held) → IsPending connector race ss.valid c made at f.awake o → IsLeft at o
   pending_left o p = (p.made, by_outcome (outcome_of race o.attempt.ip) p.late)
     where
       by_outcome : (x : Option Outcome) → IfSome x (λ outcome. at < o.attempt.tick + duration_of outcome) → IfSome x (λ outcome. at < seen race (o.attempt.tick + duration_of outcome))
       by_outcome None h = tt
       by_outcome (Some outcome) h = let k : at < o.attempt.tick + duration_of outcome = h in let up : o.attempt.tick + duration_of outcome ≤ seen race (o.attempt.tick + duration_of outcome) = seen_from race ss.valid (o.attempt.tick + duration_of outcome) in omega arith
 
-  connecting_left : (tick : ℕ) → tick < at → (o : Held C) → IsConnecting race made at o → IsLeft tick o
+  connecting_left : (tick : ℕ) → tick < at → (o : Held) → IsConnecting race made at o → IsLeft tick o
   connecting_left tick early o p = (p.made, by_outcome (outcome_of race o.attempt.ip) p.ends)
     where
       by_outcome : (x : Option Outcome) → IfSome x (λ outcome. at ≤ seen race (o.attempt.tick + duration_of outcome)) → IfSome x (λ outcome. tick < seen race (o.attempt.tick + duration_of outcome))
       by_outcome None h = tt
       by_outcome (Some outcome) h = let k : at ≤ seen race (o.attempt.tick + duration_of outcome) = h in omega arith
 
-  all_none : (P : Held C → Type 0) (os : List (Held C)) → (length os == 0) ≡ true → All P os
+  all_none : (P : Held → Type 0) (os : List (Held)) → (length os == 0) ≡ true → All P os
   all_none P [] h = All-nil P
   all_none P (o ∷ os) h = let none : length (o ∷ os) ≡ 0 = (Decides-eqb (length (o ∷ os)) 0).0 h in absurd (let no_length : ⊥ = omega arith in no_length)
 
@@ -111,7 +73,7 @@ module _ {C : Type 0} (connector : ConnectorOf C (Unit {0}) ScriptedTrial) (race
     limit_to = same_limit race to.recorded w.alike
 
     held_to : list_all (is_held to.pending to.recorded) made ≡ true
-    held_to = subst (λ (os : List (Held C)). list_all (is_held os to.recorded) made ≡ true) (append-nil to.pending) w.held
+    held_to = subst (λ (os : List (Held)). list_all (is_held os to.recorded) made ≡ true) (append-nil to.pending) w.held
 
     left_to : All (IsLeft at) to.pending
     left_to = All-weaker (IsPending connector race ss.valid c made at f.awake) (IsLeft at) pending_left to.pending w.pending
@@ -131,7 +93,7 @@ module _ {C : Type 0} (connector : ConnectorOf C (Unit {0}) ScriptedTrial) (race
     late_to false is x at_x none = elim (or_one (nat_le to.recorded.settings.limit at) ((length to.pending == 0) && (six && four)) (lost_by is)) [
       | inl limit ↦
           let by : to.recorded.settings.limit ≤ at = le_from to.recorded.settings.limit at limit in
-          ends_after at race.settings.limit x (omega (arith, limit_to)) (held-all race to.recorded made f.in_turn (EndsAfter race at) to.pending left_to held_to x at_x none)
+          ends-sooner race at race.settings.limit x (omega (arith, limit_to)) (held-all race to.recorded made f.in_turn (EndsAfter race at) to.pending left_to held_to x at_x none)
       | inr out ↦
           held-all race to.recorded made f.in_turn (EndsAfter race race.settings.limit) to.pending (all_none (IsLeft race.settings.limit) to.pending (and_left (length to.pending == 0) (six && four) out)) held_to x at_x none
     ]
@@ -218,7 +180,7 @@ module _ {C : Type 0} (connector : ConnectorOf C (Unit {0}) ScriptedTrial) (race
       free = free-slept race live.recorder.recorded live.recorder.due at now f.free f.due by
 
       held : list_all (is_held live.unfinished.items end) made ≡ true
-      held = subst (λ (told : List (Ip × Outcome)). list_all (λ (x : Attempt). list_any (λ (o : Held C). same_ip o.attempt.ip x.ip) live.unfinished.items || has_outcome x.ip told) made ≡ true) (sym same) f.held
+      held = subst (λ (told : List (Ip × Outcome)). list_all (λ (x : Attempt). list_any (λ (o : Held). same_ip o.attempt.ip x.ip) live.unfinished.items || has_outcome x.ip told) made ≡ true) (sym same) f.held
 
       sees : (o : Option Reply) → SeesAs race live.recorder.recorded (first_after live.recorder.turn) o → ((d : ℕ) → IsAnswerDue live.recorder.turn o d → live.recorder.due ≤ d) → IfSome o (λ r. SeesAlike race end r.tick)
       sees None was due = tt
