@@ -1,16 +1,14 @@
 -- By which tick each attempt has failed: where its failure stands at a free tick, by that one.
-use Rattle.std.proofs.Common.{◌≡◌, ℕ, ◌+◌, ◌≤◌, ◌<◌, ◌&&◌, Bool, true, false, List, [], ◌∷◌, length, get_or, map, Option, Some, None, IfSome, IsSomeAnd, nat_le, zero, suc, refl, sym, ◌∙◌, ap, subst, arith, inl, inr}
+use Rattle.std.proofs.Common.{◌≡◌, ℕ, ◌+◌, ◌≤◌, ◌<◌, ◌&&◌, Bool, true, false, List, [], ◌∷◌, length, get_or, map, Option, Some, None, nat_le, zero, suc, refl, sym, ◌∙◌, ap, arith}
 use Rattle.std.specs.List.{All, Contains, list_all}
 use Rattle.std.proofs.lemmas.List.Elements.{All-contains, All-head, All-tail}
 use Rattle.he_plan.specs.declared.attempts.Attempt.{Attempt}
-use Rattle.he_plan.specs.declared.limits.TheConstants.{MIN_FLOOR}
 use Rattle.he_plan.specs.declared.outcome.Outcome.{Outcome}
 use Rattle.he_plan.specs.declared.outcome.Outcome.TheVariants as outcomes
-use Rattle.he_plan.specs.Agreement.{FailAlike}
-use Rattle.he_plan.specs.Attempts.{HasWaited, HaveFailed, IsFree, IsSeen, has_failed, has_failed_by, outcome_of, seen}
+use Rattle.he_plan.specs.Attempts.{IsFree, IsSeen, has_failed, has_failed_by, outcome_of, seen}
 use Rattle.he_plan.specs.Race.{Race}
-use Rattle.he_plan.specs.Timeline.{IsRace, duration_of}
-use Rattle.he_plan.proofs.Bools.{and_both, and_left, and_right, le_from, le_test, not_le}
+use Rattle.he_plan.specs.Timeline.{IsRace}
+use Rattle.he_plan.proofs.Bools.{and_both, and_left, and_right, le_from, le_test}
 use Rattle.he_plan.proofs.Starting.{IsSeen-seen}
 
 -- what passes for all passes for one
@@ -61,24 +59,3 @@ failed_by-later race start m n up (Some (outcomes.Fail d)) h = let by : seen rac
 pub failed-later : (race : Race) (m n : ℕ) → m ≤ n → (xs : List Attempt) → list_all (has_failed race m) xs ≡ true → list_all (has_failed race n) xs ≡ true
 failed-later race m n up xs h =
     all-weaker (has_failed race m) (has_failed race n) xs (λ k d lt. failed_by-later race (get_or xs k d).tick m n up (outcome_of race (get_or xs k d).ip)) h
-
--- what ends an attempt stands at ticks at which both races are free
-pub failed-both : (x y : Race) → IsRace x → IsRace y → (start t : ℕ) (o : Option Outcome) → IfSome o (λ out. IsFree x (start + duration_of out) × IsFree y (start + duration_of out)) → has_failed_by x t start o ≡ has_failed_by y t start o
-failed-both x y rx ry start t None h = refl
-failed-both x y rx ry start t (Some (outcomes.Ok d)) h = refl
-failed-both x y rx ry start t (Some (outcomes.Fail d)) h = rw (seen-free x rx (start + d) h.0, seen-free y ry (start + d) h.1) refl
-
-pub fail-alike : (tick : ℕ) (x y : Race) (xs : List Attempt) → All (λ (z : Attempt). (t : ℕ) → t < tick → has_failed x t z ≡ has_failed y t z) xs → FailAlike tick x y xs
-fail-alike tick x y [] each = tt
-fail-alike tick x y (z ∷ xs) each =
-    let P : Attempt → Type 0 = λ a. (t : ℕ) → t < tick → has_failed x t a ≡ has_failed y t a in
-    (All-head P z xs each, fail-alike tick x y xs (All-tail P z xs each))
-
--- the last attempt was waited for after its start
-pub waited-later : (race : Race) → IsRace race → (done : List Attempt) (t : ℕ) (last : Attempt) → HasWaited race done t last → last.tick < t
-waited-later race r done t last (inl over) = omega (arith, over, r.settings.attempt_least)
-waited-later race r done t last (inr floor) = by_floor race.settings.floor r.settings.floor floor
-  where
-    by_floor : (f : Option ℕ) → IfSome f (λ n. (MIN_FLOOR ≤ n) × (n ≤ race.settings.attempt)) → IsSomeAnd f (λ n. (last.tick + n ≤ t) × HaveFailed race done t) → last.tick < t
-    by_floor None range h = absurd h
-    by_floor (Some n) range h = omega (arith, range.0, h.0)

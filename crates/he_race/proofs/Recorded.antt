@@ -21,21 +21,22 @@ use Rattle.he_plan.specs.Due.{IsAfterTurn, IsDelayDue, IsDue, IsDueTick, IsStart
 use Rattle.he_plan.specs.Finish.{fate_of, outcome_in, outcome_of}
 use Rattle.he_plan.specs.Race.{Race, Reply, has_outcome}
 use Rattle.he_plan.specs.Timeline.{IsRace, duration_of}
-use Rattle.he_plan.specs.Underway.{IsUnderway, MakesNext, Progress, was_received}
-use Rattle.he_plan.proofs.Agreeing.{in_turn-below, starts-below, starts-shared}
+use Rattle.he_plan.specs.Underway.{EndsOne, IsUnderway, MakesNext, Progress, was_received}
+use Rattle.he_plan.proofs.Agreeing.{alike-below, failed-shared, in_turn-below, starts-below, starts-shared}
 use Rattle.he_plan.proofs.Bools.{and_both, and_left, and_right, before, clash, inside, le_test, lt_test, not_le, or_left, or_left_none, or_right, or_right_none}
-use Rattle.he_plan.proofs.Dueness.{due-no_sooner, finish-failed, finish-silent, starts-free}
+use Rattle.he_plan.proofs.Dueness.{due-no_sooner, finish-failed, finish-silent, starts-free, starts-later}
+use Rattle.he_plan.proofs.Ends.{ends-alike, ends-in_turn}
 use Rattle.he_plan.proofs.Growing.{outcome-below, outcome-others, outcome-own, pause-away, pause-below, pauses-over}
 use Rattle.he_plan.proofs.InTurn.{in_turn-follow, in_turn-more, in_turn-none}
 use Rattle.he_plan.proofs.Lawful.{seen_past-more}
 use Rattle.he_plan.proofs.Planned.{last_of-more}
 use Rattle.he_plan.proofs.Ranges.{same_ip-sym}
-use Rattle.he_plan.proofs.Starting.{IsSeen-seen}
+use Rattle.he_plan.proofs.Starting.{IsSeen-seen, SeesOwn-free}
 use Rattle.he_race.specs.Kept.{Begins, FailedBelow, InTurn, Rests, first_after, taken}
 use Rattle.he_race.specs.Recording.{EndedBy, HasSuccess, ended_by, unrecorded}
 use Rattle.he_race.proofs.Counted.{all_taken_later, due_taken, turn_by}
 use Rattle.he_race.proofs.DueTicks.{due_starts}
-use Rattle.he_race.proofs.Failing.{all-same, all-weaker, at-one, fail-alike, failed-both, map-same, seen-free, waited-later}
+use Rattle.he_race.proofs.Failing.{all-weaker, at-one, map-same, seen-free}
 
 pub own_ip : (ip : Ip) → same_ip ip ip ≡ true
 own_ip (V4 n) = (Decides-eqb n n).1 refl
@@ -92,23 +93,13 @@ failed_later race race' below now x up free (outcomes.Fail d) h = (free (x.tick 
 not_won : false ≡ true → ⊥
 not_won e = cc
 
--- an attempt of which a failure is recorded below the tick has failed by the same ticks in a race that is free where this one
--- is below it
-failed_kept : (race race' : Race) → IsRace race → IsRace race' → (below start : ℕ) → ((t : ℕ) → t < below → IsFree race t → IsFree race' t) → (x : Attempt) (t : ℕ) (o : Option Outcome) → IfSome o (FailedBelow race below x) → has_failed_by race t x.tick o ≡ has_failed_by race' t x.tick o
-failed_kept race race' r r' below start free x t o h = failed-both race race' r r' x.tick t o (by_outcome o h)
-  where
-    by_outcome : (o : Option Outcome) → IfSome o (FailedBelow race below x) → IfSome o (λ out. IsFree race (x.tick + duration_of out) × IsFree race' (x.tick + duration_of out))
-    by_outcome None h = tt
-    by_outcome (Some (outcomes.Ok d)) h = absurd h
-    by_outcome (Some (outcomes.Fail d)) h = (h.0, free (x.tick + d) h.1 h.0)
-
 pub begins-late : (race : Race) (turn : Option ℕ) (xs : List Attempt) (due now : ℕ) → Rests race turn xs → IsDueTick race turn xs due → first_after turn ≤ now → due < now → IsRace (with_pause race due now) → Begins (with_pause race due now) now xs
 begins-late race turn xs due now rest is up late r' =
     let race' : Race = with_pause race due now in
     let r : IsRace race = rest.valid in
     let agree : AgreeBelow due race race' = pause-below race due now in
     let base : first_after turn ≤ due = due_later race r turn xs due rest.after is.holds in
-    let alike : FailAlike due race race' xs = fail-alike due race race' xs (λ k d lt t early. same_failed k d lt t) in
+    let alike : FailAlike due race race' xs = alike-below due race race' r r' agree xs (λ k d lt. refl) in
     let past : All (λ (x : Attempt). x.tick < due) xs = All-weaker (λ (x : Attempt). x.tick < first_after turn) (λ (x : Attempt). x.tick < due) (λ x h. omega (arith, h)) xs rest.past in
     let failed : All (λ (x : Attempt). IfSome (outcome_of race' x.ip) (FailedBelow race' now x)) xs = All-weaker (λ (x : Attempt). IfSome (outcome_of race x.ip) (FailedBelow race (first_after turn) x)) (λ (x : Attempt). IfSome (outcome_of race' x.ip) (FailedBelow race' now x))
     (λ x h. if_some (FailedBelow race (first_after turn) x) (FailedBelow race' now x) (outcome_of race x.ip) (failed_later race race' (first_after turn) now x up (λ t lt free. (agree.free t (omega arith)).0 free)) h) xs rest.failed in
@@ -133,19 +124,12 @@ begins-late race turn xs due now rest is up late r' =
     base : first_after turn ≤ due
     base = due_later race rest.valid turn xs due rest.after is.holds
 
-    free_below : (t : ℕ) → t < first_after turn → IsFree race t → IsFree (with_pause race due now) t
-    free_below t lt free = let agree : AgreeBelow due race (with_pause race due now) = pause-below race due now in (agree.free t (omega (arith, base))).0 free
-
-    -- an attempt has failed by a tick whether the client sleeps later or not
-    same_failed : (k : ℕ) (d : Attempt) → k < length xs → (t : ℕ) → has_failed race t (get_or xs k d) ≡ has_failed (with_pause race due now) t (get_or xs k d)
-    same_failed k d lt t = failed_kept race (with_pause race due now) rest.valid r' (first_after turn) 0 free_below (get_or xs k d) t (outcome_of race (get_or xs k d).ip) (rest.failed k d lt)
-
     starts_at : now < race.settings.limit → IsDelayDue race turn xs due ⊎ IsStartDue race turn xs due → MayStart (with_pause race due now) xs now
     starts_at early is_due =
         let over : last_end (race.pauses ++ (due, now) ∷ []) ≡ now = last_end-more race.pauses (due, now) in
         let free : IsFree race now = pauses-over race rest.valid now (omega (arith, rest.over, base)) in
         let free' : IsFree (with_pause race due now) now = pauses-over (with_pause race due now) r' now (omega (arith, over)) in
-        let same : list_all (has_failed race now) xs ≡ list_all (has_failed (with_pause race due now) now) xs = all-same (has_failed race now) (has_failed (with_pause race due now) now) xs (λ k d lt. same_failed k d lt now) in
+        let same : list_all (has_failed race now) xs ≡ list_all (has_failed (with_pause race due now) now) xs = failed-shared race (with_pause race due now) now (SeesOwn-free race rest.valid now free) (SeesOwn-free (with_pause race due now) r' now free') (λ ip. refl) xs in
         let may : MayStart race xs now = due_starts race rest.valid turn xs due now is_due (turn_by turn now up) (omega arith) free early in
         (starts-shared race (with_pause race due now) rest.valid r' refl xs now (λ h. sym same ∙ h, λ h. same ∙ h) free free').0 may
 
@@ -356,18 +340,31 @@ rests-started race now xs all t may p =
 
     none : IsNext race xs p.next → ¬ MayStart race (xs ++ p.next ∷ []) now
     none next m =
-        let follows : MayFollow race (xs ++ p.next ∷ []) now p.next = subst (λ (o : Option Attempt). MatchOption o (MayBegin race now) (MayFollow race (xs ++ p.next ∷ []) now)) (last_of-more xs p.next) m.1 in
-        omega (arith, waited-later race t.valid (xs ++ p.next ∷ []) now p.next follows.waited, p.at)
+        omega (arith, starts-later race t.valid (xs ++ p.next ∷ []) p.next now (last_of-more xs p.next) m, p.at)
 
     unended : (later : ℕ) (x : Attempt) → outcome_of race x.ip ≡ None → has_failed race later x ≡ true → has_failed race now x ≡ true
     unended later x e h = let no : has_failed_by race later x.tick None ≡ true = subst (λ (o : Option Outcome). has_failed_by race later x.tick o ≡ true) e h in cc
+
+-- an attempt that finishes in a turn ends in it
+ends_at : (ok : Bool) (start now : ℕ) → start < now → start + duration_of (ended_by ok (now - start)) ≡ now
+ends_at true start now lt = omega arith
+ends_at false start now lt = omega arith
+
+pub ends-one : (race new : Race) (now : ℕ) (xs : List Attempt) (won ok : Bool) (x : Attempt) → InTurn race now xs won → Contains xs x → has_outcome x.ip race.outcomes ≡ false → new ≡ with_outcome race x.ip (ended_by ok (now - x.tick)) → EndsOne race new xs x
+ends-one race new now xs won ok x t at first is = record {
+  made = at;
+  silent = first;
+  outcome = ended_by ok (now - x.tick);
+  told = is;
+  late = rw (ends_at ok x.tick now (All-contains (λ (z : Attempt). z.tick < now) xs x t.past at)) (all_before now xs t.past);
+}
 
 -- an attempt finishes in a turn
 pub finished : (race : Race) (now : ℕ) (xs : List Attempt) (won ok : Bool) (x : Attempt) → InTurn race now xs won → Contains xs x → outcome_of race x.ip ≡ None → has_outcome x.ip race.outcomes ≡ false → IsRace (with_outcome race x.ip (ended_by ok (now - x.tick))) → InTurn (with_outcome race x.ip (ended_by ok (now - x.tick))) now xs (won || ok)
 finished race now xs won ok x t at silent first r' = record {
   valid = r';
   made = record {
-    in_turn = in_turn-below now race race' t.valid r' (outcome-below race x.ip o now) xs alike (all_before now xs t.past) t.made.in_turn;
+    in_turn = ends-in_turn race race' t.valid r' xs x ends t.made.in_turn;
     tried = list_all-append (λ (p : Ip × Outcome). is_tried xs p.0) race.outcomes ((x.ip, o) ∷ []) ∙ and_both _ _ t.made.tried (and_both _ _ (tried_made xs x at) refl);
   };
   past = t.past;
@@ -388,33 +385,12 @@ finished race now xs won ok x t at silent first r' = record {
     now_free : IsFree race' now
     now_free = pauses-over race' r' now t.over
 
-    begun : x.tick < now
-    begun = All-contains (λ (z : Attempt). z.tick < now) xs x t.past at
+    ends : EndsOne race race' xs x
+    ends = ends-one race race' now xs won ok x t at first refl
 
-    not_before : (s : ℕ) → s < now → (ok : Bool) → has_failed_by race' s x.tick (Some (ended_by ok (now - x.tick))) ≡ false
-    not_before s sooner true = refl
-    not_before s sooner false =
-        let e : x.tick + (now - x.tick) ≡ now = omega (arith, begun) in
-        rw (e, seen-free race' r' now now_free) (not_le now s sooner)
-
-    -- the attempt has not failed before the turn, and the others as before
-    one_alike : (z : Attempt) (s : ℕ) → s < now → (b : Bool) → same_ip x.ip z.ip ≡ b → (same_ip x.ip z.ip ≡ true → z ≡ x) → has_failed race s z ≡ has_failed race' s z
-    one_alike z s sooner true e one =
-        let P : Attempt → Type 0 = λ y. has_failed race s y ≡ has_failed race' s y in
-        let before : has_failed race s x ≡ false = ap (has_failed_by race s x.tick) silent in
-        let after : has_failed race' s x ≡ false = ap (has_failed_by race' s x.tick) (outcome-own race x.ip o first) ∙ not_before s sooner ok in
-        subst P (sym (one e)) (before ∙ sym after)
-    one_alike z s sooner false e one =
-        let same : outcome_of race' z.ip ≡ outcome_of race z.ip = outcome-others race x.ip z.ip o e in
-        by_outcome (outcome_of race z.ip) ∙ sym (ap (has_failed_by race' s z.tick) same)
-      where
-        by_outcome : (u : Option Outcome) → has_failed_by race s z.tick u ≡ has_failed_by race' s z.tick u
-        by_outcome None = refl
-        by_outcome (Some (outcomes.Ok d)) = refl
-        by_outcome (Some (outcomes.Fail d)) = refl
-
+    -- before the turn attempts have failed as before
     alike : FailAlike now race race' xs
-    alike = fail-alike now race race' xs (λ k d lt s sooner. one_alike (get_or xs k d) s sooner (same_ip x.ip (get_or xs k d).ip) refl (one_attempt race xs t.made.in_turn x at k d lt))
+    alike = subst (λ (tick : ℕ). FailAlike tick race race' xs) (ends_at ok x.tick now (All-contains (λ (z : Attempt). z.tick < now) xs x t.past at)) (ends-alike race race' t.valid xs x ends t.made.in_turn)
 
     -- as long as it runs no start is by the floor
     still_waited : (last : Attempt) → HasWaited race xs now last → HasWaited race' xs now last

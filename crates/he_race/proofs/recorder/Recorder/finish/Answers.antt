@@ -1,8 +1,4 @@
-use Rattle.std.proofs.Common.{◌≡◌, ◌+◌, ◌-◌, ◌<◌, Bool, true, false, refl, arith}
-use Rattle.std.specs.List.{list_all}
-use Rattle.std.proofs.lemmas.List.Elements.{All-contains}
-use Rattle.he_plan.specs.declared.attempts.Attempt.{Attempt}
-use Rattle.he_race.proofs.Recorded.{all_before}
+use Rattle.he_race.proofs.Recorded.{ends-one}
 use Rattle.he_race.proofs.Standing.{stands-made}
 use Rattle.he_race.proofs.recorder.Recorder.finish.Goals as goal
 
