@@ -356,7 +356,7 @@ ends-one race new now xs won ok x t at first is = record {
   silent = first;
   outcome = ended_by ok (now - x.tick);
   told = is;
-  late = rw (ends_at ok x.tick now (All-contains (λ (z : Attempt). z.tick < now) xs x t.past at)) (all_before now xs t.past);
+  late = subst (λ (tick : ℕ). list_all (λ (y : Attempt). nat_lt y.tick tick) xs ≡ true) (sym (ends_at ok x.tick now (All-contains (λ (z : Attempt). z.tick < now) xs x t.past at))) (all_before now xs t.past);
 }
 
 -- an attempt finishes in a turn
