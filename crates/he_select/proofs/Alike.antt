@@ -1,6 +1,6 @@
 -- The order looks at what is known of its own addresses alone.
-use Rattle.std.proofs.Common.{◌≡◌, ℕ, ◌+◌, ◌==◌, Bool, false, List, [], ◌∷◌, map, refl, sym, ◌∙◌, ap, subst, slice_get}
-use Rattle.std.specs.Prelude.{Option, None, Some, count_by, find, cond, filter_map, length, option_map}
+use Rattle.std.proofs.Common.{◌≡◌, ℕ, ◌+◌, ◌==◌, Bool, List, [], ◌∷◌, map, refl, ◌∙◌, ap, subst, slice_get}
+use Rattle.std.specs.Prelude.{Option, Some, count_by, find, cond, filter_map, length, option_map}
 use Rattle.std.specs.List.{cons_option, range_with_len}
 use Rattle.std.specs.declared.cmp.Ordering.{Ordering}
 use Rattle.std.specs.Ordering.{bool_cmp, is_lt, nat_cmp}

@@ -1,5 +1,5 @@
 -- What is known of addresses: a list that tells nothing is as good as none, and each address is found in a list of all.
-use Rattle.std.proofs.Common.{◌≡◌, ℕ, ◌||◌, ◌&&◌, Bool, true, false, List, [], ◌∷◌, map, refl, sym, ◌∙◌, ap, subst, inl, inr, slice_get, zero, suc}
+use Rattle.std.proofs.Common.{◌≡◌, ℕ, ◌||◌, ◌&&◌, Bool, true, false, List, [], ◌∷◌, map, refl, sym, ◌∙◌, ap, inl, inr, slice_get, zero, suc}
 use Rattle.std.specs.Prelude.{Option, None, Some, is_some, IsTrue, All}
 use Rattle.std.specs.List.{AllPass, list_all, list_any}
 use Rattle.std.proofs.lemmas.Bool.{cases_Bool}

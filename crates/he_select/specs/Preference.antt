@@ -1,5 +1,5 @@
 -- Which of two destinations is preferred (RFC 6724 section 6, RFC 8305 section 4), and a list in this order.
-use Rattle.std.specs.Prelude.{ℕ, ◌+◌, ◌≡◌, ◌==◌, Bool, true, false, not, cond, List, [], ◌∷◌, length, map, slice_get, count_by, find, filter_map, Option, Some, option_map, IsPermutation}
+use Rattle.std.specs.Prelude.{ℕ, ◌+◌, ◌≡◌, ◌==◌, Bool, true, false, not, cond, List, [], ◌∷◌, length, map, slice_get, count_by, find, filter_map, Option, Some, IsPermutation}
 use Rattle.std.specs.Bool.{beq}
 use Rattle.std.specs.List.{range_with_len}
 use Rattle.std.specs.Option.{option_map_or}

@@ -48,7 +48,10 @@ pub fn order<A: Allocator + Copy, P: Allocator, H: Allocator>(
 fn nothing_known<A: Allocator>(alloc: A, addresses: &[Ip]) -> Result<Vec<Known, A>, AllocError>
     ensures { IfOk result (λ known. known.items ≡ map nothing_known addresses.now) }
 {
-    addresses.iter().map(|ip| Known::nothing(*ip)).collect(alloc)
+    addresses
+        .iter()
+        .map(|ip| Known::nothing(*ip))
+        .collect(alloc)
 }
 
 /// The addresses in the order in which they are to be tried by what is known of them as well (RFC 8305 section 4). Each
@@ -78,13 +81,7 @@ pub fn order_known_with_standings<A: Allocator + Copy, P: Allocator, H: Allocato
     ensures order { IfOk result (λ _. IsOrder (known_input policy.now host.now known.now) (map (λ one. one.ip) known.now) (order_of (known_input policy.now host.now known.now) (map (λ one. one.ip) known.now))) }
     ensures value { IfOk result (λ sorted. sorted.items ≡ map (standing_of (known_input policy.now host.now known.now)) (order_of (known_input policy.now host.now known.now) (map (λ one. one.ip) known.now))) }
 {
-    let sorted = sort_standings(
-        alloc,
-        policy.rows(),
-        host.sources(),
-        host.routes(),
-        known,
-    )?;
+    let sorted = sort_standings(alloc, policy.rows(), host.sources(), host.routes(), known)?;
     Ok(sorted)
 }
 
