@@ -26,6 +26,7 @@
 pub mod deciding;
 pub(crate) mod distinct;
 pub mod host;
+pub mod known;
 pub mod laws;
 pub mod limits;
 pub(crate) mod lookup;
@@ -37,7 +38,8 @@ pub mod standing;
 
 pub use deciding::DestinationRule;
 pub use host::{Host, HostFault, Route, Source};
+pub use known::Known;
 pub use policy::{Policy, PolicyFault, Row};
 pub use selection::LabelledSource;
-pub use sorting::{Sourced, order, order_with_sources, order_with_standings};
+pub use sorting::{Sourced, order, order_known, order_known_with_standings};
 pub use standing::Standing;
