@@ -55,7 +55,7 @@ pub fn one_more_outcome()
 /// The outcome by which an attempt ends after the last start leaves the attempts that were made, of which no other one
 /// ends by it.
 pub fn one_more_end()
-    ensures attempts { (old new : Race) → IsRace old → (attempts : List Attempt) (x : Attempt) → EndsOne old new attempts x → AreNextInTurn old attempts → AreNextInTurn new attempts }
+    ensures attempts { (old new : Race) → IsRace old → IsRace new → (attempts : List Attempt) (x : Attempt) → EndsOne old new attempts x → AreNextInTurn old attempts → AreNextInTurn new attempts }
     ensures failed { (old new : Race) → IsRace old → (attempts : List Attempt) (x : Attempt) → (is : EndsOne old new attempts x) → AreNextInTurn old attempts → FailAlike (x.tick + duration_of is.outcome) old new attempts }
 {}
 

@@ -112,9 +112,9 @@ impl<A: Allocator + Copy> Underway<A> {
             ip: self.queue.take(),
         };
         let fate = timeline.fate(&attempt);
+        self.attempts.push_reserved(attempt);
         self.fates.push_reserved(fate);
         self.count(fate);
-        self.attempts.push_reserved(attempt);
         Ok(())
     }
 
