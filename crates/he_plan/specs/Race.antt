@@ -10,7 +10,7 @@ use Rattle.he_plan.specs.declared.outcome.Outcome.{Outcome}
 use Rattle.he_plan.specs.Settings.{SettingValues}
 use Rattle.he_select.specs.declared.policy.Row.{Row}
 use Rattle.he_select.specs.Hosts.{HostLists}
-use Rattle.he_select.specs.declared.sorting.Known.{Known}
+use Rattle.he_select.specs.declared.known.Known.{Known}
 use Rattle.he_select.specs.Selection.{SelectionInput, known_input}
 
 -- one family's answer: the tick at which it comes, and the addresses as written

@@ -81,7 +81,10 @@ impl<A: Allocator> History<A> {
     pub(crate) fn is_used(&self, ip: Ip) -> bool
         ensures { result ≡ has_ip ip self.now.used }
     {
-        !self.used.is_empty() && self.used.contains(&ip)
+        if self.used.is_empty() {
+            return false;
+        }
+        self.used.contains(&ip)
     }
 
     // What is known of the address.
