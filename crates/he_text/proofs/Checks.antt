@@ -4,6 +4,7 @@ use Rattle.he_text.specs.declared.draft.LastGroup.{LastGroup}
 use Rattle.std.specs.Result.{result_err}
 use Rattle.he_text.specs.declared.fault.TextKind.{TextKind}
 use Rattle.he_text.specs.declared.fault.TextKind.TheVariants as kinds
+use Rattle.he_text.specs.declared.words.Version.{Version}
 use Rattle.he_text.specs.declared.words.Word.{Word}
 use Rattle.he_text.specs.Faults.{first_fault, test, last_group, known_to, said_before, too_long, unfinished, wrong_word, too_often, wrong_bounds, repeated, wrong_table, of_said, line_fault}
 use Rattle.he_text.specs.Forms.{◌>>=◌, word_of, said_by}
@@ -35,8 +36,8 @@ taken_in_order None None (Ok s) bounds again table so_far admitted told after fi
     by_fault (Some kind) here final give so_far same = refl
     by_fault None here final give so_far same = ap (λ t. Ok (give so_far t)) same
 
-abbrev pub line_checks : List (List ℕ) → List ℕ → List (List ℕ) → Result (Word × List (List ℕ)) TextKind → Option TextKind
-line_checks before line after word =
+abbrev pub line_checks : (v : Version) → List (List ℕ) → List ℕ → List (List ℕ) → Result (Word × List (List ℕ)) TextKind → Option TextKind
+line_checks v before line after word =
     later_checks (wrong_word (last_group 0 before) word) (too_often before word)
     (word >>= λ parts. said_by (known_to (said_before before)) parts.0 parts.1)
     (wrong_bounds (said_before before)) (repeated (said_before before)) (wrong_table (said_before before) after)
@@ -54,10 +55,10 @@ first_again None None None None None None None (Some k) = refl
 first_again None None None None None None None None = refl
 
 -- the checks of a line whose word is known
-pub line_fault_is : (before : List (List ℕ)) (line : List ℕ) (after : List (List ℕ)) (word : Result (Word × List (List ℕ)) TextKind) → word_of (tokens_of line) ≡ word
-    → line_fault before line after ≡ first_fault (too_long line ∷ unfinished after ∷ line_checks before line after word ∷ [])
+pub line_fault_is : (v : Version) → (before : List (List ℕ)) (line : List ℕ) (after : List (List ℕ)) (word : Result (Word × List (List ℕ)) TextKind) → word_of (tokens_of line) ≡ word
+    → line_fault v before line after ≡ first_fault (too_long line ∷ unfinished after ∷ line_checks v before line after word ∷ [])
 unfolding line_fault
-line_fault_is before line after word is =
+line_fault_is v before line after word is =
     let at : Result (Word × List (List ℕ)) TextKind → Option TextKind = λ w. first_fault (too_long line ∷ unfinished after ∷ wrong_word (last_group 0 before) w ∷ too_often before w
     ∷ result_err (w >>= λ parts. said_by (known_to (said_before before)) parts.0 parts.1)
     ∷ of_said (wrong_bounds (said_before before)) (w >>= λ parts. said_by (known_to (said_before before)) parts.0 parts.1)
@@ -70,8 +71,8 @@ is_fault : Some kinds.Word ≡ None → ⊥
 is_fault e = cc
 
 -- the word is in order where the checks pass
-pub in_order : (before : List (List ℕ)) (line : List ℕ) (after : List (List ℕ)) (word : Word) (tokens : List (List ℕ)) → line_checks before line after (Ok (word, tokens)) ≡ None → ltb (group_of word) (last_group 0 before) ≡ false
-in_order before line after word tokens h = by_test (ltb (group_of word) (last_group 0 before)) refl
+pub in_order : (v : Version) → (before : List (List ℕ)) (line : List ℕ) (after : List (List ℕ)) (word : Word) (tokens : List (List ℕ)) → line_checks v before line after (Ok (word, tokens)) ≡ None → ltb (group_of word) (last_group 0 before) ≡ false
+in_order v before line after word tokens h = by_test (ltb (group_of word) (last_group 0 before)) refl
   where
     by_test : (b : Bool) → ltb (group_of word) (last_group 0 before) ≡ b → b ≡ false
     by_test false e = refl

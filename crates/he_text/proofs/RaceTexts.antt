@@ -19,6 +19,7 @@ use Rattle.he_select.specs.declared.host.Route.{Route}
 use Rattle.he_text.specs.declared.fault.TextKind.{TextKind}
 use Rattle.he_text.specs.declared.fault.TextKind.TheVariants as kinds
 use Rattle.he_text.specs.declared.limits.TheConstants.{MAX_LINE}
+use Rattle.he_text.specs.declared.words.Version.{Version}
 use Rattle.he_text.specs.declared.words.Name.{Name}
 use Rattle.he_text.specs.declared.words.Name.TheVariants.{Resolution, Attempt, Count, Limit}
 use Rattle.he_text.specs.declared.words.Word.{Word}
@@ -200,7 +201,7 @@ pub record IsRight (before : List (List ℕ)) (line : List ℕ) (after : List (L
   pub ended : 0 < length after
   pub parts : Word × List (List ℕ)
   pub word : word_of (tokens_of line) ≡ Ok parts
-  pub checks : line_checks before line after (Ok parts) ≡ None
+  pub checks : line_checks (version_on line) before line after (Ok parts) ≡ None
 
 first_two : (long : Bool) (after : List (List ℕ)) (checks : Option TextKind) → first_fault (test long kinds.TooMany ∷ unfinished after ∷ checks ∷ []) ≡ None → (long ≡ false) × (0 < length after) × (checks ≡ None)
 first_two true after checks h = cc
@@ -208,15 +209,15 @@ first_two false [] checks h = cc
 first_two false (next ∷ after) None h = (refl, omega arith, refl)
 first_two false (next ∷ after) (Some kind) h = cc
 
-is_right : (before : List (List ℕ)) (line : List ℕ) (after : List (List ℕ)) → line_fault before line after ≡ None → IsRight before line after
-is_right before line after h = by_word (word_of (tokens_of line)) refl
+is_right : (v : Version) → (before : List (List ℕ)) (line : List ℕ) (after : List (List ℕ)) → line_fault v before line after ≡ None → IsRight before line after
+is_right v before line after h = by_word (word_of (tokens_of line)) refl
   where
     by_word : (word : Result (Word × List (List ℕ)) TextKind) → word_of (tokens_of line) ≡ word → IsRight before line after
     by_word (Err kind) e =
-        let three = first_two (ltb MAX_LINE (length line)) after (line_checks before line after (Err kind)) (sym (line_fault_is before line after (Err kind) e) ∙ h) in
+        let three = first_two (ltb MAX_LINE (length line)) after (line_checks v before line after (Err kind)) (sym (line_fault_is v before line after (Err kind) e) ∙ h) in
         absurd (no_fault three.2)
     by_word (Ok parts) e =
-        let three = first_two (ltb MAX_LINE (length line)) after (line_checks before line after (Ok parts)) (sym (line_fault_is before line after (Ok parts) e) ∙ h) in
+        let three = first_two (ltb MAX_LINE (length line)) after (line_checks v before line after (Ok parts)) (sym (line_fault_is v before line after (Ok parts) e) ∙ h) in
         record { short = ltb-false MAX_LINE (length line) three.0; ended = three.1; parts = parts; word = e; checks = three.2 }
 
 -- one more line that is right and doesn't end the race
@@ -229,7 +230,7 @@ right_more before line after right r goes =
     let more : said_before (before ++ line ∷ []) ≡ told ++ s ∷ [] = said_more known before line r.parts.0 r.parts.1 s r.word passed.said_is in
     let group : group_said s ≡ group_of r.parts.0 = said_group known r.parts.0 r.parts.1 s passed.said_is in
     let here : group_on line ≡ group_of r.parts.0 = group_is line r.parts.0 r.parts.1 r.word in
-    let order : last_group 0 before ≤ group_of r.parts.0 = ltb-false (group_of r.parts.0) (last_group 0 before) (in_order before line after r.parts.0 r.parts.1 r.checks) in
+    let order : last_group 0 before ≤ group_of r.parts.0 = ltb-false (group_of r.parts.0) (last_group 0 before) (in_order (version_on line) before line after r.parts.0 r.parts.1 r.checks) in
     let last : last_said 0 told ≡ last_group 0 before = right.last in
     let le : last_said 0 told ≤ group_said s = omega arith in
     let A : List Said → Type 0 = AreLines (before ++ line ∷ []) in
@@ -277,19 +278,19 @@ pub record IsWalked (all : List (List ℕ)) (used rest : List (List ℕ)) : Type
   pub all_are : all ≡ used ++ rest
   pub some : 0 < length rest
 
-pub walked : (n : ℕ) (before lines : List (List ℕ)) (x : List (List ℕ) × List (List ℕ)) → AreRight before → walk n before lines ≡ Ok x → IsWalked (before ++ lines) x.0 x.1
+pub walked : (v : Version) → (n : ℕ) (before lines : List (List ℕ)) (x : List (List ℕ) × List (List ℕ)) → AreRight before → walk v n before lines ≡ Ok x → IsWalked (before ++ lines) x.0 x.1
 unfolding walk
-walked n before [] x right h = cc
-walked n before (line ∷ after) x right h =
-    let passed = not_stopped n (line_fault before line after) (cond (ends line) (Ok (before ++ line ∷ [], after)) (walk (n + 1) (before ++ line ∷ []) after)) x h in
-    let r = is_right before line after passed.0 in
-    by_end r (ends line) (ends_known line r.parts.0 r.parts.1 r.word) passed.1 (λ more. walked (n + 1) (before ++ line ∷ []) after x more)
+walked v n before [] x right h = cc
+walked v n before (line ∷ after) x right h =
+    let passed = not_stopped n (line_fault v before line after) (cond (ends line) (Ok (before ++ line ∷ [], after)) (walk v (n + 1) (before ++ line ∷ []) after)) x h in
+    let r = is_right v before line after passed.0 in
+    by_end r (ends line) (ends_known line r.parts.0 r.parts.1 r.word) passed.1 (λ more. walked v (n + 1) (before ++ line ∷ []) after x more)
   where
     joined : (before ++ line ∷ []) ++ after ≡ before ++ line ∷ after
     joined = append_assoc before (line ∷ []) after
 
-    by_end : (r : IsRight before line after) (b : Bool) → b ≡ is_end r.parts.0 → cond b (Ok (before ++ line ∷ [], after)) (walk (n + 1) (before ++ line ∷ []) after) ≡ Ok x
-        → (AreRight (before ++ line ∷ []) → walk (n + 1) (before ++ line ∷ []) after ≡ Ok x → IsWalked ((before ++ line ∷ []) ++ after) x.0 x.1)
+    by_end : (r : IsRight before line after) (b : Bool) → b ≡ is_end r.parts.0 → cond b (Ok (before ++ line ∷ [], after)) (walk v (n + 1) (before ++ line ∷ []) after) ≡ Ok x
+        → (AreRight (before ++ line ∷ []) → walk v (n + 1) (before ++ line ∷ []) after ≡ Ok x → IsWalked ((before ++ line ∷ []) ++ after) x.0 x.1)
         → IsWalked (before ++ line ∷ after) x.0 x.1
     by_end r true e got later =
         let same : (before ++ line ∷ [], after) ≡ x = cc (got) in
@@ -390,6 +391,6 @@ begins_with_race text rest race h fits =
     by_lines : (ls used : List (List ℕ)) → lines_of text ≡ ls → walk_all ls ≡ Ok (used, lines_of rest) → race ≡ race_of (said_before used) → BeginsWith text rest race
     by_lines [] used e w value = cc
     by_lines (line ∷ after) used e w value =
-        let passed = not_stopped 1 (first_fault (too_long line ∷ unfinished after ∷ wrong_header line ∷ [])) (walk 2 [] after) (used, lines_of rest) w in
+        let passed = not_stopped 1 (first_fault (too_long line ∷ unfinished after ∷ wrong_header line ∷ [])) (walk (version_on line) 2 [] after) (used, lines_of rest) w in
         let three = first_two (ltb MAX_LINE (length line)) after (wrong_header line) passed.0 in
-        begins_by text rest race line after used e (header_ok line (bytes_eq line (codes "race 1")) refl three.2) (walked 2 [] after (used, lines_of rest) none_right passed.1) value fits
+        begins_by text rest race line after used e (header_ok line (bytes_eq line (codes "race 1")) refl three.2) (walked (version_on line) 2 [] after (used, lines_of rest) none_right passed.1) value fits

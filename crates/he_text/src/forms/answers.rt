@@ -129,9 +129,9 @@ pub(crate) fn round_trip<A: Allocator + Copy>(
     let Some((address, rtt)) = tokens.two() else {
         return Err(TextKind::Word);
     };
-    let ip = known(address, race)?;
+    let address = known(address, race)?;
     let rtt = number(MIN_DURATION, MAX_DURATION, rtt)?;
-    Ok((ip, rtt))
+    Ok((address, rtt))
 }
 
 // used ADDRESS
