@@ -19,7 +19,7 @@ use Rattle.he_text.specs.Faults.{test, first_fault, last_group, known_to, said_b
 use Rattle.he_text.specs.FaultSearch.{at_line_number, fault_from, fault_in, fault_of}
 use Rattle.he_text.specs.Forms.{word_of, said_in}
 use Rattle.he_text.specs.Parts.{pieces_of, lines_of, tokens_of}
-use Rattle.he_text.specs.Said.{Said, Setting, PolicyRow, HostSource, HostRoute, Answer, Told, Paused, Ended, rows_given}
+use Rattle.he_text.specs.Said.{Said, Setting, PolicyRow, HostSource, HostRoute, Answer, RoundTrip, UsedBefore, Told, Paused, Ended, rows_given}
 use Rattle.he_text.specs.Text.{IsRaceText}
 use Rattle.he_text.proofs.CompleteTexts.{no_longer}
 use Rattle.he_text.proofs.OpenLines.{open_of, one_in_front, policy_may_follow}
@@ -87,6 +87,8 @@ table_fault_is told after (Ok (PolicyRow row)) kind h = is_table_fault (is_polic
 table_fault_is told after (Ok (HostSource source)) kind h = cc
 table_fault_is told after (Ok (HostRoute route)) kind h = cc
 table_fault_is told after (Ok (Answer family reply)) kind h = cc
+table_fault_is told after (Ok (RoundTrip ip rtt)) kind h = cc
+table_fault_is told after (Ok (UsedBefore ip)) kind h = cc
 table_fault_is told after (Ok (Told ip outcome)) kind h = cc
 table_fault_is told after (Ok (Paused from to)) kind h = cc
 table_fault_is told after (Ok Ended) kind h = cc
@@ -99,6 +101,8 @@ same_table told after longer (Ok (PolicyRow row)) same = ap (λ b. table_check b
 same_table told after longer (Ok (HostSource source)) same = refl
 same_table told after longer (Ok (HostRoute route)) same = refl
 same_table told after longer (Ok (Answer family reply)) same = refl
+same_table told after longer (Ok (RoundTrip ip rtt)) same = refl
+same_table told after longer (Ok (UsedBefore ip)) same = refl
 same_table told after longer (Ok (Told ip outcome)) same = refl
 same_table told after longer (Ok (Paused from to)) same = refl
 same_table told after longer (Ok Ended) same = refl
@@ -115,6 +119,8 @@ table_passes told last longer (Ok (PolicyRow row)) h = by_next (is_policy_next l
 table_passes told last longer (Ok (HostSource source)) h = refl
 table_passes told last longer (Ok (HostRoute route)) h = refl
 table_passes told last longer (Ok (Answer family reply)) h = refl
+table_passes told last longer (Ok (RoundTrip ip rtt)) h = refl
+table_passes told last longer (Ok (UsedBefore ip)) h = refl
 table_passes told last longer (Ok (Told ip outcome)) h = refl
 table_passes told last longer (Ok (Paused from to)) h = refl
 table_passes told last longer (Ok Ended) h = refl
@@ -128,6 +134,8 @@ row_mends told longer (Ok (PolicyRow row)) is = ap (λ b. table_check b (table_f
 row_mends told longer (Ok (HostSource source)) is = refl
 row_mends told longer (Ok (HostRoute route)) is = refl
 row_mends told longer (Ok (Answer family reply)) is = refl
+row_mends told longer (Ok (RoundTrip ip rtt)) is = refl
+row_mends told longer (Ok (UsedBefore ip)) is = refl
 row_mends told longer (Ok (Told ip outcome)) is = refl
 row_mends told longer (Ok (Paused from to)) is = refl
 row_mends told longer (Ok Ended) is = refl

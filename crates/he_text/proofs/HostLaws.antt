@@ -155,6 +155,8 @@ hosts_more known words.Route tokens said s h e new place are =
     subst P same (route_next said read.0 tokens read.1 (ap (repeated said) same ∙ new) place are)
 hosts_more known words.Aaaa tokens said s h e new place are = cc
 hosts_more known words.A tokens said s h e new place are = cc
+hosts_more known words.Rtt tokens said s h e new place are = cc
+hosts_more known words.Used tokens said s h e new place are = cc
 hosts_more known words.Connect tokens said s h e new place are = cc
 hosts_more known words.Pause tokens said s h e new place are = cc
 hosts_more known words.End tokens said s h e new place are = cc
@@ -170,6 +172,8 @@ policy_is_head words.Source h = refl
 policy_is_head words.Route h = refl
 policy_is_head words.Aaaa h = cc
 policy_is_head words.A h = cc
+policy_is_head words.Rtt h = cc
+policy_is_head words.Used h = cc
 policy_is_head words.Connect h = cc
 policy_is_head words.Pause h = cc
 policy_is_head words.End h = cc
@@ -242,6 +246,8 @@ table_more known line after words.Route tokens said s is h e right table =
     table_kept line after words.Route tokens said s is refl (ap row_said (sym same)) table
 table_more known line after words.Aaaa tokens said s is h e right table = cc
 table_more known line after words.A tokens said s is h e right table = cc
+table_more known line after words.Rtt tokens said s is h e right table = cc
+table_more known line after words.Used tokens said s is h e right table = cc
 table_more known line after words.Connect tokens said s is h e right table = cc
 table_more known line after words.Pause tokens said s is h e right table = cc
 table_more known line after words.End tokens said s is h e right table = cc

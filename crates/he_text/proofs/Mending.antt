@@ -18,7 +18,7 @@ use Rattle.he_text.specs.Faults.{test, first_fault, last_group, known_to, lines_
 use Rattle.he_text.specs.FaultSearch.{at_line_number, fault_from, fault_in, fault_of}
 use Rattle.he_text.specs.Forms.{word_of, said_in}
 use Rattle.he_text.specs.Parts.{lines_of, tokens_of}
-use Rattle.he_text.specs.Said.{Said, Setting, PolicyRow, HostSource, HostRoute, Answer, Told, Paused, Ended}
+use Rattle.he_text.specs.Said.{Said, Setting, PolicyRow, HostSource, HostRoute, Answer, RoundTrip, UsedBefore, Told, Paused, Ended}
 use Rattle.he_text.specs.Words.{group_of, most_lines}
 use Rattle.he_text.proofs.Beginnings.{GoOn, NotBefore, early, from_here, here_or_behind, later_checks, line_passes, number_is, row_mends, table_fault_is, table_of_line, unless_ended, weaker}
 use Rattle.he_text.proofs.FormKinds.{IsOwn, FailsOwn, own_error, said_own}
@@ -44,6 +44,8 @@ own_excess lines words.Source = own_test _ kinds.TooMany tt
 own_excess lines words.Route = own_test _ kinds.TooMany tt
 own_excess lines words.Aaaa = own_test _ kinds.Repeated tt
 own_excess lines words.A = own_test _ kinds.Repeated tt
+own_excess lines words.Rtt = tt
+own_excess lines words.Used = tt
 own_excess lines words.Connect = tt
 own_excess lines words.Pause = own_test _ kinds.TooMany tt
 own_excess lines words.End = tt
@@ -63,6 +65,8 @@ own_bounds told (Ok (PolicyRow row)) = tt
 own_bounds told (Ok (HostSource source)) = tt
 own_bounds told (Ok (HostRoute route)) = tt
 own_bounds told (Ok (Answer family reply)) = tt
+own_bounds told (Ok (RoundTrip ip rtt)) = tt
+own_bounds told (Ok (UsedBefore ip)) = tt
 own_bounds told (Ok (Told ip outcome)) = tt
 own_bounds told (Ok (Paused from to)) = own_test _ kinds.Range tt
 own_bounds told (Ok Ended) = tt
