@@ -39,7 +39,7 @@ not_earlier false h = refl
 told_line : (v : Version) → (before : List (List ℕ)) (line : List ℕ) (after : List (List ℕ)) (word : Word) (tokens : List (List ℕ)) → word_of (tokens_of line) ≡ Ok (word, tokens) → Under (last_group 0 before) before
     → (ltb (group_of word) (last_group 0 before) ≡ false → is_head_word word ≡ false)
     → take_line v (tokens_of line) (order_of before) (race_of (said_before before))
-    ≡ outcome (line_checks v before line after (Ok (word, tokens))) (word, order_of (before ++ line ∷ []), race_of (said_before (before ++ line ∷ [])))
+    ≡ outcome (line_checks before line after (Ok (word, tokens))) (word, order_of (before ++ line ∷ []), race_of (said_before (before ++ line ∷ [])))
 unfolding take_line
 told_line v before line after word tokens is under late =
     let told : List Said = said_before before in
@@ -54,7 +54,7 @@ told_line v before line after word tokens is under late =
 -- a line of the first groups
 head_line : (v : Version) → (before : List (List ℕ)) (line : List ℕ) (after : List (List ℕ)) (word : Word) (tokens : List (List ℕ)) → word_of (tokens_of line) ≡ Ok (word, tokens) → Under (last_group 0 before) before → is_head_word word ≡ true
     → take_head after (word, tokens) (order_of before) (head_given (said_before before))
-    ≡ outcome (line_checks v before line after (Ok (word, tokens))) (order_of (before ++ line ∷ []), head_given (said_before (before ++ line ∷ [])))
+    ≡ outcome (line_checks before line after (Ok (word, tokens))) (order_of (before ++ line ∷ []), head_given (said_before (before ++ line ∷ [])))
 unfolding take_head
 head_line v before line after word tokens is under head =
     let told : List Said = said_before before in
@@ -110,7 +110,7 @@ late_word word h = lt-leb (group_of word) 4 (omega arith)
 
 all_late : (before lines : List (List ℕ)) → 5 ≤ last_group 0 before → FirstIsLate before lines
 all_late before [] h = tt
-all_late before (line ∷ after) h = λ word tokens is in_order (version_on line). late_word word (let ge = ltb-false (group_of word) (last_group 0 before) in_order (version_on line) in omega arith)
+all_late before (line ∷ after) h = λ word tokens is in_order. late_word word (let ge = ltb-false (group_of word) (last_group 0 before) in_order in omega arith)
 
 late_last : (before : List (List ℕ)) (line : List ℕ) (word : Word) (tokens : List (List ℕ)) → word_of (tokens_of line) ≡ Ok (word, tokens) → is_head_word word ≡ false → 5 ≤ last_group 0 (before ++ line ∷ [])
 late_last before line word tokens is late =
@@ -164,25 +164,25 @@ body_later : (v : Version) → (n : ℕ) (before : List (List ℕ)) (line : List
     → (Under (last_group 0 (before ++ line ∷ [])) (before ++ line ∷ []) → FirstIsLate (before ++ line ∷ []) after
     → read_body v (n + 1) (order_of (before ++ line ∷ [])) (race_of (said_before (before ++ line ∷ []))) after ≡ raced (walk v (n + 1) (before ++ line ∷ []) after))
     → body_next v n after (take_line v (tokens_of line) (order_of before) (race_of (said_before before)))
-    ≡ stop n (line_checks v before line after word) (raced (cond (ends line) (Ok (before ++ line ∷ [], after)) (walk v (n + 1) (before ++ line ∷ []) after)))
+    ≡ stop n (line_checks before line after word) (raced (cond (ends line) (Ok (before ++ line ∷ [], after)) (walk v (n + 1) (before ++ line ∷ []) after)))
 unfolding take_line
 body_later v n before line after (Err kind) is under late later =
     ap (λ w. body_next v n after (w >>= λ parts. admit parts.0 (order_of before) >>= λ next. take_told parts.0 parts.1 (race_of (said_before before)) >>= λ t. Ok (parts.0, next, t))) is
     ∙ ap (λ k. Err (n, k)) (word_fault (tokens_of line) kind is)
 body_later v n before line after (Ok parts) is under late later =
     ap (body_next v n after) (told_line v before line after parts.0 parts.1 is under (late parts.0 parts.1 is))
-    ∙ body_known v n after (line_checks v before line after (Ok parts)) parts.0 (order_of (before ++ line ∷ [])) (race_of (said_before (before ++ line ∷ []))) (walk v (n + 1) (before ++ line ∷ []) after) (before ++ line ∷ []) refl
-    (λ right goes. let so_far = in_order v before line after parts.0 parts.1 right in
+    ∙ body_known v n after (line_checks before line after (Ok parts)) parts.0 (order_of (before ++ line ∷ [])) (race_of (said_before (before ++ line ∷ []))) (walk v (n + 1) (before ++ line ∷ []) after) (before ++ line ∷ []) refl
+    (λ right goes. let so_far = in_order before line after parts.0 parts.1 right in
     later (under_next before line parts.0 parts.1 is under so_far)
     (all_late (before ++ line ∷ []) after (late_last before line parts.0 parts.1 is (late parts.0 parts.1 is so_far))))
-    ∙ ap (λ b. stop n (line_checks v before line after (Ok parts)) (raced (cond b (Ok (before ++ line ∷ [], after)) (walk v (n + 1) (before ++ line ∷ []) after)))) (sym (ends_known line parts.0 parts.1 is))
+    ∙ ap (λ b. stop n (line_checks before line after (Ok parts)) (raced (cond b (Ok (before ++ line ∷ [], after)) (walk v (n + 1) (before ++ line ∷ []) after)))) (sym (ends_known line parts.0 parts.1 is))
 
 body_step : (v : Version) → (n : ℕ) (before : List (List ℕ)) (line : List ℕ) (after : List (List ℕ)) (later : Result (Race × List (List ℕ)) (ℕ × TextKind)) (walked : Result (List (List ℕ) × List (List ℕ)) (ℕ × TextKind)) (word : Result (Word × List (List ℕ)) TextKind)
-    → word_of (tokens_of line) ≡ word → later ≡ stop n (line_checks v before line after word) (raced walked)
+    → word_of (tokens_of line) ≡ word → later ≡ stop n (line_checks before line after word) (raced walked)
     → (at_line n (wholeness (line ∷ after)) >>= λ _. later) ≡ raced (stop n (line_fault v before line after) walked)
 unfolding wholeness
 body_step v n before line after later walked word is same =
-    whole_first n (ltb MAX_LINE (length line)) after (line_checks v before line after word) later (raced walked) same
+    whole_first n (ltb MAX_LINE (length line)) after (line_checks before line after word) later (raced walked) same
     ∙ ap (λ f. stop n f (raced walked)) (sym (line_fault_is v before line after word is))
     ∙ sym (raced_stop n (line_fault v before line after) walked)
 
@@ -245,7 +245,7 @@ pub record IsHeadOnly (before lines : List (List ℕ)) : Type 0 where
   pub table : IsTableOrMore lines (rows_given (said_before before))
 
 head_only_more : (v : Version) → (before : List (List ℕ)) (line : List ℕ) (after : List (List ℕ)) (parts : Word × List (List ℕ)) → word_of (tokens_of line) ≡ Ok parts → is_head_word parts.0 ≡ true
-    → IsHeadOnly before (line ∷ after) → line_checks v before line after (Ok parts) ≡ None → IsHeadOnly (before ++ line ∷ []) after
+    → IsHeadOnly before (line ∷ after) → line_checks before line after (Ok parts) ≡ None → IsHeadOnly (before ++ line ∷ []) after
 head_only_more v before line after parts is head only right =
     let told : List Said = said_before before in
     let passed = checks_passed (wrong_word (last_group 0 before) (Ok parts)) (too_often before (Ok parts)) (said_by (known_to told) parts.0 parts.1) (wrong_bounds told) (repeated told) (wrong_table told after) right in
@@ -257,7 +257,7 @@ head_only_more v before line after parts is head only right =
     let H : List Said → Type 0 = AreHostsOf in
     let T : List Said → Type 0 = λ said. IsTableOrMore after (rows_given said) in
     record {
-      under = under_next before line parts.0 parts.1 is only.under (in_order v before line after parts.0 parts.1 right);
+      under = under_next before line parts.0 parts.1 is only.under (in_order before line after parts.0 parts.1 right);
       quiet = subst Q (sym more) (one.quiet only.quiet);
       fit = subst F (sym more) (one.fit only.fit);
       hosts = subst H (sym more) (hosts_more (known_to told) parts.0 parts.1 told s head passed.said_is passed.again_is (has_place parts.0 parts.1 before passed.often_is) only.hosts);
@@ -276,7 +276,7 @@ head_by_word v n before line after only later = elim (head_cases v line) [
       (cond (ends line) (Ok (before ++ line ∷ [], after)) (walk v (n + 1) (before ++ line ∷ []) after)) (Ok head.0) head.2
       (ap (head_after v n (order_of before) (head_given (said_before before)) (line ∷ after) after) head.1
       ∙ ap (head_next v n after) (head_line v before line after head.0.0 head.0.1 head.2 only.under head.3)
-      ∙ head_known v n after (line_checks v before line after (Ok head.0)) (order_of (before ++ line ∷ [])) (head_given (said_before (before ++ line ∷ [])))
+      ∙ head_known v n after (line_checks before line after (Ok head.0)) (order_of (before ++ line ∷ [])) (head_given (said_before (before ++ line ∷ [])))
       (raced (cond (ends line) (Ok (before ++ line ∷ [], after)) (walk v (n + 1) (before ++ line ∷ []) after)))
       (λ right. later (head_only_more v before line after head.0 head.2 head.3 only right)
       ∙ ap (λ b. raced (cond b (Ok (before ++ line ∷ [], after)) (walk v (n + 1) (before ++ line ∷ []) after))) (sym (ends_known line head.0.0 head.0.1 head.2 ∙ head_no_end head.0.0 head.3))))

@@ -23,12 +23,12 @@ use Rattle.he_text.specs.declared.fault.TextKind.TheVariants as kinds
 use Rattle.he_text.specs.declared.limits.TheConstants.{MIN_INTERFACE}
 use Rattle.he_text.specs.declared.words.Word.{Word}
 use Rattle.he_text.specs.declared.words.Word.TheVariants as words
-use Rattle.he_text.specs.Faults.{test, repeated, begins_policy, is_policy_next, wrong_table}
+use Rattle.he_text.specs.Faults.{test, repeated, begins_with, is_next, wrong_group}
 use Rattle.he_text.specs.Forms.{◌>>=◌, setting_in, row_in, host_source_in, host_route_in, word_of, said_by}
 use Rattle.he_text.specs.Parts.{tokens_of}
 use Rattle.he_text.specs.Reading.{table_kind, host_kind, told_by, policy_from, host_from, race_begun, is_head_word}
 use Rattle.he_text.specs.Said.{Said, Setting, PolicyRow, HostSource, HostRoute, row_said, source_said, route_said, rows_given, sources_given, routes_given, settings_given, table_of_rows, host_given}
-use Rattle.he_text.specs.Words.{is_policy}
+use Rattle.he_text.specs.Words.{same_word}
 use Rattle.he_text.proofs.GivenLaws.{AllFit, settings_agree}
 use Rattle.he_text.proofs.HeadLaws.{head_given}
 use Rattle.he_text.proofs.NextLines.{next_word}
@@ -163,9 +163,9 @@ hosts_more known words.End tokens said s h e new place are = cc
 
 -- the rows are a table or none, or one more follows
 abbrev pub IsTableOrMore : List (List ℕ) → List Row → Type 0
-IsTableOrMore lines rows = (is_policy_next lines ≡ true) ⊎ (policy_from rows ≡ Ok (table_of_rows rows))
+IsTableOrMore lines rows = (is_next words.Policy lines ≡ true) ⊎ (policy_from rows ≡ Ok (table_of_rows rows))
 
-policy_is_head : (word : Word) → is_policy word ≡ true → is_head_word word ≡ true
+policy_is_head : (word : Word) → same_word words.Policy word ≡ true → is_head_word word ≡ true
 policy_is_head words.Set h = refl
 policy_is_head words.Policy h = refl
 policy_is_head words.Source h = refl
@@ -188,7 +188,7 @@ table_whole line after rows late (inl more) = by_word (word_of (tokens_of line))
     both true t f = cc
     both false t f = cc
 
-    by_word : (word : Result (Word × List (List ℕ)) TextKind) → word_of (tokens_of line) ≡ word → begins_policy word ≡ true → policy_from rows ≡ Ok (table_of_rows rows)
+    by_word : (word : Result (Word × List (List ℕ)) TextKind) → word_of (tokens_of line) ≡ word → begins_with words.Policy word ≡ true → policy_from rows ≡ Ok (table_of_rows rows)
     by_word (Err kind) e h = cc
     by_word (Ok parts) e h = absurd (both (is_head_word parts.0) (policy_is_head parts.0 h) (late parts.0 parts.1 e))
 
@@ -206,17 +206,17 @@ table_ends (first ∷ rows) row h = by_fault (table_fault (first ∷ rows ++ row
     by_fault None h rows = refl
     by_fault (Some fault) h rows = cc
 
-table_kept : (line : List ℕ) (after : List (List ℕ)) (word : Word) (tokens : List (List ℕ)) (said : List Said) (s : Said) → word_of (tokens_of line) ≡ Ok (word, tokens) → is_policy word ≡ false → row_said s ≡ None
+table_kept : (line : List ℕ) (after : List (List ℕ)) (word : Word) (tokens : List (List ℕ)) (said : List Said) (s : Said) → word_of (tokens_of line) ≡ Ok (word, tokens) → same_word words.Policy word ≡ false → row_said s ≡ None
     → IsTableOrMore (line ∷ after) (rows_given said) → IsTableOrMore after (rows_given (said ++ s ∷ []))
 table_kept line after word tokens said s is other none (inr table) =
     let P : List Row → Type 0 = λ rows. policy_from rows ≡ Ok (table_of_rows rows) in inr (subst P (sym (none_more row_said said s none)) table)
-table_kept line after word tokens said s is other none (inl more) = absurd (both (is_policy word) (next_word line after (Ok (word, tokens)) is more) other)
+table_kept line after word tokens said s is other none (inl more) = absurd (both (same_word words.Policy word) (next_word line after (Ok (word, tokens)) is more) other)
   where
     both : (b : Bool) → b ≡ true → b ≡ false → ⊥
     both true t f = cc
     both false t f = cc
 
-row_next : (after : List (List ℕ)) (said : List Said) (row : Row) (more : Bool) → is_policy_next after ≡ more → cond more None (option_map kinds.Policy (table_fault (rows_given said ++ row ∷ []))) ≡ None
+row_next : (after : List (List ℕ)) (said : List Said) (row : Row) (more : Bool) → is_next words.Policy after ≡ more → cond more None (option_map kinds.Policy (table_fault (rows_given said ++ row ∷ []))) ≡ None
     → IsTableOrMore after (rows_given (said ++ PolicyRow row ∷ []))
 row_next after said row true e h = inl e
 row_next after said row false e h =
@@ -225,7 +225,7 @@ row_next after said row false e h =
 
 -- a line of the first groups leaves the rows a table, or one more follows
 pub table_more : (known : Ip → Bool) (line : List ℕ) (after : List (List ℕ)) (word : Word) (tokens : List (List ℕ)) (said : List Said) (s : Said) → word_of (tokens_of line) ≡ Ok (word, tokens) → is_head_word word ≡ true
-    → said_by known word tokens ≡ Ok s → wrong_table said after s ≡ None → IsTableOrMore (line ∷ after) (rows_given said) → IsTableOrMore after (rows_given (said ++ s ∷ []))
+    → said_by known word tokens ≡ Ok s → wrong_group said after s ≡ None → IsTableOrMore (line ∷ after) (rows_given said) → IsTableOrMore after (rows_given (said ++ s ∷ []))
 unfolding said_by
 table_more known line after words.Set tokens said s is h e right table =
     let read = bind_ok (setting_in tokens) (λ setting. Ok (Setting setting.0 setting.1)) s e in
@@ -235,7 +235,7 @@ table_more known line after words.Policy tokens said s is h e right table =
     let read = bind_ok (row_in tokens) (λ row. Ok (PolicyRow row)) s e in
     let same : PolicyRow read.0 ≡ s = cc (read.2) in
     let P : Said → Type 0 = λ x. IsTableOrMore after (rows_given (said ++ x ∷ [])) in
-    subst P same (row_next after said read.0 (is_policy_next after) refl (ap (wrong_table said after) same ∙ right))
+    subst P same (row_next after said read.0 (is_next words.Policy after) refl (ap (wrong_group said after) same ∙ right))
 table_more known line after words.Source tokens said s is h e right table =
     let read = bind_ok (host_source_in tokens) (λ source. Ok (HostSource source)) s e in
     let same : HostSource read.0 ≡ s = cc (read.2) in

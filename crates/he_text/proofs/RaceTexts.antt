@@ -201,7 +201,7 @@ pub record IsRight (before : List (List ℕ)) (line : List ℕ) (after : List (L
   pub ended : 0 < length after
   pub parts : Word × List (List ℕ)
   pub word : word_of (tokens_of line) ≡ Ok parts
-  pub checks : line_checks (version_on line) before line after (Ok parts) ≡ None
+  pub checks : line_checks before line after (Ok parts) ≡ None
 
 first_two : (long : Bool) (after : List (List ℕ)) (checks : Option TextKind) → first_fault (test long kinds.TooMany ∷ unfinished after ∷ checks ∷ []) ≡ None → (long ≡ false) × (0 < length after) × (checks ≡ None)
 first_two true after checks h = cc
@@ -214,10 +214,10 @@ is_right v before line after h = by_word (word_of (tokens_of line)) refl
   where
     by_word : (word : Result (Word × List (List ℕ)) TextKind) → word_of (tokens_of line) ≡ word → IsRight before line after
     by_word (Err kind) e =
-        let three = first_two (ltb MAX_LINE (length line)) after (line_checks v before line after (Err kind)) (sym (line_fault_is v before line after (Err kind) e) ∙ h) in
+        let three = first_two (ltb MAX_LINE (length line)) after (line_checks before line after (Err kind)) (sym (line_fault_is v before line after (Err kind) e) ∙ h) in
         absurd (no_fault three.2)
     by_word (Ok parts) e =
-        let three = first_two (ltb MAX_LINE (length line)) after (line_checks v before line after (Ok parts)) (sym (line_fault_is v before line after (Ok parts) e) ∙ h) in
+        let three = first_two (ltb MAX_LINE (length line)) after (line_checks before line after (Ok parts)) (sym (line_fault_is v before line after (Ok parts) e) ∙ h) in
         record { short = ltb-false MAX_LINE (length line) three.0; ended = three.1; parts = parts; word = e; checks = three.2 }
 
 -- one more line that is right and doesn't end the race
@@ -230,7 +230,7 @@ right_more before line after right r goes =
     let more : said_before (before ++ line ∷ []) ≡ told ++ s ∷ [] = said_more known before line r.parts.0 r.parts.1 s r.word passed.said_is in
     let group : group_said s ≡ group_of r.parts.0 = said_group known r.parts.0 r.parts.1 s passed.said_is in
     let here : group_on line ≡ group_of r.parts.0 = group_is line r.parts.0 r.parts.1 r.word in
-    let order : last_group 0 before ≤ group_of r.parts.0 = ltb-false (group_of r.parts.0) (last_group 0 before) (in_order (version_on line) before line after r.parts.0 r.parts.1 r.checks) in
+    let order : last_group 0 before ≤ group_of r.parts.0 = ltb-false (group_of r.parts.0) (last_group 0 before) (in_order before line after r.parts.0 r.parts.1 r.checks) in
     let last : last_said 0 told ≡ last_group 0 before = right.last in
     let le : last_said 0 told ≤ group_said s = omega arith in
     let A : List Said → Type 0 = AreLines (before ++ line ∷ []) in

@@ -72,7 +72,7 @@ unfolding take_answer
 answer_agrees after family tokens said none = by_answer after family tokens said (answer_in family tokens) none (answer_ok family tokens)
 
 -- a line of the other groups leaves no group open
-no_group : (after : List (List ℕ)) (said : List Said) (s : Said) (other : Race) (first : Option TextKind) (again : Option TextKind) → group_fault said s ≡ None
+pub no_group : {B : Type 0} (after : List (List ℕ)) (said : List Said) (s : Said) (other : B) (first : Option TextKind) (again : Option TextKind) → group_fault said s ≡ None
     → outcome (first_fault (first ∷ again ∷ wrong_group said after s ∷ [])) other ≡ outcome (first_fault (first ∷ again ∷ None ∷ [])) other
 no_group after said s other first again none = ap (λ o. outcome (first_fault (first ∷ again ∷ o ∷ [])) other) (by_next (is_next (word_said s) after) none)
   where
