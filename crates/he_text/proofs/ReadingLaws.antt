@@ -15,7 +15,7 @@ use Rattle.he_text.specs.Forms.{◌>>=◌}
 use Rattle.he_text.specs.Left.{lines_left, IsAmong}
 use Rattle.he_text.specs.Parts.{pieces_of, lines_of, tokens_of}
 use Rattle.he_text.specs.declared.lines.Lines.{Lines}
-use Rattle.he_text.specs.Reading.{Fails, FailsAt, at_line, ended_by, wholeness, take_line, read_body, HeadGiven, head_of, take_head, race_begun, settle, read_head, read_lines, group_at_start, no_head}
+use Rattle.he_text.specs.Reading.{Fails, FailsAt, at_line, ended_by, wholeness, take_line, read_body, HeadGiven, head_of, take_head, race_begun, settle, read_head, header_in, read_lines, group_at_start, no_head}
 use Rattle.he_text.specs.Text.{IsLineOf}
 use Rattle.he_text.specs.Words.{is_end}
 
@@ -199,20 +199,20 @@ fails_settle v n so_far given lines kind (inl memory) = inl (memory, settled_not
 fails_settle v n so_far given lines kind (inr wrong) = inr (settle_wrong v n so_far given lines kind wrong)
 
 -- the first line
-abbrev pub begin : List ℕ → List (List ℕ) → Bool → Result (Race × List (List ℕ)) (ℕ × TextKind)
-begin line after same = cond same (read_head (version_on line) 2 group_at_start no_head after) (Err (1, kinds.Header))
+abbrev pub begin : List (List ℕ) → Result Version TextKind → Result (Race × List (List ℕ)) (ℕ × TextKind)
+begin after header = at_line 1 header >>= λ version. read_head version 2 group_at_start no_head after
 
 pub lines_unwhole : (lines : List (List ℕ)) (kind : TextKind) → wholeness lines ≡ Err kind → read_lines lines ≡ Err (1, kind)
 unfolding read_lines wholeness
 lines_unwhole [] kind h = ap (λ w. at_line 1 w >>= λ _. Err (1, kinds.Unfinished)) h
-lines_unwhole (line ∷ after) kind h = ap (λ w. at_line 1 w >>= λ _. begin line after (bytes_eq line (codes "race 1"))) h
+lines_unwhole (line ∷ after) kind h = ap (λ w. at_line 1 w >>= λ _. begin after (header_in line)) h
 
-pub lines_begin : (lines after : List (List ℕ)) (line : List ℕ) (same : Bool) → lines ≡ line ∷ after → wholeness lines ≡ Ok tt → bytes_eq line (codes "race 1") ≡ same → read_lines lines ≡ begin line after same
+pub lines_begin : (lines after : List (List ℕ)) (line : List ℕ) (header : Result Version TextKind) → lines ≡ line ∷ after → wholeness lines ≡ Ok tt → header_in line ≡ header → read_lines lines ≡ begin after header
 unfolding read_lines
-lines_begin lines after line same is whole tested =
+lines_begin lines after line header is whole read =
     ap read_lines is
-    ∙ ap (λ w. at_line 1 w >>= λ _. begin line after (bytes_eq line (codes "race 1"))) (ap wholeness (sym is) ∙ whole)
-    ∙ ap (begin line after) tested
+    ∙ ap (λ w. at_line 1 w >>= λ _. begin after (header_in line)) (ap wholeness (sym is) ∙ whole)
+    ∙ ap (begin after) read
 
 -- a test that was denied
 pub agrees : (b : Bool) → false ≡ not b → b ≡ true

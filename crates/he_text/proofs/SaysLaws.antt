@@ -53,7 +53,7 @@ named_or token v w true rest e later h =
     (bytes_eq-Decides token (name_spelling v)).0 e ∙ ap name_spelling same
 named_or token v w false rest e later h = later h
 
-name_spelled : (token : List ℕ) (w : Name) → name_in token ≡ Some w → token ≡ name_spelling w
+pub name_spelled : (token : List ℕ) (w : Name) → name_in token ≡ Some w → token ≡ name_spelling w
 unfolding name_in
 name_spelled token w h =
     named_or token Resolution w _ _ refl

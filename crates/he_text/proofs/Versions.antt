@@ -31,3 +31,8 @@ pub kept_word : (v : Version) (line : List (List ℕ)) (parts : Word × List (Li
 unfolding version_word
 kept_word One line parts old h = ap (λ w. w >>= of_version One) h ∙ ap (λ b. cond b (Err kinds.Word) (Ok parts)) old
 kept_word Two line parts old h = ap (λ w. w >>= of_version Two) h
+
+-- version 2 has all words
+pub second_word : (line : List (List ℕ)) (parts : Word × List (List ℕ)) → word_of line ≡ Ok parts → version_word Two line ≡ Ok parts
+unfolding version_word
+second_word line parts h = ap (λ w. w >>= of_version Two) h
