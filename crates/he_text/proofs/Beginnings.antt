@@ -15,11 +15,11 @@ use Rattle.he_text.specs.declared.fault.TextKind.TheVariants as kinds
 use Rattle.he_text.specs.declared.limits.TheConstants.{MAX_LINE}
 use Rattle.he_text.specs.declared.words.Version.{Version}
 use Rattle.he_text.specs.Beginnings.{FaultStands, IsPolicyFault, MayChange}
-use Rattle.he_text.specs.Faults.{test, first_fault, last_group, known_to, said_before, too_long, unfinished, wrong_header, wrong_word, too_often, wrong_bounds, repeated, is_policy_next, wrong_table, of_said, header_fault, line_fault, ends}
+use Rattle.he_text.specs.Faults.{test, first_fault, last_group, known_to, said_before, too_long, unfinished, wrong_header, wrong_word, too_often, wrong_bounds, repeated, is_next, group_fault, wrong_group, of_said, header_fault, line_fault, ends}
 use Rattle.he_text.specs.FaultSearch.{at_line_number, fault_from, fault_in, fault_of}
-use Rattle.he_text.specs.Forms.{word_of, said_in}
+use Rattle.he_text.specs.Forms.{version_word, said_from}
 use Rattle.he_text.specs.Parts.{pieces_of, lines_of, tokens_of}
-use Rattle.he_text.specs.Said.{Said, Setting, PolicyRow, HostSource, HostRoute, Answer, RoundTrip, UsedBefore, Told, Paused, Ended, rows_given}
+use Rattle.he_text.specs.Said.{Said, word_said, Setting, PolicyRow, HostSource, HostRoute, Answer, RoundTrip, UsedBefore, Told, Paused, Ended, rows_given}
 use Rattle.he_text.specs.Text.{IsRaceText}
 use Rattle.he_text.proofs.CompleteTexts.{no_longer}
 use Rattle.he_text.proofs.OpenLines.{open_of, one_in_front, policy_may_follow}
@@ -69,76 +69,25 @@ last_passes [] (Some k) other same h = cc
 last_passes (None ∷ checks) one other same h = last_passes checks one other same h
 last_passes (Some k ∷ checks) one other same h = cc
 
--- the check of a table, where a row follows and where none does
-table_check : Bool → Option PolicyFault → Option TextKind
-table_check more fault = cond more None (option_map kinds.Policy fault)
+-- the check of a group, where one more line of it follows and where none does
+abbrev group_check : Bool → Option TextKind → Option TextKind
+group_check more fault = cond more None fault
 
-is_table_fault : (more : Bool) (fault : Option PolicyFault) (kind : TextKind) → table_check more fault ≡ Some kind → IsPolicyFault kind
-unfolding table_check
-is_table_fault true fault kind h = cc
-is_table_fault false None kind h = cc
-is_table_fault false (Some fault) kind h = (fault, cc)
+same_group : (told : List Said) (after longer : List (List ℕ)) (said : Result Said TextKind) → ((word : Word) → is_next word after ≡ is_next word longer) → of_said (wrong_group told after) said ≡ of_said (wrong_group told longer) said
+same_group told after longer (Err k) same = refl
+same_group told after longer (Ok s) same = ap (λ b. group_check b (group_fault told s)) (same (word_said s))
 
-pub table_fault_is : (told : List Said) (after : List (List ℕ)) (said : Result Said TextKind) (kind : TextKind) → of_said (wrong_table told after) said ≡ Some kind → IsPolicyFault kind
-unfolding table_check
-table_fault_is told after (Err k) kind h = cc
-table_fault_is told after (Ok (Setting name value)) kind h = cc
-table_fault_is told after (Ok (PolicyRow row)) kind h = is_table_fault (is_policy_next after) (table_fault (rows_given told ++ row ∷ [])) kind h
-table_fault_is told after (Ok (HostSource source)) kind h = cc
-table_fault_is told after (Ok (HostRoute route)) kind h = cc
-table_fault_is told after (Ok (Answer family reply)) kind h = cc
-table_fault_is told after (Ok (RoundTrip ip rtt)) kind h = cc
-table_fault_is told after (Ok (UsedBefore ip)) kind h = cc
-table_fault_is told after (Ok (Told ip outcome)) kind h = cc
-table_fault_is told after (Ok (Paused from to)) kind h = cc
-table_fault_is told after (Ok Ended) kind h = cc
-
-same_table : (told : List Said) (after longer : List (List ℕ)) (said : Result Said TextKind) → is_policy_next after ≡ is_policy_next longer → of_said (wrong_table told after) said ≡ of_said (wrong_table told longer) said
-unfolding table_check
-same_table told after longer (Err k) same = refl
-same_table told after longer (Ok (Setting name value)) same = refl
-same_table told after longer (Ok (PolicyRow row)) same = ap (λ b. table_check b (table_fault (rows_given told ++ row ∷ []))) same
-same_table told after longer (Ok (HostSource source)) same = refl
-same_table told after longer (Ok (HostRoute route)) same = refl
-same_table told after longer (Ok (Answer family reply)) same = refl
-same_table told after longer (Ok (RoundTrip ip rtt)) same = refl
-same_table told after longer (Ok (UsedBefore ip)) same = refl
-same_table told after longer (Ok (Told ip outcome)) same = refl
-same_table told after longer (Ok (Paused from to)) same = refl
-same_table told after longer (Ok Ended) same = refl
-
-table_passes : (told : List Said) (last : List ℕ) (longer : List (List ℕ)) (said : Result Said TextKind) → of_said (wrong_table told (last ∷ [])) said ≡ None → of_said (wrong_table told longer) said ≡ None
-unfolding table_check
-table_passes told last longer (Err k) h = refl
-table_passes told last longer (Ok (Setting name value)) h = refl
-table_passes told last longer (Ok (PolicyRow row)) h = by_next (is_policy_next longer) (table_fault (rows_given told ++ row ∷ [])) h
+group_passes : (told : List Said) (last : List ℕ) (longer : List (List ℕ)) (said : Result Said TextKind) → of_said (wrong_group told (last ∷ [])) said ≡ None → of_said (wrong_group told longer) said ≡ None
+group_passes told last longer (Err k) h = refl
+group_passes told last longer (Ok s) h = by_next (is_next (word_said s) longer) h
   where
-    by_next : (b : Bool) (fault : Option PolicyFault) → table_check false fault ≡ None → table_check b fault ≡ None
-    by_next true fault e = refl
-    by_next false fault e = e
-table_passes told last longer (Ok (HostSource source)) h = refl
-table_passes told last longer (Ok (HostRoute route)) h = refl
-table_passes told last longer (Ok (Answer family reply)) h = refl
-table_passes told last longer (Ok (RoundTrip ip rtt)) h = refl
-table_passes told last longer (Ok (UsedBefore ip)) h = refl
-table_passes told last longer (Ok (Told ip outcome)) h = refl
-table_passes told last longer (Ok (Paused from to)) h = refl
-table_passes told last longer (Ok Ended) h = refl
+    by_next : (b : Bool) → group_fault told s ≡ None → group_check b (group_fault told s) ≡ None
+    by_next true e = refl
+    by_next false e = e
 
--- no table is checked on a row that another follows
-pub row_mends : (told : List Said) (longer : List (List ℕ)) (said : Result Said TextKind) → is_policy_next longer ≡ true → of_said (wrong_table told longer) said ≡ None
-unfolding table_check
-row_mends told longer (Err k) is = refl
-row_mends told longer (Ok (Setting name value)) is = refl
-row_mends told longer (Ok (PolicyRow row)) is = ap (λ b. table_check b (table_fault (rows_given told ++ row ∷ []))) is
-row_mends told longer (Ok (HostSource source)) is = refl
-row_mends told longer (Ok (HostRoute route)) is = refl
-row_mends told longer (Ok (Answer family reply)) is = refl
-row_mends told longer (Ok (RoundTrip ip rtt)) is = refl
-row_mends told longer (Ok (UsedBefore ip)) is = refl
-row_mends told longer (Ok (Told ip outcome)) is = refl
-row_mends told longer (Ok (Paused from to)) is = refl
-row_mends told longer (Ok Ended) is = refl
+-- no group is checked on a line that one more of it follows
+pub line_mends : (told : List Said) (longer : List (List ℕ)) (s : Said) → is_next (word_said s) longer ≡ true → wrong_group told longer s ≡ None
+line_mends told longer s is = ap (λ b. group_check b (group_fault told s)) is
 
 -- what stands behind a line is no whole line yet, and a row in the longer text
 abbrev BecomesRow : List (List ℕ) → List (List ℕ) → Type 0
@@ -160,12 +109,12 @@ row_known (line ∷ next ∷ lines) (other ∷ more ∷ others) h = inl (ap (λ 
 -- all checks but the last
 abbrev pub early : (v : Version) → List (List ℕ) → List ℕ → List (List ℕ) → List (Option TextKind)
 early v before line after =
-    too_long line ∷ unfinished after ∷ wrong_word (last_group 0 before) (word_of (tokens_of line)) ∷ too_often before (word_of (tokens_of line))
-    ∷ result_err (said_in (known_to (said_before before)) line) ∷ of_said (wrong_bounds (said_before before)) (said_in (known_to (said_before before)) line)
-    ∷ of_said (repeated (said_before before)) (said_in (known_to (said_before before)) line) ∷ []
+    too_long line ∷ unfinished after ∷ wrong_word (last_group 0 before) (version_word v (tokens_of line)) ∷ too_often before (version_word v (tokens_of line))
+    ∷ result_err (said_from (known_to (said_before before)) (version_word v (tokens_of line))) ∷ of_said (wrong_bounds (said_before before)) (said_from (known_to (said_before before)) (version_word v (tokens_of line)))
+    ∷ of_said (repeated (said_before before)) (said_from (known_to (said_before before)) (version_word v (tokens_of line))) ∷ []
 
 abbrev pub table_of_line : (v : Version) → List (List ℕ) → List ℕ → List (List ℕ) → Option TextKind
-table_of_line v before line after = of_said (wrong_table (said_before before) after) (said_in (known_to (said_before before)) line)
+table_of_line v before line after = of_said (wrong_group (said_before before) after) (said_from (known_to (said_before before)) (version_word v (tokens_of line)))
 
 pub same_early : (v : Version) → (before : List (List ℕ)) (line : List ℕ) (after longer : List (List ℕ)) → GoOn after longer → early v before line after ≡ early v before line longer
 same_early v before line [] longer h = absurd h
@@ -181,10 +130,10 @@ line_stands v before line after longer kind on h =
     let P : List (Option TextKind) → Type 0 = λ checks. first_fault (checks ++ table_of_line v before line after ∷ []) ≡ Some kind in
     let here : first_fault (early v before line longer ++ table_of_line v before line after ∷ []) ≡ Some kind = subst P early_is h in
     elim (row_known after longer on) [
-      | inl same ↦ inl (ap (λ t. first_fault (early v before line longer ++ t ∷ [])) (sym (same_table (said_before before) after longer (said_in (known_to (said_before before)) line) same)) ∙ here)
+      | inl same ↦ inl (ap (λ t. first_fault (early v before line longer ++ t ∷ [])) (sym (same_table (said_before before) after longer (said_from (known_to (said_before before)) (version_word v (tokens_of line))) same)) ∙ here)
       | inr last ↦ elim (last_check (early v before line longer) (table_of_line v before line after) (table_of_line v before line longer) kind here) [
         | inl stands ↦ inl stands
-        | inr table ↦ inr (table_fault_is (said_before before) after (said_in (known_to (said_before before)) line) kind table, last)
+        | inr table ↦ inr (table_fault_is (said_before before) after (said_from (known_to (said_before before)) (version_word v (tokens_of line))) kind table, last)
       ]
     ]
 
@@ -193,11 +142,11 @@ unfolding line_fault
 line_passes v before line after longer on h =
     let P : List (Option TextKind) → Type 0 = λ checks. first_fault (checks ++ table_of_line v before line after ∷ []) ≡ None in
     let here : first_fault (early v before line longer ++ table_of_line v before line after ∷ []) ≡ None = subst P (same_early v before line after longer on) h in
-    let said : Result Said TextKind = said_in (known_to (said_before before)) line in
+    let said : Result Said TextKind = said_from (known_to (said_before before)) (version_word v (tokens_of line)) in
     last_passes (early v before line longer) (table_of_line v before line after) (table_of_line v before line longer)
     (elim (row_known after longer on) [
       | inl same ↦ λ none. sym (same_table (said_before before) after longer said same) ∙ none
-      | inr last ↦ λ none. let Q : List (List ℕ) → Type 0 = λ a. of_said (wrong_table (said_before before) a) said ≡ None in
+      | inr last ↦ λ none. let Q : List (List ℕ) → Type 0 = λ a. of_said (wrong_group (said_before before) a) said ≡ None in
           table_passes (said_before before) last.0 longer said (subst Q last.1 none)
     ])
     here
@@ -205,9 +154,9 @@ line_passes v before line after longer on h =
 -- all checks but the first two
 abbrev pub later_checks : (v : Version) → List (List ℕ) → List ℕ → List (List ℕ) → List (Option TextKind)
 later_checks v before line after =
-    wrong_word (last_group 0 before) (word_of (tokens_of line)) ∷ too_often before (word_of (tokens_of line))
-    ∷ result_err (said_in (known_to (said_before before)) line) ∷ of_said (wrong_bounds (said_before before)) (said_in (known_to (said_before before)) line)
-    ∷ of_said (repeated (said_before before)) (said_in (known_to (said_before before)) line) ∷ table_of_line v before line after ∷ []
+    wrong_word (last_group 0 before) (version_word v (tokens_of line)) ∷ too_often before (version_word v (tokens_of line))
+    ∷ result_err (said_from (known_to (said_before before)) (version_word v (tokens_of line))) ∷ of_said (wrong_bounds (said_before before)) (said_from (known_to (said_before before)) (version_word v (tokens_of line)))
+    ∷ of_said (repeated (said_before before)) (said_from (known_to (said_before before)) (version_word v (tokens_of line))) ∷ table_of_line v before line after ∷ []
 
 -- the line that the text ends in
 long_or_open : (long : Bool) (others : List (Option TextKind)) → ((long ≡ true) × (first_fault (test long kinds.TooMany ∷ unfinished [] ∷ others) ≡ Some kinds.TooMany))

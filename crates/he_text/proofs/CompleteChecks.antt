@@ -20,7 +20,7 @@ use Rattle.he_text.specs.declared.fault.TextKind.TheVariants as kinds
 use Rattle.he_text.specs.declared.limits.TheConstants.{MAX_ANSWERS, MAX_LINE}
 use Rattle.he_text.specs.declared.words.Name.{Name}
 use Rattle.he_text.specs.declared.words.Name.TheVariants.{Resolution, Attempt, Count, Limit}
-use Rattle.he_text.specs.Faults.{test, excess, too_often, wrong_bounds, repeated, wrong_table, begins_policy, is_policy_next, lines_with}
+use Rattle.he_text.specs.Faults.{test, excess, too_often, wrong_bounds, repeated, wrong_group, begins_with, is_next, lines_with}
 use Rattle.he_text.specs.Said.{Said, Setting, PolicyRow, HostSource, HostRoute, Answer, RoundTrip, UsedBefore, Told, Paused, Ended, setting_said, row_said, source_said, route_said, answer_said, outcome_said, pause_said, at_front, setting_given, rows_given, sources_given, routes_given, outcomes_given, pauses_given, table_of_rows, race_of}
 use Rattle.he_text.specs.Text.{group_said, are_in_order}
 use Rattle.he_text.proofs.CompleteForms.{IsLine, word_said}
@@ -218,17 +218,17 @@ no_more_rows t later none order =
 
 -- the next line is a row, or no row follows
 next_row : (later : List Said) (more after : List (List ℕ)) (last : List ℕ) → are_in_order 2 later ≡ true → AllByRecursion (λ line. length line ≤ MAX_LINE) more → AllZip IsLine more later
-    → (rows_given later ≡ []) ⊎ (is_policy_next (more ++ last ∷ after) ≡ true)
+    → (rows_given later ≡ []) ⊎ (is_next words.Policy (more ++ last ∷ after) ≡ true)
 next_row [] more after last order short are = inl refl
 next_row (PolicyRow next ∷ later) [] after last order short are = absurd are
-next_row (PolicyRow next ∷ later) (line ∷ []) after last order short are = inr (and_from (leb (length line) MAX_LINE) _ (le-leb (length line) MAX_LINE short.0) (ap begins_policy are.0.word))
-next_row (PolicyRow next ∷ later) (line ∷ other ∷ more) after last order short are = inr (and_from (leb (length line) MAX_LINE) _ (le-leb (length line) MAX_LINE short.0) (ap begins_policy are.0.word))
+next_row (PolicyRow next ∷ later) (line ∷ []) after last order short are = inr (and_from (leb (length line) MAX_LINE) _ (le-leb (length line) MAX_LINE short.0) (ap (begins_with words.Policy) are.0.word))
+next_row (PolicyRow next ∷ later) (line ∷ other ∷ more) after last order short are = inr (and_from (leb (length line) MAX_LINE) _ (le-leb (length line) MAX_LINE short.0) (ap (begins_with words.Policy) are.0.word))
 next_row (t ∷ later) more after last order short are = inl (no_more_rows t later refl order)
 
 pub table_fits : (told later : List Said) (s : Said) (more after : List (List ℕ)) (last : List ℕ) → IsWhole (told ++ s ∷ later) → AllByRecursion (λ line. length line ≤ MAX_LINE) more → AllZip IsLine more later
-    → wrong_table told (more ++ last ∷ after) s ≡ None
+    → wrong_group told (more ++ last ∷ after) s ≡ None
 table_fits told later (PolicyRow row) more after last whole short are =
-    by_next (is_policy_next (more ++ last ∷ after)) (next_row later more after last (order_split 0 told later (PolicyRow row) whole.order).1 short are)
+    by_next (is_next words.Policy (more ++ last ∷ after)) (next_row later more after last (order_split 0 told later (PolicyRow row) whole.order).1 short are)
   where
     by_next : (next : Bool) → (rows_given later ≡ []) ⊎ (next ≡ true) → cond next None (option_map kinds.Policy (table_fault (rows_given told ++ row ∷ []))) ≡ None
     by_next true h = refl

@@ -68,7 +68,7 @@ pub right_line : (v : Version) → (before more after : List (List ℕ)) (line l
     → line_fault v before line (more ++ last ∷ after) ≡ None
 unfolding line_fault
 right_line v before more after line last told later s whole before_are is short more_are more_short =
-    ap (λ told. checked v before line (more ++ last ∷ after) told (word_of (tokens_of line))) (said_are before told before_are)
+    ap (λ told. checked v before line (more ++ last ∷ after) told (version_word v (tokens_of line))) (said_are before told before_are)
     ∙ ap (checked v before line (more ++ last ∷ after) told) is.word
     ∙ all_none (too_long line) (unfinished (more ++ last ∷ after)) (wrong_word (last_group 0 before) (Ok (word_said s, is.tokens))) (too_often before (Ok (word_said s, is.tokens)))
     (said_by (known_to told) (word_said s) is.tokens) (wrong_bounds told) (repeated told) (wrong_group told (more ++ last ∷ after)) s
@@ -110,7 +110,7 @@ unfolding line_fault said_by
 right_end v before after told are some =
     let last : last_group 0 before ≡ group_last 0 told = last_is 0 before told are in
     let most : group_last 0 told ≤ 11 = last_most 0 told (omega arith) in
-    ap (λ told. checked v before (codes "end") after told (word_of (tokens_of (codes "end")))) (said_are before told are)
+    ap (λ told. checked v before (codes "end") after told (version_word v (tokens_of (codes "end")))) (said_are before told are)
     ∙ ap (checked v before (codes "end") after told) end_word
     ∙ all_none (too_long (codes "end")) (unfinished after) (wrong_word (last_group 0 before) (Ok (words.End, []))) (too_often before (Ok (words.End, [])))
     (Ok Ended) (wrong_bounds told) (repeated told) (wrong_group told after) Ended

@@ -14,9 +14,9 @@ use Rattle.he_text.specs.declared.words.Version.{Version}
 use Rattle.he_text.specs.declared.words.Word.{Word}
 use Rattle.he_text.specs.declared.words.Word.TheVariants as words
 use Rattle.he_text.specs.Beginnings.{EndsIn, FaultChanges, MayBecomePolicy, MayChange}
-use Rattle.he_text.specs.Faults.{test, first_fault, last_group, known_to, lines_with, excess, said_before, too_long, unfinished, wrong_header, wrong_word, too_often, wrong_bounds, repeated, is_policy_next, of_said, header_fault, line_fault, ends}
+use Rattle.he_text.specs.Faults.{test, first_fault, last_group, known_to, lines_with, excess, said_before, too_long, unfinished, wrong_header, wrong_word, too_often, wrong_bounds, repeated, is_next words.Policy, of_said, header_fault, line_fault, ends}
 use Rattle.he_text.specs.FaultSearch.{at_line_number, fault_from, fault_in, fault_of}
-use Rattle.he_text.specs.Forms.{word_of, said_in}
+use Rattle.he_text.specs.Forms.{version_word, said_from}
 use Rattle.he_text.specs.Parts.{lines_of, tokens_of}
 use Rattle.he_text.specs.Said.{Said, Setting, PolicyRow, HostSource, HostRoute, Answer, RoundTrip, UsedBefore, Told, Paused, Ended}
 use Rattle.he_text.specs.Words.{group_of, most_lines}
@@ -85,13 +85,13 @@ own_repeated told (Ok Ended) = tt
 own_early : (v : Version) → (before : List (List ℕ)) (line next : List ℕ) (lines : List (List ℕ)) → AllByRecursion OwnFault (early v before line (next ∷ lines))
 own_early v before line next lines =
     let told : List Said = said_before before in
-    let said : Result Said TextKind = said_in (known_to told) line in (
+    let said : Result Said TextKind = said_from (known_to told) (version_word v (tokens_of line)) in (
       own_test _ kinds.TooMany tt,
       (
         tt,
         (
-          own_word (last_group 0 before) (word_of (tokens_of line)),
-          (own_often before (word_of (tokens_of line)), (own_told said (said_own (known_to told) line), (own_bounds told said, (own_repeated told said, tt)))),
+          own_word (last_group 0 before) (version_word v (tokens_of line)),
+          (own_often before (version_word v (tokens_of line)), (own_told said (said_own (known_to told) line), (own_bounds told said, (own_repeated told said, tt)))),
         ),
       ),
     )
@@ -111,14 +111,14 @@ line_kinds : (v : Version) → (before : List (List ℕ)) (line next : List ℕ)
 unfolding line_fault
 line_kinds v before line next lines kind h = own_or_last (early v before line (next ∷ lines)) (table_of_line v before line (next ∷ lines)) kind (own_early v before line next lines) h
 
-mended_line : (v : Version) → (before : List (List ℕ)) (line rest first : List ℕ) (others : List (List ℕ)) (fault : PolicyFault) → is_policy_next (first ∷ others) ≡ true
+mended_line : (v : Version) → (before : List (List ℕ)) (line rest first : List ℕ) (others : List (List ℕ)) (fault : PolicyFault) → is_next words.Policy (first ∷ others) ≡ true
     → line_fault v before line (rest ∷ []) ≡ Some (kinds.Policy fault) → line_fault v before line (first ∷ others) ≡ None
 unfolding line_fault
 mended_line v before line rest first others fault is h = elim (line_kinds v before line rest [] (kinds.Policy fault) h) [
   | inl own ↦ absurd own
   | inr last ↦
       last.1 (table_of_line v before line (first ∷ others))
-      ∙ ap (λ o. first_fault (o ∷ [])) (row_mends (said_before before) (first ∷ others) (said_in (known_to (said_before before)) line) is)
+      ∙ ap (λ o. first_fault (o ∷ [])) (row_mends (said_before before) (first ∷ others) (said_from (known_to (said_before before)) (version_word v (tokens_of line))) is)
 ]
 
 go_on : (whole : List (List ℕ)) (rest longer : List ℕ) (others : List (List ℕ)) → length rest ≤ length longer → GoOn (whole ++ rest ∷ []) (whole ++ longer ∷ others)
@@ -127,7 +127,7 @@ go_on (part ∷ []) rest longer others le = (refl, le)
 go_on (part ∷ next ∷ whole) rest longer others le = (refl, go_on (next ∷ whole) rest longer others le)
 
 -- where a row follows the last whole line, the fault of its table comes no more, and no other up to there
-mended_from : (v : Version) → (n : ℕ) (before whole : List (List ℕ)) (rest first : List ℕ) (others : List (List ℕ)) (m : ℕ) (fault : PolicyFault) → length rest ≤ length first → is_policy_next (first ∷ others) ≡ true
+mended_from : (v : Version) → (n : ℕ) (before whole : List (List ℕ)) (rest first : List ℕ) (others : List (List ℕ)) (m : ℕ) (fault : PolicyFault) → length rest ≤ length first → is_next words.Policy (first ∷ others) ≡ true
     → n + length whole ≡ m + 1 → fault_from v n before (whole ++ rest ∷ []) ≡ Some (m, kinds.Policy fault) → NotBefore (m + 1) (fault_from v n before (whole ++ first ∷ others))
 unfolding fault_from
 mended_from v n before [] rest first others m fault le is count h = weaker (m + 1) n _ (omega arith) (from_here v n before (first ∷ others))
@@ -180,7 +180,7 @@ unfolding fault_in
 from_first [] = omega arith
 from_first (line ∷ after) = here_or_behind 1 1 (header_fault line after) _ (omega arith) (weaker 1 2 _ (omega arith) (from_here (version_on line) 2 [] after))
 
-mended_in : (whole : List (List ℕ)) (rest first : List ℕ) (others : List (List ℕ)) (m : ℕ) (fault : PolicyFault) → length rest ≤ length first → is_policy_next (first ∷ others) ≡ true → length whole ≡ m
+mended_in : (whole : List (List ℕ)) (rest first : List ℕ) (others : List (List ℕ)) (m : ℕ) (fault : PolicyFault) → length rest ≤ length first → is_next words.Policy (first ∷ others) ≡ true → length whole ≡ m
     → fault_in (whole ++ rest ∷ []) ≡ Some (m, kinds.Policy fault) → NotBefore (m + 1) (fault_in (whole ++ first ∷ others))
 unfolding fault_in
 mended_in [] rest first others m fault le is count h = weaker (m + 1) 1 _ (omega arith) (from_first (first ∷ others))
@@ -208,7 +208,7 @@ IsTooLong fault = (line : ℕ) × (fault ≡ Some (line, kinds.TooMany))
 not_unfinished : (v : Version) → (before : List (List ℕ)) (line next : List ℕ) (lines : List (List ℕ)) → line_fault v before line (next ∷ lines) ≡ Some kinds.Unfinished → ⊥
 not_unfinished v before line next lines h = elim (line_kinds v before line next lines kinds.Unfinished h) [
   | inl own ↦ absurd own
-  | inr last ↦ let table = table_fault_is (said_before before) (next ∷ lines) (said_in (known_to (said_before before)) line) kinds.Unfinished last.0 in let wrong : kinds.Unfinished ≡ kinds.Policy table.0 = table.1 in cc
+  | inr last ↦ let table = table_fault_is (said_before before) (next ∷ lines) (said_from (known_to (said_before before)) (version_word v (tokens_of line))) kinds.Unfinished last.0 in let wrong : kinds.Unfinished ≡ kinds.Policy table.0 = table.1 in cc
 ]
 
 longer_from : (v : Version) → (n : ℕ) (before whole : List (List ℕ)) (rest longer : List ℕ) (m : ℕ) → length rest ≤ length longer → MAX_LINE < length longer
@@ -274,7 +274,7 @@ unfinished_changes text n h =
     let told = longer_in ending.whole ending.rest (ending.rest ++ filling) n (omega arith) (omega arith) (sym (ap fault_in ending.parts) ∙ h) in
     (filling, λ same. let other = number_is told.0 n kinds.TooMany kinds.Unfinished (sym (ap fault_in longer ∙ told.1) ∙ same) in let wrong : kinds.TooMany ≡ kinds.Unfinished = other.1 in cc)
 
-table_mended : (text more : List ℕ) (n : ℕ) (fault : PolicyFault) (rest : List ℕ) → EndsIn text n rest → is_policy_next (lines_of (rest ++ more)) ≡ true → fault_of text ≡ Some (n, kinds.Policy fault)
+table_mended : (text more : List ℕ) (n : ℕ) (fault : PolicyFault) (rest : List ℕ) → EndsIn text n rest → is_next words.Policy (lines_of (rest ++ more)) ≡ true → fault_of text ≡ Some (n, kinds.Policy fault)
     → NotBefore (n + 1) (fault_of (text ++ more))
 table_mended text more n fault rest (lines, parts, count) row h =
     let ending : Open 10 text = open_of 10 text in
@@ -282,13 +282,13 @@ table_mended text more n fault rest (lines, parts, count) row h =
     let first = some_part 10 more in
     let behind : lines_of (ending.rest ++ more) ≡ (ending.rest ++ first.0) ∷ first.1 = front_part 10 ending.rest more first.0 first.1 (open_lacks 10 text) first.2 in
     let longer : lines_of (text ++ more) ≡ ending.whole ++ (ending.rest ++ first.0) ∷ first.1 = ending.grows more ∙ ap (λ ps. ending.whole ++ ps) behind in
-    let R : List ℕ → Type 0 = λ r. is_policy_next (lines_of (r ++ more)) ≡ true in
+    let R : List ℕ → Type 0 = λ r. is_next words.Policy (lines_of (r ++ more)) ≡ true in
     let N : List (List ℕ) → Type 0 = λ ls. NotBefore (n + 1) (fault_in ls) in
     let size = length-append ending.rest first.0 in
     let ours : length (lines_of text) ≡ length ending.whole + 1 = ap length ending.parts ∙ length-append ending.whole (ending.rest ∷ []) in
     let theirs : length (lines_of text) ≡ length lines + 1 = ap length parts ∙ length-append lines (rest ∷ []) in
     subst N (sym longer)
-    (mended_in ending.whole ending.rest (ending.rest ++ first.0) first.1 n fault (omega arith) (sym (ap is_policy_next behind) ∙ subst R (sym same) row) (omega arith) (sym (ap fault_in ending.parts) ∙ h))
+    (mended_in ending.whole ending.rest (ending.rest ++ first.0) first.1 n fault (omega arith) (sym (ap is_next words.Policy behind) ∙ subst R (sym same) row) (omega arith) (sym (ap fault_in ending.parts) ∙ h))
 
 table_changes : (text : List ℕ) (n : ℕ) (fault : PolicyFault) (rest : List ℕ) → EndsIn text n rest → MayBecomePolicy rest → fault_of text ≡ Some (n, kinds.Policy fault) → FaultChanges text n (kinds.Policy fault)
 table_changes text n fault rest ends (more, row) h = (

@@ -25,7 +25,7 @@ use Rattle.he_text.specs.declared.words.Name.TheVariants.{Resolution, Attempt, C
 use Rattle.he_text.specs.declared.words.Word.{Word}
 use Rattle.he_text.specs.declared.words.Word.TheVariants as words
 use Rattle.std.specs.Result.{result_ok}
-use Rattle.he_text.specs.Faults.{anyone, first_fault, test, group_on, last_group, known_to, said_before, too_long, unfinished, wrong_header, wrong_word, too_often, wrong_bounds, repeated, wrong_table, line_fault, ends}
+use Rattle.he_text.specs.Faults.{anyone, first_fault, test, group_on, last_group, known_to, said_before, too_long, unfinished, wrong_header, wrong_word, too_often, wrong_bounds, repeated, wrong_group, line_fault, ends}
 use Rattle.he_text.specs.Forms.{◌>>=◌, setting_in, row_in, host_source_in, host_route_in, answer_in, connect_in, pause_in, end_in, word_of, said_by, said_in}
 use Rattle.he_text.specs.Parts.{lines_of, tokens_of}
 use Rattle.he_text.specs.Reading.{read_lines}
@@ -225,7 +225,7 @@ right_more : (before : List (List ℕ)) (line : List ℕ) (after : List (List �
 right_more before line after right r goes =
     let told : List Said = said_before before in
     let known : Ip → Bool = known_to told in
-    let passed = checks_passed (wrong_word (last_group 0 before) (Ok r.parts)) (too_often before (Ok r.parts)) (said_by known r.parts.0 r.parts.1) (wrong_bounds told) (repeated told) (wrong_table told after) r.checks in
+    let passed = checks_passed (wrong_word (last_group 0 before) (Ok r.parts)) (too_often before (Ok r.parts)) (said_by known r.parts.0 r.parts.1) (wrong_bounds told) (repeated told) (wrong_group told after) r.checks in
     let s : Said = passed.s in
     let more : said_before (before ++ line ∷ []) ≡ told ++ s ∷ [] = said_more known before line r.parts.0 r.parts.1 s r.word passed.said_is in
     let group : group_said s ≡ group_of r.parts.0 = said_group known r.parts.0 r.parts.1 s passed.said_is in
@@ -295,7 +295,7 @@ walked v n before (line ∷ after) x right h =
     by_end r true e got later =
         let same : (before ++ line ∷ [], after) ≡ x = cc (got) in
         let known : Ip → Bool = known_to (said_before before) in
-        let said = checks_said (wrong_word (last_group 0 before) (Ok r.parts)) (too_often before (Ok r.parts)) (said_by known r.parts.0 r.parts.1) (wrong_bounds (said_before before)) (repeated (said_before before)) (wrong_table (said_before before) after) r.checks in
+        let said = checks_said (wrong_word (last_group 0 before) (Ok r.parts)) (too_often before (Ok r.parts)) (said_by known r.parts.0 r.parts.1) (wrong_bounds (said_before before)) (repeated (said_before before)) (wrong_group (said_before before) after) r.checks in
         let is : line ≡ codes "end" = end_line known line r.parts said.0 r.word (sym e) said.1 in
         let P : List (List ℕ) × List (List ℕ) → Type 0 = λ p. IsWalked (before ++ line ∷ after) p.0 p.1 in
         subst P same (record {
