@@ -13,8 +13,8 @@ use Rattle.he_text.specs.declared.limits.TheConstants.{MAX_LINE}
 use Rattle.he_text.specs.declared.words.Version.{Version}
 use Rattle.he_text.specs.declared.words.Word.{Word}
 use Rattle.he_text.specs.declared.words.Word.TheVariants as words
-use Rattle.he_text.specs.Beginnings.{EndsIn, FaultChanges, MayBecomePolicy, MayChange}
-use Rattle.he_text.specs.Faults.{test, first_fault, last_group, known_to, lines_with, excess, said_before, too_long, unfinished, wrong_header, wrong_word, too_often, wrong_bounds, repeated, is_next words.Policy, of_said, header_fault, line_fault, ends}
+use Rattle.he_text.specs.Beginnings.{EndsBehind, EndsIn, FaultChanges, IsGroupFaultAtEnd, MayBecome, MayChange, awaited}
+use Rattle.he_text.specs.Faults.{test, first_fault, last_group, known_to, lines_with, excess, said_before, too_long, unfinished, wrong_header, wrong_word, too_often, wrong_bounds, repeated, is_next, of_said, header_fault, line_fault, ends}
 use Rattle.he_text.specs.FaultSearch.{at_line_number, fault_from, fault_in, fault_of}
 use Rattle.he_text.specs.Forms.{version_word, said_from}
 use Rattle.he_text.specs.Parts.{lines_of, tokens_of}
@@ -290,7 +290,7 @@ table_mended text more n fault rest (lines, parts, count) row h =
     subst N (sym longer)
     (mended_in ending.whole ending.rest (ending.rest ++ first.0) first.1 n fault (omega arith) (sym (ap is_next words.Policy behind) ∙ subst R (sym same) row) (omega arith) (sym (ap fault_in ending.parts) ∙ h))
 
-table_changes : (text : List ℕ) (n : ℕ) (fault : PolicyFault) (rest : List ℕ) → EndsIn text n rest → MayBecomePolicy rest → fault_of text ≡ Some (n, kinds.Policy fault) → FaultChanges text n (kinds.Policy fault)
+table_changes : (text : List ℕ) (n : ℕ) (fault : PolicyFault) (rest : List ℕ) → EndsIn text n rest → MayBecome rest → fault_of text ≡ Some (n, kinds.Policy fault) → FaultChanges text n (kinds.Policy fault)
 table_changes text n fault rest ends (more, row) h = (
   more,
   λ same.

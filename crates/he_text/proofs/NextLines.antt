@@ -1,7 +1,7 @@
 -- Whether the next line begins with a word.
 use Rattle.std.proofs.Common.{◌≡◌, ℕ, ◌<◌, ◌≤◌, ◌==◌, ◌&&◌, Bool, true, false, cond, leb, ltb, List, [], ◌∷◌, ◌++◌, length, Result, Ok, Err, refl, sym, ◌∙◌, ap, arith, append_assoc, append-nil}
 use Rattle.std.specs.List.{join_with_byte, starts_with}
-use Rattle.std.proofs.lemmas.Bool.{le-leb, ltb-true, ltb-false, and_parts}
+use Rattle.std.proofs.lemmas.Bool.{eqb-true, le-leb, ltb-true, ltb-false, and_parts}
 use Rattle.std.proofs.lemmas.Bool.Decides.{Decides-eqb}
 use Rattle.std.proofs.lemmas.List.Splits.{join_with_byte-slice_split}
 use Rattle.std.proofs.lemmas.Slice.Eq.{starts_is}
@@ -49,128 +49,25 @@ next_word w line [] word e h = cc
 next_word w line (next ∷ after) word e h = ap (begins_with w) (sym e) ∙ (and_parts (leb (length line) MAX_LINE) (begins_with w (word_of (tokens_of line))) h).1
 
 -- words of one group are one
+in_group : ℕ → Word
+in_group n = cond (n == 1) words.Set (cond (n == 2) words.Policy (cond (n == 3) words.Source (cond (n == 4) words.Route (cond (n == 5) words.Aaaa (cond (n == 6) words.A (cond (n == 7) words.Rtt (cond (n == 8) words.Used (cond (n == 9) words.Connect (cond (n == 10) words.Pause words.End)))))))))
+
+in_its_group : (w : Word) → in_group (group_of w) ≡ w
+unfolding in_group
+in_its_group words.Set = refl
+in_its_group words.Policy = refl
+in_its_group words.Source = refl
+in_its_group words.Route = refl
+in_its_group words.Aaaa = refl
+in_its_group words.A = refl
+in_its_group words.Rtt = refl
+in_its_group words.Used = refl
+in_its_group words.Connect = refl
+in_its_group words.Pause = refl
+in_its_group words.End = refl
+
 pub one_word : (w word : Word) → same_word w word ≡ true → word ≡ w
-one_word words.Set words.Set h = refl
-one_word words.Set words.Policy h = cc
-one_word words.Set words.Source h = cc
-one_word words.Set words.Route h = cc
-one_word words.Set words.Aaaa h = cc
-one_word words.Set words.A h = cc
-one_word words.Set words.Rtt h = cc
-one_word words.Set words.Used h = cc
-one_word words.Set words.Connect h = cc
-one_word words.Set words.Pause h = cc
-one_word words.Set words.End h = cc
-one_word words.Policy words.Set h = cc
-one_word words.Policy words.Policy h = refl
-one_word words.Policy words.Source h = cc
-one_word words.Policy words.Route h = cc
-one_word words.Policy words.Aaaa h = cc
-one_word words.Policy words.A h = cc
-one_word words.Policy words.Rtt h = cc
-one_word words.Policy words.Used h = cc
-one_word words.Policy words.Connect h = cc
-one_word words.Policy words.Pause h = cc
-one_word words.Policy words.End h = cc
-one_word words.Source words.Set h = cc
-one_word words.Source words.Policy h = cc
-one_word words.Source words.Source h = refl
-one_word words.Source words.Route h = cc
-one_word words.Source words.Aaaa h = cc
-one_word words.Source words.A h = cc
-one_word words.Source words.Rtt h = cc
-one_word words.Source words.Used h = cc
-one_word words.Source words.Connect h = cc
-one_word words.Source words.Pause h = cc
-one_word words.Source words.End h = cc
-one_word words.Route words.Set h = cc
-one_word words.Route words.Policy h = cc
-one_word words.Route words.Source h = cc
-one_word words.Route words.Route h = refl
-one_word words.Route words.Aaaa h = cc
-one_word words.Route words.A h = cc
-one_word words.Route words.Rtt h = cc
-one_word words.Route words.Used h = cc
-one_word words.Route words.Connect h = cc
-one_word words.Route words.Pause h = cc
-one_word words.Route words.End h = cc
-one_word words.Aaaa words.Set h = cc
-one_word words.Aaaa words.Policy h = cc
-one_word words.Aaaa words.Source h = cc
-one_word words.Aaaa words.Route h = cc
-one_word words.Aaaa words.Aaaa h = refl
-one_word words.Aaaa words.A h = cc
-one_word words.Aaaa words.Rtt h = cc
-one_word words.Aaaa words.Used h = cc
-one_word words.Aaaa words.Connect h = cc
-one_word words.Aaaa words.Pause h = cc
-one_word words.Aaaa words.End h = cc
-one_word words.A words.Set h = cc
-one_word words.A words.Policy h = cc
-one_word words.A words.Source h = cc
-one_word words.A words.Route h = cc
-one_word words.A words.Aaaa h = cc
-one_word words.A words.A h = refl
-one_word words.A words.Rtt h = cc
-one_word words.A words.Used h = cc
-one_word words.A words.Connect h = cc
-one_word words.A words.Pause h = cc
-one_word words.A words.End h = cc
-one_word words.Rtt words.Set h = cc
-one_word words.Rtt words.Policy h = cc
-one_word words.Rtt words.Source h = cc
-one_word words.Rtt words.Route h = cc
-one_word words.Rtt words.Aaaa h = cc
-one_word words.Rtt words.A h = cc
-one_word words.Rtt words.Rtt h = refl
-one_word words.Rtt words.Used h = cc
-one_word words.Rtt words.Connect h = cc
-one_word words.Rtt words.Pause h = cc
-one_word words.Rtt words.End h = cc
-one_word words.Used words.Set h = cc
-one_word words.Used words.Policy h = cc
-one_word words.Used words.Source h = cc
-one_word words.Used words.Route h = cc
-one_word words.Used words.Aaaa h = cc
-one_word words.Used words.A h = cc
-one_word words.Used words.Rtt h = cc
-one_word words.Used words.Used h = refl
-one_word words.Used words.Connect h = cc
-one_word words.Used words.Pause h = cc
-one_word words.Used words.End h = cc
-one_word words.Connect words.Set h = cc
-one_word words.Connect words.Policy h = cc
-one_word words.Connect words.Source h = cc
-one_word words.Connect words.Route h = cc
-one_word words.Connect words.Aaaa h = cc
-one_word words.Connect words.A h = cc
-one_word words.Connect words.Rtt h = cc
-one_word words.Connect words.Used h = cc
-one_word words.Connect words.Connect h = refl
-one_word words.Connect words.Pause h = cc
-one_word words.Connect words.End h = cc
-one_word words.Pause words.Set h = cc
-one_word words.Pause words.Policy h = cc
-one_word words.Pause words.Source h = cc
-one_word words.Pause words.Route h = cc
-one_word words.Pause words.Aaaa h = cc
-one_word words.Pause words.A h = cc
-one_word words.Pause words.Rtt h = cc
-one_word words.Pause words.Used h = cc
-one_word words.Pause words.Connect h = cc
-one_word words.Pause words.Pause h = refl
-one_word words.Pause words.End h = cc
-one_word words.End words.Set h = cc
-one_word words.End words.Policy h = cc
-one_word words.End words.Source h = cc
-one_word words.End words.Route h = cc
-one_word words.End words.Aaaa h = cc
-one_word words.End words.A h = cc
-one_word words.End words.Rtt h = cc
-one_word words.End words.Used h = cc
-one_word words.End words.Connect h = cc
-one_word words.End words.Pause h = cc
-one_word words.End words.End h = refl
+one_word w word h = sym (in_its_group word) ∙ ap in_group (sym (eqb-true (group_of w) (group_of word) h)) ∙ in_its_group w
 
 -- joined parts begin with the first of them
 joined_begins : (mark : ℕ) (first : List ℕ) (more : List (List ℕ)) → (tail : List ℕ) × (join_with_byte mark (first ∷ more) ≡ first ++ tail)

@@ -75,10 +75,7 @@ fn any_word(line: Line<'_>) -> Result<(Word, Tokens<'_>), TextKind>
 // The same, if a text of the version has the word.
 #[inline(always)]
 #[tactic(auto, unfolding(crate::specs::Forms::version_word))]
-pub(crate) fn version_word(
-    version: Version,
-    line: Line<'_>,
-) -> Result<(Word, Tokens<'_>), TextKind>
+pub(crate) fn version_word(version: Version, line: Line<'_>) -> Result<(Word, Tokens<'_>), TextKind>
     ensures { MatchResult result (λ x. version_word version (tokens_of (line_bytes line.entry)) ≡ Ok (x.0, tokens_left x.1)) (λ kind. version_word version (tokens_of (line_bytes line.entry)) ≡ Err kind) }
 {
     let (word, tokens) = first_word(line)?;

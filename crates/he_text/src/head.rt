@@ -12,8 +12,8 @@ ghost use Rattle.he_text.specs.Parts.{lines_of};
 ghost use Rattle.he_text.specs.Reading.{Fails, no_head, add_setting, add_row, add_source, add_route, take_given, policy_from, host_from, race_begun};
 
 use crate::draft::GivenSettings;
-use crate::first_words::is_next;
 use crate::fault::TextKind;
+use crate::first_words::is_next;
 use crate::forms;
 use crate::parts::Tokens;
 use crate::words::{Name, Word};

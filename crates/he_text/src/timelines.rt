@@ -37,10 +37,7 @@ fn write_bounds<A: Allocator + Copy>(settings: Settings, out: &mut Vec<u8, A>) -
     write_setting(b"limit", settings.limit(), out)
 }
 
-fn write_floor<A: Allocator + Copy>(
-    floor: Option<u64>,
-    out: &mut Vec<u8, A>,
-) -> Result<(), Memory>
+fn write_floor<A: Allocator + Copy>(floor: Option<u64>, out: &mut Vec<u8, A>) -> Result<(), Memory>
     ensures { AppendsText result out.old.items out.new.items (floor_text floor) }
 {
     match floor {
@@ -70,7 +67,11 @@ fn write_settings<A: Allocator + Copy>(
 fn version<B: Allocator>(timeline: &Timeline<B>) -> Version
     ensures { result ≡ version_of timeline.now }
 {
-    match (timeline.settings().floor(), timeline.rtts(), timeline.used_addresses()) {
+    match (
+        timeline.settings().floor(),
+        timeline.rtts(),
+        timeline.used_addresses(),
+    ) {
         (None, [], []) => Version::One,
         _ => Version::Two,
     }
@@ -230,10 +231,7 @@ fn write_rtt<A: Allocator + Copy>(told: (Ip, u64), out: &mut Vec<u8, A>) -> Resu
     )
 }
 
-fn write_rtts<A: Allocator + Copy>(
-    rtts: &[(Ip, u64)],
-    out: &mut Vec<u8, A>,
-) -> Result<(), Memory>
+fn write_rtts<A: Allocator + Copy>(rtts: &[(Ip, u64)], out: &mut Vec<u8, A>) -> Result<(), Memory>
     ensures { AppendsText result out.old.items out.new.items (flat_map rtt_text rtts.now) }
 {
     for told in rtts {
