@@ -62,7 +62,7 @@ enum Told {
 // A text, how many of its bytes are there, what follows them, and what is told of it.
 type Row = (&'static [u8], usize, Ending, Told);
 
-static ROWS: [Row; 25] = [
+static ROWS: [Row; 34] = [
     (RACE, 156, Ending::Open, Told::Race(156)),
     (RACE, 155, Ending::Open, Told::None),
     (
@@ -108,6 +108,61 @@ static ROWS: [Row; 25] = [
         21,
         Ending::Open,
         Told::Fault(2, TextKind::Range),
+    ),
+    // Texts that only one of the versions has, and what is wrong with them.
+    (
+        b"race 1\naaaa 5 2001:db8::1\nrtt 2001:db8::1 5\nend\n",
+        48,
+        Ending::Whole,
+        Told::Fault(3, TextKind::Word),
+    ),
+    (
+        b"race 2\nrtt 2001:db8::1 5\nend\n",
+        29,
+        Ending::Whole,
+        Told::Fault(2, TextKind::Address),
+    ),
+    (
+        b"race 2\naaaa 5 2001:db8::1\nrtt 2001:db8::1 0\nend\n",
+        48,
+        Ending::Whole,
+        Told::Fault(3, TextKind::Range),
+    ),
+    (
+        b"race 2\naaaa 5 2001:db8::1\nused 2001:db8::1\nused 2001:db8::1\nend\n",
+        64,
+        Ending::Whole,
+        Told::Fault(4, TextKind::Repeated),
+    ),
+    (
+        b"race 2\naaaa 5 2001:db8::1\nused 2001:db8::1\nrtt 2001:db8::1 5\nend\n",
+        65,
+        Ending::Whole,
+        Told::Fault(4, TextKind::Word),
+    ),
+    (
+        b"race 1\nset floor 100\nend\n",
+        25,
+        Ending::Whole,
+        Told::Fault(2, TextKind::Word),
+    ),
+    (
+        b"race 2\nset floor 9\nend\n",
+        23,
+        Ending::Whole,
+        Told::Fault(2, TextKind::Range),
+    ),
+    (
+        b"race 2\nset floor 300\nset count 1\nend\n",
+        37,
+        Ending::Whole,
+        Told::Fault(3, TextKind::Range),
+    ),
+    (
+        b"race 2\nset floor 300\nset attempt 400\nend\n",
+        41,
+        Ending::Whole,
+        Told::Race(41),
     ),
 ];
 
