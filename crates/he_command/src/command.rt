@@ -100,8 +100,8 @@ const EXPLAIN_EXAMPLE: &str = "\
 Standard input is a timeline text, as for `he replay`. Standard output has, for each
 race, its usable addresses in the order of preference, from the second on with the rule
 (RFC 6724 section 6, RFC 8305 section 4) that puts it behind the one before; then what
-happened at which tick (millisecond), each attempt with what started it (RFC 8305 sections 3 to 5), and
-with the place of its address in the interlaced list.
+happened at which tick (millisecond), each attempt with what started it (RFC 8305
+sections 3 to 5), and with the place of its address in the interlaced list.
 
 Example input:
 

@@ -24,9 +24,8 @@ use tokio::net::TcpStream;
 /// transcript and then its record, a timeline that replays to this transcript. Answers how the race ended.
 ///
 /// Of the input's race the settings, policy, host, answers and what is known of addresses from earlier are looked at
-/// alone. The whole output is made before the
-/// first byte of it is written: after `Write` a first part was written, after any other fault nothing. It is flushed
-/// at the end.
+/// alone. The whole output is made before the first byte of it is written: after `Write` a first part was written,
+/// after any other fault nothing. It is flushed at the end.
 ///
 /// # Errors
 ///
