@@ -40,13 +40,18 @@ Answer = namedtuple("Answer", "tick addresses")
 
 MAPPED_BLOCK = Prefix(MAPPED, 96)
 ALL = Prefix(0, 0)
+HEADERS = {"race 1": 1, "race 2": 2}
+# By name: the least value, the greatest, the one that holds where none is given, the first version that has it.
 SETTINGS = {
-    "resolution": (0, 1000, 50),
-    "attempt": (10, 2000, 250),
-    "count": (1, 8, 1),
-    "limit": (1, MOST_TICK, 30_000),
+    "resolution": (0, 1000, 50, 1),
+    "attempt": (10, 2000, 250, 1),
+    "count": (1, 8, 1, 1),
+    "limit": (1, MOST_TICK, 30_000, 1),
+    "floor": (10, 2000, None, 2),
 }
-GROUPS = ["set", "policy", "source", "route", "aaaa", "a", "connect", "pause", "end"]
+GROUPS = ["set", "policy", "source", "route", "aaaa", "a", "rtt", "used", "connect", "pause", "end"]
+# The words that a race has from version 2 on.
+NEW_GROUPS = ["rtt", "used"]
 
 
 class Fault(Exception):
@@ -218,10 +223,11 @@ def is_v4_prefix(prefix):
 
 
 class Host:
-    """The policy table, the sources and the routes of a race."""
+    """The policy table, the sources and the routes of a race, and what is known of its addresses."""
 
-    def __init__(self, rows, sources, routes):
+    def __init__(self, rows, sources, routes, rtts, used):
         self.rows, self.sources, self.routes = rows or STANDARD, sources, routes
+        self.rtts, self.used = rtts, used
         # Kept for this host alone, so that nothing outlives it.
         self.row, self.route = kept(self.row), kept(self.route)
 
@@ -285,6 +291,8 @@ class Host:
             "labels": source is not None and self.row(source.address).label == self.row(address).label,
             "precedence": self.row(address).precedence,
             "native": route is None or not route.tunnel,
+            "rtt": self.rtts.get(address),
+            "used": address in self.used,
         }
 
     def order(self, addresses):
@@ -299,7 +307,7 @@ class Host:
 
 
 def is_preferred(one, two, stands_first):
-    """RFC 6724 section 6: whether one goes before two."""
+    """RFC 6724 section 6, with the two rules that RFC 8305 section 4 adds: whether one goes before two."""
     reached = [one["source"] is not None, two["source"] is not None]
     if reached[0] != reached[1]:
         return reached[0]
@@ -316,6 +324,11 @@ def is_preferred(one, two, stands_first):
         return one["native"]
     if one["scope"] != two["scope"]:
         return one["scope"] < two["scope"]
+    if one["rtt"] != two["rtt"]:
+        # A round trip time that is not known counts as greater than each that is.
+        return two["rtt"] is None or one["rtt"] is not None and one["rtt"] < two["rtt"]
+    if one["used"] != two["used"]:
+        return one["used"]
     if all(reached) and one["address"].family == two["address"].family:
         lengths = [common(fact["source"], fact["address"]) for fact in (one, two)]
         if lengths[0] != lengths[1]:
@@ -341,12 +354,13 @@ class Race:
     def __init__(self):
         self.settings, self.rows, self.sources, self.routes = {}, [], [], []
         self.answers, self.outcomes, self.pauses = {}, {}, []
+        self.rtts, self.used = {}, []
 
     def setting(self, name):
         return self.settings.get(name, SETTINGS[name][2])
 
     def host(self):
-        return Host(self.rows, self.sources, self.routes)
+        return Host(self.rows, self.sources, self.routes, self.rtts, self.used)
 
     def usable(self, name):
         answer = self.answers.get(name)
@@ -371,23 +385,40 @@ class Race:
             return False
         return self.is_seen("aaaa", tick) or self.seen(self.answers["a"].tick + self.setting("resolution")) <= tick
 
-    def ticks_from(self, least):
-        """The ticks from the least one on at which something may change: all, where the race is short."""
-        limit = self.setting("limit")
+    def finish(self, start, address):
+        """How an attempt ends and when, if ever."""
+        outcome = self.outcomes.get(address)
+        return None if outcome is None else (outcome[0], self.seen(start + outcome[1]))
+
+    def may_follow(self, made, tick):
+        """Whether the attempts that were made leave the tick to a further one."""
+        last, floor = made[-1][0], self.setting("floor")
+        if tick >= last + self.setting("attempt"):
+            return True
+        if floor is None or tick < last + floor:
+            return False
+        finishes = [self.finish(start, address) for start, address in made]
+        return all(end is not None and end[0] == "fail" and end[1] <= tick for end in finishes)
+
+    def ticks_behind(self, made):
+        """The ticks behind the last start at which something may change: all, where the race is short."""
+        limit, least = self.setting("limit"), made[-1][0] + 1 if made else 0
         if limit <= PLAIN_LIMIT:
             return range(least, limit)
-        ticks = {least, self.seen(least)}
+        ticks = {0}
         for answer in self.answers.values():
-            ticks |= {self.seen(answer.tick), self.seen(answer.tick + self.setting("resolution"))}
-        return [tick for tick in sorted(ticks) if least <= tick < limit]
+            ticks |= {answer.tick, answer.tick + self.setting("resolution")}
+        if made:
+            ticks |= {made[-1][0] + self.setting("attempt"), made[-1][0] + (self.setting("floor") or 0)}
+            ticks |= {end[1] for end in (self.finish(start, address) for start, address in made) if end}
+        return [tick for tick in sorted({self.seen(tick) for tick in ticks}) if least <= tick < limit]
 
     def attempts(self):
         """Pairs of start and address."""
         host, tried, made, lists = self.host(), [], [], {}
         while True:
-            least = made[-1][0] + self.setting("attempt") if made else 0
-            for tick in self.ticks_from(least):
-                if self.seen(tick) != tick or not (made or self.may_begin(tick)):
+            for tick in self.ticks_behind(made):
+                if self.seen(tick) != tick or not (self.may_follow(made, tick) if made else self.may_begin(tick)):
                     continue
                 received = self.received(tick)
                 if all(address in tried for address in received):
@@ -406,9 +437,8 @@ class Race:
     def transcript(self):
         limit, attempts, finishes = self.setting("limit"), self.attempts(), []
         for start, address in attempts:
-            outcome = self.outcomes.get(address)
-            tick = None if outcome is None else self.seen(start + outcome[1])
-            finishes.append(None if tick is None or tick > limit else (outcome[0], tick))
+            end = self.finish(start, address)
+            finishes.append(None if end is None or end[1] > limit else end)
         successes = [(end[1], place) for place, end in enumerate(finishes) if end and end[0] == "ok"]
         stop, winner = min(successes, default=(limit, None))
         lines = []
@@ -475,14 +505,16 @@ def prefix_of(token):
 class Reader:
     """Reads one race from the lines of a text; a line is its bytes without the line feed, as Latin-1."""
 
-    def __init__(self):
-        self.race, self.group, self.counts = Race(), -1, {}
+    def __init__(self, version):
+        self.race, self.version, self.group, self.counts = Race(), version, -1, {}
 
     def line(self, line, next_line):
         """Reads a line; true for the last one. The next line is None where no whole one of fit length follows."""
         tokens = line.split(" ")
         word = tokens[0]
         if word not in GROUPS or GROUPS.index(word) < self.group:
+            raise Fault("word")
+        if self.version == 1 and word in NEW_GROUPS:
             raise Fault("word")
         self.group = GROUPS.index(word)
         self.counts[word] = self.counts.get(word, 0) + 1
@@ -498,21 +530,30 @@ class Reader:
         getattr(self, "answer" if word in ("aaaa", "a") else word)(tokens)
         if word == "policy" and (next_line is None or next_line.split(" ")[0] != "policy"):
             self.check_table()
+        if word == "set" and (next_line is None or next_line.split(" ")[0] != "set"):
+            self.check_floor()
         return False
 
     def check_length(self, word, length):
-        least = {"set": 3, "policy": 4, "source": 3, "route": 3, "aaaa": 3, "a": 3, "connect": 4, "pause": 3, "end": 1}
-        most = {"set": 3, "policy": 4, "source": 5, "route": 4, "connect": 4, "pause": 3, "end": 1}
+        least = {"set": 3, "policy": 4, "source": 3, "route": 3, "aaaa": 3, "a": 3,
+                 "rtt": 3, "used": 2, "connect": 4, "pause": 3, "end": 1}
+        most = {"set": 3, "policy": 4, "source": 5, "route": 4,
+                "rtt": 3, "used": 2, "connect": 4, "pause": 3, "end": 1}
         if length < least[word] or length > most.get(word, length):
             raise Fault("word")
         if word in ("aaaa", "a") and length - 2 > MOST_ADDRESSES:
             raise Fault("too many")
 
     def set(self, tokens):
-        name = keyword(tokens[1], SETTINGS)
+        name = keyword(tokens[1], [name for name in SETTINGS if SETTINGS[name][3] <= self.version])
         value = number(tokens[2], *SETTINGS[name][:2])
         once(name, self.race.settings)
         self.race.settings[name] = value
+
+    def check_floor(self):
+        floor = self.race.setting("floor")
+        if floor is not None and floor > self.race.setting("attempt"):
+            raise Fault("range")
 
     def policy(self, tokens):
         prefix = prefix_of(tokens[1])
@@ -566,10 +607,25 @@ class Reader:
             raise Fault("repeated")
         self.race.answers[tokens[0]] = Answer(tick, addresses)
 
-    def connect(self, tokens):
-        address = read_address(tokens[1])
+    def answered(self, token):
+        """An address that stands in one of the race's answers."""
+        address = read_address(token)
         if address is None or not any(address in answer.addresses for answer in self.race.answers.values()):
             raise Fault("address")
+        return address
+
+    def rtt(self, tokens):
+        address, ticks = self.answered(tokens[1]), number(tokens[2], 1, MOST_TICK)
+        once(address, self.race.rtts)
+        self.race.rtts[address] = ticks
+
+    def used(self, tokens):
+        address = self.answered(tokens[1])
+        once(address, self.race.used)
+        self.race.used.append(address)
+
+    def connect(self, tokens):
+        address = self.answered(tokens[1])
         kind = keyword(tokens[2], ["ok", "fail"])
         duration = number(tokens[3], 1, MOST_TICK)
         once(address, self.race.outcomes)
@@ -602,9 +658,9 @@ def read_text(text):
             if not is_whole:
                 raise Fault("unfinished")
             if reader is None:
-                if line != "race 1":
+                if line not in HEADERS:
                     raise Fault("header")
-                reader = Reader()
+                reader = Reader(HEADERS[line])
                 continue
             follows = lines[place + 1]
             next_line = follows[0] if follows[1] and len(follows[0]) <= MOST_LINE_BYTES else None
