@@ -1,4 +1,4 @@
--- Which rule decides between two addresses (RFC 6724 section 6).
+-- Which rule decides between two addresses (RFC 6724 section 6, RFC 8305 section 4).
 use Rattle.std.specs.Prelude.{ℕ, ◌≡◌, cond, List, [], ◌∷◌}
 use Rattle.std.specs.declared.cmp.Ordering.TheVariants.{Equal}
 use Rattle.std.specs.Ordering.{is_eq}
@@ -12,7 +12,7 @@ use Rattle.he_select.specs.Selection.{SelectionInput}
 
 -- the rules from 6 on, in the order of `destination_rules`
 abbrev pub late_rules_in_order : List DestinationRule
-late_rules_in_order = rules.HigherPrecedence ∷ rules.NativeTransport ∷ rules.SmallerScope ∷ rules.LongestPrefix ∷ rules.Unchanged ∷ []
+late_rules_in_order = rules.HigherPrecedence ∷ rules.NativeTransport ∷ rules.SmallerScope ∷ rules.LowerRoundTripTime ∷ rules.UsedBefore ∷ rules.LongestPrefix ∷ rules.Unchanged ∷ []
 
 -- all of them
 abbrev pub rules_in_order : List DestinationRule

@@ -1,12 +1,12 @@
 -- The keys by which destinations are sorted: one number for each rule, the least key is preferred.
-use Rattle.std.specs.Prelude.{ℕ, ◌+◌, List, [], ◌∷◌, is_none}
+use Rattle.std.specs.Prelude.{ℕ, ◌+◌, List, [], ◌∷◌, is_none, not}
 use Rattle.std.specs.declared.cmp.Ordering.{Ordering}
 use Rattle.std.specs.Ordering.{nat_cmp, bool_cmp, ordering_then}
 use Rattle.he_addr.specs.declared.ip.Ip.{Ip}
 use Rattle.he_select.specs.declared.ranking.Key.{Key}
 use Rattle.he_select.specs.declared.standing.Standing.{Standing}
 use Rattle.he_select.specs.Preference.{Member}
-use Rattle.he_select.specs.Selection.{SelectionInput}
+use Rattle.he_select.specs.Selection.{SelectionInput, rtt_or_unknown}
 use Rattle.he_select.specs.Standing.{has_deprecated, has_other_label, has_other_scope, standing_of}
 
 -- the destination rules as numbers; 0 in those about the source, where there is none
@@ -19,6 +19,8 @@ key_of s place = record {
   precedence = record { 0 = s.precedence };
   tunnel = s.tunnel;
   scope = s.scope;
+  rtt = rtt_or_unknown s.rtt;
+  unused = not s.used;
   common = record { 0 = s.common };
   place = place;
 }
@@ -48,5 +50,7 @@ key_cmp a b =
     (ordering_then (nat_cmp b.precedence.0 a.precedence.0)
     (ordering_then (bool_cmp a.tunnel b.tunnel)
     (ordering_then (nat_cmp a.scope b.scope)
+    (ordering_then (nat_cmp a.rtt b.rtt)
+    (ordering_then (bool_cmp a.unused b.unused)
     (ordering_then (nat_cmp b.common.0 a.common.0)
-    (nat_cmp a.place b.place))))))))
+    (nat_cmp a.place b.place))))))))))

@@ -11,7 +11,9 @@ late_key_order =
     then_cmp (flip_args (on (λ k. k.precedence.0) nat_cmp))
     (then_cmp (on (λ k. k.tunnel) bool_cmp)
     (then_cmp (on (λ k. k.scope) nat_cmp)
-    (then_cmp (flip_args (on (λ k. k.common.0) nat_cmp)) (on (λ k. k.place) nat_cmp))))
+    (then_cmp (on (λ k. k.rtt) nat_cmp)
+    (then_cmp (on (λ k. k.unused) bool_cmp)
+    (then_cmp (flip_args (on (λ k. k.common.0) nat_cmp)) (on (λ k. k.place) nat_cmp))))))
 
 abbrev pub key_order : Key → Key → Ordering
 key_order =
@@ -33,5 +35,7 @@ key_order_total =
     (then_total (back_total (on_total (λ (k : Key). k.precedence.0) nat_cmp_total))
     (then_total (on_total (λ (k : Key). k.tunnel) bool_cmp_total)
     (then_total (on_total (λ (k : Key). k.scope) nat_cmp_total)
+    (then_total (on_total (λ (k : Key). k.rtt) nat_cmp_total)
+    (then_total (on_total (λ (k : Key). k.unused) bool_cmp_total)
     (then_total (back_total (on_total (λ (k : Key). k.common.0) nat_cmp_total))
-    (on_total (λ (k : Key). k.place) nat_cmp_total))))))))
+    (on_total (λ (k : Key). k.place) nat_cmp_total))))))))))

@@ -1,5 +1,5 @@
--- Which of two destinations is preferred (RFC 6724 section 6), and a list in this order.
-use Rattle.std.specs.Prelude.{ℕ, ◌+◌, ◌≡◌, ◌==◌, Bool, true, false, not, cond, List, [], ◌∷◌, length, map, slice_get, count_by, find, filter_map, Option, Some, option_map, IsPermutation}
+-- Which of two destinations is preferred (RFC 6724 section 6, RFC 8305 section 4), and a list in this order.
+use Rattle.std.specs.Prelude.{ℕ, ◌+◌, ◌≡◌, ◌==◌, Bool, true, false, not, cond, List, [], ◌∷◌, length, map, slice_get, count_by, find, filter_map, Option, Some, IsPermutation}
 use Rattle.std.specs.Bool.{beq}
 use Rattle.std.specs.List.{range_with_len}
 use Rattle.std.specs.Option.{option_map_or}
@@ -8,10 +8,9 @@ use Rattle.std.specs.Ordering.{is_lt}
 use Rattle.he_addr.specs.declared.ip.Ip.{Ip}
 use Rattle.he_addr.specs.Ip.{is_v6, scope_of}
 use Rattle.he_addr.specs.Prefix.{common_of}
-use Rattle.he_select.specs.declared.sorting.Sourced.{Sourced}
 use Rattle.he_select.specs.Rules.{Rule, yes_first, lower_first, higher_first, where_both, first_of}
 use Rattle.he_select.specs.Tables.{precedence_of, label_of}
-use Rattle.he_select.specs.Selection.{SelectionInput, route_of, source_of, is_reachable}
+use Rattle.he_select.specs.Selection.{SelectionInput, route_of, source_of, is_reachable, known_rtt, known_used, rtt_or_unknown}
 
 -- a destination and its place in the list
 pub record Member : Type 0 where
@@ -80,6 +79,14 @@ prefers_native_transport input = yes_first (λ m. is_native input m.ip)
 abbrev pub prefers_smaller_scope : Rule Member
 prefers_smaller_scope = lower_first (λ m. scope_of m.ip)
 
+-- Rule 8a (RFC 8305 section 4): prefer the lower known round trip time
+abbrev pub prefers_lower_rtt : SelectionInput → Rule Member
+prefers_lower_rtt input = lower_first (λ m. rtt_or_unknown (known_rtt input.known m.ip))
+
+-- Rule 8b (RFC 8305 section 4): prefer the address used before
+abbrev pub prefers_used : SelectionInput → Rule Member
+prefers_used input = yes_first (λ m. known_used input.known m.ip)
+
 -- Rule 9: use longest matching prefix. Only within one family
 abbrev pub prefers_longest_match : SelectionInput → Rule Member
 prefers_longest_match input = in_one_family (by_sources input (higher_first (λ m. common_with_source input m.ip)))
@@ -88,7 +95,7 @@ prefers_longest_match input = in_one_family (by_sources input (higher_first (λ 
 abbrev pub leaves_unchanged : Rule Member
 leaves_unchanged = lower_first (λ m. m.place)
 
--- the rules of destination ordering (RFC 6724 section 6)
+-- the rules of destination ordering (RFC 6724 section 6, with the two that RFC 8305 section 4 adds)
 unfoldable pub destination_rules : SelectionInput → List (Rule Member)
 destination_rules input =
     avoids_unreachable input
@@ -98,6 +105,8 @@ destination_rules input =
     ∷ prefers_higher_precedence input
     ∷ prefers_native_transport input
     ∷ prefers_smaller_scope
+    ∷ prefers_lower_rtt input
+    ∷ prefers_used input
     ∷ prefers_longest_match input
     ∷ leaves_unchanged
     ∷ []
@@ -119,7 +128,3 @@ member_at input members n = find (λ member. count_by (λ other. prefers input o
 -- are places before it
 unfoldable pub order_of : SelectionInput → List Ip → List Ip
 order_of input ips = map (λ member. member.ip) (filter_map (member_at input (members_from 0 ips)) (range_with_len 0 (length ips)))
-
--- a destination and the address of its source, Source(D); none where there is no source
-abbrev pub sourced_by : SelectionInput → Ip → Sourced
-sourced_by input ip = record { ip = ip; source = option_map (λ source. source.ip) (source_of input ip) }

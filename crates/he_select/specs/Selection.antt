@@ -1,5 +1,5 @@
 -- Which route and which source the host uses for a destination (RFC 6724 sections 4 and 5).
-use Rattle.std.specs.Prelude.{ℕ, ◌==◌, ◌&&◌, ◌||◌, Bool, false, not, cond, nat_lt, List, [], ◌∷◌, filter, Option, is_some}
+use Rattle.std.specs.Prelude.{ℕ, ◌==◌, ◌&&◌, ◌||◌, ◌^◌, Bool, false, not, cond, nat_lt, List, [], ◌∷◌, filter, find, None, Option, is_some, option_and_then}
 use Rattle.std.specs.Bool.{beq}
 use Rattle.std.specs.Option.{option_map_or}
 use Rattle.std.specs.declared.cmp.Ordering.TheVariants.{Less, Equal, Greater}
@@ -10,6 +10,7 @@ use Rattle.he_addr.specs.Prefix.{contains, is_inside_mapped, common_of}
 use Rattle.he_select.specs.declared.policy.Row.{Row}
 use Rattle.he_select.specs.declared.host.Source.{Source}
 use Rattle.he_select.specs.declared.host.Route.{Route}
+use Rattle.he_select.specs.declared.known.Known.{Known}
 use Rattle.he_select.specs.Rules.{Rule, yes_first, higher_first, first_of, best_by}
 use Rattle.he_select.specs.Tables.{label_of}
 use Rattle.he_select.specs.Hosts.{HostLists}
@@ -19,9 +20,35 @@ pub record SelectionInput : Type 0 where
   pub rows : List Row
   pub sources : List Source
   pub routes : List Route
+  pub known : List Known
 
+-- with what is known of destinations from earlier connections
+abbrev pub known_input : List Row → HostLists → List Known → SelectionInput
+known_input rows host known = record { rows = rows; sources = host.sources; routes = host.routes; known = known }
+
+-- with nothing known
 abbrev pub selection_input : List Row → HostLists → SelectionInput
-selection_input rows host = record { rows = rows; sources = host.sources; routes = host.routes }
+selection_input rows host = known_input rows host []
+
+-- an address of which nothing is known
+abbrev pub nothing_known : Ip → Known
+nothing_known ip = record { ip = ip; rtt = None; used = false }
+
+-- what is known of an address: the first that is told of it
+abbrev pub known_of : List Known → Ip → Option Known
+known_of known ip = find (λ one. same_ip one.ip ip) known
+
+-- the known round trip time of an address in milliseconds; none where it is unknown
+abbrev pub known_rtt : List Known → Ip → Option ℕ
+known_rtt known ip = option_and_then (λ one. one.rtt) (known_of known ip)
+
+-- an address is known to have been used before
+abbrev pub known_used : List Known → Ip → Bool
+known_used known ip = option_map_or (λ one. one.used) (known_of known ip) false
+
+-- an unknown round trip time counts as greater than every known one, which are below 2 ^ 64
+abbrev pub rtt_or_unknown : Option ℕ → ℕ
+rtt_or_unknown rtt = option_map_or (λ n. n) rtt (2 ^ 64)
 
 abbrev pub is_longer_route : Route → Route → Bool
 is_longer_route a b = nat_lt b.prefix.len a.prefix.len

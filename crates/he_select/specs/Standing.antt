@@ -1,7 +1,8 @@
 -- What the rules look at of an address: `standing_of`. The rest mirrors the code: what it computes of an address, and the
 -- rule that it finds between two.
-use Rattle.std.specs.Prelude.{ℕ, ◌==◌, ◌&&◌, Bool, false, not, cond, List, [], ◌∷◌, None, Option, is_none, option_and_then, option_map}
+use Rattle.std.specs.Prelude.{ℕ, ◌==◌, ◌&&◌, ◌||◌, Bool, false, not, cond, List, [], ◌∷◌, None, Option, is_none, is_some, option_and_then, option_map}
 use Rattle.std.specs.Bool.{beq}
+use Rattle.std.specs.List.{list_any}
 use Rattle.std.specs.Option.{option_map_or}
 use Rattle.std.specs.declared.cmp.Ordering.TheVariants.{Equal}
 use Rattle.std.specs.Ordering.{bool_cmp, nat_cmp}
@@ -11,20 +12,21 @@ use Rattle.he_addr.specs.Ip.{is_v6, scope_of}
 use Rattle.he_addr.specs.Prefix.{common_of, is_inside_mapped}
 use Rattle.he_select.specs.declared.deciding.DestinationRule.{DestinationRule}
 use Rattle.he_select.specs.declared.host.Route.{Route}
+use Rattle.he_select.specs.declared.known.Known.{Known}
 use Rattle.he_select.specs.declared.policy.Row.{Row}
 use Rattle.he_select.specs.declared.selection.LabelledSource.{LabelledSource}
 use Rattle.he_select.specs.declared.sorting.Sourced.{Sourced}
 use Rattle.he_select.specs.declared.standing.Standing.{Standing}
 use Rattle.he_select.specs.Deciding.{first_deciding, late_rules_in_order, rules_in_order}
 use Rattle.he_select.specs.LabelledRules.{admits, destination_of, is_better_labelled, labelled_of}
-use Rattle.he_select.specs.Rules.{Rule, higher_first, lower_first}
-use Rattle.he_select.specs.Selection.{SelectionInput, longest_route, route_of, source_of}
+use Rattle.he_select.specs.Rules.{Rule, higher_first, lower_first, yes_first}
+use Rattle.he_select.specs.Selection.{SelectionInput, known_rtt, known_used, longest_route, route_of, rtt_or_unknown, source_of}
 use Rattle.he_select.specs.Tables.{label_of, precedence_of}
 use Rattle.he_select.specs.Walking.{walk_fitting}
 
--- what the rules look at of an address that has this route and this source
-abbrev pub standing_with : List Row → Option Route → Option LabelledSource → Ip → Standing
-standing_with rows route source ip = record {
+-- what the rules look at of an address that has this route and this source, with what is known
+abbrev pub standing_with : List Row → Option Route → Option LabelledSource → List Known → Ip → Standing
+standing_with rows route source known ip = record {
   ip = ip;
   source = source;
   scope = scope_of ip;
@@ -32,11 +34,13 @@ standing_with rows route source ip = record {
   precedence = precedence_of rows ip;
   tunnel = option_map_or (λ route. route.tunnel) route false;
   common = option_map_or (λ labelled. common_of labelled.source.ip labelled.source.plen ip) source 0;
+  rtt = known_rtt known ip;
+  used = known_used known ip;
 }
 
 -- what they look at of an address
 abbrev pub standing_of : SelectionInput → Ip → Standing
-standing_of input ip = standing_with input.rows (route_of input ip) (option_map (labelled_of input.rows) (source_of input ip)) ip
+standing_of input ip = standing_with input.rows (route_of input ip) (option_map (labelled_of input.rows) (source_of input ip)) input.known ip
 
 -- a route serves the address with this mapped number, of this family
 abbrev pub serves_number : ℕ → Bool → Route → Bool
@@ -47,9 +51,16 @@ unfoldable pub chosen_over : Option Route → List LabelledSource → Ip → ℕ
 chosen_over route labelled ip label =
     option_and_then (λ route. walk_fitting (admits (destination_of ip label route)) (is_better_labelled (destination_of ip label route)) None labelled) route
 
-abbrev pub standing_from : List Row → List Route → List LabelledSource → Ip → Standing
-standing_from rows routes labelled ip =
-    standing_with rows (longest_route routes ip) (chosen_over (longest_route routes ip) labelled ip (label_of rows ip)) ip
+abbrev pub standing_from : List Row → List Route → List LabelledSource → List Known → Ip → Standing
+standing_from rows routes labelled known ip =
+    standing_with rows (longest_route routes ip) (chosen_over (longest_route routes ip) labelled ip (label_of rows ip)) known ip
+
+abbrev pub tells : Known → Bool
+tells one = is_some one.rtt || one.used
+
+-- nothing need be looked up in a list that tells nothing
+abbrev pub told_of : List Known → List Known
+told_of known = cond (list_any tells known) known []
 
 abbrev pub sourced_from : Standing → Sourced
 sourced_from s = record { ip = s.ip; source = option_map (λ labelled. labelled.source.ip) s.source }
@@ -73,6 +84,8 @@ late_standing_rules =
     higher_first (λ s. s.precedence)
     ∷ no_first (λ s. s.tunnel)
     ∷ lower_first (λ s. s.scope)
+    ∷ lower_first (λ s. rtt_or_unknown s.rtt)
+    ∷ yes_first (λ s. s.used)
     ∷ (λ a b. cond (beq (is_v6 a.ip) (is_v6 b.ip)) (nat_cmp b.common a.common) Equal)
     ∷ []
 

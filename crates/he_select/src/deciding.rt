@@ -1,4 +1,4 @@
-// Which rule decides between two destinations (RFC 6724 section 6).
+// Which rule decides between two destinations (RFC 6724 section 6, RFC 8305 section 4).
 
 ghost use Rattle.std.specs.Prelude.{◌≡◌};
 ghost use Rattle.he_addr.specs.declared.ip.Ip.{Ip};
@@ -6,10 +6,11 @@ ghost use Rattle.he_select.specs.Deciding.{deciding_rule};
 ghost use Rattle.he_select.specs.Selection.{SelectionInput};
 ghost use Rattle.he_select.specs.Standing.{has_deprecated, has_other_label, has_other_scope, late_rule_between, rule_between, standing_of};
 
+use crate::known::rtt_or_unknown;
 use crate::standing::Standing;
 
-/// A rule of destination address selection (RFC 6724 section 6), but for rule 4, which is left out: there are no home
-/// addresses here.
+/// A rule of destination address selection (RFC 6724 section 6, with rules 8a and 8b of RFC 8305 section 4), but for
+/// rule 4, which is left out: there are no home addresses here.
 #[derive(Clone, Copy, Debug, PartialEq, Eq)]
 pub enum DestinationRule {
     /// Rule 1.
@@ -26,6 +27,10 @@ pub enum DestinationRule {
     NativeTransport,
     /// Rule 8.
     SmallerScope,
+    /// Rule 8a: the lower known round trip time. An unknown one counts as greater than every known one.
+    LowerRoundTripTime,
+    /// Rule 8b: the address used before.
+    UsedBefore,
     /// Rule 9.
     LongestPrefix,
     /// Rule 10.
@@ -73,6 +78,12 @@ impl DestinationRule {
         }
         if earlier.scope != later.scope {
             return DestinationRule::SmallerScope;
+        }
+        if rtt_or_unknown(earlier.rtt) != rtt_or_unknown(later.rtt) {
+            return DestinationRule::LowerRoundTripTime;
+        }
+        if earlier.used != later.used {
+            return DestinationRule::UsedBefore;
         }
         if earlier.ip.family() == later.ip.family() && earlier.common != later.common {
             return DestinationRule::LongestPrefix;

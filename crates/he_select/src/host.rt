@@ -1,6 +1,6 @@
 // A host's sources and routes.
 
-ghost use Rattle.std.specs.Prelude.{◌≡◌, not, option_map, IsTrue, IfOk, IfErr, IsOk, IsOkUnless};
+ghost use Rattle.std.specs.Prelude.{◌≡◌, [], not, option_map, IsTrue, IfOk, IfErr, IsOk, IsOkUnless};
 ghost use Rattle.he_addr.specs.Prefix.{width_of};
 ghost use Rattle.std.specs.List.{list_all, list_any, position_from};
 ghost use Rattle.he_select.specs.Equality.{equal_hosts};
@@ -297,7 +297,7 @@ impl<A: Allocator> Host<A> {
 
 fn source_ip(rows: &[Row], sources: &[Source], routes: &[Route], ip: Ip) -> Option<Ip>
     requires { IsTrue (list_all is_sound_source sources.now) }
-    ensures { result ≡ option_map (λ source. source.ip) (source_of (record { rows = rows.now; sources = sources.now; routes = routes.now }) ip) }
+    ensures { result ≡ option_map (λ source. source.ip) (source_of (record { rows = rows.now; sources = sources.now; routes = routes.now; known = [] }) ip) }
 {
     let route = find_route(routes, ip)?;
     let destination = Destination::new(ip, find_label(rows, ip), &route);

@@ -1,4 +1,4 @@
-// The key of a destination (RFC 6724 section 6).
+// The key of a destination (RFC 6724 section 6, RFC 8305 section 4).
 
 ghost use Rattle.std.specs.Prelude.{◌≡◌, Option};
 ghost use Rattle.std.specs.Cmp.{eq_by_cmp_equiv, partial_equiv_from_equiv, partial_order_from_total};
@@ -8,6 +8,7 @@ ghost use Rattle.he_select.specs.DestinationKeys.{key_of};
 ghost use Rattle.he_select.specs.KeyOrder.{key_order, key_order_total, late_key_cmp};
 ghost use Rattle.he_select.specs.Standing.{has_deprecated, has_other_label, has_other_scope};
 
+use crate::known::rtt_or_unknown;
 use crate::standing::Standing;
 use std::cmp::{Ordering, Reverse};
 
@@ -21,6 +22,8 @@ pub(crate) struct Key {
     pub(crate) precedence: Reverse<u16>,
     pub(crate) tunnel: bool,
     pub(crate) scope: u8,
+    pub(crate) rtt: u128,
+    pub(crate) unused: bool,
     pub(crate) common: Reverse<u8>,
     pub(crate) place: usize,
 }
@@ -95,6 +98,12 @@ impl Key {
         if self.scope != other.scope {
             return self.scope.cmp(&other.scope);
         }
+        if self.rtt != other.rtt {
+            return self.rtt.cmp(&other.rtt);
+        }
+        if self.unused != other.unused {
+            return self.unused.cmp(&other.unused);
+        }
         if self.common != other.common {
             return self.common.cmp(&other.common);
         }
@@ -122,6 +131,10 @@ impl Standing {
             tunnel: self.tunnel,
             // Rule 8: prefer smaller scope.
             scope: self.scope,
+            // Rule 8a: prefer the lower known round trip time.
+            rtt: rtt_or_unknown(self.rtt),
+            // Rule 8b: prefer the address used before.
+            unused: !self.used,
             // Rule 9: use longest matching prefix. Needs no test of the family: an admitted table's precedences part
             // the families.
             common: Reverse(self.common),

@@ -1,4 +1,4 @@
-// Destinations in the order of preference (RFC 6724 section 6).
+// Destinations in the order of preference (RFC 6724 section 6, RFC 8305 section 4).
 
 ghost use Rattle.std.specs.Prelude.{◌≡◌, map, filter_map, slice_get, All, IsPermutation, IsSorted, IsTrue, IfOk, OnOk};
 ghost use Rattle.std.specs.List.{list_all};
@@ -6,12 +6,13 @@ ghost use Rattle.he_addr.specs.Ip.{InRange, is_usable};
 ghost use Rattle.he_select.specs.DestinationKeys.{key_cmp, keys_of};
 ghost use Rattle.he_select.specs.HostFaults.{is_sound_source};
 ghost use Rattle.he_select.specs.LabelledRules.{labelled_of};
-ghost use Rattle.he_select.specs.Preference.{IsOrder, order_of, sourced_by};
-ghost use Rattle.he_select.specs.Selection.{selection_input};
-ghost use Rattle.he_select.specs.Standing.{sourced_from, standing_from, standing_of};
+ghost use Rattle.he_select.specs.Preference.{IsOrder, order_of};
+ghost use Rattle.he_select.specs.Selection.{known_input, nothing_known, selection_input};
+ghost use Rattle.he_select.specs.Standing.{standing_from, standing_of};
 ghost use Rattle.he_select.specs.Tables.{IsAdmitted};
 
 use crate::host::{Host, Route, Source};
+use crate::known::{Known, told};
 use crate::policy::{Policy, Row};
 use crate::ranking::Key;
 use crate::selection::LabelledSource;
@@ -29,7 +30,7 @@ pub struct Sourced {
 }
 
 /// The addresses in the order in which they are to be tried (RFC 6724 section 6): each stands at the place that
-/// equals the number of addresses preferred to it. Each address is usable.
+/// equals the number of addresses preferred to it. Each address is usable. Nothing is known of them.
 pub fn order<A: Allocator + Copy, P: Allocator, H: Allocator>(
     alloc: A,
     policy: &Policy<P>,
@@ -40,43 +41,47 @@ pub fn order<A: Allocator + Copy, P: Allocator, H: Allocator>(
     ensures order { IfOk result (λ sorted. IsOrder (selection_input policy.now host.now) addresses.now sorted.items) }
     ensures value { IfOk result (λ sorted. sorted.items ≡ order_of (selection_input policy.now host.now) addresses.now) }
 {
-    let standings = order_with_standings(alloc, policy, host, addresses)?;
+    let known = nothing_known(alloc, addresses)?;
+    order_known(alloc, policy, host, &known)
+}
+
+fn nothing_known<A: Allocator>(alloc: A, addresses: &[Ip]) -> Result<Vec<Known, A>, AllocError>
+    ensures { IfOk result (λ known. known.items ≡ map nothing_known addresses.now) }
+{
+    addresses
+        .iter()
+        .map(|ip| Known::nothing(*ip))
+        .collect(alloc)
+}
+
+/// The addresses in the order in which they are to be tried by what is known of them as well (RFC 8305 section 4). Each
+/// address is usable. Where one stands more than once, what is told of it first counts.
+pub fn order_known<A: Allocator + Copy, P: Allocator, H: Allocator>(
+    alloc: A,
+    policy: &Policy<P>,
+    host: &Host<H>,
+    known: &[Known],
+) -> Result<Vec<Ip, A>, Memory>
+    requires { IsTrue (list_all (λ one. is_usable one.ip) known.now) }
+    ensures order { IfOk result (λ sorted. IsOrder (known_input policy.now host.now known.now) (map (λ one. one.ip) known.now) sorted.items) }
+    ensures value { IfOk result (λ sorted. sorted.items ≡ order_of (known_input policy.now host.now known.now) (map (λ one. one.ip) known.now)) }
+{
+    let standings = order_known_with_standings(alloc, policy, host, known)?;
     Ok(addresses_of(alloc, &standings)?)
 }
 
-/// The addresses in the order of [`order`], each with the source that it has from [`Host::source`]. Each address is
-/// usable.
-pub fn order_with_sources<A: Allocator + Copy, P: Allocator, H: Allocator>(
+/// The addresses in the order of [`order_known`], each with what the rules look at of it. Each address is usable.
+pub fn order_known_with_standings<A: Allocator + Copy, P: Allocator, H: Allocator>(
     alloc: A,
     policy: &Policy<P>,
     host: &Host<H>,
-    addresses: &[Ip],
-) -> Result<Vec<Sourced, A>, Memory>
-    requires { IsTrue (list_all is_usable addresses.now) }
-    ensures { IfOk result (λ sorted. sorted.items ≡ map (sourced_by (selection_input policy.now host.now)) (order_of (selection_input policy.now host.now) addresses.now)) }
-{
-    let standings = order_with_standings(alloc, policy, host, addresses)?;
-    Ok(sourced_of(alloc, &standings)?)
-}
-
-/// The addresses in the order of [`order`], each with what the rules look at of it. Each address is usable.
-pub fn order_with_standings<A: Allocator + Copy, P: Allocator, H: Allocator>(
-    alloc: A,
-    policy: &Policy<P>,
-    host: &Host<H>,
-    addresses: &[Ip],
+    known: &[Known],
 ) -> Result<Vec<Standing, A>, Memory>
-    requires { IsTrue (list_all is_usable addresses.now) }
-    ensures order { IfOk result (λ _. IsOrder (selection_input policy.now host.now) addresses.now (order_of (selection_input policy.now host.now) addresses.now)) }
-    ensures value { IfOk result (λ sorted. sorted.items ≡ map (standing_of (selection_input policy.now host.now)) (order_of (selection_input policy.now host.now) addresses.now)) }
+    requires { IsTrue (list_all (λ one. is_usable one.ip) known.now) }
+    ensures order { IfOk result (λ _. IsOrder (known_input policy.now host.now known.now) (map (λ one. one.ip) known.now) (order_of (known_input policy.now host.now known.now) (map (λ one. one.ip) known.now))) }
+    ensures value { IfOk result (λ sorted. sorted.items ≡ map (standing_of (known_input policy.now host.now known.now)) (order_of (known_input policy.now host.now known.now) (map (λ one. one.ip) known.now))) }
 {
-    let sorted = sort_standings(
-        alloc,
-        policy.rows(),
-        host.sources(),
-        host.routes(),
-        addresses,
-    )?;
+    let sorted = sort_standings(alloc, policy.rows(), host.sources(), host.routes(), known)?;
     Ok(sorted)
 }
 
@@ -86,15 +91,6 @@ fn addresses_of<A: Allocator>(alloc: A, standings: &[Standing]) -> Result<Vec<Ip
     standings.iter().map(|standing| standing.ip).collect(alloc)
 }
 
-fn sourced_of<A: Allocator>(alloc: A, standings: &[Standing]) -> Result<Vec<Sourced, A>, AllocError>
-    ensures { IfOk result (λ sourced. sourced.items ≡ map sourced_from standings.now) }
-{
-    standings
-        .iter()
-        .map(|standing| standing.sourced())
-        .collect(alloc)
-}
-
 /// What the rules look at is computed once for each source and for each address. What is sorted is keys alone, small
 /// as they are: each names the place of its address.
 fn sort_standings<A: Allocator + Copy>(
@@ -102,16 +98,16 @@ fn sort_standings<A: Allocator + Copy>(
     rows: &[Row],
     sources: &[Source],
     routes: &[Route],
-    addresses: &[Ip],
+    known: &[Known],
 ) -> Result<Vec<Standing, A>, AllocError>
     requires admitted { IsAdmitted rows.now }
     requires sound { IsTrue (list_all is_sound_source sources.now) }
-    requires usable { IsTrue (list_all is_usable addresses.now) }
-    ensures order { IfOk result (λ _. IsOrder (record { rows = rows.now; sources = sources.now; routes = routes.now }) addresses.now (order_of (record { rows = rows.now; sources = sources.now; routes = routes.now }) addresses.now)) }
-    ensures value { IfOk result (λ sorted. sorted.items ≡ map (standing_of (record { rows = rows.now; sources = sources.now; routes = routes.now })) (order_of (record { rows = rows.now; sources = sources.now; routes = routes.now }) addresses.now)) }
+    requires usable { IsTrue (list_all (λ one. is_usable one.ip) known.now) }
+    ensures order { IfOk result (λ _. IsOrder (record { rows = rows.now; sources = sources.now; routes = routes.now; known = known.now }) (map (λ one. one.ip) known.now) (order_of (record { rows = rows.now; sources = sources.now; routes = routes.now; known = known.now }) (map (λ one. one.ip) known.now))) }
+    ensures value { IfOk result (λ sorted. sorted.items ≡ map (standing_of (record { rows = rows.now; sources = sources.now; routes = routes.now; known = known.now })) (order_of (record { rows = rows.now; sources = sources.now; routes = routes.now; known = known.now }) (map (λ one. one.ip) known.now))) }
 {
     let labelled = label_sources(alloc, rows, sources)?;
-    let standings = standings_of(alloc, rows, routes, &labelled, addresses)?;
+    let standings = standings_of(alloc, rows, routes, &labelled, told(known), known)?;
     let mut keys = keys_of(alloc, &standings)?;
     sort(&mut keys);
     pick(alloc, &standings, &keys)
@@ -130,20 +126,22 @@ fn label_sources<A: Allocator + Copy>(
         .collect(alloc)
 }
 
+/// What the rules look at of each destination, with what is told of them.
 fn standings_of<A: Allocator + Copy>(
     alloc: A,
     rows: &[Row],
     routes: &[Route],
     sources: &[LabelledSource],
-    addresses: &[Ip],
+    told: &[Known],
+    known: &[Known],
 ) -> Result<Vec<Standing, A>, AllocError>
     requires { IsTrue (list_all (λ labelled. is_sound_source labelled.source) sources.now) }
-    ensures standings { IfOk result (λ standings. standings.items ≡ map (standing_from rows.now routes.now sources.now) addresses.now) }
-    ensures range { OnOk result (All InRange addresses.now) }
+    ensures standings { IfOk result (λ standings. standings.items ≡ map (λ one. standing_from rows.now routes.now sources.now told.now one.ip) known.now) }
+    ensures range { OnOk result (All (λ one. InRange one.ip) known.now) }
 {
-    let mut standings = Vec::with_capacity(alloc, addresses.len())?;
-    for ip in addresses {
-        standings.push(Standing::new(rows, routes, sources, *ip))?;
+    let mut standings = Vec::with_capacity(alloc, known.len())?;
+    for one in known {
+        standings.push(Standing::new(rows, routes, sources, told, one.ip))?;
     }
     Ok(standings)
 }

@@ -1,4 +1,4 @@
-// What the destination rules look at of an address (RFC 6724 section 6).
+// What the destination rules look at of an address (RFC 6724 section 6, RFC 8305 section 4).
 
 ghost use Rattle.std.specs.Prelude.{◌≡◌, IsTrue, IfSome};
 ghost use Rattle.std.specs.List.{list_all};
@@ -6,9 +6,11 @@ ghost use Rattle.std.specs.Option.{option_map_or};
 ghost use Rattle.he_addr.specs.Ip.{InRange};
 ghost use Rattle.he_addr.specs.Prefix.{common_of};
 ghost use Rattle.he_select.specs.HostFaults.{is_sound_source};
+ghost use Rattle.he_select.specs.Selection.{known_rtt, known_used};
 ghost use Rattle.he_select.specs.Standing.{sourced_from, standing_from};
 
 use crate::host::Route;
+use crate::known::{Known, find_known};
 use crate::lookup::{find_route, find_row};
 use crate::policy::Row;
 use crate::selection::{Destination, LabelledSource};
@@ -29,6 +31,10 @@ pub struct Standing {
     pub tunnel: bool,
     /// The common prefix length of the destination and its source in bits, 0 without a source.
     pub common: u8,
+    /// The last round trip time of the destination in milliseconds, if one is known.
+    pub rtt: Option<u64>,
+    /// The destination is known to have been used before.
+    pub used: bool,
 }
 
 impl Standing {
@@ -38,10 +44,11 @@ impl Standing {
         rows: &[Row],
         routes: &[Route],
         sources: &[LabelledSource],
+        known: &[Known],
         ip: Ip,
     ) -> Standing
         requires { IsTrue (list_all (λ labelled. is_sound_source labelled.source) sources.now) }
-        ensures standing { result ≡ standing_from rows.now routes.now sources.now ip }
+        ensures standing { result ≡ standing_from rows.now routes.now sources.now known.now ip }
         ensures range { InRange ip }
     {
         let (precedence, label) = match find_row(rows, ip) {
@@ -55,6 +62,7 @@ impl Standing {
             ),
             None => (false, None),
         };
+        let (rtt, used) = history(known, ip);
         Standing {
             ip,
             source,
@@ -63,6 +71,8 @@ impl Standing {
             precedence,
             tunnel,
             common: common_with(source, ip),
+            rtt,
+            used,
         }
     }
 
@@ -74,6 +84,17 @@ impl Standing {
             ip: self.ip,
             source: self.source.map(|labelled| labelled.source.ip),
         }
+    }
+}
+
+/// The known round trip time of the address, and whether it was used before.
+fn history(known: &[Known], ip: Ip) -> (Option<u64>, bool)
+    ensures rtt { result.0 ≡ known_rtt known.now ip }
+    ensures used { result.1 ≡ known_used known.now ip }
+{
+    match find_known(known, ip) {
+        Some(one) => (one.rtt, one.used),
+        None => (None, false),
     }
 }
 
