@@ -24,7 +24,7 @@ pub same_ip-self : (x : Ip) → same_ip x x ≡ true
 same_ip-self (V4 m) = (Decides-eqb m m).1 refl
 same_ip-self (V6 m) = (Decides-eqb m m).1 refl
 
-same_ip-is : (x y : Ip) → same_ip x y ≡ true → x ≡ y
+pub same_ip-is : (x y : Ip) → same_ip x y ≡ true → x ≡ y
 same_ip-is (V4 m) (V4 n) h = ap V4 ((Decides-eqb m n).0 h)
 same_ip-is (V6 m) (V6 n) h = ap V6 ((Decides-eqb m n).0 h)
 same_ip-is (V4 m) (V6 n) h = cc

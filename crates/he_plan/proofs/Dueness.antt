@@ -1,19 +1,22 @@
 -- What is due after a turn: no attempt may start before the least of it is seen.
-use Rattle.std.proofs.Common.{◌≡◌, ℕ, ◌+◌, ◌-◌, ◌≤◌, ◌<◌, ◌⊎◌, ◌↔◌, ◌&&◌, true, List, [], ◌∷◌, max, Option, Some, None, MatchOption, IfSome, IsSomeAnd, nat_le, refl, sym, ◌∙◌, ap, subst, arith, inl, inr}
-use Rattle.std.specs.List.{list_any}
+use Rattle.std.proofs.Common.{◌≡◌, ℕ, ◌+◌, ◌-◌, ◌≤◌, ◌<◌, ◌⊎◌, ◌↔◌, ◌&&◌, Bool, true, false, if◌then◌else◌, List, [], ◌∷◌, max, Option, Some, None, MatchOption, IfSome, IsSomeAnd, nat_le, refl, sym, ◌∙◌, ap, subst, arith, inl, inr}
+use Rattle.std.specs.List.{list_all, list_any}
+use Rattle.std.specs.Option.{option_map_or}
 use Rattle.std.proofs.lemmas.Bool.{cases_lt}
 use Rattle.he_addr.specs.Ip.{is_usable}
 use Rattle.he_plan.specs.declared.attempts.Attempt.{Attempt}
 use Rattle.he_plan.specs.declared.finish.Fate.TheVariants.{Succeeded, Failed, Running}
+use Rattle.he_plan.specs.declared.limits.TheConstants.{MIN_FLOOR}
 use Rattle.he_plan.specs.declared.outcome.Outcome.TheVariants as outcomes
-use Rattle.he_plan.specs.Attempts.{IsFree, IsLeast, IsSeen, MayBegin, MayFollow, MayStart, is_untried, last_of, order_at, seen}
-use Rattle.he_plan.specs.Due.{IsAfterTurn, IsAnswerDue, IsDelayDue, IsDue, IsDueTick, IsTaken, IsWaiting}
+use Rattle.he_plan.specs.Attempts.{HasWaited, HaveFailed, IsFree, IsLeast, IsSeen, MayBegin, MayFollow, MayStart, has_failed, is_untried, last_of, order_at, seen}
+use Rattle.he_plan.specs.Due.{IsAfterTurn, IsAnswerDue, IsDelayDue, IsDue, IsDueTick, IsTaken, IsWaiting, start_delay}
 use Rattle.he_plan.specs.Finish.{fate_by, fate_of, outcome_of}
-use Rattle.he_plan.specs.Planning.{positive_tick, start_after, start_tick, a_begin_tick, waiting_tick}
+use Rattle.he_plan.specs.Planning.{positive_tick, start_after, start_tick, a_begin_tick, wait_end, waiting_tick}
 use Rattle.he_plan.specs.Race.{Race, Reply}
 use Rattle.he_plan.specs.Timeline.{IsRace}
-use Rattle.he_plan.proofs.Agreeing.{order-shared, starts-shared}
+use Rattle.he_plan.proofs.Agreeing.{failed-shared, order-shared, starts-shared}
 use Rattle.he_plan.proofs.Bools.{le_test}
+use Rattle.he_plan.proofs.Failing.{waited_from, waited_later}
 use Rattle.he_plan.proofs.Planned.{last_of-some}
 use Rattle.he_plan.proofs.Starting.{IsSeen-seen, MayStart-StartsAt, Reaches, SeesOwn, SeesOwn-free, StartsAt, StartsAt-MayStart, a_from, a_if, a_tick, earlier_left, earlier_one, earlier_right, reaches_if, reaches_then}
 
@@ -30,15 +33,18 @@ starts-stay race r done t later m up free early =
 pub starts-free : (race : Race) → IsRace race → (done : List Attempt) (t : ℕ) → MayStart race done t → IsFree race t
 starts-free race r done t m = let s : StartsAt race done t = StartsAt-MayStart race r done t m in s.free
 
-pub starts-delayed : (race : Race) (done : List Attempt) (last : Attempt) (t : ℕ) → last_of done ≡ Some last → MayStart race done t → last.tick + race.settings.attempt ≤ t
-starts-delayed race done last t e m = by_last (last_of done) e m.1
+pub starts-waited : (race : Race) (done : List Attempt) (last : Attempt) (t : ℕ) → last_of done ≡ Some last → MayStart race done t → HasWaited race done t last
+starts-waited race done last t e m = by_last (last_of done) e m.1
   where
     last_is : (x y : Attempt) → Some x ≡ Some y → x ≡ y
     last_is x y h = cc
 
-    by_last : (o : Option Attempt) → o ≡ Some last → MatchOption o (MayBegin race t) (MayFollow race done t) → last.tick + race.settings.attempt ≤ t
+    by_last : (o : Option Attempt) → o ≡ Some last → MatchOption o (MayBegin race t) (MayFollow race done t) → HasWaited race done t last
     by_last None e may = cc
-    by_last (Some other) e may = subst (λ (x : Attempt). x.tick + race.settings.attempt ≤ t) (last_is other last e) may.delay
+    by_last (Some other) e may = subst (λ (x : Attempt). HasWaited race done t x) (last_is other last e) may.waited
+
+pub starts-later : (race : Race) → IsRace race → (done : List Attempt) (last : Attempt) (t : ℕ) → last_of done ≡ Some last → MayStart race done t → last.tick < t
+starts-later race r done last t e m = waited_later race r done t last (starts-waited race done last t e m)
 
 -- the race without its pauses
 abbrev awake : Race → Race
@@ -48,7 +54,9 @@ awake-is : (race : Race) → IsRace race → IsRace (awake race)
 awake-is race r = record { settings = r.settings; policy = r.policy; host = r.host; aaaa = r.aaaa; a = r.a; outcomes = r.outcomes; once = r.once; pauses = refl; few = omega arith }
 
 pub starts-own : (race : Race) → IsRace race → (done : List Attempt) (t : ℕ) → IsFree race t → MayStart race done t ↔ MayStart (awake race) done t
-starts-own race r done t free = starts-shared race (awake race) r (awake-is race r) refl done t free refl
+starts-own race r done t free =
+    let same : list_all (has_failed race t) done ≡ list_all (has_failed (awake race) t) done = failed-shared race (awake race) t (SeesOwn-free race r t free) (SeesOwn-free (awake race) (awake-is race r) t refl) (λ ip. refl) done in
+    starts-shared race (awake race) r (awake-is race r) refl done t (λ h. sym same ∙ h, λ h. same ∙ h) free refl
 
 pub order-own : (race : Race) → IsRace race → (t : ℕ) → IsFree race t → order_at race t ≡ order_at (awake race) t
 order-own race r t free = order-shared race (awake race) r (awake-is race r) refl t free refl
@@ -67,24 +75,60 @@ not_reached race r (Some n) done after = λ h. after.2 (MayStart-StartsAt race r
 abbrev IsDueBy : Race → Option ℕ → List Attempt → ℕ → Type 0
 IsDueBy race turn done t = (d : ℕ) × IsDue race turn done d × (d ≤ t)
 
+-- all attempts that fail had failed by the last turn
+abbrev AreKnown : Race → Option ℕ → List Attempt → Type 0
+AreKnown race turn done = IfSome turn (λ n. (later : ℕ) → HaveFailed race done later → HaveFailed race done n)
+
+known : (race : Race) (turn : Option ℕ) (done : List Attempt) → IsAfterTurn race turn done → AreKnown race turn done
+known race None done after = tt
+known race (Some n) done after = after.3
+
+-- after a turn the delay is over at a tick by which the last attempt was waited for
+delay_over : (race : Race) → IsRace race → (turn : Option ℕ) (done : List Attempt) (last : Attempt) (t : ℕ) → AreKnown race turn done → IsSomeAnd turn (λ n. Unit {0}) → HasWaited race done t last → last.tick + start_delay race turn done ≤ t
+delay_over race r None done last t all some waited = absurd some
+delay_over race r (Some n) done last t all some (inl over) =
+    let most : start_delay race (Some n) done ≤ race.settings.attempt = by_all (list_all (has_failed race n) done) race.settings.floor r.settings.floor in
+    omega (arith, over)
+  where
+    by_all : (b : Bool) (o : Option ℕ) → IfSome o (λ floor. (MIN_FLOOR ≤ floor) × (floor ≤ race.settings.attempt)) → (if b then option_map_or (λ floor. floor) o race.settings.attempt else race.settings.attempt) ≤ race.settings.attempt
+    by_all false o range = omega arith
+    by_all true None range = omega arith
+    by_all true (Some floor) range = range.1
+delay_over race r (Some n) done last t all some (inr h) = by_floor race.settings.floor h
+  where
+    by_floor : (o : Option ℕ) → IsSomeAnd o (λ floor. (last.tick + floor ≤ t) × HaveFailed race done t) → last.tick + (if list_all (has_failed race n) done then option_map_or (λ floor. floor) o race.settings.attempt else race.settings.attempt) ≤ t
+    by_floor None h = absurd h
+    by_floor (Some floor) h = let failed : list_all (has_failed race n) done ≡ true = all t h.1 in rw failed h.0
+
 -- an untried address of an answer: the answer is due, or the delay is
-due_waiting : (race : Race) (turn : Option ℕ) (done : List Attempt) (last : Attempt) (t : ℕ) → last_of done ≡ Some last → (reply : Option Reply) → (IsWaiting turn done reply → IsWaiting turn done race.aaaa ⊎ IsWaiting turn done race.a) → ((d : ℕ) → IsAnswerDue turn reply d → IsDue race turn done d) → Reaches (waiting_tick done (last.tick + race.settings.attempt) reply) t → IsDueBy race turn done t
-due_waiting race turn done last t is None waiting answer h = absurd h
-due_waiting race turn done last t is (Some reply) waiting answer h =
-    let from : ℕ = last.tick + race.settings.attempt in
+due_waiting : (race : Race) → IsRace race → (turn : Option ℕ) (done : List Attempt) (last : Attempt) (t : ℕ) → AreKnown race turn done → HasWaited race done t last → last_of done ≡ Some last → (reply : Option Reply) → (IsWaiting turn done reply → IsWaiting turn done race.aaaa ⊎ IsWaiting turn done race.a) → ((d : ℕ) → IsAnswerDue turn reply d → IsDue race turn done d) → Reaches (waiting_tick done (wait_end race done last) reply) t → IsDueBy race turn done t
+due_waiting race r turn done last t all waited is None waiting answer h = absurd h
+due_waiting race r turn done last t all waited is (Some reply) waiting answer h =
+    let from : ℕ = wait_end race done last in
+    let due : ℕ = last.tick + start_delay race turn done in
     let k : (list_any (λ ip. is_usable ip && is_untried done ip) reply.addresses ≡ true) × (max from reply.tick ≤ t) = reaches_if (list_any (λ ip. is_usable ip && is_untried done ip) reply.addresses) (max from reply.tick) t h in
-    let delay : IsSomeAnd (last_of done) (λ x. x.tick + race.settings.attempt ≡ from) = subst (λ (o : Option Attempt). IsSomeAnd o (λ x. x.tick + race.settings.attempt ≡ from)) (sym is) refl in
+    let delay : IsSomeAnd (last_of done) (λ x. x.tick + start_delay race turn done ≡ due) = subst (λ (o : Option Attempt). IsSomeAnd o (λ x. x.tick + start_delay race turn done ≡ due)) (sym is) refl in
     elim (taken_or_not turn reply) [
-      | inl taken ↦ (from, inr (inr (inr (inl (record { delay = delay; some = waiting (taken, k.0) })))), omega arith)
+      | inl taken ↦ (due, inr (inr (inr (inl (record { delay = delay; some = waiting (taken, k.0) })))), delay_over race r turn done last t all (some_turn turn reply taken) waited)
       | inr not ↦ (reply.tick, answer reply.tick (not, refl), omega arith)
     ]
+  where
+    some_turn : (turn : Option ℕ) (reply : Reply) → IsTaken turn reply → IsSomeAnd turn (λ n. Unit {0})
+    some_turn None reply h = h
+    some_turn (Some n) reply h = tt
 
-due_follow : (race : Race) (turn : Option ℕ) (done : List Attempt) (last : Attempt) (t : ℕ) → last_of done ≡ Some last → Reaches (start_after race done (Some last)) t → IsDueBy race turn done t
-due_follow race turn done last t is h =
-    let from : ℕ = last.tick + race.settings.attempt in
+waiting_from : (done : List Attempt) (from : ℕ) (reply : Option Reply) (t : ℕ) → Reaches (waiting_tick done from reply) t → from ≤ t
+waiting_from done from None t h = absurd h
+waiting_from done from (Some reply) t h =
+    let k : (list_any (λ ip. is_usable ip && is_untried done ip) reply.addresses ≡ true) × (max from reply.tick ≤ t) = reaches_if (list_any (λ ip. is_usable ip && is_untried done ip) reply.addresses) (max from reply.tick) t h in
+    omega (arith, k.1)
+
+due_follow : (race : Race) → IsRace race → (turn : Option ℕ) (done : List Attempt) (last : Attempt) (t : ℕ) → AreKnown race turn done → t < race.settings.limit → last_of done ≡ Some last → Reaches (start_after race done (Some last)) t → IsDueBy race turn done t
+due_follow race r turn done last t all early is h =
+    let from : ℕ = wait_end race done last in
     elim (earlier_one (waiting_tick done from race.aaaa) (waiting_tick done from race.a) t h) [
-      | inl k ↦ due_waiting race turn done last t is race.aaaa (λ w. inl w) (λ d a. inl a) k
-      | inr k ↦ due_waiting race turn done last t is race.a (λ w. inr w) (λ d a. inr (inl a)) k
+      | inl k ↦ due_waiting race r turn done last t all (waited_from race t early done last (waiting_from done from race.aaaa t k)) is race.aaaa (λ w. inl w) (λ d a. inl a) k
+      | inr k ↦ due_waiting race r turn done last t all (waited_from race t early done last (waiting_from done from race.a t k)) is race.a (λ w. inr w) (λ d a. inr (inl a)) k
     ]
 
 -- a list without a last member is empty
@@ -151,15 +195,15 @@ due_begin race turn done t is rested h =
       | inr k ↦ due_a race turn done t (none_of done is) rested (λ n p. begins n (earlier_right (positive_tick race.aaaa) (a_tick race.settings.resolution race.aaaa race.a) n p)) race.aaaa race.a refl refl k
     ]
 
-due_by : (race : Race) (turn : Option ℕ) (done : List Attempt) (t : ℕ) → IfSome turn (λ n. ¬ Reaches (start_tick race done) n) → (o : Option Attempt) → last_of done ≡ o → Reaches (start_after race done o) t → IsDueBy race turn done t
-due_by race turn done t rested None is h = due_begin race turn done t is rested h
-due_by race turn done t rested (Some last) is h = due_follow race turn done last t is h
+due_by : (race : Race) → IsRace race → (turn : Option ℕ) (done : List Attempt) (t : ℕ) → AreKnown race turn done → t < race.settings.limit → IfSome turn (λ n. ¬ Reaches (start_tick race done) n) → (o : Option Attempt) → last_of done ≡ o → Reaches (start_after race done o) t → IsDueBy race turn done t
+due_by race r turn done t all early rested None is h = due_begin race turn done t is rested h
+due_by race r turn done t all early rested (Some last) is h = due_follow race r turn done last t all early is h
 
 -- no attempt may start before the due tick is seen
 pub due-no_sooner : (race : Race) → IsRace race → (turn : Option ℕ) (done : List Attempt) (w : ℕ) → IsAfterTurn race turn done → IsDueTick race turn done w → (t : ℕ) → MayStart race done t → seen race w ≤ t
 due-no_sooner race r turn done w after is t m =
     let s : StartsAt race done t = StartsAt-MayStart race r done t m in
-    let due : IsDueBy race turn done t = due_by race turn done t (not_reached race r turn done after) (last_of done) refl s.reached in
+    let due : IsDueBy race turn done t = due_by race r turn done t (known race turn done after) s.early (not_reached race r turn done after) (last_of done) refl s.reached in
     let own : SeesOwn race t = SeesOwn-free race r t s.free in
     own.back w (let k : w ≤ due.0 = is.least due.0 due.1 in omega (arith, due.2))
 

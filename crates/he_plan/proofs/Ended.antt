@@ -1,5 +1,5 @@
 -- Where a race's attempts leave room for one more, no address that is received is left.
-use Rattle.std.proofs.Common.{◌≡◌, ℕ, ◌+◌, ◌≤◌, ◌<◌, ◌&&◌, ◌||◌, Bool, true, false, not, List, [], ◌∷◌, max, Option, Some, None, MatchOption, nat_le, refl, sym, ◌∙◌, subst, arith}
+use Rattle.std.proofs.Common.{◌≡◌, ℕ, ◌+◌, ◌≤◌, ◌<◌, ◌&&◌, ◌||◌, Bool, true, false, not, List, [], ◌∷◌, max, Option, Some, None, MatchOption, nat_le, refl, sym, ◌∙◌, subst, arith, inl}
 use Rattle.std.specs.List.{list_any, list_all}
 use Rattle.std.proofs.lemmas.List.Folds.{list_any-append}
 use Rattle.he_addr.specs.declared.ip.Ip.{Ip}
@@ -36,7 +36,7 @@ none_untried race attempts last t are is early free delay = none_by (list_any (i
   where
     none_by : (b : Bool) → list_any (is_untried attempts) (received race t) ≡ b → b ≡ false
     none_by false e = refl
-    none_by true e = absurd (are.no_more t (early, subst (λ (o : Option Attempt). MatchOption o (MayBegin race t) (MayFollow race attempts t)) (sym is) (record { free = free; delay = delay; some = e })))
+    none_by true e = absurd (are.no_more t (early, subst (λ (o : Option Attempt). MatchOption o (MayBegin race t) (MayFollow race attempts t)) (sym is) (record { free = free; waited = inl delay; some = e })))
 
 pub all_tried : (race : Race) → IsRace race → (attempts : List Attempt) (aaaa a : Reply) (answered : ℕ) → aaaa.tick ≤ answered → a.tick ≤ answered → AreAttempts race attempts → race.aaaa ≡ Some aaaa → race.a ≡ Some a → has_room race answered (last_of attempts) ≡ true → true ≡ (is_tried_out attempts aaaa && is_tried_out attempts a)
 all_tried race r attempts aaaa a answered after6 after4 are six four room = tried_by (last_of attempts) refl room

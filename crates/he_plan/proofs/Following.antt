@@ -10,12 +10,13 @@ use Rattle.he_addr.specs.declared.ip.Ip.{Ip}
 use Rattle.he_addr.specs.declared.ip.Ip.TheVariants.{V4, V6}
 use Rattle.he_plan.specs.declared.attempts.Attempt.{Attempt}
 use Rattle.he_plan.specs.Attempts.{IsSeen, is_tried, is_untried, last_of, seen}
-use Rattle.he_plan.specs.Planning.{earlier, waiting_tick, late_tick, start_after, start_tick, is_received, part_of, parts_of}
+use Rattle.he_plan.specs.Planning.{earlier, waiting_tick, late_tick, start_after, start_tick, is_received, part_of, parts_of, wait_end}
 use Rattle.he_plan.specs.Race.{Race, Reply}
 use Rattle.he_plan.specs.Timeline.{IsRace, is_of, are_of, is_answer}
 use Rattle.he_plan.specs.Underway.{IsOwn, IsQueue, Untried, was_received}
 use Rattle.he_plan.proofs.Bools.{and_left, and_right, or_none, or_left_none, or_right_none, or_one, le_from}
 use Rattle.he_plan.proofs.Distinct.{none_counted}
+use Rattle.he_plan.proofs.Failing.{wait_after}
 use Rattle.he_plan.proofs.Queued.{any_counted, left_is}
 use Rattle.he_plan.proofs.Starting.{IsSeen-seen, any_filter}
 
@@ -94,20 +95,20 @@ earlier_last from x y e late = sym (ap (earlier x) e ∙ last_by x late)
     last_by None late = refl
     last_by (Some t) late = ap Some (let k : from ≤ t = late in omega arith)
 
-pub follows_delay : (race : Race) → IsRace race → (done : List Attempt) (last : Attempt) (queue : Untried) → last_of done ≡ Some last → IsQueue race done queue → 0 < length queue.ips → Some (last.tick + race.settings.attempt) ≡ start_tick race done
+pub follows_delay : (race : Race) → IsRace race → (done : List Attempt) (last : Attempt) (queue : Untried) → last_of done ≡ Some last → IsQueue race done queue → 0 < length queue.ips → Some (wait_end race done last) ≡ start_tick race done
 follows_delay race r done last queue is q below =
-    let from : ℕ = last.tick + race.settings.attempt in
+    let from : ℕ = wait_end race done last in
     let some : list_any (is_untried done) (parts_of race queue.v6 queue.v4) ≡ true = any_counted (is_untried done) (parts_of race queue.v6 queue.v4) (omega (arith, left_is race done queue q.rest)) in
     let either : (list_any (is_untried done) (part_of queue.v6 race.aaaa) || list_any (is_untried done) (part_of queue.v4 race.a)) ≡ true = sym (list_any-append (is_untried done) (part_of queue.v6 race.aaaa) (part_of queue.v4 race.a)) ∙ some in
     elim (or_one _ _ either) [
-      | inl h ↦ earlier_first from (waiting_tick done from race.aaaa) (waiting_tick done from race.a) (delay_is race r done last from queue.v6 race.aaaa (omega arith) (q.six ∙ ap (λ o. was_received race o race.aaaa) is) h) (no_earlier done from race.a)
-      | inr h ↦ earlier_last from (waiting_tick done from race.aaaa) (waiting_tick done from race.a) (delay_is race r done last from queue.v4 race.a (omega arith) (q.four ∙ ap (λ o. was_received race o race.a) is) h) (no_earlier done from race.aaaa)
+      | inl h ↦ earlier_first from (waiting_tick done from race.aaaa) (waiting_tick done from race.a) (delay_is race r done last from queue.v6 race.aaaa (wait_after race done last) (q.six ∙ ap (λ o. was_received race o race.aaaa) is) h) (no_earlier done from race.a)
+      | inr h ↦ earlier_last from (waiting_tick done from race.aaaa) (waiting_tick done from race.a) (delay_is race r done last from queue.v4 race.a (wait_after race done last) (q.four ∙ ap (λ o. was_received race o race.a) is) h) (no_earlier done from race.aaaa)
     ]
     ∙ sym (ap (start_after race done) is)
 
-pub follows_late : (race : Race) → IsRace race → (done : List Attempt) (last : Attempt) (queue : Untried) → last_of done ≡ Some last → IsQueue race done queue → length queue.ips ≤ 0 → earlier (late_tick queue.v6 (last.tick + race.settings.attempt) race.aaaa) (late_tick queue.v4 (last.tick + race.settings.attempt) race.a) ≡ start_tick race done
+pub follows_late : (race : Race) → IsRace race → (done : List Attempt) (last : Attempt) (queue : Untried) → last_of done ≡ Some last → IsQueue race done queue → length queue.ips ≤ 0 → earlier (late_tick queue.v6 (wait_end race done last) race.aaaa) (late_tick queue.v4 (wait_end race done last) race.a) ≡ start_tick race done
 follows_late race r done last queue is q over =
-    let from : ℕ = last.tick + race.settings.attempt in
+    let from : ℕ = wait_end race done last in
     let none : list_any (is_untried done) (parts_of race queue.v6 queue.v4) ≡ false = none_counted (is_untried done) (parts_of race queue.v6 queue.v4) (omega (arith, left_is race done queue q.rest)) in
     let neither : (list_any (is_untried done) (part_of queue.v6 race.aaaa) || list_any (is_untried done) (part_of queue.v4 race.a)) ≡ false = sym (list_any-append (is_untried done) (part_of queue.v6 race.aaaa) (part_of queue.v4 race.a)) ∙ none in
     ap (λ o. earlier o (late_tick queue.v4 from race.a)) (late_is families.V6 queue.v6 race.aaaa done from r.aaaa q.rest.own_six (or_left_none _ _ neither))

@@ -13,6 +13,7 @@ use Rattle.he_plan.specs.Race.{Race, Reply}
 use Rattle.he_plan.specs.Timeline.{IsRace}
 use Rattle.he_plan.specs.Underway.{MakesNext}
 use Rattle.he_plan.proofs.Bools.{le_test, or_left, or_right}
+use Rattle.he_plan.proofs.Failing.{waited_later}
 
 get_end : (xs : List Attempt) (x : Attempt) → slice_get (xs ++ x ∷ []) (length xs) ≡ Some x
 get_end [] x = refl
@@ -60,7 +61,7 @@ starts_any race done t m = may_untried race t done (last_of done) refl m.1
 
 later_by : (race : Race) (done : List Attempt) (t : ℕ) (last : Option Attempt) → IsRace race → MatchOption last (MayBegin race t) (MayFollow race done t) → IfSome last (λ x. x.tick < t)
 later_by race done t None r m = tt
-later_by race done t (Some last) r m = omega (arith, m.delay, r.settings.attempt_least)
+later_by race done t (Some last) r m = waited_later race r done t last m.waited
 
 pub start_later : (race : Race) → IsRace race → (done : List Attempt) (t : ℕ) → MayStart race done t → IsLater done t
 start_later race r done t m = (omega (arith, m.0, r.settings.limit_most), later_by race done t (last_of done) r m.1)

@@ -1,4 +1,4 @@
--- When the next attempt may start: at a free tick that the answers and the last attempt allow, pauses not looked at.
+-- When the next attempt may start: at a free tick that the answers and the attempts so far allow, pauses not looked at.
 use Rattle.std.proofs.Common.{◌≡◌, ℕ, ◌+◌, ◌≤◌, ◌<◌, ◌⊎◌, ◌&&◌, ◌||◌, Bool, true, false, List, [], ◌∷◌, if◌then◌else◌, filter, Option, Some, None, MatchOption, IsSomeAnd, nat_le, min, max, refl, sym, ◌∙◌, arith, inl, inr}
 use Rattle.std.specs.List.{list_any}
 use Rattle.std.specs.Option.{option_map}
@@ -8,10 +8,11 @@ use Rattle.he_addr.specs.declared.ip.Ip.{Ip}
 use Rattle.he_addr.specs.Ip.{is_usable}
 use Rattle.he_plan.specs.declared.attempts.Attempt.{Attempt}
 use Rattle.he_plan.specs.Attempts.{IsLeast, IsFree, IsSeen, seen, received_of, IsAnswered, IsPositive, MayBegin, MayFollow, MayStart, is_untried, last_of}
-use Rattle.he_plan.specs.Planning.{earlier, positive_tick, a_begin_tick, waiting_tick, follow_tick, start_after, start_tick}
+use Rattle.he_plan.specs.Planning.{earlier, positive_tick, a_begin_tick, waiting_tick, follow_tick, start_after, start_tick, wait_end}
 use Rattle.he_plan.specs.Race.{Race, Reply}
 use Rattle.he_plan.specs.Timeline.{IsRace}
 use Rattle.he_plan.proofs.Bools.{le_test, le_from, or_one, or_left, or_right}
+use Rattle.he_plan.proofs.Failing.{waited_from, waited_to}
 use Rattle.he_plan.proofs.Seen.{seen_past-is}
 
 -- at a free tick t a tick is seen by t exactly where it is at most t
@@ -150,22 +151,23 @@ waits_from race t s done from (Some r) h =
     let by : nat_le (seen race r.tick) t ≡ true = le_test _ _ (s.back r.tick (omega arith)) in
     (omega arith, rw by (any_filter (is_untried done) is_usable r.addresses ∙ k.0))
 
-follows_to : (race : Race) (t : ℕ) → SeesOwn race t → (done : List Attempt) (last : Attempt) → MayFollow race done t last → Reaches (follow_tick race done last) t
-follows_to race t s done last m =
-    let from : ℕ = last.tick + race.settings.attempt in
+follows_to : (race : Race) (t : ℕ) → t < race.settings.limit → SeesOwn race t → (done : List Attempt) (last : Attempt) → MayFollow race done t last → Reaches (follow_tick race done last) t
+follows_to race t early s done last m =
+    let from : ℕ = wait_end race done last in
+    let by : from ≤ t = waited_to race t early done last m.waited in
     elim (or_one _ _ (sym (list_any-append (is_untried done) (received_of race t race.aaaa) (received_of race t race.a)) ∙ m.some)) [
-      | inl k ↦ earlier_left (waiting_tick done from race.aaaa) (waiting_tick done from race.a) t (waits_to race t s done from race.aaaa m.delay k)
-      | inr k ↦ earlier_right (waiting_tick done from race.aaaa) (waiting_tick done from race.a) t (waits_to race t s done from race.a m.delay k)
+      | inl k ↦ earlier_left (waiting_tick done from race.aaaa) (waiting_tick done from race.a) t (waits_to race t s done from race.aaaa by k)
+      | inr k ↦ earlier_right (waiting_tick done from race.aaaa) (waiting_tick done from race.a) t (waits_to race t s done from race.a by k)
     ]
 
-follows_from : (race : Race) (t : ℕ) → SeesOwn race t → IsFree race t → (done : List Attempt) (last : Attempt) → Reaches (follow_tick race done last) t → MayFollow race done t last
-follows_from race t s free done last h =
-    let from : ℕ = last.tick + race.settings.attempt in
+follows_from : (race : Race) (t : ℕ) → t < race.settings.limit → SeesOwn race t → IsFree race t → (done : List Attempt) (last : Attempt) → Reaches (follow_tick race done last) t → MayFollow race done t last
+follows_from race t early s free done last h =
+    let from : ℕ = wait_end race done last in
     elim (earlier_one (waiting_tick done from race.aaaa) (waiting_tick done from race.a) t h) [
       | inl k ↦ let w : (from ≤ t) × (list_any (is_untried done) (received_of race t race.aaaa) ≡ true) = waits_from race t s done from race.aaaa k in
-          record { free = free; delay = w.0; some = list_any-append (is_untried done) (received_of race t race.aaaa) (received_of race t race.a) ∙ or_left _ _ w.1 }
+          record { free = free; waited = waited_from race t early done last w.0; some = list_any-append (is_untried done) (received_of race t race.aaaa) (received_of race t race.a) ∙ or_left _ _ w.1 }
       | inr k ↦ let w : (from ≤ t) × (list_any (is_untried done) (received_of race t race.a) ≡ true) = waits_from race t s done from race.a k in
-          record { free = free; delay = w.0; some = list_any-append (is_untried done) (received_of race t race.aaaa) (received_of race t race.a) ∙ or_right _ _ w.1 }
+          record { free = free; waited = waited_from race t early done last w.0; some = list_any-append (is_untried done) (received_of race t race.aaaa) (received_of race t race.a) ∙ or_right _ _ w.1 }
     ]
 
 -- an attempt may start at a free tick below the limit, from the start tick on
@@ -174,21 +176,21 @@ pub record StartsAt (race : Race) (done : List Attempt) (t : ℕ) : Type 0 where
   pub free : IsFree race t
   pub reached : Reaches (start_tick race done) t
 
-starts_to : (race : Race) → IsRace race → (done : List Attempt) (t : ℕ) (last : Option Attempt) → MatchOption last (MayBegin race t) (MayFollow race done t) → IsFree race t × Reaches (start_after race done last) t
-starts_to race r done t None m = (m.0, begins_to race t (SeesOwn-free race r t m.0) race.aaaa race.a m.1)
-starts_to race r done t (Some last) m = (m.free, follows_to race t (SeesOwn-free race r t m.free) done last m)
+starts_to : (race : Race) → IsRace race → (done : List Attempt) (t : ℕ) → t < race.settings.limit → (last : Option Attempt) → MatchOption last (MayBegin race t) (MayFollow race done t) → IsFree race t × Reaches (start_after race done last) t
+starts_to race r done t early None m = (m.0, begins_to race t (SeesOwn-free race r t m.0) race.aaaa race.a m.1)
+starts_to race r done t early (Some last) m = (m.free, follows_to race t early (SeesOwn-free race r t m.free) done last m)
 
-pub starts_from : (race : Race) → IsRace race → (done : List Attempt) (t : ℕ) (last : Option Attempt) → IsFree race t → Reaches (start_after race done last) t → MatchOption last (MayBegin race t) (MayFollow race done t)
-starts_from race r done t None free h = (free, begins_from race t (SeesOwn-free race r t free) race.aaaa race.a h)
-starts_from race r done t (Some last) free h = follows_from race t (SeesOwn-free race r t free) free done last h
+pub starts_from : (race : Race) → IsRace race → (done : List Attempt) (t : ℕ) → t < race.settings.limit → (last : Option Attempt) → IsFree race t → Reaches (start_after race done last) t → MatchOption last (MayBegin race t) (MayFollow race done t)
+starts_from race r done t early None free h = (free, begins_from race t (SeesOwn-free race r t free) race.aaaa race.a h)
+starts_from race r done t early (Some last) free h = follows_from race t early (SeesOwn-free race r t free) free done last h
 
 pub StartsAt-MayStart : (race : Race) → IsRace race → (done : List Attempt) (t : ℕ) → MayStart race done t → StartsAt race done t
 StartsAt-MayStart race r done t m =
-    let k : IsFree race t × Reaches (start_tick race done) t = starts_to race r done t (last_of done) m.1 in
+    let k : IsFree race t × Reaches (start_tick race done) t = starts_to race r done t m.0 (last_of done) m.1 in
     record { early = m.0; free = k.0; reached = k.1 }
 
 pub MayStart-StartsAt : (race : Race) → IsRace race → (done : List Attempt) (t : ℕ) → StartsAt race done t → MayStart race done t
-MayStart-StartsAt race r done t s = (s.early, starts_from race r done t (last_of done) s.free s.reached)
+MayStart-StartsAt race r done t s = (s.early, starts_from race r done t s.early (last_of done) s.free s.reached)
 
 -- the least tick at which an attempt may start is where the start tick is seen, if that is below the limit
 pub starts_at : (race : Race) → IsRace race → (done : List Attempt) (x : ℕ) → start_tick race done ≡ Some x → seen race x < race.settings.limit → IsLeast (MayStart race done) (seen race x)

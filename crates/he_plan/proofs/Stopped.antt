@@ -14,7 +14,8 @@ use Rattle.he_plan.specs.Planning.{told_line, told_lines}
 use Rattle.he_plan.specs.Race.{Race, addresses_of}
 use Rattle.he_plan.specs.Timeline.{IsRace}
 use Rattle.he_plan.specs.Transcript.{IsTranscript, line_of, lines_of, result_of, stop_of}
-use Rattle.he_plan.specs.Underway.{AreFates, IsAtNext, IsStopped, IsUnderway, MakesNext, Progress, Untried, not_begun}
+use Rattle.he_plan.specs.Underway.{AreFates, IsAtNext, IsStopped, IsUnderway, MakesNext, Progress, Untried, counted, not_begun}
+use Rattle.he_plan.proofs.Ends.{fates_more, underway-started, with_start}
 use Rattle.he_plan.proofs.Existing.{plan-some}
 use Rattle.he_plan.proofs.InTurn.{in_turn-more, in_turn-none}
 use Rattle.he_plan.proofs.Lawful.{attempts-prefix}
@@ -23,19 +24,15 @@ use Rattle.he_plan.proofs.Queued.{IsQueue-more, IsQueue-new}
 use Rattle.he_plan.proofs.Stopping.{late_success, none_before}
 
 pub underway-new : (race : Race) → IsUnderway race not_begun
-underway-new race = record { in_turn = in_turn-none race; in_range = tt; queue = IsQueue-new race }
-
-pub fates_more : (race : Race) (done : List Attempt) (x : Attempt) → map (fate_of race) done ++ fate_of race x ∷ [] ≡ map (fate_of race) (done ++ x ∷ [])
-fates_more race [] x = refl
-fates_more race (y ∷ done) x = ap (λ fates. fate_of race y ∷ fates) (fates_more race done x)
+underway-new race = record { in_turn = in_turn-none race; in_range = tt; fates = refl; failed = refl; latest = refl; queue = IsQueue-new race }
 
 -- one more attempt, the next one, at the first address of the queue
-pub underway-more : (race : Race) → IsRace race → (u : Progress) (q : Untried) (x : Attempt) (fates : List Fate) → IsUnderway race u → IsLeast (MayStart race u.attempts) x.tick → IsAtNext race u.attempts x.tick q → x.place ≡ length u.attempts → slice_get q.ips 0 ≡ Some x.ip → IsUnderway race (record { attempts = u.attempts ++ x ∷ []; fates = fates; queue = record q { ips = drop 1 q.ips } })
-underway-more race r u q x fates under least next place first = record {
-  in_turn = in_turn-more race u.attempts x under.in_turn (record { place = place; tick = least; ip = next.first ∙ first });
-  in_range = last_in_range u.attempts x (start_later race r u.attempts x.tick least.holds);
-  queue = IsQueue-more race r u.attempts x q next first;
-}
+pub underway-more : (race : Race) → IsRace race → (u : Progress) (q : Untried) (x : Attempt) → IsUnderway race u → IsLeast (MayStart race u.attempts) x.tick → IsAtNext race u.attempts x.tick q → x.place ≡ length u.attempts → slice_get q.ips 0 ≡ Some x.ip → IsUnderway race (counted (with_start u x (fate_of race x) (record q { ips = drop 1 q.ips })) (fate_of race x))
+underway-more race r u q x under least next place first =
+    underway-started race u x (record q { ips = drop 1 q.ips }) under
+    (in_turn-more race u.attempts x under.in_turn (record { place = place; tick = least; ip = next.first ∙ first }))
+    (last_in_range u.attempts x (start_later race r u.attempts x.tick least.holds))
+    (IsQueue-more race r u.attempts x q next first)
 
 -- the fates before the last start
 pub fates_before : (race : Race) (old new : Progress) (tick : ℕ) → AreFates race old → AreFates race new → MakesNext race old.attempts new.attempts tick → take (length new.fates - 1) new.fates ≡ old.fates
@@ -88,9 +85,9 @@ to_limit race u k = record {
   attempts = u.attempts;
   winner = None;
   are = to_limit_all race u k;
-  wins = subst (λ (told : List Fate). IsWinner told None) k.fates k.wins;
-  lines = ap (told_lines race.settings.limit None u.attempts) k.fates ∙ lines_all race None u.attempts [] refl ∙ ap (lines_of race None) (append-nil u.attempts);
-  result = ap (λ told. result_of race u.attempts told None) k.fates;
+  wins = subst (λ (told : List Fate). IsWinner told None) k.kept.fates k.wins;
+  lines = ap (told_lines race.settings.limit None u.attempts) k.kept.fates ∙ lines_all race None u.attempts [] refl ∙ ap (lines_of race None) (append-nil u.attempts);
+  result = ap (λ told. result_of race u.attempts told None) k.kept.fates;
 }
 
 to_win : (race : Race) → IsRace race → (plan : (attempts : List Attempt) × AreAttempts race attempts) (u : Progress) (w : ℕ × ℕ) → IsStopped race u (Some w) → IsTranscript race (record { lines = told_lines w.0 (Some w) u.attempts u.fates; result = result_of race u.attempts u.fates (Some w) })
@@ -100,8 +97,8 @@ to_win race r plan u w k =
       attempts = u.attempts ++ rest.0;
       winner = Some w;
       are = subst (λ (xs : List Attempt). AreAttempts race xs) rest.1 plan.1;
-      wins = wins_all race r u.attempts rest.0 w rest.2 (subst (λ (told : List Fate). IsWinner told (Some w)) k.fates k.wins);
-      lines = ap (told_lines w.0 (Some w) u.attempts) k.fates ∙ lines_all race (Some w) u.attempts rest.0 rest.2;
+      wins = wins_all race r u.attempts rest.0 w rest.2 (subst (λ (told : List Fate). IsWinner told (Some w)) k.kept.fates k.wins);
+      lines = ap (told_lines w.0 (Some w) u.attempts) k.kept.fates ∙ lines_all race (Some w) u.attempts rest.0 rest.2;
       result = refl;
     }
 

@@ -1,6 +1,7 @@
 -- What two races have in common: a script and its record, or a race before and after something was added to it.
-use Rattle.std.specs.Prelude.{ℕ, ◌≡◌, ◌<◌, ◌↔◌}
-use Rattle.he_plan.specs.Attempts.{IsFree}
+use Rattle.std.specs.Prelude.{ℕ, ◌≡◌, ◌<◌, ◌↔◌, List, [], ◌∷◌}
+use Rattle.he_plan.specs.declared.attempts.Attempt.{Attempt}
+use Rattle.he_plan.specs.Attempts.{IsFree, has_failed}
 use Rattle.he_plan.specs.Race.{Race}
 
 -- the second race differs from the first in its outcomes and pauses alone
@@ -11,3 +12,8 @@ AreAlike x y = y ≡ record x { outcomes = y.outcomes; pauses = y.pauses }
 pub record AgreeBelow (tick : ℕ) (x y : Race) : Type 0 where
   pub alike : AreAlike x y
   pub free : (t : ℕ) → t < tick → IsFree x t ↔ IsFree y t
+
+-- and below the tick each of these attempts has failed in both or in neither
+abbrev pub FailAlike : ℕ → Race → Race → List Attempt → Type 0
+FailAlike tick x y [] = Unit {0}
+FailAlike tick x y (z ∷ attempts) = ((t : ℕ) → t < tick → has_failed x t z ≡ has_failed y t z) × FailAlike tick x y attempts

@@ -1,9 +1,11 @@
--- Which attempts a race makes, and when (RFC 8305 sections 3 to 5): its plan, in which every attempt still runs.
-use Rattle.std.specs.Prelude.{ℕ, ◌≡◌, ◌+◌, ◌-◌, ◌<◌, ◌≤◌, ◌⊎◌, ◌&&◌, ◌++◌, Bool, false, not, if◌then◌else◌, List, [], ◌∷◌, length, filter, find, take, Option, Some, None, MatchOption, IsSomeAnd, slice_get, IsTrue, nat_le, nat_lt}
-use Rattle.std.specs.List.{list_any}
+-- Which attempts a race makes, and when (RFC 8305 sections 3 to 5): its plan, in which no success stops it.
+use Rattle.std.specs.Prelude.{ℕ, ◌≡◌, ◌+◌, ◌-◌, ◌<◌, ◌≤◌, ◌⊎◌, ◌&&◌, ◌++◌, Bool, false, not, if◌then◌else◌, List, [], ◌∷◌, length, filter, find, take, Option, Some, None, option_map, MatchOption, IsSomeAnd, slice_get, IsTrue, nat_le, nat_lt}
+use Rattle.std.specs.List.{list_all, list_any}
 use Rattle.he_addr.specs.declared.ip.Ip.{Ip}
 use Rattle.he_addr.specs.Ip.{is_usable, same_ip}
 use Rattle.he_plan.specs.declared.attempts.Attempt.{Attempt}
+use Rattle.he_plan.specs.declared.outcome.Outcome.{Outcome}
+use Rattle.he_plan.specs.declared.outcome.Outcome.TheVariants as outcomes
 use Rattle.he_plan.specs.Alternating.{interlace}
 use Rattle.he_plan.specs.Race.{Race, Reply, race_input}
 use Rattle.he_select.specs.Preference.{order_of}
@@ -77,11 +79,41 @@ is_untried done ip = not (is_tried done ip)
 abbrev pub last_of : List Attempt → Option Attempt
 last_of done = slice_get done (length done - 1)
 
--- an attempt may start after the last one (RFC 8305 section 5): the Connection Attempt Delay has passed, and a received
--- address is untried
+-- what the address does when it is tried; none: it is silent
+abbrev pub outcome_in : List (Ip × Outcome) → Ip → Option Outcome
+outcome_in told ip = option_map (λ p. p.1) (find (λ p. same_ip p.0 ip) told)
+
+abbrev pub outcome_of : Race → Ip → Option Outcome
+outcome_of race ip = outcome_in race.outcomes ip
+
+-- an attempt finishes when its duration is over, at a free tick
+abbrev pub finish_of : Race → ℕ → ℕ → ℕ
+finish_of race start duration = seen race (start + duration)
+
+-- the attempt has failed by t: its address's outcome is a failure, and its finish is at most t
+abbrev pub has_failed_by : Race → ℕ → ℕ → Option Outcome → Bool
+has_failed_by race t start None = false
+has_failed_by race t start (Some (outcomes.Ok duration)) = false
+has_failed_by race t start (Some (outcomes.Fail duration)) = nat_le (finish_of race start duration) t
+
+abbrev pub has_failed : Race → ℕ → Attempt → Bool
+has_failed race t x = has_failed_by race t x.tick (outcome_of race x.ip)
+
+-- every attempt so far has failed by t; one that succeeds never has
+abbrev pub HaveFailed : Race → List Attempt → ℕ → Type 0
+HaveFailed race done t = IsTrue (list_all (has_failed race t) done)
+
+-- the last attempt was waited for (RFC 8305 section 5): the Connection Attempt Delay has passed since its start; or a floor
+-- is given and has passed since, and every attempt so far has failed (own)
+abbrev pub HasWaited : Race → List Attempt → ℕ → Attempt → Type 0
+HasWaited race done t last =
+    (last.tick + race.settings.attempt ≤ t)
+    ⊎ IsSomeAnd race.settings.floor (λ floor. (last.tick + floor ≤ t) × HaveFailed race done t)
+
+-- an attempt may start after the last one: that was waited for, and a received address is untried
 pub record MayFollow (race : Race) (done : List Attempt) (t : ℕ) (last : Attempt) : Type 0 where
   pub free : IsFree race t
-  pub delay : last.tick + race.settings.attempt ≤ t
+  pub waited : HasWaited race done t last
   pub some : IsTrue (list_any (is_untried done) (received race t))
 
 -- an attempt may start at t, where these attempts were made

@@ -1,10 +1,11 @@
 -- The due tick of a race that is being run: the least tick at which something is to be done after its last turn, pauses not
 -- looked at (RFC 8305 sections 3 and 5).
-use Rattle.std.specs.Prelude.{ℕ, ◌≡◌, ◌+◌, ◌<◌, ◌≤◌, ◌⊎◌, ◌&&◌, List, [], Option, IfSome, IsSomeAnd, IsTrue}
-use Rattle.std.specs.List.{list_any}
+use Rattle.std.specs.Prelude.{ℕ, ◌≡◌, ◌+◌, ◌<◌, ◌≤◌, ◌⊎◌, ◌&&◌, if◌then◌else◌, List, [], Option, Some, None, IfSome, IsSomeAnd, IsTrue}
+use Rattle.std.specs.List.{list_all, list_any}
+use Rattle.std.specs.Option.{option_map_or}
 use Rattle.he_addr.specs.Ip.{is_usable}
 use Rattle.he_plan.specs.declared.attempts.Attempt.{Attempt}
-use Rattle.he_plan.specs.Attempts.{IsFree, IsLeast, MayStart, is_untried, last_of}
+use Rattle.he_plan.specs.Attempts.{HaveFailed, IsFree, IsLeast, MayStart, has_failed, is_untried, last_of}
 use Rattle.he_plan.specs.Race.{Race, Reply}
 
 -- the answer was taken by the last turn; none was before the first one
@@ -25,9 +26,17 @@ pub record IsDelayDue (race : Race) (turn : Option ℕ) (done : List Attempt) (t
 abbrev pub IsWaiting : Option ℕ → List Attempt → Option Reply → Type 0
 IsWaiting turn done reply = IsSomeAnd reply (λ r. IsTaken turn r × IsTrue (list_any (λ ip. is_usable ip && is_untried done ip) r.addresses))
 
--- a start is due when the Connection Attempt Delay after the last one is over, where an address is untried
+-- the delay after the last start: the floor, where it is given and every attempt made has failed by the last turn; else the
+-- Connection Attempt Delay
+abbrev pub start_delay : Race → Option ℕ → List Attempt → ℕ
+start_delay race None done = race.settings.attempt
+start_delay race (Some turn) done =
+    if list_all (has_failed race turn) done then option_map_or (λ floor. floor) race.settings.floor race.settings.attempt
+    else race.settings.attempt
+
+-- a start is due when that delay is over, where an address is untried
 pub record IsStartDue (race : Race) (turn : Option ℕ) (done : List Attempt) (t : ℕ) : Type 0 where
-  pub delay : IsSomeAnd (last_of done) (λ last. last.tick + race.settings.attempt ≡ t)
+  pub delay : IsSomeAnd (last_of done) (λ last. last.tick + start_delay race turn done ≡ t)
   pub some : IsWaiting turn done race.aaaa ⊎ IsWaiting turn done race.a
 
 -- an answer, the end of the Resolution Delay, a start or the limit is due at the tick
@@ -39,6 +48,6 @@ IsDue race turn done t =
 abbrev pub IsDueTick : Race → Option ℕ → List Attempt → ℕ → Type 0
 IsDueTick race turn done = IsLeast (IsDue race turn done)
 
--- the last turn was at a free tick below the limit, and left no attempt to start there
+-- the last turn was at a free tick below the limit, and left no attempt to start there; if all attempts fail, they had
 abbrev pub IsAfterTurn : Race → Option ℕ → List Attempt → Type 0
-IsAfterTurn race turn done = IfSome turn (λ t. IsFree race t × (t < race.settings.limit) × ¬ MayStart race done t)
+IsAfterTurn race turn done = IfSome turn (λ t. IsFree race t × (t < race.settings.limit) × ¬ MayStart race done t × ((later : ℕ) → HaveFailed race done later → HaveFailed race done t))

@@ -25,8 +25,14 @@ same_reply None None = true
 same_reply (Some x) (Some y) = x.tick == y.tick && pointwise same_ip x.addresses y.addresses
 same_reply _ _ = false
 
+abbrev pub same_floor : Option ℕ → Option ℕ → Bool
+same_floor None None = true
+same_floor (Some m) (Some n) = m == n
+same_floor _ _ = false
+
 abbrev pub same_settings : SettingValues → SettingValues → Bool
-same_settings x y = x.resolution == y.resolution && x.attempt == y.attempt && x.count == y.count && x.limit == y.limit
+same_settings x y =
+    x.resolution == y.resolution && x.attempt == y.attempt && x.count == y.count && x.limit == y.limit && same_floor x.floor y.floor
 
 -- settings, policy, host, answers, outcomes and pauses are equal, as lists
 abbrev pub same_race : Race → Race → Bool

@@ -11,7 +11,7 @@ use Rattle.he_addr.specs.declared.ip.Ip.{Ip}
 use Rattle.he_addr.specs.declared.ip.Ip.TheVariants.{V4, V6}
 use Rattle.he_plan.specs.declared.outcome.Outcome.{Outcome}
 use Rattle.he_plan.specs.declared.outcome.Outcome.TheVariants as outcomes
-use Rattle.he_plan.specs.Equality.{same_outcome, same_told, same_pause, same_reply, same_settings, same_race}
+use Rattle.he_plan.specs.Equality.{same_outcome, same_told, same_floor, same_pause, same_reply, same_settings, same_race}
 use Rattle.he_plan.specs.Race.{Race, Reply}
 use Rattle.he_plan.specs.Settings.{SettingValues}
 use Rattle.he_select.specs.declared.policy.Row.{Row}
@@ -96,19 +96,32 @@ reply_self : (x : Option Reply) → same_reply x x ≡ true
 reply_self None = refl
 reply_self (Some x) = and_both _ _ (eq_self x.tick) ((ips_decide x.addresses x.addresses).1 refl)
 
+floor_from : (x y : Option ℕ) → same_floor x y ≡ true → x ≡ y
+floor_from None None h = refl
+floor_from (Some m) (Some n) h = ap Some (eq_from m n h)
+floor_from None (Some n) h = absurd (no (sym h))
+floor_from (Some m) None h = absurd (no (sym h))
+
+floor_self : (x : Option ℕ) → same_floor x x ≡ true
+floor_self None = refl
+floor_self (Some m) = eq_self m
+
 settings_from : (x y : SettingValues) → same_settings x y ≡ true → x ≡ y
 settings_from x y h =
-    let f : ℕ → SettingValues = λ v. record { resolution = v; attempt = x.attempt; count = x.count; limit = x.limit } in
-    let g : ℕ → SettingValues = λ v. record { resolution = y.resolution; attempt = v; count = x.count; limit = x.limit } in
-    let k : ℕ → SettingValues = λ v. record { resolution = y.resolution; attempt = y.attempt; count = v; limit = x.limit } in
-    let l : ℕ → SettingValues = λ v. record { resolution = y.resolution; attempt = y.attempt; count = y.count; limit = v } in
-    ap f (eq_from x.resolution y.resolution (and_left _ _ (and_left _ _ (and_left _ _ h))))
-    ∙ ap g (eq_from x.attempt y.attempt (and_right _ _ (and_left _ _ (and_left _ _ h))))
-    ∙ ap k (eq_from x.count y.count (and_right _ _ (and_left _ _ h)))
-    ∙ ap l (eq_from x.limit y.limit (and_right _ _ h))
+    let f : ℕ → SettingValues = λ v. record { resolution = v; attempt = x.attempt; count = x.count; limit = x.limit; floor = x.floor } in
+    let g : ℕ → SettingValues = λ v. record { resolution = y.resolution; attempt = v; count = x.count; limit = x.limit; floor = x.floor } in
+    let k : ℕ → SettingValues = λ v. record { resolution = y.resolution; attempt = y.attempt; count = v; limit = x.limit; floor = x.floor } in
+    let l : ℕ → SettingValues = λ v. record { resolution = y.resolution; attempt = y.attempt; count = y.count; limit = v; floor = x.floor } in
+    let m : Option ℕ → SettingValues = λ v. record y { floor = v } in
+    let but_floor = and_left _ _ h in
+    ap f (eq_from x.resolution y.resolution (and_left _ _ (and_left _ _ (and_left _ _ but_floor))))
+    ∙ ap g (eq_from x.attempt y.attempt (and_right _ _ (and_left _ _ (and_left _ _ but_floor))))
+    ∙ ap k (eq_from x.count y.count (and_right _ _ (and_left _ _ but_floor)))
+    ∙ ap l (eq_from x.limit y.limit (and_right _ _ but_floor))
+    ∙ ap m (floor_from x.floor y.floor (and_right _ _ h))
 
 settings_self : (x : SettingValues) → same_settings x x ≡ true
-settings_self x = and_both _ _ (and_both _ _ (and_both _ _ (eq_self x.resolution) (eq_self x.attempt)) (eq_self x.count)) (eq_self x.limit)
+settings_self x = and_both _ _ (and_both _ _ (and_both _ _ (and_both _ _ (eq_self x.resolution) (eq_self x.attempt)) (eq_self x.count)) (eq_self x.limit)) (floor_self x.floor)
 
 pub race_from : (x y : Race) → same_race x y ≡ true → x ≡ y
 race_from x y h =

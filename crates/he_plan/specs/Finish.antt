@@ -1,25 +1,12 @@
 -- When an attempt finishes, and which one wins.
-use Rattle.std.specs.Prelude.{ℕ, ◌≡◌, ◌+◌, ◌<◌, ◌≤◌, ◌⊎◌, if◌then◌else◌, List, find, Option, Some, None, option_map, slice_get, nat_le}
-use Rattle.he_addr.specs.Ip.{same_ip}
-use Rattle.he_addr.specs.declared.ip.Ip.{Ip}
+use Rattle.std.specs.Prelude.{ℕ, ◌≡◌, ◌<◌, ◌≤◌, ◌⊎◌, if◌then◌else◌, List, Option, Some, None, slice_get, nat_le}
 use Rattle.he_plan.specs.declared.attempts.Attempt.{Attempt}
 use Rattle.he_plan.specs.declared.finish.Fate.{Fate}
 use Rattle.he_plan.specs.declared.finish.Fate.TheVariants.{Succeeded, Failed, Running, Skipped}
 use Rattle.he_plan.specs.declared.outcome.Outcome.{Outcome}
 use Rattle.he_plan.specs.declared.outcome.Outcome.TheVariants as outcomes
 use Rattle.he_plan.specs.Race.{Race}
-use Rattle.he_plan.specs.Attempts.{seen}
-
--- what the address does when it is tried; none: it is silent
-abbrev pub outcome_in : List (Ip × Outcome) → Ip → Option Outcome
-outcome_in told ip = option_map (λ p. p.1) (find (λ p. same_ip p.0 ip) told)
-
-abbrev pub outcome_of : Race → Ip → Option Outcome
-outcome_of race ip = outcome_in race.outcomes ip
-
--- an attempt finishes when its duration is over, at a free tick
-abbrev pub finish_of : Race → ℕ → ℕ → ℕ
-finish_of race start duration = seen race (start + duration)
+pub use Rattle.he_plan.specs.Attempts.{finish_of, outcome_in, outcome_of}
 
 -- what becomes of an attempt by the limit
 abbrev pub fate_by : Race → ℕ → Option Outcome → Fate

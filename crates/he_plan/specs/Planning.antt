@@ -1,7 +1,7 @@
 -- Mirrors the code: what private functions answer: ticks that look at no pause, the winner so far, what is told of an
 -- attempt.
-use Rattle.std.specs.Prelude.{ℕ, ◌+◌, ◌≤◌, ◌<◌, ◌&&◌, if◌then◌else◌, ◌++◌, List, [], ◌∷◌, min, max, Option, Some, None, option_map, IfSome, nat_le, nat_lt, Bool, true, false, filter}
-use Rattle.std.specs.List.{list_any}
+use Rattle.std.specs.Prelude.{ℕ, ◌+◌, ◌≤◌, ◌<◌, ◌&&◌, if◌then◌else◌, ◌++◌, List, [], ◌∷◌, map, min, max, Option, Some, None, option_map, IfSome, nat_le, nat_lt, Bool, true, false, filter}
+use Rattle.std.specs.List.{list_all, list_any}
 use Rattle.he_addr.specs.declared.ip.Ip.{Ip}
 use Rattle.he_addr.specs.Ip.{is_usable, is_v6}
 use Rattle.he_plan.specs.declared.attempts.Attempt.{Attempt}
@@ -11,7 +11,8 @@ use Rattle.he_plan.specs.declared.limits.TheConstants.{MAX_LIMIT}
 use Rattle.he_plan.specs.Race.{Race, Reply}
 use Rattle.he_plan.specs.declared.transcript.Line.{Line}
 use Rattle.he_plan.specs.Timeline.{are_pauses}
-use Rattle.he_plan.specs.Transcript.{mark_at}
+use Rattle.he_plan.specs.Finish.{fate_of}
+use Rattle.he_plan.specs.Transcript.{failures, greatest, is_failed, mark_at}
 use Rattle.he_plan.specs.Attempts.{is_untried, last_of, order, seen}
 use Rattle.he_plan.specs.Alternating.{interlace}
 
@@ -45,10 +46,22 @@ waiting_tick done from None = None
 waiting_tick done from (Some reply) =
     if list_any (λ ip. is_usable ip && is_untried done ip) reply.addresses then Some (max from reply.tick) else None
 
+-- the latest failure, if each of these fates is one
+abbrev pub all_failed : List Fate → Option ℕ
+all_failed told = if list_all is_failed told then Some (greatest (failures told)) else None
+
+-- the tick up to which a start at `start` is waited for, where all attempts failed by `failed`
+abbrev pub wait_by : Option ℕ → Option ℕ → ℕ → ℕ → ℕ
+wait_by (Some floor) (Some failed) start attempt = min (start + attempt) (max (start + floor) failed)
+wait_by _ _ start attempt = start + attempt
+
+-- the tick up to which the last of these attempts is waited for
+abbrev pub wait_end : Race → List Attempt → Attempt → ℕ
+wait_end race done last = wait_by race.settings.floor (all_failed (map (fate_of race) done)) last.tick race.settings.attempt
+
 abbrev pub follow_tick : Race → List Attempt → Attempt → Option ℕ
 follow_tick race done last =
-    earlier (waiting_tick done (last.tick + race.settings.attempt) race.aaaa)
-    (waiting_tick done (last.tick + race.settings.attempt) race.a)
+    earlier (waiting_tick done (wait_end race done last) race.aaaa) (waiting_tick done (wait_end race done last) race.a)
 
 abbrev pub start_after : Race → List Attempt → Option Attempt → Option ℕ
 start_after race done None = begin_tick race

@@ -1,7 +1,7 @@
 -- The ranges of a race in numbers, under the names that the code and the definitions use. Ticks and durations are
 -- milliseconds.
 use Rattle.std.specs.Prelude.{◌≡◌}
-use Rattle.he_plan.specs.declared.limits.TheConstants.{DEFAULT_ATTEMPT, DEFAULT_COUNT, DEFAULT_LIMIT, DEFAULT_RESOLUTION, MAX_ADDRESSES, MAX_ATTEMPT, MAX_ATTEMPTS, MAX_COUNT, MAX_DURATION, MAX_FINISH, MAX_LIMIT, MAX_PAUSES, MAX_PAUSE_END, MAX_RESOLUTION, MAX_TICK, MIN_ATTEMPT, MIN_COUNT, MIN_DURATION, MIN_LIMIT}
+use Rattle.he_plan.specs.declared.limits.TheConstants.{DEFAULT_ATTEMPT, DEFAULT_COUNT, DEFAULT_LIMIT, DEFAULT_RESOLUTION, MAX_ADDRESSES, MAX_ATTEMPT, MAX_ATTEMPTS, MAX_COUNT, MAX_DURATION, MAX_FINISH, MAX_LIMIT, MAX_PAUSES, MAX_PAUSE_END, MAX_RESOLUTION, MAX_TICK, MIN_ATTEMPT, MIN_COUNT, MIN_DURATION, MIN_FLOOR, MIN_LIMIT}
 
 pub record AreRanges : Type 0 where
   -- Resolution Delay (RFC 8305 section 8)
@@ -11,6 +11,8 @@ pub record AreRanges : Type 0 where
   pub attempt_least : MIN_ATTEMPT ≡ 10
   pub attempt_most : MAX_ATTEMPT ≡ 2000
   pub attempt_default : DEFAULT_ATTEMPT ≡ 250
+  -- floor after failures; at most the Connection Attempt Delay
+  pub floor_least : MIN_FLOOR ≡ 10
   -- First Address Family Count (RFC 8305 section 8)
   pub count_least : MIN_COUNT ≡ 1
   pub count_most : MAX_COUNT ≡ 8

@@ -1,20 +1,23 @@
 -- Mirrors the code: what is kept of a race under way, which makes its attempts one after the other: those that were made,
--- what becomes of each, and what is left to try.
-use Rattle.std.specs.Prelude.{ℕ, ◌≡◌, ◌≤◌, ◌<◌, ◌⊎◌, ◌++◌, Bool, false, List, [], ◌∷◌, filter, find, length, map, slice_get, Option, Some, None, IfSome}
-use Rattle.std.specs.List.{list_any}
+-- what becomes of each, how many failed and when the last one did, and what is left to try.
+use Rattle.std.specs.Prelude.{ℕ, ◌≡◌, ◌+◌, ◌≤◌, ◌<◌, ◌⊎◌, ◌++◌, Bool, false, List, [], ◌∷◌, filter, find, length, map, max, slice_get, Option, Some, None, IfSome, IsTrue, nat_lt}
+use Rattle.std.specs.List.{Contains, list_all, list_any}
 use Rattle.std.specs.List.Sorted.{IsPermutation}
 use Rattle.he_addr.specs.declared.ip.Family.{Family}
 use Rattle.he_addr.specs.declared.ip.Family.TheVariants as families
 use Rattle.he_addr.specs.declared.ip.Ip.{Ip}
 use Rattle.he_plan.specs.declared.attempts.Attempt.{Attempt}
 use Rattle.he_plan.specs.declared.finish.Fate.{Fate}
+use Rattle.he_plan.specs.declared.finish.Fate.TheVariants.{Failed}
+use Rattle.he_plan.specs.declared.outcome.Outcome.{Outcome}
 use Rattle.he_plan.specs.declared.limits.TheConstants.{MAX_LIMIT}
 use Rattle.he_plan.specs.Attempts.{AreNextInTurn, IsNext, MayStart, is_untried, last_of, order, order_at}
 use Rattle.he_plan.specs.Finish.{IsWinner, fate_of}
 use Rattle.he_plan.specs.Planning.{interlaced_list, is_received, parts_of}
-use Rattle.he_plan.specs.Race.{Race, Reply, usable_addresses}
-use Rattle.he_plan.specs.Timeline.{is_of}
-use Rattle.he_plan.specs.Transcript.{stop_of}
+use Rattle.he_plan.specs.Building.{with_outcome}
+use Rattle.he_plan.specs.Race.{Race, Reply, has_outcome, usable_addresses}
+use Rattle.he_plan.specs.Timeline.{duration_of, is_of}
+use Rattle.he_plan.specs.Transcript.{failures, greatest, stop_of}
 
 -- which answers were received by the last start, of their interlaced list the addresses that are untried, and the usable
 -- addresses of both answers in order
@@ -27,13 +30,15 @@ pub record Untried : Type 0 where
 pub record Progress : Type 0 where
   pub attempts : List Attempt
   pub fates : List Fate
+  pub failed : ℕ
+  pub latest : ℕ
   pub queue : Untried
 
 abbrev pub nothing_received : Untried
 nothing_received = record { v6 = false; v4 = false; ips = []; sorted = [] }
 
 abbrev pub not_begun : Progress
-not_begun = record { attempts = []; fates = []; queue = nothing_received }
+not_begun = record { attempts = []; fates = []; failed = 0; latest = 0; queue = nothing_received }
 
 -- both answers' addresses in order, or none as long as no list needed them
 abbrev pub AreSorted : Race → List Ip → Type 0
@@ -70,16 +75,32 @@ pub record IsAtNext (race : Race) (done : List Attempt) (t : ℕ) (queue : Untri
   pub some : 0 < length queue.ips
   pub first : find (is_untried done) (order_at race t) ≡ slice_get queue.ips 0
 
--- what holds of a race under way: each attempt is the next one after those before it and starts by the greatest limit, and
--- the queue is theirs
-pub record IsUnderway (race : Race) (underway : Progress) : Type 0 where
-  pub in_turn : AreNextInTurn race underway.attempts
-  pub in_range : IfSome (last_of underway.attempts) (λ last. last.tick ≤ MAX_LIMIT)
-  pub queue : IsQueue race underway.attempts underway.queue
-
 -- the fates are the race's
 abbrev pub AreFates : Race → Progress → Type 0
 AreFates race underway = underway.fates ≡ map (fate_of race) underway.attempts
+
+-- what holds of a race under way: each attempt is the next one after those before it and starts by the greatest limit, the
+-- fates are theirs in the race, so many of them failed, the last one at that tick, and the queue is theirs
+pub record IsUnderway (race : Race) (underway : Progress) : Type 0 where
+  pub in_turn : AreNextInTurn race underway.attempts
+  pub in_range : IfSome (last_of underway.attempts) (λ last. last.tick ≤ MAX_LIMIT)
+  pub fates : AreFates race underway
+  pub failed : underway.failed ≡ length (failures underway.fates)
+  pub latest : underway.latest ≡ greatest (failures underway.fates)
+  pub queue : IsQueue race underway.attempts underway.queue
+
+-- one more fate is counted
+abbrev pub counted : Progress → Fate → Progress
+counted underway (Failed finish) = record underway { failed = underway.failed + 1; latest = max underway.latest finish }
+counted underway _ = underway
+
+-- the second race differs from the first in the outcome of this attempt alone, by which it ends after the last start
+pub record EndsOne (old new : Race) (attempts : List Attempt) (x : Attempt) : Type 0 where
+  pub made : Contains attempts x
+  pub silent : has_outcome x.ip old.outcomes ≡ false
+  pub outcome : Outcome
+  pub told : new ≡ with_outcome old x.ip outcome
+  pub late : IsTrue (list_all (λ y. nat_lt y.tick (x.tick + duration_of outcome)) attempts)
 
 -- one more attempt, the next one, at the tick
 pub record MakesNext (race : Race) (done all : List Attempt) (tick : ℕ) : Type 0 where
@@ -91,6 +112,5 @@ pub record MakesNext (race : Race) (done all : List Attempt) (tick : ℕ) : Type
 -- no attempt may start before the stop of the attempts that were made: the winner's finish, or the limit
 pub record IsStopped (race : Race) (underway : Progress) (winner : Option (ℕ × ℕ)) : Type 0 where
   pub kept : IsUnderway race underway
-  pub fates : AreFates race underway
   pub wins : IsWinner underway.fates winner
   pub stops : (t : ℕ) → MayStart race underway.attempts t → stop_of race winner ≤ t

@@ -1,10 +1,10 @@
 // Laws of what is due in a race that is being run, each the contract of a function that does nothing.
 
-ghost use Rattle.std.specs.Prelude.{◌≡◌, ℕ, ◌+◌, ◌-◌, ◌<◌, ◌≤◌, ◌↔◌, List, [], Option, Some, None};
+ghost use Rattle.std.specs.Prelude.{◌≡◌, ℕ, ◌-◌, ◌<◌, ◌≤◌, ◌↔◌, List, [], Option, Some, None};
 ghost use Rattle.he_plan.specs.declared.attempts.Attempt.{Attempt};
 ghost use Rattle.he_plan.specs.declared.finish.Fate.TheVariants.{Succeeded, Failed, Running};
 ghost use Rattle.he_plan.specs.declared.outcome.Outcome.TheVariants as outcomes;
-ghost use Rattle.he_plan.specs.Attempts.{IsFree, IsLeast, IsSeen, MayStart, last_of, order_at, seen};
+ghost use Rattle.he_plan.specs.Attempts.{HasWaited, IsFree, IsLeast, IsSeen, MayStart, last_of, order_at, seen};
 ghost use Rattle.he_plan.specs.Due.{IsAfterTurn, IsDueTick};
 ghost use Rattle.he_plan.specs.Finish.{fate_of, outcome_of};
 ghost use Rattle.he_plan.specs.Race.{Race};
@@ -19,12 +19,13 @@ pub fn starts_when_due()
     ensures one { (race : Race) (turn : Option ℕ) (done : List Attempt) (v w : ℕ) → IsDueTick race turn done v → IsDueTick race turn done w → v ≡ w }
 {}
 
-/// An attempt that may start at a tick may start at each later free one below the limit, and starts at least the
-/// Connection Attempt Delay after the last one; at a free tick that is seen from own ticks alone.
+/// An attempt that may start at a tick may start at each later free one below the limit, and starts after the last one,
+/// which was waited for; at a free tick that is seen from own ticks alone.
 pub fn starts_at_free_ticks()
     ensures free { (race : Race) → IsRace race → (done : List Attempt) (t : ℕ) → MayStart race done t → IsFree race t }
     ensures stay { (race : Race) → IsRace race → (done : List Attempt) (t later : ℕ) → MayStart race done t → t ≤ later → IsFree race later → later < race.settings.limit → MayStart race done later }
-    ensures delay { (race : Race) (done : List Attempt) (last : Attempt) (t : ℕ) → last_of done ≡ Some last → MayStart race done t → last.tick + race.settings.attempt ≤ t }
+    ensures waited { (race : Race) (done : List Attempt) (last : Attempt) (t : ℕ) → last_of done ≡ Some last → MayStart race done t → HasWaited race done t last }
+    ensures later { (race : Race) → IsRace race → (done : List Attempt) (last : Attempt) (t : ℕ) → last_of done ≡ Some last → MayStart race done t → last.tick < t }
     ensures own { (race : Race) → IsRace race → (done : List Attempt) (t : ℕ) → IsFree race t → MayStart race done t ↔ MayStart (record race { pauses = [] }) done t }
     ensures order { (race : Race) → IsRace race → (t : ℕ) → IsFree race t → order_at race t ≡ order_at (record race { pauses = [] }) t }
 {}

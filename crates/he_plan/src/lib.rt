@@ -2,7 +2,7 @@
 //!
 //! A `TimelineBuilder` collects a race's input: settings, the policy table and the host by which addresses are
 //! ordered, the answers of both families, what each address does when it is tried, and the pauses of the client.
-//! `plan` answers the attempts that the race makes while each still runs, `Timeline::fate` what becomes of each,
+//! `plan` answers the attempts that the race makes while no success stops it, `Timeline::fate` what becomes of each,
 //! `winner` which one wins, and `transcript_of_fates` the transcript; `transcript_of` is all of these in one call,
 //! and looks at no outcome of an attempt that starts at or after an earlier one's success. A tick is a millisecond.
 //!

@@ -16,6 +16,9 @@ pub const MAX_ATTEMPT: u64 = 2_000;
 /// The Connection Attempt Delay of RFC 8305 section 8.
 pub const DEFAULT_ATTEMPT: u64 = 250;
 
+/// The least floor after failures, in ticks; the greatest is the Connection Attempt Delay.
+pub const MIN_FLOOR: u64 = 10;
+
 /// The least First Address Family Count.
 pub const MIN_COUNT: u64 = 1;
 
@@ -59,6 +62,8 @@ pub const MAX_ATTEMPTS: usize = 512;
 pub const MAX_PAUSES: usize = 520;
 
 const _: () = prove!(MIN_ATTEMPT > 0 && MIN_ATTEMPT <= MAX_ATTEMPT);
+
+const _: () = prove!(MIN_FLOOR > 0);
 
 const _: () = prove!(MIN_COUNT > 0 && MIN_COUNT <= MAX_COUNT);
 

@@ -15,7 +15,7 @@ use crate::underway::Underway;
 use he_addr::Memory;
 use std::alloc::Allocator;
 
-/// The attempts that the race makes while each still runs, by place.
+/// The attempts that the race makes while no success stops it, by place: one that succeeds is taken as still running.
 pub fn plan<A: Allocator + Copy, B: Allocator>(
     alloc: A,
     timeline: &Timeline<B>,

@@ -1,10 +1,11 @@
 // When the next attempt may start (RFC 8305 sections 3 and 5).
 
-ghost use Rattle.std.specs.Prelude.{◌≡◌, ℕ, ◌≤◌, IfSome, IfNone};
+ghost use Rattle.std.specs.Prelude.{◌≡◌, ℕ, ◌≤◌, map, IfSome, IfNone};
 ghost use Rattle.std.specs.List.{list_any};
 ghost use Rattle.he_addr.specs.Ip.{is_usable};
 ghost use Rattle.he_plan.specs.Attempts.{IsLeast, MayStart, is_tried, last_of};
-ghost use Rattle.he_plan.specs.Planning.{earlier, positive_tick, a_begin_tick, begin_tick, late_tick, start_tick, IsLater};
+ghost use Rattle.he_plan.specs.Finish.{fate_of};
+ghost use Rattle.he_plan.specs.Planning.{all_failed, earlier, positive_tick, a_begin_tick, begin_tick, late_tick, start_tick, wait_by, IsLater};
 ghost use Rattle.he_plan.specs.Race.{reply_of};
 ghost use Rattle.he_plan.specs.Timeline.{IsRace};
 ghost use Rattle.he_plan.specs.Underway.{IsQueue};
@@ -12,6 +13,7 @@ ghost use Rattle.he_plan.specs.Underway.{IsQueue};
 use crate::attempts::Attempt;
 use crate::limits::{MAX_LIMIT, MAX_TICK};
 use crate::queue::Queue;
+use crate::settings::Settings;
 use crate::timeline::Timeline;
 use he_addr::{Family, Ip};
 use std::alloc::Allocator;
@@ -19,44 +21,61 @@ use std::alloc::Allocator;
 pub(crate) fn next_tick<A: Allocator, B: Allocator>(
     timeline: &Timeline<A>,
     done: &[Attempt],
+    failed: Option<u64>,
     queue: &Queue<B>,
 ) -> Option<u64>
     requires range { IfSome (last_of done.now) (λ last. last.tick ≤ MAX_LIMIT) }
+    requires failed { failed ≡ all_failed (map (fate_of timeline.now) done.now) }
     requires queue { IsQueue timeline.now done.now queue.now }
     ensures some { IfSome result (IsLeast (MayStart timeline.now done.now)) }
     ensures none { IfNone result ((t : ℕ) → ¬ MayStart timeline.now done.now t) }
     ensures race { IsRace timeline.now }
 {
     let limit = timeline.settings().limit();
-    let Some(from) = start_tick(timeline, done, queue) else {
+    let Some(from) = start_tick(timeline, done, failed, queue) else {
         return None;
     };
     let tick = timeline.seen(from);
     if tick < limit { Some(tick) } else { None }
 }
 
-// Where the queue has an address, it was received by the last start, so only the Connection Attempt Delay (RFC 8305
-// section 5) is waited for; where it has none, only an answer that was not received then is.
+// Where the queue has an address, it was received by the last start, so only the delay after that is waited for; where
+// it has none, only an answer that was not received then is. `failed` is the latest failure, if every attempt failed.
 fn start_tick<A: Allocator, B: Allocator>(
     timeline: &Timeline<A>,
     done: &[Attempt],
+    failed: Option<u64>,
     queue: &Queue<B>,
 ) -> Option<u64>
     requires range { IfSome (last_of done.now) (λ last. last.tick ≤ MAX_LIMIT) }
+    requires failed { failed ≡ all_failed (map (fate_of timeline.now) done.now) }
     requires queue { IsQueue timeline.now done.now queue.now }
     ensures { result ≡ start_tick timeline.now done.now }
 {
     let Some(last) = done.last() else {
         return begin_tick(timeline);
     };
-    let attempt_delay_end = last.tick + timeline.settings().attempt();
+    let from = wait_end(timeline.settings(), failed, last.tick);
     if queue.is_empty() {
         return earlier(
-            late_tick(timeline, Family::V6, queue.v6, attempt_delay_end),
-            late_tick(timeline, Family::V4, queue.v4, attempt_delay_end),
+            late_tick(timeline, Family::V6, queue.v6, from),
+            late_tick(timeline, Family::V4, queue.v4, from),
         );
     }
-    Some(attempt_delay_end)
+    Some(from)
+}
+
+// The end of the Connection Attempt Delay after the last start (RFC 8305 section 5), or that of the floor, if there is
+// one and every attempt failed, but not before the latest failure.
+fn wait_end(settings: Settings, failed: Option<u64>, start: u64) -> u64
+    requires { start ≤ MAX_LIMIT }
+    ensures { result ≡ wait_by settings.floor failed start settings.attempt }
+{
+    let attempt_delay_end = start + settings.attempt();
+    match (settings.floor(), failed) {
+        (Some(floor), Some(failed)) => attempt_delay_end.min((start + floor).max(failed)),
+        _ => attempt_delay_end,
+    }
 }
 
 // When the race begins: with a positive AAAA answer, or with a positive A answer once the AAAA answer has come or the

@@ -1,10 +1,11 @@
 // A race under way: its attempts, made one after the other.
 
-ghost use Rattle.std.specs.Prelude.{◌≡◌, ℕ, ◌<◌, vec_capacity, vec_len, IfNone, IfSome, OnErr, OnOk};
+ghost use Rattle.std.specs.Prelude.{◌≡◌, ℕ, ◌<◌, length, vec_capacity, vec_len, IfNone, IfSome, OnErr, OnOk};
 ghost use Rattle.he_plan.specs.Attempts.{IsLeast, MayStart};
+ghost use Rattle.he_plan.specs.Planning.{all_failed};
 ghost use Rattle.he_plan.specs.Race.{Race};
 ghost use Rattle.he_plan.specs.Timeline.{IsRace};
-ghost use Rattle.he_plan.specs.Underway.{AreFates, IsUnderway, MakesNext, not_begun};
+ghost use Rattle.he_plan.specs.Underway.{EndsOne, IsUnderway, MakesNext, counted, not_begun};
 
 use crate::attempts::Attempt;
 use crate::finish::Fate;
@@ -15,12 +16,14 @@ use he_addr::Memory;
 use std::alloc::{AllocError, Allocator, Global};
 use std::marker::Model;
 
-/// The attempts that a race has made so far, what becomes of each, and what is left to try. It keeps the untried
-/// addresses in order, so that the next attempt costs no look at those that were made.
+/// The attempts that a race has made so far, what becomes of each, and what is left to try. It keeps how many failed, and
+/// the untried addresses in order, so that the next attempt costs no look at those that were made.
 #[derive(Drop)]
 pub struct Underway<A: Allocator = Global> {
     attempts: Vec<Attempt, A>,
     fates: Vec<Fate, A>,
+    failed: usize,
+    latest: u64,
     queue: Queue<A>,
 }
 
@@ -29,7 +32,7 @@ impl<A: Allocator> Model for Underway<A> {
 
     ghost Value = { Progress };
 
-    ghost view = { λ u. record { attempts = u.attempts.items; fates = u.fates.items; queue = u.queue } };
+    ghost view = { λ u. record { attempts = u.attempts.items; fates = u.fates.items; failed = u.failed; latest = u.latest; queue = u.queue } };
 }
 
 impl<A: Allocator + Copy> Underway<A> {
@@ -41,6 +44,8 @@ impl<A: Allocator + Copy> Underway<A> {
         Underway {
             attempts: Vec::new(alloc),
             fates: Vec::new(alloc),
+            failed: 0,
+            latest: 0,
             queue: Queue::new(alloc),
         }
     }
@@ -66,6 +71,8 @@ impl<A: Allocator + Copy> Underway<A> {
         let Underway {
             attempts,
             fates: _,
+            failed: _,
+            latest: _,
             queue: _,
         } = self;
         attempts
@@ -78,7 +85,7 @@ impl<A: Allocator + Copy> Underway<A> {
         ensures none { IfNone result ((t : ℕ) → ¬ MayStart timeline.now self.now.attempts t) }
         ensures race { IsRace timeline.now }
     {
-        next_tick(timeline, &self.attempts, &self.queue)
+        next_tick(timeline, &self.attempts, self.all_failed(), &self.queue)
     }
 
     /// Makes the next attempt at the tick, the least at which it may start. Where memory is refused none is made.
@@ -92,7 +99,6 @@ impl<A: Allocator + Copy> Underway<A> {
         requires underway { IsUnderway timeline.now self.old }
         requires least { IsLeast (MayStart timeline.now self.old.attempts) tick }
         ensures made { OnOk result (MakesNext timeline.now self.old.attempts self.new.attempts tick) }
-        ensures fates { OnOk result (AreFates timeline.now self.old → AreFates timeline.now self.new) }
         ensures none { OnErr result ((self.new.attempts ≡ self.old.attempts) × (self.new.fates ≡ self.old.fates)) }
         ensures underway { IsUnderway timeline.now self.new }
     {
@@ -105,9 +111,45 @@ impl<A: Allocator + Copy> Underway<A> {
             tick,
             ip: self.queue.take(),
         };
-        self.fates.push_reserved(timeline.fate(&attempt));
+        let fate = timeline.fate(&attempt);
         self.attempts.push_reserved(attempt);
+        self.fates.push_reserved(fate);
+        self.count(fate);
         Ok(())
+    }
+
+    /// Takes note that the attempt has ended: the timeline has one more outcome than before, which is its.
+    pub fn end<B: Allocator>(&mut self, timeline: &Timeline<B>, attempt: Attempt)
+        requires ends { (race : Race) × IsRace race × IsUnderway race self.old × EndsOne race timeline.now self.old.attempts attempt }
+        ensures same { self.new.attempts ≡ self.old.attempts }
+        ensures underway { IsUnderway timeline.now self.new }
+    {
+        let fate = timeline.fate(&attempt);
+        self.fates[attempt.place] = fate;
+        self.count(fate);
+    }
+
+    // Counts one more fate.
+    fn count(&mut self, fate: Fate)
+        requires { self.old.failed < length self.old.fates }
+        ensures { self.new ≡ counted self.old fate }
+    {
+        if let Fate::Failed(finish) = fate {
+            self.failed += 1;
+            self.latest = self.latest.max(finish);
+        }
+    }
+
+    // The latest failure, if every attempt failed.
+    fn all_failed(&self) -> Option<u64>
+        requires { (race : Race) × IsUnderway race self.now }
+        ensures { result ≡ all_failed self.now.fates }
+    {
+        if self.failed == self.attempts.len() {
+            Some(self.latest)
+        } else {
+            None
+        }
     }
 }
 

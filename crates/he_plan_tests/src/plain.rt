@@ -8,7 +8,7 @@ ghost use Rattle.he_addr.specs.Ip.{is_usable};
 
 use crate::hosts::{HostKind, builder};
 use he_addr::{Family, Ip, Memory};
-use he_plan::{Attempt, Settings, Timeline, TimelineBuilder, interlace, plan};
+use he_plan::{Attempt, Outcome, Settings, Timeline, TimelineBuilder, interlace, plan};
 use he_select::order;
 use refusing::Refusing;
 use std::mem::drop;
@@ -43,7 +43,42 @@ fn may_start(timeline: &Timeline<&Refusing>, done: &[Attempt], tick: u64) -> boo
     }
     match done.last() {
         None => may_begin(timeline, tick),
-        Some(last) => last.tick.saturating_add(timeline.settings().attempt()) <= tick,
+        Some(last) => has_waited(timeline, done, last, tick),
+    }
+}
+
+fn has_waited(
+    timeline: &Timeline<&Refusing>,
+    done: &[Attempt],
+    last: &Attempt,
+    tick: u64,
+) -> bool {
+    if last.tick.saturating_add(timeline.settings().attempt()) <= tick {
+        return true;
+    }
+    match timeline.settings().floor() {
+        Some(floor) => {
+            last.tick.saturating_add(floor) <= tick && have_failed(timeline, done, tick)
+        }
+        None => false,
+    }
+}
+
+fn have_failed(timeline: &Timeline<&Refusing>, done: &[Attempt], tick: u64) -> bool {
+    for attempt in done {
+        if !has_failed(timeline, attempt, tick) {
+            return false;
+        }
+    }
+    true
+}
+
+fn has_failed(timeline: &Timeline<&Refusing>, attempt: &Attempt, tick: u64) -> bool {
+    match timeline.outcome(attempt.ip) {
+        Some(Outcome::Fail(duration)) => {
+            seen(timeline.pauses(), attempt.tick.saturating_add(duration)) <= tick
+        }
+        _ => false,
     }
 }
 
@@ -233,6 +268,34 @@ fn draw_pauses(builder: &mut TimelineBuilder<&Refusing>, drawn: &mut Drawn) -> O
     Some(())
 }
 
+// An outcome: most fail, one in twelve connects, and one in twelve is silent.
+fn draw_outcome(drawn: &mut Drawn) -> Option<Outcome> {
+    let duration = 1 + drawn.below(80);
+    match drawn.below(12) {
+        0 => Some(Outcome::Ok(duration)),
+        1 => None,
+        _ => Some(Outcome::Fail(duration)),
+    }
+}
+
+// An outcome of each usable address of the family.
+fn draw_outcomes(
+    builder: &mut TimelineBuilder<&Refusing>,
+    family: Family,
+    drawn: &mut Drawn,
+) -> Option<()> {
+    for number in 0..12 {
+        let ip = address(family, number, true);
+        if !builder.stands(ip) {
+            continue;
+        }
+        if let Some(outcome) = draw_outcome(drawn) {
+            builder.outcome(ip, outcome).ok()?;
+        }
+    }
+    Some(())
+}
+
 fn draw<'h>(heap: &'h Refusing, drawn: &mut Drawn) -> Option<Timeline<&'h Refusing>> {
     let settings = draw_settings(drawn)?;
     let mut builder = builder(heap, settings, draw_kind(drawn))?;
@@ -250,7 +313,17 @@ fn draw_settings(drawn: &mut Drawn) -> Option<Settings> {
     let attempt = 10 + drawn.below(60);
     let count = 1 + drawn.below(4);
     let limit = 1 + drawn.below(1_500);
-    Settings::new(resolution, attempt, count, limit).ok()
+    let settings = Settings::new(resolution, attempt, count, limit).ok()?;
+    draw_floor(settings, drawn)
+}
+
+// One in three has no floor.
+fn draw_floor(settings: Settings, drawn: &mut Drawn) -> Option<Settings> {
+    if drawn.below(3) == 0 {
+        return Some(settings);
+    }
+    let above = drawn.below(settings.attempt() - 9);
+    settings.with_floor(10 + above).ok()
 }
 
 fn draw_kind(drawn: &mut Drawn) -> HostKind {
@@ -268,6 +341,8 @@ fn draw_answers<'h>(
 ) -> Option<()> {
     draw_answer(heap, builder, Family::V6, drawn)?;
     draw_answer(heap, builder, Family::V4, drawn)?;
+    draw_outcomes(builder, Family::V6, drawn)?;
+    draw_outcomes(builder, Family::V4, drawn)?;
     draw_pauses(builder, drawn)
 }
 

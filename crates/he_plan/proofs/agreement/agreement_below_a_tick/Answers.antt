@@ -1,4 +1,4 @@
-use Rattle.he_plan.proofs.Agreeing.{starts-below, in_turn-below, seen-below, known-below}
+use Rattle.he_plan.proofs.Agreeing.{alike-below, starts-below, in_turn-below, seen-below, known-below}
 use Rattle.he_plan.proofs.agreement.agreement_below_a_tick.Goals as goal
 
 pub returns-clause-starts : goal.returns-clause-starts
@@ -12,3 +12,6 @@ returns-clause-seen c = seen-below
 
 pub returns-clause-known : goal.returns-clause-known
 returns-clause-known c = known-below
+
+pub returns-clause-failed : goal.returns-clause-failed
+returns-clause-failed c = alike-below

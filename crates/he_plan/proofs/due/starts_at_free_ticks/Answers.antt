@@ -1,4 +1,4 @@
-use Rattle.he_plan.proofs.Dueness.{starts-free, starts-stay, starts-delayed, starts-own, order-own}
+use Rattle.he_plan.proofs.Dueness.{starts-free, starts-stay, starts-later, starts-own, starts-waited, order-own}
 use Rattle.he_plan.proofs.due.starts_at_free_ticks.Goals as goal
 
 pub returns-clause-free : goal.returns-clause-free
@@ -7,8 +7,11 @@ returns-clause-free c = starts-free
 pub returns-clause-stay : goal.returns-clause-stay
 returns-clause-stay c = starts-stay
 
-pub returns-clause-delay : goal.returns-clause-delay
-returns-clause-delay c = starts-delayed
+pub returns-clause-waited : goal.returns-clause-waited
+returns-clause-waited c = starts-waited
+
+pub returns-clause-later : goal.returns-clause-later
+returns-clause-later c = starts-later
 
 pub returns-clause-own : goal.returns-clause-own
 returns-clause-own c = starts-own

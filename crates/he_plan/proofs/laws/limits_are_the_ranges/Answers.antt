@@ -8,6 +8,7 @@ returns c = record {
   attempt_least = refl;
   attempt_most = refl;
   attempt_default = refl;
+  floor_least = refl;
   count_least = refl;
   count_most = refl;
   count_default = refl;

@@ -9,7 +9,7 @@ pub winner_with_last-winner-requires : goal.winner_with_last-winner-requires
 winner_with_last-winner-requires g c =
     rw c.fates.ensures
     (subst (λ (fates : List Fate). IsWinner fates c.loop-tick.winner)
-    (sym (fates_before c.args.timeline.now c.loop-tick.underway c.start.new.self c.in-Some.tick c.loop-tick.invariant.fates (c.in_ok-start.ensures.fates c.loop-tick.invariant.fates) c.in_ok-start.ensures.made))
+    (sym (fates_before c.args.timeline.now c.loop-tick.underway c.start.new.self c.in-Some.tick c.loop-tick.invariant.kept.fates c.in_ok-start.ensures.underway.fates c.in_ok-start.ensures.made))
     c.loop-tick.invariant.wins)
 
 pub loop-tick-smaller : goal.loop-tick-smaller

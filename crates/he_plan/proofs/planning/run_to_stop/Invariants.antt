@@ -1,13 +1,12 @@
 use Rattle.he_plan.specs.Attempts.{last_of}
 use Rattle.he_plan.specs.Finish.{IsWinner}
-use Rattle.he_plan.specs.Underway.{AreFates, IsUnderway}
+use Rattle.he_plan.specs.Underway.{IsUnderway}
 use Rattle.he_plan.proofs.Planned.{ticks_left}
 use Rattle.he_plan.proofs.planning.run_to_stop.Given as goal
 
 abbrev pub invariant-loop-tick : goal.invariant-loop-tick
 invariant-loop-tick g l = record {
   kept : IsUnderway l.timeline l.underway;
-  fates : AreFates l.timeline l.underway;
   wins : IsWinner l.underway.fates l.winner;
 }
 
