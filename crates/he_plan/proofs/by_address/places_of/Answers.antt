@@ -1,7 +1,7 @@
 use Rattle.he_addr.specs.contracts.ip.IpPartialEq.TheImpl.{eq-value}
 use Rattle.he_plan.proofs.ByAddress.{same_as}
 use Rattle.he_plan.proofs.Placed.{place_next}
-use Rattle.he_plan.proofs.outcomes.places_of.Goals as goal
+use Rattle.he_plan.proofs.by_address.places_of.Goals as goal
 
 pub loop-one-preserved : goal.loop-one-preserved
 loop-one-preserved g c =
