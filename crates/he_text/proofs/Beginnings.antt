@@ -13,12 +13,13 @@ use Rattle.std.specs.Result.{result_err}
 use Rattle.he_text.specs.declared.fault.TextKind.{TextKind}
 use Rattle.he_text.specs.declared.fault.TextKind.TheVariants as kinds
 use Rattle.he_text.specs.declared.limits.TheConstants.{MAX_LINE}
+use Rattle.he_text.specs.declared.words.Version.{Version}
 use Rattle.he_text.specs.Beginnings.{FaultStands, IsPolicyFault, MayChange}
-use Rattle.he_text.specs.Faults.{test, first_fault, last_group, known_to, said_before, too_long, unfinished, wrong_header, wrong_word, too_often, wrong_bounds, repeated, is_policy_next, wrong_table, of_said, header_fault, line_fault, ends}
+use Rattle.he_text.specs.Faults.{test, first_fault, last_group, known_to, said_before, too_long, unfinished, wrong_header, wrong_word, too_often, wrong_bounds, repeated, is_next, group_fault, wrong_group, of_said, header_fault, line_fault, ends}
 use Rattle.he_text.specs.FaultSearch.{at_line_number, fault_from, fault_in, fault_of}
-use Rattle.he_text.specs.Forms.{word_of, said_in}
+use Rattle.he_text.specs.Forms.{version_word, said_from}
 use Rattle.he_text.specs.Parts.{pieces_of, lines_of, tokens_of}
-use Rattle.he_text.specs.Said.{Said, Setting, PolicyRow, HostSource, HostRoute, Answer, Told, Paused, Ended, rows_given}
+use Rattle.he_text.specs.Said.{Said, word_said, Setting, PolicyRow, HostSource, HostRoute, Answer, RoundTrip, UsedBefore, Told, Paused, Ended, rows_given}
 use Rattle.he_text.specs.Text.{IsRaceText}
 use Rattle.he_text.proofs.CompleteTexts.{no_longer}
 use Rattle.he_text.proofs.OpenLines.{open_of, one_in_front, policy_may_follow}
@@ -68,68 +69,25 @@ last_passes [] (Some k) other same h = cc
 last_passes (None ∷ checks) one other same h = last_passes checks one other same h
 last_passes (Some k ∷ checks) one other same h = cc
 
--- the check of a table, where a row follows and where none does
-table_check : Bool → Option PolicyFault → Option TextKind
-table_check more fault = cond more None (option_map kinds.Policy fault)
+-- the check of a group, where one more line of it follows and where none does
+abbrev group_check : Bool → Option TextKind → Option TextKind
+group_check more fault = cond more None fault
 
-is_table_fault : (more : Bool) (fault : Option PolicyFault) (kind : TextKind) → table_check more fault ≡ Some kind → IsPolicyFault kind
-unfolding table_check
-is_table_fault true fault kind h = cc
-is_table_fault false None kind h = cc
-is_table_fault false (Some fault) kind h = (fault, cc)
+same_group : (told : List Said) (after longer : List (List ℕ)) (said : Result Said TextKind) → ((word : Word) → is_next word after ≡ is_next word longer) → of_said (wrong_group told after) said ≡ of_said (wrong_group told longer) said
+same_group told after longer (Err k) same = refl
+same_group told after longer (Ok s) same = ap (λ b. group_check b (group_fault told s)) (same (word_said s))
 
-pub table_fault_is : (told : List Said) (after : List (List ℕ)) (said : Result Said TextKind) (kind : TextKind) → of_said (wrong_table told after) said ≡ Some kind → IsPolicyFault kind
-unfolding table_check
-table_fault_is told after (Err k) kind h = cc
-table_fault_is told after (Ok (Setting name value)) kind h = cc
-table_fault_is told after (Ok (PolicyRow row)) kind h = is_table_fault (is_policy_next after) (table_fault (rows_given told ++ row ∷ [])) kind h
-table_fault_is told after (Ok (HostSource source)) kind h = cc
-table_fault_is told after (Ok (HostRoute route)) kind h = cc
-table_fault_is told after (Ok (Answer family reply)) kind h = cc
-table_fault_is told after (Ok (Told ip outcome)) kind h = cc
-table_fault_is told after (Ok (Paused from to)) kind h = cc
-table_fault_is told after (Ok Ended) kind h = cc
-
-same_table : (told : List Said) (after longer : List (List ℕ)) (said : Result Said TextKind) → is_policy_next after ≡ is_policy_next longer → of_said (wrong_table told after) said ≡ of_said (wrong_table told longer) said
-unfolding table_check
-same_table told after longer (Err k) same = refl
-same_table told after longer (Ok (Setting name value)) same = refl
-same_table told after longer (Ok (PolicyRow row)) same = ap (λ b. table_check b (table_fault (rows_given told ++ row ∷ []))) same
-same_table told after longer (Ok (HostSource source)) same = refl
-same_table told after longer (Ok (HostRoute route)) same = refl
-same_table told after longer (Ok (Answer family reply)) same = refl
-same_table told after longer (Ok (Told ip outcome)) same = refl
-same_table told after longer (Ok (Paused from to)) same = refl
-same_table told after longer (Ok Ended) same = refl
-
-table_passes : (told : List Said) (last : List ℕ) (longer : List (List ℕ)) (said : Result Said TextKind) → of_said (wrong_table told (last ∷ [])) said ≡ None → of_said (wrong_table told longer) said ≡ None
-unfolding table_check
-table_passes told last longer (Err k) h = refl
-table_passes told last longer (Ok (Setting name value)) h = refl
-table_passes told last longer (Ok (PolicyRow row)) h = by_next (is_policy_next longer) (table_fault (rows_given told ++ row ∷ [])) h
+group_passes : (told : List Said) (last : List ℕ) (longer : List (List ℕ)) (said : Result Said TextKind) → of_said (wrong_group told (last ∷ [])) said ≡ None → of_said (wrong_group told longer) said ≡ None
+group_passes told last longer (Err k) h = refl
+group_passes told last longer (Ok s) h = by_next (is_next (word_said s) longer) h
   where
-    by_next : (b : Bool) (fault : Option PolicyFault) → table_check false fault ≡ None → table_check b fault ≡ None
-    by_next true fault e = refl
-    by_next false fault e = e
-table_passes told last longer (Ok (HostSource source)) h = refl
-table_passes told last longer (Ok (HostRoute route)) h = refl
-table_passes told last longer (Ok (Answer family reply)) h = refl
-table_passes told last longer (Ok (Told ip outcome)) h = refl
-table_passes told last longer (Ok (Paused from to)) h = refl
-table_passes told last longer (Ok Ended) h = refl
+    by_next : (b : Bool) → group_fault told s ≡ None → group_check b (group_fault told s) ≡ None
+    by_next true e = refl
+    by_next false e = e
 
--- no table is checked on a row that another follows
-pub row_mends : (told : List Said) (longer : List (List ℕ)) (said : Result Said TextKind) → is_policy_next longer ≡ true → of_said (wrong_table told longer) said ≡ None
-unfolding table_check
-row_mends told longer (Err k) is = refl
-row_mends told longer (Ok (Setting name value)) is = refl
-row_mends told longer (Ok (PolicyRow row)) is = ap (λ b. table_check b (table_fault (rows_given told ++ row ∷ []))) is
-row_mends told longer (Ok (HostSource source)) is = refl
-row_mends told longer (Ok (HostRoute route)) is = refl
-row_mends told longer (Ok (Answer family reply)) is = refl
-row_mends told longer (Ok (Told ip outcome)) is = refl
-row_mends told longer (Ok (Paused from to)) is = refl
-row_mends told longer (Ok Ended) is = refl
+-- no group is checked on a line that one more of it follows
+pub line_mends : (told : List Said) (longer : List (List ℕ)) (s : Said) → is_next (word_said s) longer ≡ true → wrong_group told longer s ≡ None
+line_mends told longer s is = ap (λ b. group_check b (group_fault told s)) is
 
 -- what stands behind a line is no whole line yet, and a row in the longer text
 abbrev BecomesRow : List (List ℕ) → List (List ℕ) → Type 0
@@ -149,56 +107,56 @@ row_known (line ∷ next ∷ third ∷ lines) (other ∷ []) h = absurd h.1
 row_known (line ∷ next ∷ lines) (other ∷ more ∷ others) h = inl (ap (λ l. is_policy_next (l ∷ next ∷ lines)) h.0)
 
 -- all checks but the last
-abbrev pub early : List (List ℕ) → List ℕ → List (List ℕ) → List (Option TextKind)
-early before line after =
-    too_long line ∷ unfinished after ∷ wrong_word (last_group 0 before) (word_of (tokens_of line)) ∷ too_often before (word_of (tokens_of line))
-    ∷ result_err (said_in (known_to (said_before before)) line) ∷ of_said (wrong_bounds (said_before before)) (said_in (known_to (said_before before)) line)
-    ∷ of_said (repeated (said_before before)) (said_in (known_to (said_before before)) line) ∷ []
+abbrev pub early : (v : Version) → List (List ℕ) → List ℕ → List (List ℕ) → List (Option TextKind)
+early v before line after =
+    too_long line ∷ unfinished after ∷ wrong_word (last_group 0 before) (version_word v (tokens_of line)) ∷ too_often before (version_word v (tokens_of line))
+    ∷ result_err (said_from (known_to (said_before before)) (version_word v (tokens_of line))) ∷ of_said (wrong_bounds (said_before before)) (said_from (known_to (said_before before)) (version_word v (tokens_of line)))
+    ∷ of_said (repeated (said_before before)) (said_from (known_to (said_before before)) (version_word v (tokens_of line))) ∷ []
 
-abbrev pub table_of_line : List (List ℕ) → List ℕ → List (List ℕ) → Option TextKind
-table_of_line before line after = of_said (wrong_table (said_before before) after) (said_in (known_to (said_before before)) line)
+abbrev pub table_of_line : (v : Version) → List (List ℕ) → List ℕ → List (List ℕ) → Option TextKind
+table_of_line v before line after = of_said (wrong_group (said_before before) after) (said_from (known_to (said_before before)) (version_word v (tokens_of line)))
 
-pub same_early : (before : List (List ℕ)) (line : List ℕ) (after longer : List (List ℕ)) → GoOn after longer → early before line after ≡ early before line longer
-same_early before line [] longer h = absurd h
-same_early before line (last ∷ []) [] h = absurd h
-same_early before line (next ∷ other ∷ lines) [] h = absurd h
-same_early before line (next ∷ lines) (other ∷ more) h = refl
+pub same_early : (v : Version) → (before : List (List ℕ)) (line : List ℕ) (after longer : List (List ℕ)) → GoOn after longer → early v before line after ≡ early v before line longer
+same_early v before line [] longer h = absurd h
+same_early v before line (last ∷ []) [] h = absurd h
+same_early v before line (next ∷ other ∷ lines) [] h = absurd h
+same_early v before line (next ∷ lines) (other ∷ more) h = refl
 
-line_stands : (before : List (List ℕ)) (line : List ℕ) (after longer : List (List ℕ)) (kind : TextKind) → GoOn after longer → line_fault before line after ≡ Some kind
-    → (line_fault before line longer ≡ Some kind) ⊎ (IsPolicyFault kind × BecomesRow after longer)
+line_stands : (v : Version) → (before : List (List ℕ)) (line : List ℕ) (after longer : List (List ℕ)) (kind : TextKind) → GoOn after longer → line_fault v before line after ≡ Some kind
+    → (line_fault v before line longer ≡ Some kind) ⊎ (IsPolicyFault kind × BecomesRow after longer)
 unfolding line_fault
-line_stands before line after longer kind on h =
-    let early_is : early before line after ≡ early before line longer = same_early before line after longer on in
-    let P : List (Option TextKind) → Type 0 = λ checks. first_fault (checks ++ table_of_line before line after ∷ []) ≡ Some kind in
-    let here : first_fault (early before line longer ++ table_of_line before line after ∷ []) ≡ Some kind = subst P early_is h in
+line_stands v before line after longer kind on h =
+    let early_is : early v before line after ≡ early v before line longer = same_early v before line after longer on in
+    let P : List (Option TextKind) → Type 0 = λ checks. first_fault (checks ++ table_of_line v before line after ∷ []) ≡ Some kind in
+    let here : first_fault (early v before line longer ++ table_of_line v before line after ∷ []) ≡ Some kind = subst P early_is h in
     elim (row_known after longer on) [
-      | inl same ↦ inl (ap (λ t. first_fault (early before line longer ++ t ∷ [])) (sym (same_table (said_before before) after longer (said_in (known_to (said_before before)) line) same)) ∙ here)
-      | inr last ↦ elim (last_check (early before line longer) (table_of_line before line after) (table_of_line before line longer) kind here) [
+      | inl same ↦ inl (ap (λ t. first_fault (early v before line longer ++ t ∷ [])) (sym (same_table (said_before before) after longer (said_from (known_to (said_before before)) (version_word v (tokens_of line))) same)) ∙ here)
+      | inr last ↦ elim (last_check (early v before line longer) (table_of_line v before line after) (table_of_line v before line longer) kind here) [
         | inl stands ↦ inl stands
-        | inr table ↦ inr (table_fault_is (said_before before) after (said_in (known_to (said_before before)) line) kind table, last)
+        | inr table ↦ inr (table_fault_is (said_before before) after (said_from (known_to (said_before before)) (version_word v (tokens_of line))) kind table, last)
       ]
     ]
 
-pub line_passes : (before : List (List ℕ)) (line : List ℕ) (after longer : List (List ℕ)) → GoOn after longer → line_fault before line after ≡ None → line_fault before line longer ≡ None
+pub line_passes : (v : Version) → (before : List (List ℕ)) (line : List ℕ) (after longer : List (List ℕ)) → GoOn after longer → line_fault v before line after ≡ None → line_fault v before line longer ≡ None
 unfolding line_fault
-line_passes before line after longer on h =
-    let P : List (Option TextKind) → Type 0 = λ checks. first_fault (checks ++ table_of_line before line after ∷ []) ≡ None in
-    let here : first_fault (early before line longer ++ table_of_line before line after ∷ []) ≡ None = subst P (same_early before line after longer on) h in
-    let said : Result Said TextKind = said_in (known_to (said_before before)) line in
-    last_passes (early before line longer) (table_of_line before line after) (table_of_line before line longer)
+line_passes v before line after longer on h =
+    let P : List (Option TextKind) → Type 0 = λ checks. first_fault (checks ++ table_of_line v before line after ∷ []) ≡ None in
+    let here : first_fault (early v before line longer ++ table_of_line v before line after ∷ []) ≡ None = subst P (same_early v before line after longer on) h in
+    let said : Result Said TextKind = said_from (known_to (said_before before)) (version_word v (tokens_of line)) in
+    last_passes (early v before line longer) (table_of_line v before line after) (table_of_line v before line longer)
     (elim (row_known after longer on) [
       | inl same ↦ λ none. sym (same_table (said_before before) after longer said same) ∙ none
-      | inr last ↦ λ none. let Q : List (List ℕ) → Type 0 = λ a. of_said (wrong_table (said_before before) a) said ≡ None in
+      | inr last ↦ λ none. let Q : List (List ℕ) → Type 0 = λ a. of_said (wrong_group (said_before before) a) said ≡ None in
           table_passes (said_before before) last.0 longer said (subst Q last.1 none)
     ])
     here
 
 -- all checks but the first two
-abbrev pub later_checks : List (List ℕ) → List ℕ → List (List ℕ) → List (Option TextKind)
-later_checks before line after =
-    wrong_word (last_group 0 before) (word_of (tokens_of line)) ∷ too_often before (word_of (tokens_of line))
-    ∷ result_err (said_in (known_to (said_before before)) line) ∷ of_said (wrong_bounds (said_before before)) (said_in (known_to (said_before before)) line)
-    ∷ of_said (repeated (said_before before)) (said_in (known_to (said_before before)) line) ∷ table_of_line before line after ∷ []
+abbrev pub later_checks : (v : Version) → List (List ℕ) → List ℕ → List (List ℕ) → List (Option TextKind)
+later_checks v before line after =
+    wrong_word (last_group 0 before) (version_word v (tokens_of line)) ∷ too_often before (version_word v (tokens_of line))
+    ∷ result_err (said_from (known_to (said_before before)) (version_word v (tokens_of line))) ∷ of_said (wrong_bounds (said_before before)) (said_from (known_to (said_before before)) (version_word v (tokens_of line)))
+    ∷ of_said (repeated (said_before before)) (said_from (known_to (said_before before)) (version_word v (tokens_of line))) ∷ table_of_line v before line after ∷ []
 
 -- the line that the text ends in
 long_or_open : (long : Bool) (others : List (Option TextKind)) → ((long ≡ true) × (first_fault (test long kinds.TooMany ∷ unfinished [] ∷ others) ≡ Some kinds.TooMany))
@@ -211,11 +169,11 @@ longer_line last line longer long =
     let above = ltb-true MAX_LINE (length last) long in
     ap (λ b. test b kinds.TooMany) (lt-ltb MAX_LINE (length line) (omega arith))
 
-last_line : (before : List (List ℕ)) (last line : List ℕ) (more : List (List ℕ)) → length last ≤ length line
-    → ((line_fault before last [] ≡ Some kinds.TooMany) × (line_fault before line more ≡ Some kinds.TooMany)) ⊎ (line_fault before last [] ≡ Some kinds.Unfinished)
+last_line : (v : Version) → (before : List (List ℕ)) (last line : List ℕ) (more : List (List ℕ)) → length last ≤ length line
+    → ((line_fault v before last [] ≡ Some kinds.TooMany) × (line_fault v before line more ≡ Some kinds.TooMany)) ⊎ (line_fault v before last [] ≡ Some kinds.Unfinished)
 unfolding line_fault
-last_line before last line more longer = elim (long_or_open (ltb MAX_LINE (length last)) (later_checks before last [])) [
-  | inl long ↦ inl (long.1, ap (λ o. first_fault (o ∷ unfinished more ∷ later_checks before line more)) (longer_line last line longer long.0))
+last_line v before last line more longer = elim (long_or_open (ltb MAX_LINE (length last)) (later_checks v before last [])) [
+  | inl long ↦ inl (long.1, ap (λ o. first_fault (o ∷ unfinished more ∷ later_checks v before line more)) (longer_line last line longer long.0))
   | inr rest ↦ inr rest
 ]
 
@@ -237,43 +195,43 @@ number_is n m k kind h =
 only : (n m : ℕ) (k kind : TextKind) (o : Option TextKind) (later : Option (ℕ × TextKind)) → o ≡ Some k → at_line_number n o later ≡ Some (m, kind) → ◌≡◌ {A = Option (ℕ × TextKind)} (Some (n, k)) (Some (m, kind))
 only n m k kind o later e h = ap (λ f. at_line_number n f later) (sym e) ∙ h
 
-from_stands : (n : ℕ) (before lines longer : List (List ℕ)) (m : ℕ) (kind : TextKind) → GoOn lines longer → fault_from n before lines ≡ Some (m, kind)
-    → MayBeMended n lines longer m kind ⊎ (fault_from n before longer ≡ Some (m, kind))
+from_stands : (v : Version) → (n : ℕ) (before lines longer : List (List ℕ)) (m : ℕ) (kind : TextKind) → GoOn lines longer → fault_from v n before lines ≡ Some (m, kind)
+    → MayBeMended n lines longer m kind ⊎ (fault_from v n before longer ≡ Some (m, kind))
 unfolding fault_from
-from_stands n before [] longer m kind on h = absurd on
-from_stands n before (last ∷ []) [] m kind on h = absurd on
-from_stands n before (last ∷ []) (line ∷ more) m kind on h = elim (last_line before last line more on) [
-  | inl long ↦ inr (ap (λ o. at_line_number n o (cond (ends line) None (fault_from (n + 1) (before ++ line ∷ []) more))) long.1 ∙ only n m kinds.TooMany kind (line_fault before last []) _ long.0 h)
-  | inr rest ↦ let is = number_is n m kinds.Unfinished kind (only n m kinds.Unfinished kind (line_fault before last []) _ rest h) in inl (inl (sym is.1))
+from_stands v n before [] longer m kind on h = absurd on
+from_stands v n before (last ∷ []) [] m kind on h = absurd on
+from_stands v n before (last ∷ []) (line ∷ more) m kind on h = elim (last_line v before last line more on) [
+  | inl long ↦ inr (ap (λ o. at_line_number n o (cond (ends line) None (fault_from v (n + 1) (before ++ line ∷ []) more))) long.1 ∙ only n m kinds.TooMany kind (line_fault v before last []) _ long.0 h)
+  | inr rest ↦ let is = number_is n m kinds.Unfinished kind (only n m kinds.Unfinished kind (line_fault v before last []) _ rest h) in inl (inl (sym is.1))
 ]
-from_stands n before (line ∷ next ∷ lines) [] m kind on h = absurd on
-from_stands n before (line ∷ next ∷ lines) (other ∷ more) m kind on h =
-    let P : List ℕ → Type 0 = λ l. MayBeMended n (line ∷ next ∷ lines) (l ∷ more) m kind ⊎ (fault_from n before (l ∷ more) ≡ Some (m, kind)) in
-    subst P on.0 (by_fault (λ e. from_stands (n + 1) (before ++ line ∷ []) (next ∷ lines) more m kind on.1 e) (line_fault before line (next ∷ lines)) refl h)
+from_stands v n before (line ∷ next ∷ lines) [] m kind on h = absurd on
+from_stands v n before (line ∷ next ∷ lines) (other ∷ more) m kind on h =
+    let P : List ℕ → Type 0 = λ l. MayBeMended n (line ∷ next ∷ lines) (l ∷ more) m kind ⊎ (fault_from v n before (l ∷ more) ≡ Some (m, kind)) in
+    subst P on.0 (by_fault (λ e. from_stands v (n + 1) (before ++ line ∷ []) (next ∷ lines) more m kind on.1 e) (line_fault v before line (next ∷ lines)) refl h)
   where
     follows : (last : List ℕ) → next ∷ lines ≡ last ∷ [] → is_policy_next more ≡ true → n ≡ m → RowFollows (n + 1) (next ∷ lines) more m
     follows last e row is =
         let F : List (List ℕ) → Type 0 = λ after. RowFollows (n + 1) after more m in
         subst F (sym e) (omega arith, row)
 
-    by_end : (fault_from (n + 1) (before ++ line ∷ []) (next ∷ lines) ≡ Some (m, kind) → MayBeMended (n + 1) (next ∷ lines) more m kind ⊎ (fault_from (n + 1) (before ++ line ∷ []) more ≡ Some (m, kind)))
-        → (b : Bool) → cond b None (fault_from (n + 1) (before ++ line ∷ []) (next ∷ lines)) ≡ Some (m, kind)
-        → MayBeMended n (line ∷ next ∷ lines) (line ∷ more) m kind ⊎ (cond b None (fault_from (n + 1) (before ++ line ∷ []) more) ≡ Some (m, kind))
+    by_end : (fault_from v (n + 1) (before ++ line ∷ []) (next ∷ lines) ≡ Some (m, kind) → MayBeMended (n + 1) (next ∷ lines) more m kind ⊎ (fault_from v (n + 1) (before ++ line ∷ []) more ≡ Some (m, kind)))
+        → (b : Bool) → cond b None (fault_from v (n + 1) (before ++ line ∷ []) (next ∷ lines)) ≡ Some (m, kind)
+        → MayBeMended n (line ∷ next ∷ lines) (line ∷ more) m kind ⊎ (cond b None (fault_from v (n + 1) (before ++ line ∷ []) more) ≡ Some (m, kind))
     by_end later true e = cc
     by_end later false e = elim (later e) [
       | inr stands ↦ inr stands
       | inl may ↦ inl may
     ]
 
-    by_fault : (fault_from (n + 1) (before ++ line ∷ []) (next ∷ lines) ≡ Some (m, kind) → MayBeMended (n + 1) (next ∷ lines) more m kind ⊎ (fault_from (n + 1) (before ++ line ∷ []) more ≡ Some (m, kind)))
-        → (o : Option TextKind) → line_fault before line (next ∷ lines) ≡ o → at_line_number n o (cond (ends line) None (fault_from (n + 1) (before ++ line ∷ []) (next ∷ lines))) ≡ Some (m, kind)
-        → MayBeMended n (line ∷ next ∷ lines) (line ∷ more) m kind ⊎ (at_line_number n (line_fault before line more) (cond (ends line) None (fault_from (n + 1) (before ++ line ∷ []) more)) ≡ Some (m, kind))
+    by_fault : (fault_from v (n + 1) (before ++ line ∷ []) (next ∷ lines) ≡ Some (m, kind) → MayBeMended (n + 1) (next ∷ lines) more m kind ⊎ (fault_from v (n + 1) (before ++ line ∷ []) more ≡ Some (m, kind)))
+        → (o : Option TextKind) → line_fault v before line (next ∷ lines) ≡ o → at_line_number n o (cond (ends line) None (fault_from v (n + 1) (before ++ line ∷ []) (next ∷ lines))) ≡ Some (m, kind)
+        → MayBeMended n (line ∷ next ∷ lines) (line ∷ more) m kind ⊎ (at_line_number n (line_fault v before line more) (cond (ends line) None (fault_from v (n + 1) (before ++ line ∷ []) more)) ≡ Some (m, kind))
     by_fault later None e found = elim (by_end later (ends line) found) [
       | inl may ↦ inl may
-      | inr stands ↦ inr (ap (λ o. at_line_number n o (cond (ends line) None (fault_from (n + 1) (before ++ line ∷ []) more))) (line_passes before line (next ∷ lines) more on.1 e) ∙ stands)
+      | inr stands ↦ inr (ap (λ o. at_line_number n o (cond (ends line) None (fault_from v (n + 1) (before ++ line ∷ []) more))) (line_passes v before line (next ∷ lines) more on.1 e) ∙ stands)
     ]
-    by_fault later (Some k) e found = elim (line_stands before line (next ∷ lines) more k on.1 e) [
-      | inl stands ↦ inr (ap (λ o. at_line_number n o (cond (ends line) None (fault_from (n + 1) (before ++ line ∷ []) more))) stands ∙ found)
+    by_fault later (Some k) e found = elim (line_stands v before line (next ∷ lines) more k on.1 e) [
+      | inl stands ↦ inr (ap (λ o. at_line_number n o (cond (ends line) None (fault_from v (n + 1) (before ++ line ∷ []) more))) stands ∙ found)
       | inr table ↦
           let is = number_is n m k kind found in
           let T : TextKind → Type 0 = IsPolicyFault in
@@ -297,37 +255,37 @@ pub weaker : (n m : ℕ) (later : Option (ℕ × TextKind)) → n ≤ m → NotB
 weaker n m None le h = tt
 weaker n m (Some f) le h = omega arith
 
-pub from_here : (n : ℕ) (before lines : List (List ℕ)) → NotBefore n (fault_from n before lines)
+pub from_here : (v : Version) → (n : ℕ) (before lines : List (List ℕ)) → NotBefore n (fault_from v n before lines)
 unfolding fault_from
-from_here n before [] = omega arith
-from_here n before (line ∷ after) =
-    here_or_behind n n (line_fault before line after) _ (omega arith) (unless_ended n (ends line) _ (weaker n (n + 1) _ (omega arith) (from_here (n + 1) (before ++ line ∷ []) after)))
+from_here v n before [] = omega arith
+from_here v n before (line ∷ after) =
+    here_or_behind n n (line_fault v before line after) _ (omega arith) (unless_ended n (ends line) _ (weaker n (n + 1) _ (omega arith) (from_here v (n + 1) (before ++ line ∷ []) after)))
 
-from_later : (n : ℕ) (before lines longer : List (List ℕ)) (m : ℕ) (kind : TextKind) → GoOn lines longer → fault_from n before lines ≡ Some (m, kind) → NotBefore m (fault_from n before longer)
+from_later : (v : Version) → (n : ℕ) (before lines longer : List (List ℕ)) (m : ℕ) (kind : TextKind) → GoOn lines longer → fault_from v n before lines ≡ Some (m, kind) → NotBefore m (fault_from v n before longer)
 unfolding fault_from
-from_later n before [] longer m kind on h = absurd on
-from_later n before (last ∷ []) longer m kind on h = elim (last_line before last last [] (omega arith)) [
-  | inl long ↦ let is = number_is n m kinds.TooMany kind (only n m kinds.TooMany kind (line_fault before last []) _ long.0 h) in weaker m n _ (omega arith) (from_here n before longer)
-  | inr rest ↦ let is = number_is n m kinds.Unfinished kind (only n m kinds.Unfinished kind (line_fault before last []) _ rest h) in weaker m n _ (omega arith) (from_here n before longer)
+from_later v n before [] longer m kind on h = absurd on
+from_later v n before (last ∷ []) longer m kind on h = elim (last_line v before last last [] (omega arith)) [
+  | inl long ↦ let is = number_is n m kinds.TooMany kind (only n m kinds.TooMany kind (line_fault v before last []) _ long.0 h) in weaker m n _ (omega arith) (from_here v n before longer)
+  | inr rest ↦ let is = number_is n m kinds.Unfinished kind (only n m kinds.Unfinished kind (line_fault v before last []) _ rest h) in weaker m n _ (omega arith) (from_here v n before longer)
 ]
-from_later n before (line ∷ next ∷ lines) [] m kind on h = absurd on
-from_later n before (line ∷ next ∷ lines) (other ∷ more) m kind on h =
-    let P : List ℕ → Type 0 = λ l. NotBefore m (fault_from n before (l ∷ more)) in
-    subst P on.0 (by_fault (λ e. from_later (n + 1) (before ++ line ∷ []) (next ∷ lines) more m kind on.1 e) (line_fault before line (next ∷ lines)) refl h)
+from_later v n before (line ∷ next ∷ lines) [] m kind on h = absurd on
+from_later v n before (line ∷ next ∷ lines) (other ∷ more) m kind on h =
+    let P : List ℕ → Type 0 = λ l. NotBefore m (fault_from v n before (l ∷ more)) in
+    subst P on.0 (by_fault (λ e. from_later v (n + 1) (before ++ line ∷ []) (next ∷ lines) more m kind on.1 e) (line_fault v before line (next ∷ lines)) refl h)
   where
-    by_end : (fault_from (n + 1) (before ++ line ∷ []) (next ∷ lines) ≡ Some (m, kind) → NotBefore m (fault_from (n + 1) (before ++ line ∷ []) more))
-        → (b : Bool) → cond b None (fault_from (n + 1) (before ++ line ∷ []) (next ∷ lines)) ≡ Some (m, kind)
-        → NotBefore m (cond b None (fault_from (n + 1) (before ++ line ∷ []) more))
+    by_end : (fault_from v (n + 1) (before ++ line ∷ []) (next ∷ lines) ≡ Some (m, kind) → NotBefore m (fault_from v (n + 1) (before ++ line ∷ []) more))
+        → (b : Bool) → cond b None (fault_from v (n + 1) (before ++ line ∷ []) (next ∷ lines)) ≡ Some (m, kind)
+        → NotBefore m (cond b None (fault_from v (n + 1) (before ++ line ∷ []) more))
     by_end later true e = cc
     by_end later false e = later e
 
-    by_fault : (fault_from (n + 1) (before ++ line ∷ []) (next ∷ lines) ≡ Some (m, kind) → NotBefore m (fault_from (n + 1) (before ++ line ∷ []) more))
-        → (o : Option TextKind) → line_fault before line (next ∷ lines) ≡ o → at_line_number n o (cond (ends line) None (fault_from (n + 1) (before ++ line ∷ []) (next ∷ lines))) ≡ Some (m, kind)
-        → NotBefore m (fault_from n before (line ∷ more))
+    by_fault : (fault_from v (n + 1) (before ++ line ∷ []) (next ∷ lines) ≡ Some (m, kind) → NotBefore m (fault_from v (n + 1) (before ++ line ∷ []) more))
+        → (o : Option TextKind) → line_fault v before line (next ∷ lines) ≡ o → at_line_number n o (cond (ends line) None (fault_from v (n + 1) (before ++ line ∷ []) (next ∷ lines))) ≡ Some (m, kind)
+        → NotBefore m (fault_from v n before (line ∷ more))
     by_fault later None e found =
-        let Q : Option TextKind → Type 0 = λ o. NotBefore m (at_line_number n o (cond (ends line) None (fault_from (n + 1) (before ++ line ∷ []) more))) in
-        subst Q (sym (line_passes before line (next ∷ lines) more on.1 e)) (by_end later (ends line) found)
-    by_fault later (Some k) e found = let is = number_is n m k kind found in weaker m n _ (omega arith) (from_here n before (line ∷ more))
+        let Q : Option TextKind → Type 0 = λ o. NotBefore m (at_line_number n o (cond (ends line) None (fault_from v (n + 1) (before ++ line ∷ []) more))) in
+        subst Q (sym (line_passes v before line (next ∷ lines) more on.1 e)) (by_end later (ends line) found)
+    by_fault later (Some k) e found = let is = number_is n m k kind found in weaker m n _ (omega arith) (from_here v n before (line ∷ more))
 
 -- the same from the first line on
 more_follow : (line : List ℕ) (lines more : List (List ℕ)) → GoOn (line ∷ lines) more → unfinished more ≡ None
@@ -348,7 +306,7 @@ unfolding fault_in
 in_stands [] longer m kind on h = absurd on
 in_stands (last ∷ []) [] m kind on h = absurd on
 in_stands (last ∷ []) (line ∷ more) m kind on h = elim (last_header last line more on) [
-  | inl long ↦ inr (ap (λ o. at_line_number 1 o (fault_from 2 [] more)) long.1 ∙ only 1 m kinds.TooMany kind (header_fault last []) _ long.0 h)
+  | inl long ↦ inr (ap (λ o. at_line_number 1 o (fault_from (version_on line) 2 [] more)) long.1 ∙ only 1 m kinds.TooMany kind (header_fault last []) _ long.0 h)
   | inr rest ↦ let is = number_is 1 m kinds.Unfinished kind (only 1 m kinds.Unfinished kind (header_fault last []) _ rest h) in inl (inl (sym is.1))
 ]
 in_stands (line ∷ next ∷ lines) [] m kind on h = absurd on
@@ -356,13 +314,13 @@ in_stands (line ∷ next ∷ lines) (other ∷ more) m kind on h =
     let P : List ℕ → Type 0 = λ l. MayBeMended 1 (line ∷ next ∷ lines) (l ∷ more) m kind ⊎ (fault_in (l ∷ more) ≡ Some (m, kind)) in
     subst P on.0 (elim (by_fault (first_fault (too_long line ∷ None ∷ wrong_header line ∷ [])) h) [
       | inl may ↦ inl may
-      | inr stands ↦ inr (ap (λ u. at_line_number 1 (first_fault (too_long line ∷ u ∷ wrong_header line ∷ [])) (fault_from 2 [] more)) (more_follow next lines more on.1) ∙ stands)
+      | inr stands ↦ inr (ap (λ u. at_line_number 1 (first_fault (too_long line ∷ u ∷ wrong_header line ∷ [])) (fault_from (version_on line) 2 [] more)) (more_follow next lines more on.1) ∙ stands)
     ])
   where
-    by_fault : (o : Option TextKind) → at_line_number 1 o (fault_from 2 [] (next ∷ lines)) ≡ Some (m, kind)
-        → MayBeMended 1 (line ∷ next ∷ lines) (line ∷ more) m kind ⊎ (at_line_number 1 o (fault_from 2 [] more) ≡ Some (m, kind))
+    by_fault : (o : Option TextKind) → at_line_number 1 o (fault_from (version_on line) 2 [] (next ∷ lines)) ≡ Some (m, kind)
+        → MayBeMended 1 (line ∷ next ∷ lines) (line ∷ more) m kind ⊎ (at_line_number 1 o (fault_from (version_on line) 2 [] more) ≡ Some (m, kind))
     by_fault (Some k) found = inr found
-    by_fault None found = elim (from_stands 2 [] (next ∷ lines) more m kind on.1 found) [
+    by_fault None found = elim (from_stands (version_on line) 2 [] (next ∷ lines) more m kind on.1 found) [
       | inr stands ↦ inr stands
       | inl may ↦ inl may
     ]
@@ -373,7 +331,7 @@ in_later [] longer m kind on h = absurd on
 in_later (last ∷ []) [] m kind on h = absurd on
 in_later (last ∷ []) (line ∷ more) m kind on h =
     let first : m ≤ 1 = by_header (last_header last last [] (omega arith)) in
-    weaker m 1 _ first (here_or_behind 1 1 (header_fault line more) _ (omega arith) (weaker 1 2 _ (omega arith) (from_here 2 [] more)))
+    weaker m 1 _ first (here_or_behind 1 1 (header_fault line more) _ (omega arith) (weaker 1 2 _ (omega arith) (from_here (version_on line) 2 [] more)))
   where
     by_header : ((header_fault last [] ≡ Some kinds.TooMany) × (header_fault last [] ≡ Some kinds.TooMany)) ⊎ (header_fault last [] ≡ Some kinds.Unfinished) → m ≤ 1
     by_header (inl long) = let is = number_is 1 m kinds.TooMany kind (only 1 m kinds.TooMany kind (header_fault last []) _ long.0 h) in omega arith
@@ -381,12 +339,12 @@ in_later (last ∷ []) (line ∷ more) m kind on h =
 in_later (line ∷ next ∷ lines) [] m kind on h = absurd on
 in_later (line ∷ next ∷ lines) (other ∷ more) m kind on h =
     let P : List ℕ → Type 0 = λ l. NotBefore m (fault_in (l ∷ more)) in
-    let Q : Option TextKind → Type 0 = λ u. NotBefore m (at_line_number 1 (first_fault (too_long line ∷ u ∷ wrong_header line ∷ [])) (fault_from 2 [] more)) in
+    let Q : Option TextKind → Type 0 = λ u. NotBefore m (at_line_number 1 (first_fault (too_long line ∷ u ∷ wrong_header line ∷ [])) (fault_from (version_on line) 2 [] more)) in
     subst P on.0 (subst Q (sym (more_follow next lines more on.1)) (by_fault (first_fault (too_long line ∷ None ∷ wrong_header line ∷ [])) h))
   where
-    by_fault : (o : Option TextKind) → at_line_number 1 o (fault_from 2 [] (next ∷ lines)) ≡ Some (m, kind) → NotBefore m (at_line_number 1 o (fault_from 2 [] more))
+    by_fault : (o : Option TextKind) → at_line_number 1 o (fault_from (version_on line) 2 [] (next ∷ lines)) ≡ Some (m, kind) → NotBefore m (at_line_number 1 o (fault_from (version_on line) 2 [] more))
     by_fault (Some k) found = let is = number_is 1 m k kind found in omega arith
-    by_fault None found = from_later 2 [] (next ∷ lines) more m kind on.1 found
+    by_fault None found = from_later (version_on line) 2 [] (next ∷ lines) more m kind on.1 found
 
 -- whether what follows may mend the fault
 by_kind : (kind : TextKind) → ((kind ≡ kinds.Unfinished) ⊎ IsPolicyFault kind) ⊎ ((kind ≡ kinds.Unfinished → ⊥) × (IsPolicyFault kind → ⊥))

@@ -4,9 +4,10 @@ use Rattle.he_text.specs.declared.draft.LastGroup.{LastGroup}
 use Rattle.std.specs.Result.{result_err}
 use Rattle.he_text.specs.declared.fault.TextKind.{TextKind}
 use Rattle.he_text.specs.declared.fault.TextKind.TheVariants as kinds
+use Rattle.he_text.specs.declared.words.Version.{Version}
 use Rattle.he_text.specs.declared.words.Word.{Word}
-use Rattle.he_text.specs.Faults.{first_fault, test, last_group, known_to, said_before, too_long, unfinished, wrong_word, too_often, wrong_bounds, repeated, wrong_table, of_said, line_fault}
-use Rattle.he_text.specs.Forms.{◌>>=◌, word_of, said_by}
+use Rattle.he_text.specs.Faults.{first_fault, test, last_group, known_to, said_before, too_long, unfinished, wrong_word, too_often, wrong_bounds, repeated, wrong_group, of_said, line_fault}
+use Rattle.he_text.specs.Forms.{◌>>=◌, version_word, said_by}
 use Rattle.he_text.specs.Parts.{tokens_of}
 use Rattle.he_text.specs.Said.{Said}
 use Rattle.he_text.specs.Words.{group_of}
@@ -39,7 +40,7 @@ abbrev pub line_checks : List (List ℕ) → List ℕ → List (List ℕ) → Re
 line_checks before line after word =
     later_checks (wrong_word (last_group 0 before) word) (too_often before word)
     (word >>= λ parts. said_by (known_to (said_before before)) parts.0 parts.1)
-    (wrong_bounds (said_before before)) (repeated (said_before before)) (wrong_table (said_before before) after)
+    (wrong_bounds (said_before before)) (repeated (said_before before)) (wrong_group (said_before before) after)
 
 first_again : (long fin word often form bounds again table : Option TextKind)
     → first_fault (long ∷ fin ∷ word ∷ often ∷ form ∷ bounds ∷ again ∷ table ∷ []) ≡ first_fault (long ∷ fin ∷ first_fault (word ∷ often ∷ form ∷ bounds ∷ again ∷ table ∷ []) ∷ [])
@@ -54,17 +55,17 @@ first_again None None None None None None None (Some k) = refl
 first_again None None None None None None None None = refl
 
 -- the checks of a line whose word is known
-pub line_fault_is : (before : List (List ℕ)) (line : List ℕ) (after : List (List ℕ)) (word : Result (Word × List (List ℕ)) TextKind) → word_of (tokens_of line) ≡ word
-    → line_fault before line after ≡ first_fault (too_long line ∷ unfinished after ∷ line_checks before line after word ∷ [])
+pub line_fault_is : (v : Version) → (before : List (List ℕ)) (line : List ℕ) (after : List (List ℕ)) (word : Result (Word × List (List ℕ)) TextKind) → version_word v (tokens_of line) ≡ word
+    → line_fault v before line after ≡ first_fault (too_long line ∷ unfinished after ∷ line_checks before line after word ∷ [])
 unfolding line_fault
-line_fault_is before line after word is =
+line_fault_is v before line after word is =
     let at : Result (Word × List (List ℕ)) TextKind → Option TextKind = λ w. first_fault (too_long line ∷ unfinished after ∷ wrong_word (last_group 0 before) w ∷ too_often before w
     ∷ result_err (w >>= λ parts. said_by (known_to (said_before before)) parts.0 parts.1)
     ∷ of_said (wrong_bounds (said_before before)) (w >>= λ parts. said_by (known_to (said_before before)) parts.0 parts.1)
     ∷ of_said (repeated (said_before before)) (w >>= λ parts. said_by (known_to (said_before before)) parts.0 parts.1)
-    ∷ of_said (wrong_table (said_before before) after) (w >>= λ parts. said_by (known_to (said_before before)) parts.0 parts.1) ∷ []) in
+    ∷ of_said (wrong_group (said_before before) after) (w >>= λ parts. said_by (known_to (said_before before)) parts.0 parts.1) ∷ []) in
     let bound : Result Said TextKind = word >>= λ parts. said_by (known_to (said_before before)) parts.0 parts.1 in
-    ap at is ∙ first_again (too_long line) (unfinished after) (wrong_word (last_group 0 before) word) (too_often before word) (result_err bound) (of_said (wrong_bounds (said_before before)) bound) (of_said (repeated (said_before before)) bound) (of_said (wrong_table (said_before before) after) bound)
+    ap at is ∙ first_again (too_long line) (unfinished after) (wrong_word (last_group 0 before) word) (too_often before word) (result_err bound) (of_said (wrong_bounds (said_before before)) bound) (of_said (repeated (said_before before)) bound) (of_said (wrong_group (said_before before) after) bound)
 
 is_fault : Some kinds.Word ≡ None → ⊥
 is_fault e = cc
@@ -75,7 +76,7 @@ in_order before line after word tokens h = by_test (ltb (group_of word) (last_gr
   where
     by_test : (b : Bool) → ltb (group_of word) (last_group 0 before) ≡ b → b ≡ false
     by_test false e = refl
-    by_test true e = absurd (is_fault (ap (λ t. later_checks (test t kinds.Word) (too_often before (Ok (word, tokens))) (said_by (known_to (said_before before)) word tokens) (wrong_bounds (said_before before)) (repeated (said_before before)) (wrong_table (said_before before) after)) (sym e) ∙ h))
+    by_test true e = absurd (is_fault (ap (λ t. later_checks (test t kinds.Word) (too_often before (Ok (word, tokens))) (said_by (known_to (said_before before)) word tokens) (wrong_bounds (said_before before)) (repeated (said_before before)) (wrong_group (said_before before) after)) (sym e) ∙ h))
 
 pub checks_said : (word often : Option TextKind) (said : Result Said TextKind) (bounds again table : Said → Option TextKind) → later_checks word often said bounds again table ≡ None → (s : Said) × (said ≡ Ok s)
 checks_said (Some kind) often said bounds again table h = cc

@@ -20,8 +20,8 @@ use Rattle.he_text.specs.declared.fault.TextKind.TheVariants as kinds
 use Rattle.he_text.specs.declared.limits.TheConstants.{MAX_ANSWERS, MAX_LINE}
 use Rattle.he_text.specs.declared.words.Name.{Name}
 use Rattle.he_text.specs.declared.words.Name.TheVariants.{Resolution, Attempt, Count, Limit}
-use Rattle.he_text.specs.Faults.{test, excess, too_often, wrong_bounds, repeated, wrong_table, begins_policy, is_policy_next, lines_with}
-use Rattle.he_text.specs.Said.{Said, Setting, PolicyRow, HostSource, HostRoute, Answer, Told, Paused, Ended, setting_said, row_said, source_said, route_said, answer_said, outcome_said, pause_said, at_front, setting_given, rows_given, sources_given, routes_given, outcomes_given, pauses_given, table_of_rows, race_of}
+use Rattle.he_text.specs.Faults.{test, excess, too_often, wrong_bounds, repeated, wrong_group, begins_with, is_next, lines_with}
+use Rattle.he_text.specs.Said.{Said, Setting, PolicyRow, HostSource, HostRoute, Answer, RoundTrip, UsedBefore, Told, Paused, Ended, setting_said, row_said, source_said, route_said, answer_said, outcome_said, pause_said, at_front, setting_given, rows_given, sources_given, routes_given, outcomes_given, pauses_given, table_of_rows, race_of}
 use Rattle.he_text.specs.Text.{group_said, are_in_order}
 use Rattle.he_text.proofs.CompleteForms.{IsLine, word_said}
 use Rattle.he_text.proofs.CompleteGroups.{order_split, none_later, few_lines}
@@ -58,7 +58,7 @@ gives_a (Answer families.V4 reply) h = refl
 gives_a (Answer families.V6 reply) h = absurd (omega (arith, h))
 gives_a _ h = absurd (omega (arith, h))
 
-gives_pause : (s : Said) → group_said s ≡ 8 → is_some (pause_said s) ≡ true
+gives_pause : (s : Said) → group_said s ≡ 10 → is_some (pause_said s) ≡ true
 gives_pause (Paused from to) h = refl
 gives_pause (Answer families.V6 reply) h = absurd (omega (arith, h))
 gives_pause (Answer families.V4 reply) h = absurd (omega (arith, h))
@@ -99,6 +99,8 @@ has_room before told later (Answer families.V4 reply) tokens whole are =
     let lines : lines_with 6 before ≤ length (filter_map (answer_said families.V4) told) = few_lines (answer_said families.V4) 6 gives_a before told are in
     let less : length (filter_map (answer_said families.V4) told) < 1 = fewer (answer_said families.V4) told later (Answer families.V4 reply) reply 1 refl (whole.answers_once families.V4) in
     within_most (MAX_ANSWERS, kinds.Repeated) (lines_with 6 before) (omega arith)
+has_room before told later (RoundTrip ip rtt) tokens whole are = refl
+has_room before told later (UsedBefore ip) tokens whole are = refl
 has_room before told later (Told ip outcome) tokens whole are = refl
 has_room before told later (Paused from to) tokens whole are =
     let lines : lines_with 8 before ≤ length (pauses_given told) = few_lines pause_said 8 gives_pause before told are in
@@ -125,6 +127,8 @@ in_bounds told later (PolicyRow row) whole = refl
 in_bounds told later (HostSource source) whole = refl
 in_bounds told later (HostRoute route) whole = refl
 in_bounds told later (Answer family reply) whole = refl
+in_bounds told later (RoundTrip ip rtt) whole = refl
+in_bounds told later (UsedBefore ip) whole = refl
 in_bounds told later (Told ip outcome) whole = refl
 in_bounds told later Ended whole = refl
 
@@ -200,6 +204,8 @@ after_rows (HostSource source) le none = omega arith
 after_rows (HostRoute route) le none = omega arith
 after_rows (Answer families.V6 reply) le none = omega arith
 after_rows (Answer families.V4 reply) le none = omega arith
+after_rows (RoundTrip ip rtt) le none = omega arith
+after_rows (UsedBefore ip) le none = omega arith
 after_rows (Told ip outcome) le none = omega arith
 after_rows (Paused from to) le none = omega arith
 after_rows Ended le none = omega arith
@@ -212,17 +218,17 @@ no_more_rows t later none order =
 
 -- the next line is a row, or no row follows
 next_row : (later : List Said) (more after : List (List ℕ)) (last : List ℕ) → are_in_order 2 later ≡ true → AllByRecursion (λ line. length line ≤ MAX_LINE) more → AllZip IsLine more later
-    → (rows_given later ≡ []) ⊎ (is_policy_next (more ++ last ∷ after) ≡ true)
+    → (rows_given later ≡ []) ⊎ (is_next words.Policy (more ++ last ∷ after) ≡ true)
 next_row [] more after last order short are = inl refl
 next_row (PolicyRow next ∷ later) [] after last order short are = absurd are
-next_row (PolicyRow next ∷ later) (line ∷ []) after last order short are = inr (and_from (leb (length line) MAX_LINE) _ (le-leb (length line) MAX_LINE short.0) (ap begins_policy are.0.word))
-next_row (PolicyRow next ∷ later) (line ∷ other ∷ more) after last order short are = inr (and_from (leb (length line) MAX_LINE) _ (le-leb (length line) MAX_LINE short.0) (ap begins_policy are.0.word))
+next_row (PolicyRow next ∷ later) (line ∷ []) after last order short are = inr (and_from (leb (length line) MAX_LINE) _ (le-leb (length line) MAX_LINE short.0) (ap (begins_with words.Policy) are.0.word))
+next_row (PolicyRow next ∷ later) (line ∷ other ∷ more) after last order short are = inr (and_from (leb (length line) MAX_LINE) _ (le-leb (length line) MAX_LINE short.0) (ap (begins_with words.Policy) are.0.word))
 next_row (t ∷ later) more after last order short are = inl (no_more_rows t later refl order)
 
 pub table_fits : (told later : List Said) (s : Said) (more after : List (List ℕ)) (last : List ℕ) → IsWhole (told ++ s ∷ later) → AllByRecursion (λ line. length line ≤ MAX_LINE) more → AllZip IsLine more later
-    → wrong_table told (more ++ last ∷ after) s ≡ None
+    → wrong_group told (more ++ last ∷ after) s ≡ None
 table_fits told later (PolicyRow row) more after last whole short are =
-    by_next (is_policy_next (more ++ last ∷ after)) (next_row later more after last (order_split 0 told later (PolicyRow row) whole.order).1 short are)
+    by_next (is_next words.Policy (more ++ last ∷ after)) (next_row later more after last (order_split 0 told later (PolicyRow row) whole.order).1 short are)
   where
     by_next : (next : Bool) → (rows_given later ≡ []) ⊎ (next ≡ true) → cond next None (option_map kinds.Policy (table_fault (rows_given told ++ row ∷ []))) ≡ None
     by_next true h = refl
@@ -232,6 +238,8 @@ table_fits told later (Setting name value) more after last whole short are = ref
 table_fits told later (HostSource source) more after last whole short are = refl
 table_fits told later (HostRoute route) more after last whole short are = refl
 table_fits told later (Answer family reply) more after last whole short are = refl
+table_fits told later (RoundTrip ip rtt) more after last whole short are = refl
+table_fits told later (UsedBefore ip) more after last whole short are = refl
 table_fits told later (Told ip outcome) more after last whole short are = refl
 table_fits told later (Paused from to) more after last whole short are = refl
 table_fits told later Ended more after last whole short are = refl

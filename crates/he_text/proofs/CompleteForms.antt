@@ -11,22 +11,11 @@ use Rattle.he_text.specs.declared.words.Word.TheVariants as words
 use Rattle.he_text.specs.Faults.{anyone, said_before, ends, ends_by}
 use Rattle.he_text.specs.Forms.{◌>>=◌, word_of, said_by, said_in}
 use Rattle.he_text.specs.Parts.{tokens_of}
-use Rattle.he_text.specs.Said.{Said, Setting, PolicyRow, HostSource, HostRoute, Answer, Told, Paused, Ended}
+use Rattle.he_text.specs.Said.{Said, Setting, PolicyRow, HostSource, HostRoute, Answer, RoundTrip, UsedBefore, Told, Paused, Ended, word_said}
 use Rattle.he_text.specs.Text.{answer_word, group_said, source_marks, route_marks, mark_text}
 use Rattle.he_text.proofs.LineReads.{Reads}
 use Rattle.he_text.specs.Words.{group_of, spelling_of, name_spelling, is_end}
-use Rattle.he_text.proofs.FormReads.{word_reads, setting_reads, row_reads, source_reads, route_reads, answer_reads, connect_reads, pause_reads}
-
--- the word of the lines that say it
-abbrev pub word_said : Said → Word
-word_said (Setting name value) = words.Set
-word_said (PolicyRow row) = words.Policy
-word_said (HostSource source) = words.Source
-word_said (HostRoute route) = words.Route
-word_said (Answer family reply) = answer_word family
-word_said (Told ip outcome) = words.Connect
-word_said (Paused from to) = words.Pause
-word_said Ended = words.End
+use Rattle.he_text.proofs.FormReads.{word_reads, setting_reads, row_reads, source_reads, route_reads, answer_reads, round_trip_reads, used_reads, connect_reads, pause_reads}
 
 pub word_group : (s : Said) → group_of (word_said s) ≡ group_said s
 word_group (Setting name value) = refl
@@ -35,12 +24,16 @@ word_group (HostSource source) = refl
 word_group (HostRoute route) = refl
 word_group (Answer families.V6 reply) = refl
 word_group (Answer families.V4 reply) = refl
+word_group (RoundTrip ip rtt) = refl
+word_group (UsedBefore ip) = refl
 word_group (Told ip outcome) = refl
 word_group (Paused from to) = refl
 word_group Ended = refl
 
--- the address of an outcome is one of the known ones
+-- the address of which something is told is one of the known ones
 abbrev pub Knows : (Ip → Bool) → Said → Type 0
+Knows known (RoundTrip ip rtt) = known ip ≡ true
+Knows known (UsedBefore ip) = known ip ≡ true
 Knows known (Told ip outcome) = known ip ≡ true
 Knows known s = Unit {0}
 
@@ -50,6 +43,8 @@ knows_anyone (PolicyRow row) = tt
 knows_anyone (HostSource source) = tt
 knows_anyone (HostRoute route) = tt
 knows_anyone (Answer family reply) = tt
+knows_anyone (RoundTrip ip rtt) = refl
+knows_anyone (UsedBefore ip) = refl
 knows_anyone (Told ip outcome) = refl
 knows_anyone (Paused from to) = tt
 knows_anyone Ended = tt
@@ -110,6 +105,18 @@ is_line line (Answer families.V4 reply) says suits = record {
   tokens = says.0 ∷ says.1;
   word = word_is line words.A (says.0 ∷ says.1) says.2;
   reads = λ known k. ap (λ r. r >>= λ reply. Ok (Answer families.V4 reply)) (answer_reads families.V4 says.0 says.1 reply says.3 says.4 says.5 suits);
+  goes = refl;
+}
+is_line line (RoundTrip ip rtt) says suits = record {
+  tokens = says.0 ∷ says.1 ∷ [];
+  word = word_is line words.Rtt (says.0 ∷ says.1 ∷ []) says.2;
+  reads = λ known k. ap (λ r. r >>= λ told. Ok (RoundTrip told.0 told.1)) (round_trip_reads known says.0 says.1 ip rtt says.3 k says.4);
+  goes = refl;
+}
+is_line line (UsedBefore ip) says suits = record {
+  tokens = says.0 ∷ [];
+  word = word_is line words.Used (says.0 ∷ []) says.1;
+  reads = λ known k. ap (λ r. r >>= λ ip. Ok (UsedBefore ip)) (used_reads known says.0 ip says.2 k);
   goes = refl;
 }
 is_line line (Told ip outcome) says suits = record {

@@ -8,13 +8,14 @@ use Rattle.std.specs.Result.{result_err}
 use Rattle.he_text.specs.declared.fault.TextKind.{TextKind}
 use Rattle.he_text.specs.declared.fault.TextKind.TheVariants as kinds
 use Rattle.he_text.specs.declared.limits.TheConstants.{MAX_LINE}
+use Rattle.he_text.specs.declared.words.Version.{Version}
 use Rattle.he_text.specs.declared.words.Word.{Word}
 use Rattle.he_text.specs.declared.words.Word.TheVariants as words
-use Rattle.he_text.specs.Faults.{test, first_fault, last_group, known_to, too_long, unfinished, wrong_word, too_often, wrong_bounds, repeated, wrong_table, of_said, line_fault, ends}
+use Rattle.he_text.specs.Faults.{test, first_fault, last_group, known_to, too_long, unfinished, wrong_word, too_often, wrong_bounds, repeated, wrong_group, of_said, line_fault, ends}
 use Rattle.he_text.specs.FaultSearch.{at_line_number, fault_from}
 use Rattle.he_text.specs.Forms.{◌>>=◌, word_of, said_by}
 use Rattle.he_text.specs.Parts.{tokens_of}
-use Rattle.he_text.specs.Said.{Said, Setting, PolicyRow, HostSource, HostRoute, Answer, Told, Paused, Ended}
+use Rattle.he_text.specs.Said.{Said, Setting, PolicyRow, HostSource, HostRoute, Answer, RoundTrip, UsedBefore, Told, Paused, Ended}
 use Rattle.he_text.specs.Text.{Says, group_said}
 use Rattle.he_text.specs.Words.{group_of, word_in}
 use Rattle.he_text.proofs.CompleteChecks.{has_room, in_bounds, not_twice, table_fits}
@@ -54,23 +55,23 @@ comes_next before told later s tokens whole are =
     ap (λ b. test b kinds.Word) (le-ltb (group_of (word_said s)) (last_group 0 before) (omega arith))
 
 -- all checks of a line, by the word, the lines before and what the line says
-abbrev checked : List (List ℕ) → List ℕ → List (List ℕ) → List Said → Result (Word × List (List ℕ)) TextKind → Option TextKind
-checked before line after told word =
+abbrev checked : (v : Version) → List (List ℕ) → List ℕ → List (List ℕ) → List Said → Result (Word × List (List ℕ)) TextKind → Option TextKind
+checked v before line after told word =
     first_fault (too_long line ∷ unfinished after ∷ wrong_word (last_group 0 before) word ∷ too_often before word
     ∷ result_err (word >>= λ parts. said_by (known_to told) parts.0 parts.1)
     ∷ of_said (wrong_bounds told) (word >>= λ parts. said_by (known_to told) parts.0 parts.1)
     ∷ of_said (repeated told) (word >>= λ parts. said_by (known_to told) parts.0 parts.1)
-    ∷ of_said (wrong_table told after) (word >>= λ parts. said_by (known_to told) parts.0 parts.1) ∷ [])
+    ∷ of_said (wrong_group told after) (word >>= λ parts. said_by (known_to told) parts.0 parts.1) ∷ [])
 
-pub right_line : (before more after : List (List ℕ)) (line last : List ℕ) (told later : List Said) (s : Said) → IsWhole (told ++ s ∷ later)
+pub right_line : (v : Version) → (before more after : List (List ℕ)) (line last : List ℕ) (told later : List Said) (s : Said) → IsWhole (told ++ s ∷ later)
     → AllZip IsLine before told → IsLine line s → length line ≤ MAX_LINE → AllZip IsLine more later → AreShort more
-    → line_fault before line (more ++ last ∷ after) ≡ None
+    → line_fault v before line (more ++ last ∷ after) ≡ None
 unfolding line_fault
-right_line before more after line last told later s whole before_are is short more_are more_short =
-    ap (λ told. checked before line (more ++ last ∷ after) told (word_of (tokens_of line))) (said_are before told before_are)
-    ∙ ap (checked before line (more ++ last ∷ after) told) is.word
+right_line v before more after line last told later s whole before_are is short more_are more_short =
+    ap (λ told. checked v before line (more ++ last ∷ after) told (version_word v (tokens_of line))) (said_are before told before_are)
+    ∙ ap (checked v before line (more ++ last ∷ after) told) is.word
     ∙ all_none (too_long line) (unfinished (more ++ last ∷ after)) (wrong_word (last_group 0 before) (Ok (word_said s, is.tokens))) (too_often before (Ok (word_said s, is.tokens)))
-    (said_by (known_to told) (word_said s) is.tokens) (wrong_bounds told) (repeated told) (wrong_table told (more ++ last ∷ after)) s
+    (said_by (known_to told) (word_said s) is.tokens) (wrong_bounds told) (repeated told) (wrong_group told (more ++ last ∷ after)) s
     (short_enough line short) (finished more last after) (comes_next before told later s is.tokens whole before_are) (has_room before told later s is.tokens whole before_are)
     (is.reads (known_to told) (knows told later s whole)) (in_bounds told later s whole) (not_twice told later s whole) (table_fits told later s more after last whole more_short more_are)
 
@@ -87,31 +88,33 @@ nothing_after : (after : List (List ℕ)) → 0 < length after → unfinished af
 nothing_after [] some = absurd (omega arith)
 nothing_after (line ∷ after) some = refl
 
-group_most : (s : Said) → group_said s ≤ 9
+group_most : (s : Said) → group_said s ≤ 11
 group_most (Setting name value) = omega arith
 group_most (PolicyRow row) = omega arith
 group_most (HostSource source) = omega arith
 group_most (HostRoute route) = omega arith
 group_most (Answer families.V6 reply) = omega arith
 group_most (Answer families.V4 reply) = omega arith
+group_most (RoundTrip ip rtt) = omega arith
+group_most (UsedBefore ip) = omega arith
 group_most (Told ip outcome) = omega arith
 group_most (Paused from to) = omega arith
 group_most Ended = omega arith
 
-last_most : (group : ℕ) (said : List Said) → group ≤ 9 → group_last group said ≤ 9
+last_most : (group : ℕ) (said : List Said) → group ≤ 11 → group_last group said ≤ 11
 last_most group [] le = le
 last_most group (s ∷ said) le = last_most (group_said s) said (group_most s)
 
-right_end : (before after : List (List ℕ)) (told : List Said) → AllZip IsLine before told → 0 < length after → line_fault before (codes "end") after ≡ None
+right_end : (v : Version) → (before after : List (List ℕ)) (told : List Said) → AllZip IsLine before told → 0 < length after → line_fault v before (codes "end") after ≡ None
 unfolding line_fault said_by
-right_end before after told are some =
+right_end v before after told are some =
     let last : last_group 0 before ≡ group_last 0 told = last_is 0 before told are in
-    let most : group_last 0 told ≤ 9 = last_most 0 told (omega arith) in
-    ap (λ told. checked before (codes "end") after told (word_of (tokens_of (codes "end")))) (said_are before told are)
-    ∙ ap (checked before (codes "end") after told) end_word
+    let most : group_last 0 told ≤ 11 = last_most 0 told (omega arith) in
+    ap (λ told. checked v before (codes "end") after told (version_word v (tokens_of (codes "end")))) (said_are before told are)
+    ∙ ap (checked v before (codes "end") after told) end_word
     ∙ all_none (too_long (codes "end")) (unfinished after) (wrong_word (last_group 0 before) (Ok (words.End, []))) (too_often before (Ok (words.End, [])))
-    (Ok Ended) (wrong_bounds told) (repeated told) (wrong_table told after) Ended
-    refl (nothing_after after some) (ap (λ b. test b kinds.Word) (le-ltb 9 (last_group 0 before) (omega arith))) refl refl refl refl refl
+    (Ok Ended) (wrong_bounds told) (repeated told) (wrong_group told after) Ended
+    refl (nothing_after after some) (ap (λ b. test b kinds.Word) (le-ltb 11 (last_group 0 before) (omega arith))) refl refl refl refl refl
 
 zip_more : {A B : Type 0} (R : A → B → Type 0) (xs : List A) (ys : List B) (x : A) (y : B) → AllZip R xs ys → R x y → AllZip R (xs ++ x ∷ []) (ys ++ y ∷ [])
 zip_more R [] [] x y all here = (here, tt)
@@ -126,14 +129,14 @@ stop : (n : ℕ) (fault : Option TextKind) (ends : Bool) (later : Option (ℕ ×
 stop n fault ends later h e = rw (h, e) refl
 
 -- no line from line n on is wrong, up to the one that ends the race
-pub none_from : (n : ℕ) (before lines after : List (List ℕ)) (told said : List Said) → IsWhole (told ++ said) → AllZip IsLine before told → AllZip IsLine lines said → AreShort lines → 0 < length after
-    → fault_from n before (lines ++ codes "end" ∷ after) ≡ None
+pub none_from : (v : Version) → (n : ℕ) (before lines after : List (List ℕ)) (told said : List Said) → IsWhole (told ++ said) → AllZip IsLine before told → AllZip IsLine lines said → AreShort lines → 0 < length after
+    → fault_from v n before (lines ++ codes "end" ∷ after) ≡ None
 unfolding fault_from
-none_from n before [] after told [] whole before_are are short some =
-    stop n (line_fault before (codes "end") after) (ends (codes "end")) (fault_from (n + 1) (before ++ codes "end" ∷ []) after) (right_end before after told before_are some) end_ends
-none_from n before [] after told (s ∷ said) whole before_are are short some = absurd are
-none_from n before (line ∷ lines) after told [] whole before_are are short some = absurd are
-none_from n before (line ∷ lines) after told (s ∷ said) whole before_are are short some =
-    step n (line_fault before line (lines ++ codes "end" ∷ after)) (ends line) (fault_from (n + 1) (before ++ line ∷ []) (lines ++ codes "end" ∷ after))
-    (right_line before lines after line (codes "end") told said s whole before_are are.0 short.0 are.1 short.1) (goes_on line s are.0)
-    (none_from (n + 1) (before ++ line ∷ []) lines after (told ++ s ∷ []) said (subst IsWhole (sym (append_assoc told (s ∷ []) said)) whole) (zip_more IsLine before told line s before_are are.0) are.1 short.1 some)
+none_from v n before [] after told [] whole before_are are short some =
+    stop n (line_fault v before (codes "end") after) (ends (codes "end")) (fault_from v (n + 1) (before ++ codes "end" ∷ []) after) (right_end v before after told before_are some) end_ends
+none_from v n before [] after told (s ∷ said) whole before_are are short some = absurd are
+none_from v n before (line ∷ lines) after told [] whole before_are are short some = absurd are
+none_from v n before (line ∷ lines) after told (s ∷ said) whole before_are are short some =
+    step n (line_fault v before line (lines ++ codes "end" ∷ after)) (ends line) (fault_from v (n + 1) (before ++ line ∷ []) (lines ++ codes "end" ∷ after))
+    (right_line v before lines after line (codes "end") told said s whole before_are are.0 short.0 are.1 short.1) (goes_on line s are.0)
+    (none_from v (n + 1) (before ++ line ∷ []) lines after (told ++ s ∷ []) said (subst IsWhole (sym (append_assoc told (s ∷ []) said)) whole) (zip_more IsLine before told line s before_are are.0) are.1 short.1 some)

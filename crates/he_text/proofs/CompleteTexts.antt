@@ -68,9 +68,9 @@ unfolding fault_in
 nothing_wrong text rest race is =
     let after : List (List ℕ) = is.lines ++ codes "end" ∷ lines_of rest in
     ap fault_in (begins_with text rest race is)
-    ∙ header_right (first_fault (too_long (codes "race 1") ∷ unfinished after ∷ wrong_header (codes "race 1") ∷ [])) (fault_from 2 [] after)
+    ∙ header_right (first_fault (too_long (codes "race 1") ∷ unfinished after ∷ wrong_header (codes "race 1") ∷ [])) (fault_from (version_on line) 2 [] after)
     (ap (λ f. first_fault (too_long (codes "race 1") ∷ f ∷ wrong_header (codes "race 1") ∷ [])) (finished is.lines (codes "end") (lines_of rest)))
-    (none_from 2 [] is.lines (lines_of rest) [] is.said (whole text race is) tt (are_lines text race is) is.are.short (some_lines rest))
+    (none_from (version_on line) 2 [] is.lines (lines_of rest) [] is.said (whole text race is) tt (are_lines text race is) is.are.short (some_lines rest))
 
 -- lines that are not the last one of a race
 abbrev GoOn : List (List ℕ) → Type 0

@@ -4,6 +4,7 @@ use Rattle.std.specs.Prelude.{◌⊎◌}
 use Rattle.std.proofs.lemmas.List.{append-nil, length-append}
 use Rattle.std.proofs.lemmas.List.Splits.{length-slice_split}
 use Rattle.he_text.specs.declared.fault.TextKind.{TextKind}
+use Rattle.he_text.specs.declared.words.Version.{Version}
 use Rattle.he_text.specs.Faults.{first_fault, unfinished, header_fault, line_fault, ends}
 use Rattle.he_text.specs.FaultSearch.{at_line_number, fault_from, fault_in, fault_of}
 use Rattle.he_text.specs.FirstFault.{fault_on, ends_race, GoOnRight, IsFirstFault, IsFirstFaultOf}
@@ -43,31 +44,31 @@ follows others None [] h = cc
 follows others (Some kind) [] h = cc
 follows others long (line ∷ after) h = omega arith
 
-line_follows : (before : List (List ℕ)) (line : List ℕ) (after : List (List ℕ)) → line_fault before line after ≡ None → 0 < length after
+line_follows : (v : Version) → (before : List (List ℕ)) (line : List ℕ) (after : List (List ℕ)) → line_fault v before line after ≡ None → 0 < length after
 unfolding line_fault
-line_follows before line after h = follows _ _ after h
+line_follows v before line after h = follows _ _ after h
 
 header_follows : (line : List ℕ) (after : List (List ℕ)) → header_fault line after ≡ None → 0 < length after
 header_follows line after h = follows _ _ after h
 
 from_first : (n : ℕ) (first : List ℕ) (before lines all : List (List ℕ)) (m : ℕ) (kind : TextKind) → all ≡ (first ∷ before) ++ lines → n ≡ length before + 2 → 0 < length lines → GoOnRight (first ∷ before) lines
-    → fault_from n before lines ≡ Some (m, kind) → IsFirstFault all m kind
+    → fault_from (version_on first) n before lines ≡ Some (m, kind) → IsFirstFault all m kind
 unfolding fault_from
 from_first n first before [] all m kind is count some right h = absurd (omega arith)
 from_first n first before (line ∷ after) all m kind is count some right h =
     by_fault (λ follow goes none e. from_first (n + 1) first (before ++ line ∷ []) after all m kind
     (is ∙ ap (λ ls. first ∷ ls) (sym (append_assoc before (line ∷ []) after)))
     (let longer : length (before ++ line ∷ []) ≡ length before + 1 = length-append before (line ∷ []) in omega arith)
-    follow (right_more (first ∷ before) line after right none goes) e) (line_fault before line after) refl h
+    follow (right_more (first ∷ before) line after right none goes) e) (line_fault (version_on first) before line after) refl h
   where
-    by_end : (b : Bool) → ends line ≡ b → line_fault before line after ≡ None
-        → (0 < length after → ends line ≡ false → line_fault before line after ≡ None → fault_from (n + 1) (before ++ line ∷ []) after ≡ Some (m, kind) → IsFirstFault all m kind)
-        → cond b None (fault_from (n + 1) (before ++ line ∷ []) after) ≡ Some (m, kind) → IsFirstFault all m kind
+    by_end : (b : Bool) → ends line ≡ b → line_fault (version_on first) before line after ≡ None
+        → (0 < length after → ends line ≡ false → line_fault (version_on first) before line after ≡ None → fault_from (version_on first) (n + 1) (before ++ line ∷ []) after ≡ Some (m, kind) → IsFirstFault all m kind)
+        → cond b None (fault_from (version_on first) (n + 1) (before ++ line ∷ []) after) ≡ Some (m, kind) → IsFirstFault all m kind
     by_end true e none later found = cc
-    by_end false e none later found = later (line_follows before line after none) e none found
+    by_end false e none later found = later (line_follows (version_on first) before line after none) e none found
 
-    by_fault : (0 < length after → ends line ≡ false → line_fault before line after ≡ None → fault_from (n + 1) (before ++ line ∷ []) after ≡ Some (m, kind) → IsFirstFault all m kind)
-        → (o : Option TextKind) → line_fault before line after ≡ o → at_line_number n o (cond (ends line) None (fault_from (n + 1) (before ++ line ∷ []) after)) ≡ Some (m, kind) → IsFirstFault all m kind
+    by_fault : (0 < length after → ends line ≡ false → line_fault (version_on first) before line after ≡ None → fault_from (version_on first) (n + 1) (before ++ line ∷ []) after ≡ Some (m, kind) → IsFirstFault all m kind)
+        → (o : Option TextKind) → line_fault (version_on first) before line after ≡ o → at_line_number n o (cond (ends line) None (fault_from (version_on first) (n + 1) (before ++ line ∷ []) after)) ≡ Some (m, kind) → IsFirstFault all m kind
     by_fault later None e found = by_end (ends line) refl e later found
     by_fault later (Some k) e found =
         let same = number_is n m k kind found in
@@ -84,7 +85,7 @@ pub first_fault_is : (text : List ℕ) (m : ℕ) (kind : TextKind) → fault_of 
 unfolding fault_in
 first_fault_is text m kind h = by_lines (lines_of text) (omega (arith, length-slice_split (λ b. b == 10) text)) h
   where
-    by_fault : (line : List ℕ) (after : List (List ℕ)) (o : Option TextKind) → header_fault line after ≡ o → at_line_number 1 o (fault_from 2 [] after) ≡ Some (m, kind) → IsFirstFault (line ∷ after) m kind
+    by_fault : (line : List ℕ) (after : List (List ℕ)) (o : Option TextKind) → header_fault line after ≡ o → at_line_number 1 o (fault_from (version_on line) 2 [] after) ≡ Some (m, kind) → IsFirstFault (line ∷ after) m kind
     by_fault line after None e found =
         from_first 2 line [] after (line ∷ after) m kind refl refl (header_follows line after e) (right_more [] line after (nothing_before (line ∷ after)) e refl) found
     by_fault line after (Some k) e found =
@@ -100,20 +101,20 @@ at_fault : (n : ℕ) (o : Option TextKind) (kind : TextKind) (later : Option (�
 at_fault n o kind later h = ap (λ f. at_line_number n f later) h
 
 from_back : (n : ℕ) (first : List ℕ) (passed before : List (List ℕ)) (line : List ℕ) (after : List (List ℕ)) (kind : TextKind) → GoOnRight (first ∷ passed ++ before) (line ∷ after)
-    → line_fault (passed ++ before) line after ≡ Some kind → fault_from n passed (before ++ line ∷ after) ≡ Some (n + length before, kind)
+    → line_fault (version_on first) (passed ++ before) line after ≡ Some kind → fault_from (version_on first) n passed (before ++ line ∷ after) ≡ Some (n + length before, kind)
 unfolding fault_from
 from_back n first passed [] line after kind right fails =
     let size : n ≡ n + length {A = List ℕ} [] = omega arith in
-    at_fault n (line_fault passed line after) kind (cond (ends line) None (fault_from (n + 1) (passed ++ line ∷ []) after)) (ap (λ p. line_fault p line after) (sym (append-nil passed)) ∙ fails)
+    at_fault n (line_fault (version_on first) passed line after) kind (cond (ends line) None (fault_from (version_on first) (n + 1) (passed ++ line ∷ []) after)) (ap (λ p. line_fault (version_on first) p line after) (sym (append-nil passed)) ∙ fails)
     ∙ ap (λ (k : ℕ). Some (k, kind)) size
 from_back n first passed (l ∷ before) line after kind right fails =
     let here = right (first ∷ passed) l before refl in
     let R : List (List ℕ) → Type 0 = λ ls. GoOnRight (first ∷ ls) (line ∷ after) in
-    let F : List (List ℕ) → Type 0 = λ ls. line_fault ls line after ≡ Some kind in
+    let F : List (List ℕ) → Type 0 = λ ls. line_fault (version_on first) ls line after ≡ Some kind in
     let more : passed ++ l ∷ before ≡ (passed ++ l ∷ []) ++ before = sym (append_assoc passed (l ∷ []) before) in
     let size : n + 1 + length before ≡ n + length (l ∷ before) = omega arith in
-    ap (λ o. at_line_number n o (cond (ends l) None (fault_from (n + 1) (passed ++ l ∷ []) (before ++ line ∷ after)))) here.0
-    ∙ ap (λ b. cond b None (fault_from (n + 1) (passed ++ l ∷ []) (before ++ line ∷ after))) here.1
+    ap (λ o. at_line_number n o (cond (ends l) None (fault_from (version_on first) (n + 1) (passed ++ l ∷ []) (before ++ line ∷ after)))) here.0
+    ∙ ap (λ b. cond b None (fault_from (version_on first) (n + 1) (passed ++ l ∷ []) (before ++ line ∷ after))) here.1
     ∙ from_back (n + 1) first (passed ++ l ∷ []) before line after kind (subst R more right) (subst F more fails)
     ∙ ap (λ (k : ℕ). Some (k, kind)) size
 
@@ -126,6 +127,6 @@ is_first_fault text m kind is = ap fault_in is.parts ∙ by_before is.before is.
     by_before (first ∷ before) right fails =
         let here = right [] first before refl in
         let size : 2 + length before ≡ length (first ∷ before) + 1 = omega arith in
-        ap (λ o. at_line_number 1 o (fault_from 2 [] (before ++ is.line ∷ is.after))) here.0
+        ap (λ o. at_line_number 1 o (fault_from (version_on first) 2 [] (before ++ is.line ∷ is.after))) here.0
         ∙ from_back 2 first [] before is.line is.after kind right fails
         ∙ ap (λ (k : ℕ). Some (k, kind)) size

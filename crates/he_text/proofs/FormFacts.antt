@@ -16,7 +16,7 @@ use Rattle.he_plan.specs.Race.{Reply}
 use Rattle.he_plan.specs.Timeline.{is_of, are_of, duration_of}
 use Rattle.he_text.specs.declared.fault.TextKind.TheVariants as kinds
 use Rattle.he_text.specs.declared.words.Name.{Name}
-use Rattle.he_text.specs.Forms.{◌>>=◌, within, number_from, setting_in, address_in, addresses_in, listed_in, answer_in, known_in, mark_in, connect_in, pause_in, least_value, most_value}
+use Rattle.he_text.specs.Forms.{◌>>=◌, within, number_from, setting_in, address_in, addresses_in, listed_in, answer_in, known_in, round_trip_in, used_in, mark_in, connect_in, pause_in, least_value, most_value}
 use Rattle.he_text.specs.Text.{mark_text}
 use Rattle.he_text.proofs.LineReads.{ReadsNumber}
 use Rattle.he_text.specs.Words.{name_in}
@@ -165,6 +165,41 @@ known_ok known token ip h =
     let fits = let_through (known read.0) (Ok read.0) kinds.Address ip read.2 in
     let same : read.0 ≡ ip = cc (fits.1) in
     (ok_or_ok (ip_in token) kinds.Address read.0 read.1 ∙ ap Some same, ap known (sym same) ∙ fits.0)
+
+-- rtt ADDRESS N
+pub record IsRoundTrip (known : Ip → Bool) (tokens : List (List ℕ)) (ip : Ip) (rtt : ℕ) : Type 0 where
+  pub first : List ℕ
+  pub second : List ℕ
+  pub tokens_are : tokens ≡ first ∷ second ∷ []
+  pub ip_is : ip_in first ≡ Some ip
+  pub known_is : known ip ≡ true
+  pub rtt_is : ReadsNumber MIN_DURATION MAX_DURATION second rtt
+
+pub round_trip_ok : (known : Ip → Bool) (tokens : List (List ℕ)) (told : Ip × ℕ) → round_trip_in known tokens ≡ Ok told → IsRoundTrip known tokens told.0 told.1
+unfolding round_trip_in
+round_trip_ok known [] told h = cc
+round_trip_ok known (a ∷ []) told h = cc
+round_trip_ok known (a ∷ b ∷ c ∷ more) told h = cc
+round_trip_ok known (a ∷ b ∷ []) told h =
+    let ip = bind_ok (known_in known a) (λ ip. number_from MIN_DURATION MAX_DURATION b >>= λ rtt. Ok (ip, rtt)) told h in
+    let rtt = bind_ok (number_from MIN_DURATION MAX_DURATION b) (λ rtt. Ok (ip.0, rtt)) told ip.2 in
+    let is = known_ok known a ip.0 ip.1 in
+    let same : (ip.0, rtt.0) ≡ told = cc (rtt.2) in
+    let P : Ip × ℕ → Type 0 = λ told. IsRoundTrip known (a ∷ b ∷ []) told.0 told.1 in
+    subst P same (record { first = a; second = b; tokens_are = refl; ip_is = is.0; known_is = is.1; rtt_is = number_ok MIN_DURATION MAX_DURATION b rtt.0 rtt.1 })
+
+-- used ADDRESS
+pub record IsUsed (known : Ip → Bool) (tokens : List (List ℕ)) (ip : Ip) : Type 0 where
+  pub first : List ℕ
+  pub tokens_are : tokens ≡ first ∷ []
+  pub ip_is : ip_in first ≡ Some ip
+  pub known_is : known ip ≡ true
+
+pub used_ok : (known : Ip → Bool) (tokens : List (List ℕ)) (ip : Ip) → used_in known tokens ≡ Ok ip → IsUsed known tokens ip
+unfolding used_in
+used_ok known [] ip h = cc
+used_ok known (a ∷ []) ip h = let is = known_ok known a ip h in record { first = a; tokens_are = refl; ip_is = is.0; known_is = is.1 }
+used_ok known (a ∷ b ∷ more) ip h = cc
 
 abbrev pub outcome_of : Bool → ℕ → Outcome
 outcome_of succeeds ticks = cond succeeds (outcomes.Ok ticks) (outcomes.Fail ticks)

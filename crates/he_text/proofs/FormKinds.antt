@@ -14,7 +14,7 @@ use Rattle.he_text.specs.declared.fault.TextKind.{TextKind}
 use Rattle.he_text.specs.declared.fault.TextKind.TheVariants as kinds
 use Rattle.he_text.specs.declared.words.Word.{Word}
 use Rattle.he_text.specs.declared.words.Word.TheVariants as words
-use Rattle.he_text.specs.Forms.{◌>>=◌, number_from, setting_in, row_in, source_address_in, interface_in, source_marks_in, host_source_in, route_marks_in, host_route_in, address_in, addresses_in, listed_in, answer_in, known_in, mark_in, connect_in, pause_in, word_of, said_by, said_in}
+use Rattle.he_text.specs.Forms.{◌>>=◌, number_from, setting_in, row_in, source_address_in, interface_in, source_marks_in, host_source_in, route_marks_in, host_route_in, address_in, addresses_in, listed_in, answer_in, known_in, round_trip_in, used_in, mark_in, connect_in, pause_in, word_of, said_by, said_in}
 use Rattle.he_text.specs.Parts.{tokens_of}
 use Rattle.he_text.specs.Words.{name_in, word_in}
 
@@ -128,6 +128,19 @@ known_own : (known : Ip → Bool) (token : List ℕ) → FailsOwn (known_in know
 unfolding known_in
 known_own known token = own_then _ _ (own_or (ip_in token) kinds.Address tt) (λ ip. own_if (known ip) _ _ (fine ip) (wrong _ kinds.Address tt))
 
+round_trip_own : (known : Ip → Bool) (tokens : List (List ℕ)) → FailsOwn (round_trip_in known tokens)
+unfolding round_trip_in
+round_trip_own known [] = wrong _ kinds.Word tt
+round_trip_own known (a ∷ []) = wrong _ kinds.Word tt
+round_trip_own known (a ∷ b ∷ []) = own_then _ _ (known_own known a) (λ ip. own_then _ _ (number_own _ _ b) (λ rtt. fine _))
+round_trip_own known (a ∷ b ∷ c ∷ more) = wrong _ kinds.Word tt
+
+used_own : (known : Ip → Bool) (tokens : List (List ℕ)) → FailsOwn (used_in known tokens)
+unfolding used_in
+used_own known [] = wrong _ kinds.Word tt
+used_own known (a ∷ []) = known_own known a
+used_own known (a ∷ b ∷ more) = wrong _ kinds.Word tt
+
 mark_own : (token : List ℕ) → FailsOwn (mark_in token)
 unfolding mark_in
 mark_own token = own_if (bytes_eq token (codes "ok")) _ _ (fine true) (own_if (bytes_eq token (codes "fail")) _ _ (fine false) (wrong _ kinds.Word tt))
@@ -160,6 +173,8 @@ told_own known words.Source tokens = own_then _ _ (host_source_own tokens) (λ s
 told_own known words.Route tokens = own_then _ _ (host_route_own tokens) (λ route. fine _)
 told_own known words.Aaaa tokens = own_then _ _ (answer_own _ tokens) (λ reply. fine _)
 told_own known words.A tokens = own_then _ _ (answer_own _ tokens) (λ reply. fine _)
+told_own known words.Rtt tokens = own_then _ _ (round_trip_own known tokens) (λ told. fine _)
+told_own known words.Used tokens = own_then _ _ (used_own known tokens) (λ ip. fine _)
 told_own known words.Connect tokens = own_then _ _ (connect_own known tokens) (λ told. fine _)
 told_own known words.Pause tokens = own_then _ _ (pause_own tokens) (λ pause. fine _)
 told_own known words.End [] = fine _

@@ -22,10 +22,10 @@ use Rattle.he_select.specs.declared.policy.Row.{Row}
 use Rattle.he_text.specs.declared.fault.TextKind.TheVariants as kinds
 use Rattle.he_text.specs.declared.limits.TheConstants.{MAX_PRECEDENCE, MAX_LABEL, MIN_INTERFACE, MAX_INTERFACE, SOURCE_MARKS, ROUTE_MARKS}
 use Rattle.he_text.specs.declared.words.Name.{Name}
-use Rattle.he_text.specs.declared.words.Name.TheVariants.{Resolution, Attempt, Count, Limit}
+use Rattle.he_text.specs.declared.words.Name.TheVariants.{Resolution, Attempt, Count, Limit, Floor}
 use Rattle.he_text.specs.declared.words.Word.{Word}
 use Rattle.he_text.specs.declared.words.Word.TheVariants as words
-use Rattle.he_text.specs.Forms.{◌>>=◌, within, number_from, setting_in, row_in, source_address_in, source_marks_in, host_source_in, route_marks_in, host_route_in, address_in, addresses_in, listed_in, answer_in, known_in, mark_in, connect_in, pause_in, least_value, most_value}
+use Rattle.he_text.specs.Forms.{◌>>=◌, within, number_from, setting_in, row_in, source_address_in, source_marks_in, host_source_in, route_marks_in, host_route_in, address_in, addresses_in, listed_in, answer_in, known_in, round_trip_in, used_in, mark_in, connect_in, pause_in, least_value, most_value}
 use Rattle.he_text.specs.Text.{mark_text, marked, source_marks, route_marks}
 use Rattle.he_text.proofs.LineReads.{ReadsList, ReadsNumber}
 use Rattle.he_text.specs.Words.{spelling_of, name_spelling, word_in, name_in}
@@ -38,6 +38,8 @@ word_reads words.Source = refl
 word_reads words.Route = refl
 word_reads words.Aaaa = refl
 word_reads words.A = refl
+word_reads words.Rtt = refl
+word_reads words.Used = refl
 word_reads words.Connect = refl
 word_reads words.Pause = refl
 word_reads words.End = refl
@@ -48,6 +50,7 @@ name_reads Resolution = refl
 name_reads Attempt = refl
 name_reads Count = refl
 name_reads Limit = refl
+name_reads Floor = refl
 
 pub number_reads : (low high : ℕ) (token : List ℕ) (n : ℕ) → ReadsNumber low high token n → number_from low high token ≡ Ok n
 unfolding number_from
@@ -178,6 +181,19 @@ answer_reads family number tokens reply tick listed few of_family =
 known_reads : (known : Ip → Bool) (token : List ℕ) (ip : Ip) → ip_in token ≡ Some ip → known ip ≡ true → known_in known token ≡ Ok ip
 unfolding known_in
 known_reads known token ip h is_known = rw (h, is_known)
+
+-- rtt ADDRESS N, used ADDRESS
+pub round_trip_reads : (known : Ip → Bool) (address number : List ℕ) (ip : Ip) (rtt : ℕ) → ip_in address ≡ Some ip → known ip ≡ true → ReadsNumber MIN_DURATION MAX_DURATION number rtt
+    → round_trip_in known (address ∷ number ∷ []) ≡ Ok (ip, rtt)
+unfolding round_trip_in
+round_trip_reads known address number ip rtt h is_known times =
+    let k = known_reads known address ip h is_known in
+    let n = number_reads MIN_DURATION MAX_DURATION number rtt times in
+    rw (k, n)
+
+pub used_reads : (known : Ip → Bool) (address : List ℕ) (ip : Ip) → ip_in address ≡ Some ip → known ip ≡ true → used_in known (address ∷ []) ≡ Ok ip
+unfolding used_in
+used_reads known address ip h is_known = known_reads known address ip h is_known
 
 pub connect_reads : (known : Ip → Bool) (address number : List ℕ) (ip : Ip) (outcome : Outcome) → ip_in address ≡ Some ip → known ip ≡ true
     → ReadsNumber MIN_DURATION MAX_DURATION number (duration_of outcome) → connect_in known (address ∷ mark_text outcome ∷ number ∷ []) ≡ Ok (ip, outcome)

@@ -17,14 +17,13 @@ use Rattle.he_text.specs.declared.fault.TextKind.TheVariants as kinds
 use Rattle.he_text.specs.declared.words.Name.{Name}
 use Rattle.he_text.specs.declared.words.Word.{Word}
 use Rattle.he_text.specs.declared.words.Word.TheVariants as words
-use Rattle.he_text.specs.Faults.{first_fault, test, wrong_bounds, repeated, is_policy_next, wrong_table}
+use Rattle.he_text.specs.Faults.{first_fault, test, wrong_bounds, repeated, floor_is_above, is_next, wrong_group}
 use Rattle.he_text.specs.Forms.{◌>>=◌, setting_in, row_in, host_source_in, host_route_in, said_by}
-use Rattle.he_text.specs.Reading.{HeadGiven, add_setting, with_row, add_row, add_source, add_route, take_given, is_head_word}
-use Rattle.he_text.specs.Said.{Said, Setting, PolicyRow, HostSource, HostRoute, row_said, source_said, route_said, rows_given, sources_given, routes_given}
-use Rattle.he_text.specs.Words.{is_policy}
+use Rattle.he_text.specs.Reading.{HeadGiven, given_is_above, settled, add_setting, with_row, add_row, add_source, add_route, take_given, is_head_word}
+use Rattle.he_text.specs.Said.{Said, Setting, PolicyRow, HostSource, HostRoute, row_said, source_said, route_said, rows_given, sources_given, routes_given, settings_given}
 use Rattle.he_text.proofs.GivenLaws.{given_of, given_kept, put_agrees}
 use Rattle.he_text.proofs.SaidLaws.{none_more, one_more}
-use Rattle.he_text.proofs.ToldLaws.{outcome}
+use Rattle.he_text.proofs.ToldLaws.{no_group, outcome}
 
 abbrev made : GivenSettings → List Row → List Source → List Route → HeadGiven
 made given rows sources routes = record { settings = given; rows = rows; sources = sources; routes = routes }
@@ -35,23 +34,29 @@ head_given said = made (given_of said) (rows_given said) (sources_given said) (r
 
 -- the last three checks, and what is given with what was said
 abbrev pub judged_head : List (List ℕ) → List Said → Said → Result HeadGiven TextKind
-judged_head after said s = outcome (first_fault (wrong_bounds said s ∷ repeated said s ∷ wrong_table said after s ∷ [])) (head_given (said ++ s ∷ []))
+judged_head after said s = outcome (first_fault (wrong_bounds said s ∷ repeated said s ∷ wrong_group said after s ∷ [])) (head_given (said ++ s ∷ []))
 
 head_same : (g g' : GivenSettings) (r r' : List Row) (s s' : List Source) (t t' : List Route) → g ≡ g' → r ≡ r' → s ≡ s' → t ≡ t' → made g r s t ≡ made g' r' s' t'
 head_same g g' r r' s s' t t' eg er es et =
     ap (λ x. made x r s t) eg ∙ ap (λ x. made g' x s t) er ∙ ap (λ x. made g' r' x t) es ∙ ap (made g' r' s') et
 
 -- settings
-setting_judged : (again : Bool) (head final : HeadGiven) (more : GivenSettings) → record head { settings = more } ≡ final
-    → (outcome (first_fault (None ∷ test again kinds.Repeated ∷ [])) more >>= λ (m : GivenSettings). Ok (record head { settings = m })) ≡ outcome (first_fault (None ∷ test again kinds.Repeated ∷ None ∷ [])) final
-setting_judged true head final more same = refl
-setting_judged false head final more same = ap Ok same
+setting_judged : (again more : Bool) (head final : HeadGiven) (given : GivenSettings) → record head { settings = given } ≡ final
+    → ((outcome (first_fault (None ∷ test again kinds.Repeated ∷ [])) given >>= settled more) >>= λ (m : GivenSettings). Ok (record head { settings = m }))
+    ≡ outcome (first_fault (None ∷ test again kinds.Repeated ∷ cond more None (test (given_is_above given) kinds.Range) ∷ [])) final
+setting_judged true more head final given same = refl
+setting_judged false true head final given same = ap Ok same
+setting_judged false false head final given same = by_above (given_is_above given)
+  where
+    by_above : (above : Bool) → (cond above (Err kinds.Range) (Ok given) >>= λ (m : GivenSettings). Ok (record head { settings = m })) ≡ outcome (first_fault (None ∷ None ∷ test above kinds.Range ∷ [])) final
+    by_above true = refl
+    by_above false = ap Ok same
 
-setting_agrees : (after : List (List ℕ)) (name : Name) (value : ℕ) (said : List Said) → add_setting name value (head_given said) ≡ judged_head after said (Setting name value)
+setting_agrees : (after : List (List ℕ)) (name : Name) (value : ℕ) (said : List Said) → add_setting (is_next words.Set after) name value (head_given said) ≡ judged_head after said (Setting name value)
 unfolding add_setting
 setting_agrees after name value said =
-    ap (λ r. r >>= λ (more : GivenSettings). Ok (record (head_given said) { settings = more })) (put_agrees name value said)
-    ∙ setting_judged _ (head_given said) (head_given (said ++ Setting name value ∷ [])) (given_of (said ++ Setting name value ∷ []))
+    ap (λ r. (r >>= settled (is_next words.Set after)) >>= λ (more : GivenSettings). Ok (record (head_given said) { settings = more })) (put_agrees name value said)
+    ∙ setting_judged _ (is_next words.Set after) (head_given said) (head_given (said ++ Setting name value ∷ [])) (given_of (said ++ Setting name value ∷ []))
     (head_same _ _ _ _ _ _ _ _ refl (sym (none_more row_said said (Setting name value) refl)) (sym (none_more source_said said (Setting name value) refl)) (sym (none_more route_said said (Setting name value) refl)))
 
 -- rows
@@ -63,10 +68,10 @@ row_judged false true fault head final same = ap Ok same
 row_judged false false None head final same = ap Ok same
 row_judged false false (Some fault) head final same = refl
 
-row_agrees : (after : List (List ℕ)) (row : Row) (said : List Said) → add_row (is_policy_next after) row (head_given said) ≡ judged_head after said (PolicyRow row)
+row_agrees : (after : List (List ℕ)) (row : Row) (said : List Said) → add_row (is_next words.Policy after) row (head_given said) ≡ judged_head after said (PolicyRow row)
 unfolding add_row
 row_agrees after row said =
-    row_judged (list_any (same_row row) (rows_given said)) (is_policy_next after) (table_fault (rows_given said ++ row ∷ [])) (with_row row (head_given said)) (head_given (said ++ PolicyRow row ∷ []))
+    row_judged (list_any (same_row row) (rows_given said)) (is_next words.Policy after) (table_fault (rows_given said ++ row ∷ [])) (with_row row (head_given said)) (head_given (said ++ PolicyRow row ∷ []))
     (head_same _ _ _ _ _ _ _ _ (sym (given_kept said (PolicyRow row) (λ name. refl))) (sym (one_more row_said said (PolicyRow row) row refl)) (sym (none_more source_said said (PolicyRow row) refl)) (sym (none_more route_said said (PolicyRow row) refl)))
 
 -- sources and routes
@@ -80,20 +85,22 @@ unfolding add_source
 source_agrees after source said =
     once_judged (list_any (same_source source) (sources_given said)) (record (head_given said) { sources = sources_given said ++ source ∷ [] }) (head_given (said ++ HostSource source ∷ []))
     (head_same _ _ _ _ _ _ _ _ (sym (given_kept said (HostSource source) (λ name. refl))) (sym (none_more row_said said (HostSource source) refl)) (sym (one_more source_said said (HostSource source) source refl)) (sym (none_more route_said said (HostSource source) refl)))
+    ∙ sym (no_group after said (HostSource source) _ _ _ refl)
 
 route_agrees : (after : List (List ℕ)) (route : Route) (said : List Said) → add_route route (head_given said) ≡ judged_head after said (HostRoute route)
 unfolding add_route
 route_agrees after route said =
     once_judged (list_any (same_route route) (routes_given said)) (record (head_given said) { routes = routes_given said ++ route ∷ [] }) (head_given (said ++ HostRoute route ∷ []))
     (head_same _ _ _ _ _ _ _ _ (sym (given_kept said (HostRoute route) (λ name. refl))) (sym (none_more row_said said (HostRoute route) refl)) (sym (none_more source_said said (HostRoute route) refl)) (sym (one_more route_said said (HostRoute route) route refl)))
+    ∙ sym (no_group after said (HostRoute route) _ _ _ refl)
 
 by_setting : (after : List (List ℕ)) (said : List Said) (read : Result (Name × ℕ) TextKind)
-    → (read >>= λ setting. add_setting setting.0 setting.1 (head_given said)) ≡ ((read >>= λ setting. Ok (Setting setting.0 setting.1)) >>= judged_head after said)
+    → (read >>= λ setting. add_setting (is_next words.Set after) setting.0 setting.1 (head_given said)) ≡ ((read >>= λ setting. Ok (Setting setting.0 setting.1)) >>= judged_head after said)
 by_setting after said (Err kind) = refl
 by_setting after said (Ok setting) = setting_agrees after setting.0 setting.1 said
 
 by_row : (after : List (List ℕ)) (said : List Said) (read : Result Row TextKind)
-    → (read >>= λ row. add_row (is_policy_next after) row (head_given said)) ≡ ((read >>= λ row. Ok (PolicyRow row)) >>= judged_head after said)
+    → (read >>= λ row. add_row (is_next words.Policy after) row (head_given said)) ≡ ((read >>= λ row. Ok (PolicyRow row)) >>= judged_head after said)
 by_row after said (Err kind) = refl
 by_row after said (Ok row) = row_agrees after row said
 
@@ -108,7 +115,7 @@ by_route after said (Err kind) = refl
 by_route after said (Ok route) = route_agrees after route said
 
 pub given_agrees : (known : Ip → Bool) (word : Word) (tokens : List (List ℕ)) (said : List Said) (after : List (List ℕ)) → is_head_word word ≡ true
-    → take_given (is_policy word && is_policy_next after) word tokens (head_given said) ≡ (said_by known word tokens >>= judged_head after said)
+    → take_given (is_next word after) word tokens (head_given said) ≡ (said_by known word tokens >>= judged_head after said)
 unfolding take_given said_by
 given_agrees known words.Set tokens said after h = by_setting after said (setting_in tokens)
 given_agrees known words.Policy tokens said after h = by_row after said (row_in tokens)
@@ -116,6 +123,8 @@ given_agrees known words.Source tokens said after h = by_source after said (host
 given_agrees known words.Route tokens said after h = by_route after said (host_route_in tokens)
 given_agrees known words.Aaaa tokens said after h = cc
 given_agrees known words.A tokens said after h = cc
+given_agrees known words.Rtt tokens said after h = cc
+given_agrees known words.Used tokens said after h = cc
 given_agrees known words.Connect tokens said after h = cc
 given_agrees known words.Pause tokens said after h = cc
 given_agrees known words.End tokens said after h = cc

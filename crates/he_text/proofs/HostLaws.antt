@@ -21,21 +21,28 @@ use Rattle.he_select.proofs.Repeats.{repeats_law}
 use Rattle.he_text.specs.declared.fault.TextKind.{TextKind}
 use Rattle.he_text.specs.declared.fault.TextKind.TheVariants as kinds
 use Rattle.he_text.specs.declared.limits.TheConstants.{MIN_INTERFACE}
+use Rattle.he_text.specs.declared.words.Name.{Name}
+use Rattle.he_text.specs.declared.words.Name.TheVariants.{Resolution, Attempt, Count, Limit, Floor}
+use Rattle.he_text.specs.declared.words.Version.{Version}
+use Rattle.he_text.specs.declared.words.Version.TheVariants.{One, Two}
 use Rattle.he_text.specs.declared.words.Word.{Word}
 use Rattle.he_text.specs.declared.words.Word.TheVariants as words
-use Rattle.he_text.specs.Faults.{test, repeated, begins_policy, is_policy_next, wrong_table}
-use Rattle.he_text.specs.Forms.{◌>>=◌, setting_in, row_in, host_source_in, host_route_in, word_of, said_by}
+use Rattle.he_text.specs.Faults.{test, repeated, begins_with, is_above, floor_is_above, is_next, wrong_group}
+use Rattle.he_text.specs.Forms.{◌>>=◌, is_added, names_floor, version_word, setting_in, row_in, host_source_in, host_route_in, word_of, said_by}
 use Rattle.he_text.specs.Parts.{tokens_of}
 use Rattle.he_text.specs.Reading.{table_kind, host_kind, told_by, policy_from, host_from, race_begun, is_head_word}
-use Rattle.he_text.specs.Said.{Said, Setting, PolicyRow, HostSource, HostRoute, row_said, source_said, route_said, rows_given, sources_given, routes_given, settings_given, table_of_rows, host_given}
-use Rattle.he_text.specs.Words.{is_policy}
+use Rattle.he_text.specs.Said.{Said, Setting, PolicyRow, HostSource, HostRoute, setting_said, row_said, source_said, route_said, setting_given, rows_given, sources_given, routes_given, settings_given, table_of_rows, host_given}
+use Rattle.he_text.specs.Words.{name_spelling, same_word}
 use Rattle.he_text.proofs.GivenLaws.{AllFit, settings_agree}
 use Rattle.he_text.proofs.HeadLaws.{head_given}
 use Rattle.he_text.proofs.NextLines.{next_word}
 use Rattle.he_text.proofs.Results.{bind_ok}
-use Rattle.he_text.proofs.SaidLaws.{none_more, one_more}
+use Rattle.he_text.proofs.SaidLaws.{none_more, one_more, setting_kept, settings_kept}
 use Rattle.he_text.proofs.SelectionFacts.{source_ok, route_ok}
+use Rattle.he_text.proofs.FormFacts.{setting_ok}
+use Rattle.he_text.proofs.SaysLaws.{name_spelled}
 use Rattle.he_text.proofs.ToldLaws.{HasPlace}
+use Rattle.he_text.proofs.Versions.{plain_word, not_added, kept_word, second_word}
 
 -- no member fails a test where the last one doesn't
 pub position_more : {A : Type 0} (p : A → Bool) (xs : List A) (x : A) (place : ℕ) → position_from p place xs ≡ None → p x ≡ false → position_from p place (xs ++ x ∷ []) ≡ None
@@ -155,38 +162,55 @@ hosts_more known words.Route tokens said s h e new place are =
     subst P same (route_next said read.0 tokens read.1 (ap (repeated said) same ∙ new) place are)
 hosts_more known words.Aaaa tokens said s h e new place are = cc
 hosts_more known words.A tokens said s h e new place are = cc
+hosts_more known words.Rtt tokens said s h e new place are = cc
+hosts_more known words.Used tokens said s h e new place are = cc
 hosts_more known words.Connect tokens said s h e new place are = cc
 hosts_more known words.Pause tokens said s h e new place are = cc
 hosts_more known words.End tokens said s h e new place are = cc
 
 -- the rows are a table or none, or one more follows
 abbrev pub IsTableOrMore : List (List ℕ) → List Row → Type 0
-IsTableOrMore lines rows = (is_policy_next lines ≡ true) ⊎ (policy_from rows ≡ Ok (table_of_rows rows))
+IsTableOrMore lines rows = (is_next words.Policy lines ≡ true) ⊎ (policy_from rows ≡ Ok (table_of_rows rows))
 
-policy_is_head : (word : Word) → is_policy word ≡ true → is_head_word word ≡ true
+policy_is_head : (word : Word) → same_word words.Policy word ≡ true → is_head_word word ≡ true
 policy_is_head words.Set h = refl
 policy_is_head words.Policy h = refl
 policy_is_head words.Source h = refl
 policy_is_head words.Route h = refl
 policy_is_head words.Aaaa h = cc
 policy_is_head words.A h = cc
+policy_is_head words.Rtt h = cc
+policy_is_head words.Used h = cc
 policy_is_head words.Connect h = cc
 policy_is_head words.Pause h = cc
 policy_is_head words.End h = cc
 
+policy_is_old : (word : Word) (tokens : List (List ℕ)) → same_word words.Policy word ≡ true → is_added (word, tokens) ≡ false
+policy_is_old words.Set tokens h = cc
+policy_is_old words.Policy tokens h = refl
+policy_is_old words.Source tokens h = cc
+policy_is_old words.Route tokens h = cc
+policy_is_old words.Aaaa tokens h = cc
+policy_is_old words.A tokens h = cc
+policy_is_old words.Rtt tokens h = cc
+policy_is_old words.Used tokens h = cc
+policy_is_old words.Connect tokens h = cc
+policy_is_old words.Pause tokens h = cc
+policy_is_old words.End tokens h = cc
+
 -- where the next line is of a later group, the rows are a table
-pub table_whole : (line : List ℕ) (after : List (List ℕ)) (rows : List Row) → ((word : Word) (tokens : List (List ℕ)) → word_of (tokens_of line) ≡ Ok (word, tokens) → is_head_word word ≡ false)
+pub table_whole : (v : Version) (line : List ℕ) (after : List (List ℕ)) (rows : List Row) → ((word : Word) (tokens : List (List ℕ)) → version_word v (tokens_of line) ≡ Ok (word, tokens) → is_head_word word ≡ false)
     → IsTableOrMore (line ∷ after) rows → policy_from rows ≡ Ok (table_of_rows rows)
-table_whole line after rows late (inr table) = table
-table_whole line after rows late (inl more) = by_word (word_of (tokens_of line)) refl (next_word line after (word_of (tokens_of line)) refl more)
+table_whole v line after rows late (inr table) = table
+table_whole v line after rows late (inl more) = by_word (word_of (tokens_of line)) refl (next_word words.Policy line after (word_of (tokens_of line)) refl more)
   where
     both : (b : Bool) → b ≡ true → b ≡ false → ⊥
     both true t f = cc
     both false t f = cc
 
-    by_word : (word : Result (Word × List (List ℕ)) TextKind) → word_of (tokens_of line) ≡ word → begins_policy word ≡ true → policy_from rows ≡ Ok (table_of_rows rows)
+    by_word : (word : Result (Word × List (List ℕ)) TextKind) → word_of (tokens_of line) ≡ word → begins_with words.Policy word ≡ true → policy_from rows ≡ Ok (table_of_rows rows)
     by_word (Err kind) e h = cc
-    by_word (Ok parts) e h = absurd (both (is_head_word parts.0) (policy_is_head parts.0 h) (late parts.0 parts.1 e))
+    by_word (Ok parts) e h = absurd (both (is_head_word parts.0) (policy_is_head parts.0 h) (late parts.0 parts.1 (kept_word v (tokens_of line) parts (policy_is_old parts.0 parts.1 h) e)))
 
 -- the last row of a table
 table_ends : (rows : List Row) (row : Row) → option_map kinds.Policy (table_fault (rows ++ row ∷ [])) ≡ None → policy_from (rows ++ row ∷ []) ≡ Ok (table_of_rows (rows ++ row ∷ []))
@@ -202,17 +226,17 @@ table_ends (first ∷ rows) row h = by_fault (table_fault (first ∷ rows ++ row
     by_fault None h rows = refl
     by_fault (Some fault) h rows = cc
 
-table_kept : (line : List ℕ) (after : List (List ℕ)) (word : Word) (tokens : List (List ℕ)) (said : List Said) (s : Said) → word_of (tokens_of line) ≡ Ok (word, tokens) → is_policy word ≡ false → row_said s ≡ None
+table_kept : (line : List ℕ) (after : List (List ℕ)) (word : Word) (tokens : List (List ℕ)) (said : List Said) (s : Said) → word_of (tokens_of line) ≡ Ok (word, tokens) → same_word words.Policy word ≡ false → row_said s ≡ None
     → IsTableOrMore (line ∷ after) (rows_given said) → IsTableOrMore after (rows_given (said ++ s ∷ []))
 table_kept line after word tokens said s is other none (inr table) =
     let P : List Row → Type 0 = λ rows. policy_from rows ≡ Ok (table_of_rows rows) in inr (subst P (sym (none_more row_said said s none)) table)
-table_kept line after word tokens said s is other none (inl more) = absurd (both (is_policy word) (next_word line after (Ok (word, tokens)) is more) other)
+table_kept line after word tokens said s is other none (inl more) = absurd (both (same_word words.Policy word) (next_word words.Policy line after (Ok (word, tokens)) is more) other)
   where
     both : (b : Bool) → b ≡ true → b ≡ false → ⊥
     both true t f = cc
     both false t f = cc
 
-row_next : (after : List (List ℕ)) (said : List Said) (row : Row) (more : Bool) → is_policy_next after ≡ more → cond more None (option_map kinds.Policy (table_fault (rows_given said ++ row ∷ []))) ≡ None
+row_next : (after : List (List ℕ)) (said : List Said) (row : Row) (more : Bool) → is_next words.Policy after ≡ more → cond more None (option_map kinds.Policy (table_fault (rows_given said ++ row ∷ []))) ≡ None
     → IsTableOrMore after (rows_given (said ++ PolicyRow row ∷ []))
 row_next after said row true e h = inl e
 row_next after said row false e h =
@@ -221,7 +245,7 @@ row_next after said row false e h =
 
 -- a line of the first groups leaves the rows a table, or one more follows
 pub table_more : (known : Ip → Bool) (line : List ℕ) (after : List (List ℕ)) (word : Word) (tokens : List (List ℕ)) (said : List Said) (s : Said) → word_of (tokens_of line) ≡ Ok (word, tokens) → is_head_word word ≡ true
-    → said_by known word tokens ≡ Ok s → wrong_table said after s ≡ None → IsTableOrMore (line ∷ after) (rows_given said) → IsTableOrMore after (rows_given (said ++ s ∷ []))
+    → said_by known word tokens ≡ Ok s → wrong_group said after s ≡ None → IsTableOrMore (line ∷ after) (rows_given said) → IsTableOrMore after (rows_given (said ++ s ∷ []))
 unfolding said_by
 table_more known line after words.Set tokens said s is h e right table =
     let read = bind_ok (setting_in tokens) (λ setting. Ok (Setting setting.0 setting.1)) s e in
@@ -231,7 +255,7 @@ table_more known line after words.Policy tokens said s is h e right table =
     let read = bind_ok (row_in tokens) (λ row. Ok (PolicyRow row)) s e in
     let same : PolicyRow read.0 ≡ s = cc (read.2) in
     let P : Said → Type 0 = λ x. IsTableOrMore after (rows_given (said ++ x ∷ [])) in
-    subst P same (row_next after said read.0 (is_policy_next after) refl (ap (wrong_table said after) same ∙ right))
+    subst P same (row_next after said read.0 (is_next words.Policy after) refl (ap (wrong_group said after) same ∙ right))
 table_more known line after words.Source tokens said s is h e right table =
     let read = bind_ok (host_source_in tokens) (λ source. Ok (HostSource source)) s e in
     let same : HostSource read.0 ≡ s = cc (read.2) in
@@ -242,15 +266,108 @@ table_more known line after words.Route tokens said s is h e right table =
     table_kept line after words.Route tokens said s is refl (ap row_said (sym same)) table
 table_more known line after words.Aaaa tokens said s is h e right table = cc
 table_more known line after words.A tokens said s is h e right table = cc
+table_more known line after words.Rtt tokens said s is h e right table = cc
+table_more known line after words.Used tokens said s is h e right table = cc
 table_more known line after words.Connect tokens said s is h e right table = cc
 table_more known line after words.Pause tokens said s is h e right table = cc
 table_more known line after words.End tokens said s is h e right table = cc
 
+-- version 1 has no floor; in version 2 it is at most the attempt delay, or one more setting follows
+abbrev pub IsFloorOrMore : Version → List (List ℕ) → List Said → Type 0
+IsFloorOrMore One lines said = setting_given Floor said ≡ None
+IsFloorOrMore Two lines said = (is_next words.Set lines ≡ true) ⊎ (floor_is_above (settings_given said) ≡ false)
+
+set_is_head : (word : Word) → same_word words.Set word ≡ true → is_head_word word ≡ true
+set_is_head words.Set h = refl
+set_is_head words.Policy h = refl
+set_is_head words.Source h = refl
+set_is_head words.Route h = refl
+set_is_head words.Aaaa h = cc
+set_is_head words.A h = cc
+set_is_head words.Rtt h = cc
+set_is_head words.Used h = cc
+set_is_head words.Connect h = cc
+set_is_head words.Pause h = cc
+set_is_head words.End h = cc
+
+never_both : (b : Bool) → b ≡ true → b ≡ false → ⊥
+never_both true t f = cc
+never_both false t f = cc
+
+-- where the next line is of a later group, the floor is at most the attempt delay
+pub floor_whole : (v : Version) (line : List ℕ) (after : List (List ℕ)) (said : List Said) → ((word : Word) (tokens : List (List ℕ)) → version_word v (tokens_of line) ≡ Ok (word, tokens) → is_head_word word ≡ false)
+    → IsFloorOrMore v (line ∷ after) said → floor_is_above (settings_given said) ≡ false
+floor_whole One line after said late none = ap (λ f. is_above f (settings_given said).attempt) none
+floor_whole Two line after said late (inr below) = below
+floor_whole Two line after said late (inl more) = by_word (word_of (tokens_of line)) refl (next_word words.Set line after (word_of (tokens_of line)) refl more)
+  where
+    by_word : (word : Result (Word × List (List ℕ)) TextKind) → word_of (tokens_of line) ≡ word → begins_with words.Set word ≡ true → floor_is_above (settings_given said) ≡ false
+    by_word (Err kind) e h = cc
+    by_word (Ok parts) e h = absurd (never_both (is_head_word parts.0) (set_is_head parts.0 h) (late parts.0 parts.1 (second_word (tokens_of line) parts e)))
+
+floor_kept : (v : Version) (line : List ℕ) (after : List (List ℕ)) (word : Word) (tokens : List (List ℕ)) (said : List Said) (s : Said) → version_word v (tokens_of line) ≡ Ok (word, tokens)
+    → same_word words.Set word ≡ false → ((name : Name) → setting_said name s ≡ None) → IsFloorOrMore v (line ∷ after) said → IsFloorOrMore v after (said ++ s ∷ [])
+floor_kept One line after word tokens said s is other none floor = setting_kept Floor said s (none Floor) ∙ floor
+floor_kept Two line after word tokens said s is other none (inr below) = inr (ap floor_is_above (settings_kept said s none) ∙ below)
+floor_kept Two line after word tokens said s is other none (inl more) =
+    absurd (never_both (same_word words.Set word) (next_word words.Set line after (Ok (word, tokens)) (plain_word Two (tokens_of line) (word, tokens) is) more) other)
+
+-- a text of version 1 names no floor
+names_other : (tokens : List (List ℕ)) (name : Name) (value : ℕ) → setting_in tokens ≡ Ok (name, value) → names_floor tokens ≡ false → setting_said Floor (Setting name value) ≡ None
+names_other tokens Resolution value e other = refl
+names_other tokens Attempt value e other = refl
+names_other tokens Count value e other = refl
+names_other tokens Limit value e other = refl
+names_other tokens Floor value e other =
+    let fact = setting_ok tokens (Floor, value) e in
+    let first : fact.first ≡ name_spelling Floor = name_spelled fact.first Floor fact.name_is in
+    let names : names_floor tokens ≡ true = ap names_floor (fact.tokens_are ∙ ap (λ t. t ∷ fact.second ∷ []) first) in
+    absurd (never_both (names_floor tokens) names other)
+
+floor_next : (after : List (List ℕ)) (said : List Said) (s : Said) (more : Bool) → is_next words.Set after ≡ more → cond more None (test (floor_is_above (settings_given (said ++ s ∷ []))) kinds.Range) ≡ None → IsFloorOrMore Two after (said ++ s ∷ [])
+floor_next after said s true e h = inl e
+floor_next after said s false e h = inr (not_again (floor_is_above (settings_given (said ++ s ∷ []))) kinds.Range h)
+
+setting_next : (v : Version) (line : List ℕ) (after tokens : List (List ℕ)) (said : List Said) (name : Name) (value : ℕ) → version_word v (tokens_of line) ≡ Ok (words.Set, tokens) → setting_in tokens ≡ Ok (name, value)
+    → wrong_group said after (Setting name value) ≡ None → IsFloorOrMore v (line ∷ after) said → IsFloorOrMore v after (said ++ Setting name value ∷ [])
+setting_next One line after tokens said name value is e right floor =
+    setting_kept Floor said (Setting name value) (names_other tokens name value e (not_added (tokens_of line) (words.Set, tokens) is)) ∙ floor
+setting_next Two line after tokens said name value is e right floor = floor_next after said (Setting name value) (is_next words.Set after) refl right
+
+-- a line of the first groups leaves the floor at most the attempt delay, or one more setting follows
+pub floor_more : (v : Version) (known : Ip → Bool) (line : List ℕ) (after : List (List ℕ)) (word : Word) (tokens : List (List ℕ)) (said : List Said) (s : Said) → version_word v (tokens_of line) ≡ Ok (word, tokens) → is_head_word word ≡ true
+    → said_by known word tokens ≡ Ok s → wrong_group said after s ≡ None → IsFloorOrMore v (line ∷ after) said → IsFloorOrMore v after (said ++ s ∷ [])
+unfolding said_by
+floor_more v known line after words.Set tokens said s is h e right floor =
+    let read = bind_ok (setting_in tokens) (λ setting. Ok (Setting setting.0 setting.1)) s e in
+    let same : Setting read.0.0 read.0.1 ≡ s = cc (read.2) in
+    let P : Said → Type 0 = λ x. IsFloorOrMore v after (said ++ x ∷ []) in
+    subst P same (setting_next v line after tokens said read.0.0 read.0.1 is read.1 (ap (wrong_group said after) same ∙ right) floor)
+floor_more v known line after words.Policy tokens said s is h e right floor =
+    let read = bind_ok (row_in tokens) (λ row. Ok (PolicyRow row)) s e in
+    let same : PolicyRow read.0 ≡ s = cc (read.2) in
+    floor_kept v line after words.Policy tokens said s is refl (λ name. ap (setting_said name) (sym same)) floor
+floor_more v known line after words.Source tokens said s is h e right floor =
+    let read = bind_ok (host_source_in tokens) (λ source. Ok (HostSource source)) s e in
+    let same : HostSource read.0 ≡ s = cc (read.2) in
+    floor_kept v line after words.Source tokens said s is refl (λ name. ap (setting_said name) (sym same)) floor
+floor_more v known line after words.Route tokens said s is h e right floor =
+    let read = bind_ok (host_route_in tokens) (λ route. Ok (HostRoute route)) s e in
+    let same : HostRoute read.0 ≡ s = cc (read.2) in
+    floor_kept v line after words.Route tokens said s is refl (λ name. ap (setting_said name) (sym same)) floor
+floor_more v known line after words.Aaaa tokens said s is h e right floor = cc
+floor_more v known line after words.A tokens said s is h e right floor = cc
+floor_more v known line after words.Rtt tokens said s is h e right floor = cc
+floor_more v known line after words.Used tokens said s is h e right floor = cc
+floor_more v known line after words.Connect tokens said s is h e right floor = cc
+floor_more v known line after words.Pause tokens said s is h e right floor = cc
+floor_more v known line after words.End tokens said s is h e right floor = cc
+
 -- what the lines give makes the race in which nothing happens yet
-pub starts : (said : List Said) → AllFit said → AreHostsOf said → policy_from (rows_given said) ≡ Ok (table_of_rows (rows_given said))
+pub starts : (said : List Said) → AllFit said → floor_is_above (settings_given said) ≡ false → AreHostsOf said → policy_from (rows_given said) ≡ Ok (table_of_rows (rows_given said))
     → race_begun (head_given said) ≡ Ok (empty_race (settings_given said) (table_of_rows (rows_given said)) (host_given said))
 unfolding race_begun
-starts said fit are table =
-    ap (λ s. s >>= λ settings. policy_from (rows_given said) >>= λ policy. host_from (sources_given said) (routes_given said) >>= λ host. Ok (empty_race settings policy host)) (settings_agree said fit)
+starts said fit below are table =
+    ap (λ s. s >>= λ settings. policy_from (rows_given said) >>= λ policy. host_from (sources_given said) (routes_given said) >>= λ host. Ok (empty_race settings policy host)) (settings_agree said fit below)
     ∙ ap (λ p. p >>= λ policy. host_from (sources_given said) (routes_given said) >>= λ host. Ok (empty_race (settings_given said) policy host)) table
     ∙ ap (λ h. h >>= λ host. Ok (empty_race (settings_given said) (table_of_rows (rows_given said)) host)) (host_agrees (sources_given said) (routes_given said) are)

@@ -46,6 +46,7 @@ mod SaysLaws
 mod SelectionFacts
 mod Tables
 mod ToldLaws
+pub mod Versions
 pub mod WalkLaws
 mod WordLines
 mod WritingLaws

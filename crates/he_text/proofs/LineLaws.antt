@@ -4,13 +4,13 @@ use Rattle.he_addr.specs.declared.ip.Family.TheVariants as families
 use Rattle.he_addr.specs.declared.ip.Ip.{Ip}
 use Rattle.he_text.specs.declared.words.Word.{Word}
 use Rattle.he_text.specs.declared.words.Word.TheVariants as words
-use Rattle.he_text.specs.Forms.{setting_in, row_in, host_source_in, host_route_in, answer_in, connect_in, pause_in, end_in, word_of, said_by, said_in}
+use Rattle.he_text.specs.Forms.{setting_in, row_in, host_source_in, host_route_in, answer_in, round_trip_in, used_in, connect_in, pause_in, end_in, word_of, said_by, said_in}
 use Rattle.he_text.specs.Parts.{tokens_of}
-use Rattle.he_text.specs.Said.{Said, Setting, PolicyRow, HostSource, HostRoute, Answer, Told, Paused, Ended}
+use Rattle.he_text.specs.Said.{Said, Setting, PolicyRow, HostSource, HostRoute, Answer, RoundTrip, UsedBefore, Told, Paused, Ended}
 use Rattle.he_text.specs.Text.{Says, IsAllowed}
 use Rattle.he_text.specs.Words.{is_end}
 use Rattle.he_text.proofs.CompleteForms.{Knows, Suits, is_line, line_said}
-use Rattle.he_text.proofs.FormFacts.{answer_ok, connect_ok}
+use Rattle.he_text.proofs.FormFacts.{answer_ok, round_trip_ok, used_ok, connect_ok}
 use Rattle.he_text.proofs.LineReads.{says_read, reads_said}
 use Rattle.he_text.proofs.Results.{bind_ok}
 use Rattle.he_text.proofs.SaysLaws.{says, word_tokens}
@@ -45,6 +45,16 @@ allowed known words.A tokens s e =
     let fact = answer_ok families.V4 tokens read.0 read.1 in
     let same : Answer families.V4 read.0 ≡ s = cc (read.2) in
     let P : Said → Type 0 = IsAllowed known in subst P same fact.addresses.of_family
+allowed known words.Rtt tokens s e =
+    let read = bind_ok (round_trip_in known tokens) (λ told. Ok (RoundTrip told.0 told.1)) s e in
+    let fact = round_trip_ok known tokens read.0 read.1 in
+    let same : RoundTrip read.0.0 read.0.1 ≡ s = cc (read.2) in
+    let P : Said → Type 0 = IsAllowed known in subst P same fact.known_is
+allowed known words.Used tokens s e =
+    let read = bind_ok (used_in known tokens) (λ ip. Ok (UsedBefore ip)) s e in
+    let fact = used_ok known tokens read.0 read.1 in
+    let same : UsedBefore read.0 ≡ s = cc (read.2) in
+    let P : Said → Type 0 = IsAllowed known in subst P same fact.known_is
 allowed known words.Connect tokens s e =
     let read = bind_ok (connect_in known tokens) (λ told. Ok (Told told.0 told.1)) s e in
     let fact = connect_ok known tokens read.0 read.1 in
@@ -67,6 +77,8 @@ ended known words.Source tokens s h e = cc
 ended known words.Route tokens s h e = cc
 ended known words.Aaaa tokens s h e = cc
 ended known words.A tokens s h e = cc
+ended known words.Rtt tokens s h e = cc
+ended known words.Used tokens s h e = cc
 ended known words.Connect tokens s h e = cc
 ended known words.Pause tokens s h e = cc
 ended known words.End tokens s h e =
@@ -88,6 +100,8 @@ suits known (PolicyRow row) h = (tt, tt)
 suits known (HostSource source) h = (h, tt)
 suits known (HostRoute route) h = (tt, tt)
 suits known (Answer family reply) h = (h, tt)
+suits known (RoundTrip ip rtt) h = (tt, h)
+suits known (UsedBefore ip) h = (tt, h)
 suits known (Told ip outcome) h = (tt, h)
 suits known (Paused from to) h = (tt, tt)
 suits known Ended h = (tt, tt)

@@ -12,7 +12,7 @@ use Rattle.he_text.specs.declared.limits.TheConstants.{MAX_PRECEDENCE, MAX_LABEL
 use Rattle.he_text.specs.declared.words.Word.TheVariants as words
 use Rattle.he_text.specs.Forms.{least_value, most_value}
 use Rattle.he_text.specs.Parts.{tokens_of}
-use Rattle.he_text.specs.Said.{Said, Setting, PolicyRow, HostSource, HostRoute, Answer, Told, Paused, Ended}
+use Rattle.he_text.specs.Said.{Said, Setting, PolicyRow, HostSource, HostRoute, Answer, RoundTrip, UsedBefore, Told, Paused, Ended}
 use Rattle.he_text.specs.Text.{IsNumber, Lists, Says, mark_text, answer_word, source_marks, route_marks}
 use Rattle.he_text.specs.Words.{spelling_of, name_spelling}
 
@@ -42,6 +42,10 @@ Reads line (HostRoute route) =
 Reads line (Answer family reply) =
     (number : List ℕ) × (tokens : List (List ℕ)) × (tokens_of line ≡ spelling_of (answer_word family) ∷ number ∷ tokens)
     × ReadsNumber 0 MAX_TICK number reply.tick × ReadsList tokens reply.addresses × (length tokens ≤ MAX_ADDRESSES)
+Reads line (RoundTrip ip rtt) =
+    (address : List ℕ) × (number : List ℕ) × (tokens_of line ≡ spelling_of words.Rtt ∷ address ∷ number ∷ [])
+    × (ip_in address ≡ Some ip) × ReadsNumber MIN_DURATION MAX_DURATION number rtt
+Reads line (UsedBefore ip) = (address : List ℕ) × (tokens_of line ≡ spelling_of words.Used ∷ address ∷ []) × (ip_in address ≡ Some ip)
 Reads line (Told ip outcome) =
     (address : List ℕ) × (number : List ℕ) × (tokens_of line ≡ spelling_of words.Connect ∷ address ∷ mark_text outcome ∷ number ∷ [])
     × (ip_in address ≡ Some ip) × ReadsNumber MIN_DURATION MAX_DURATION number (duration_of outcome)
@@ -83,6 +87,8 @@ says_read line (HostSource source) r =
     (r.0, r.1, r.2, read_source_spells r.0 source.ip source.plen r.3, number_spelled MIN_INTERFACE MAX_INTERFACE r.1 source.interface r.4)
 says_read line (HostRoute route) r = (r.0, r.1, r.2, read_prefix_spells r.0 route.prefix r.3, number_spelled MIN_INTERFACE MAX_INTERFACE r.1 route.interface r.4)
 says_read line (Answer family reply) r = (r.0, r.1, r.2, number_spelled 0 MAX_TICK r.0 reply.tick r.3, list_spelled r.1 reply.addresses r.4, r.5)
+says_read line (RoundTrip ip rtt) r = (r.0, r.1, r.2, read_address_spells r.0 ip r.3, number_spelled MIN_DURATION MAX_DURATION r.1 rtt r.4)
+says_read line (UsedBefore ip) r = (r.0, r.1, read_address_spells r.0 ip r.2)
 says_read line (Told ip outcome) r = (r.0, r.1, r.2, read_address_spells r.0 ip r.3, number_spelled MIN_DURATION MAX_DURATION r.1 (duration_of outcome) r.4)
 says_read line (Paused from to) r = (r.0, r.1, r.2, number_spelled 0 MAX_TICK r.0 from r.3, number_spelled 1 MAX_PAUSE_END r.1 to r.4)
 says_read line Ended r = absurd r
@@ -95,6 +101,8 @@ reads_said line (HostSource source) r =
     (r.0, r.1, r.2, spelled_source_reads r.0 source.ip source.plen r.3, number_read MIN_INTERFACE MAX_INTERFACE r.1 source.interface r.4)
 reads_said line (HostRoute route) r = (r.0, r.1, r.2, spelled_prefix_reads r.0 route.prefix r.3, number_read MIN_INTERFACE MAX_INTERFACE r.1 route.interface r.4)
 reads_said line (Answer family reply) r = (r.0, r.1, r.2, number_read 0 MAX_TICK r.0 reply.tick r.3, list_read r.1 reply.addresses r.4, r.5)
+reads_said line (RoundTrip ip rtt) r = (r.0, r.1, r.2, spelled_address_reads r.0 ip r.3, number_read MIN_DURATION MAX_DURATION r.1 rtt r.4)
+reads_said line (UsedBefore ip) r = (r.0, r.1, spelled_address_reads r.0 ip r.2)
 reads_said line (Told ip outcome) r = (r.0, r.1, r.2, spelled_address_reads r.0 ip r.3, number_read MIN_DURATION MAX_DURATION r.1 (duration_of outcome) r.4)
 reads_said line (Paused from to) r = (r.0, r.1, r.2, number_read 0 MAX_TICK r.0 from r.3, number_read 1 MAX_PAUSE_END r.1 to r.4)
 reads_said line Ended r = absurd r

@@ -1,4 +1,4 @@
--- What stands behind the last mark of a text, and which bytes may become a `policy` line.
+-- What stands behind the last mark of a text, and which bytes may become a line of a word.
 use Rattle.std.proofs.Common.{◌≡◌, ◌↔◌, ℕ, ◌+◌, ◌<◌, ◌≤◌, ◌==◌, ◌&&◌, ◌||◌, Bool, true, false, cond, eqb, leb, List, [], ◌∷◌, ◌++◌, length, take, drop, get_or, None, Ok, Err, refl, sym, ◌∙◌, ap, subst, inl, inr, arith, append_assoc}
 use Rattle.std.specs.Prelude.{◌⊎◌, IsTrue, codes, slice_index}
 use Rattle.std.specs.List.{AllByRecursion, onto_first, join_with_byte, starts_with}
@@ -8,16 +8,16 @@ use Rattle.std.proofs.lemmas.List.{append-nil, length-append, length-drop, take-
 use Rattle.std.proofs.lemmas.List.Splits.{join_with_byte-slice_split, length-slice_split}
 use Rattle.std.proofs.lemmas.Slice.Eq.{starts_is}
 use Rattle.memchr.specs.Find.{Nowhere, Passes, is_byte}
-use Rattle.he_select.specs.declared.policy.PolicyFault.{PolicyFault}
-use Rattle.he_text.specs.declared.fault.TextKind.TheVariants as kinds
+use Rattle.he_text.specs.declared.words.Word.{Word}
+use Rattle.he_text.specs.declared.words.Word.TheVariants as words
 use Rattle.he_text.specs.declared.limits.TheConstants.{MAX_LINE}
-use Rattle.he_text.specs.Beginnings.{EndsIn, MayBecomePolicy, MayChange, PolicyMayFollow}
-use Rattle.he_text.specs.Faults.{begins_policy, is_policy_next}
+use Rattle.he_text.specs.Beginnings.{EndsIn, MayBecome}
+use Rattle.he_text.specs.Faults.{begins_with, is_next}
 use Rattle.he_text.specs.Forms.{word_of}
 use Rattle.he_text.specs.Inputs.{line_count}
 use Rattle.he_text.specs.Parts.{pieces_of, lines_of, tokens_of}
 use Rattle.he_text.specs.Words.{spelling_of, word_in}
-use Rattle.he_text.proofs.NextLines.{policy_word}
+use Rattle.he_text.proofs.NextLines.{one_word}
 use Rattle.he_text.proofs.PartLaws.{Lacks, first_byte, parts_counted, parts_lack, parts_whole}
 use Rattle.he_text.proofs.SaysLaws.{word_tokens}
 
@@ -100,77 +100,101 @@ one_in_front (x ∷ xs) (y ∷ ys) more others h =
       | inr longer ↦ inr (longer.0, ap (λ t. x ∷ t) longer.1 ∙ ap (λ b. b ∷ ys ++ longer.0) first)
     ]
 
--- the bytes begin a `policy` line, or are one that may go on
-abbrev pub BeginsPolicy : List ℕ → Type 0
-BeginsPolicy rest = ((more : List ℕ) × (codes "policy " ≡ rest ++ more)) ⊎ ((more : List ℕ) × (rest ≡ codes "policy " ++ more) × (length rest ≤ MAX_LINE))
+-- a word and the space behind it
+abbrev pub spaced_word : Word → List ℕ
+spaced_word w = spelling_of w ++ 32 ∷ []
 
-policy_alone : is_policy_next (lines_of (codes "policy " ++ 10 ∷ [])) ≡ true
+-- the bytes begin a line of the word, or are one that may go on
+abbrev pub BeginsAs : Word → List ℕ → Type 0
+BeginsAs w rest = ((more : List ℕ) × (spaced_word w ≡ rest ++ more)) ⊎ ((more : List ℕ) × (rest ≡ spaced_word w ++ more) × (length rest ≤ MAX_LINE))
+
+word_alone : (w : Word) → is_next w (lines_of (spaced_word w ++ 10 ∷ [])) ≡ true
 unfolding word_of word_in
-policy_alone = refl
+word_alone words.Set = refl
+word_alone words.Policy = refl
+word_alone words.Source = refl
+word_alone words.Route = refl
+word_alone words.Aaaa = refl
+word_alone words.A = refl
+word_alone words.Rtt = refl
+word_alone words.Used = refl
+word_alone words.Connect = refl
+word_alone words.Pause = refl
+word_alone words.End = refl
 
-policy_tokens : (more : List ℕ) → begins_policy (word_of (tokens_of (codes "policy " ++ more))) ≡ true
+word_begins : (w : Word) (more : List ℕ) → begins_with w (word_of (tokens_of (spaced_word w ++ more))) ≡ true
 unfolding word_of word_in
-policy_tokens more = refl
+word_begins words.Set more = refl
+word_begins words.Policy more = refl
+word_begins words.Source more = refl
+word_begins words.Route more = refl
+word_begins words.Aaaa more = refl
+word_begins words.A more = refl
+word_begins words.Rtt more = refl
+word_begins words.Used more = refl
+word_begins words.Connect more = refl
+word_begins words.Pause more = refl
+word_begins words.End more = refl
 
--- a line end makes a `policy` line of what begins so
-pub becomes_policy : (rest : List ℕ) → Lacks 10 rest → BeginsPolicy rest → MayBecomePolicy rest
-becomes_policy rest lacks (inl (more, is)) =
-    (more ++ 10 ∷ [], ap (λ t. is_policy_next (lines_of t)) (sym (append_assoc rest more (10 ∷ [])) ∙ ap (λ t. t ++ 10 ∷ []) (sym is)) ∙ policy_alone)
-becomes_policy rest lacks (inr (more, is, short)) =
+-- a line end makes a line of the word of what begins so
+pub becomes_line : (w : Word) → (rest : List ℕ) → Lacks 10 rest → BeginsAs w rest → MayBecome w rest
+becomes_line w rest lacks (inl (more, is)) =
+    (more ++ 10 ∷ [], ap (λ t. is_next w (lines_of t)) (sym (append_assoc rest more (10 ∷ [])) ∙ ap (λ t. t ++ 10 ∷ []) (sym is)) ∙ word_alone w)
+becomes_line w rest lacks (inr (more, is, short)) =
     let lines : lines_of (rest ++ 10 ∷ []) ≡ rest ∷ [] ∷ [] = front_part 10 rest (10 ∷ []) [] ([] ∷ []) lacks refl ∙ ap (λ t. t ∷ [] ∷ []) (append-nil rest) in
-    let word : begins_policy (word_of (tokens_of rest)) ≡ true = ap (λ t. begins_policy (word_of (tokens_of t))) is ∙ policy_tokens more in (
+    let word : begins_with w (word_of (tokens_of rest)) ≡ true = ap (λ t. begins_with w (word_of (tokens_of t))) is ∙ word_begins w more in (
       10 ∷ [],
-      ap is_policy_next lines ∙ ap (λ b. b && begins_policy (word_of (tokens_of rest))) (le-leb (length rest) MAX_LINE short) ∙ word,
+      ap (is_next w) lines ∙ ap (λ b. b && begins_with w (word_of (tokens_of rest))) (le-leb (length rest) MAX_LINE short) ∙ word,
     )
 
--- a line whose word is `policy` is that word, or goes on behind a space
-policy_line : (line : List ℕ) → begins_policy (word_of (tokens_of line)) ≡ true → (line ≡ codes "policy") ⊎ ((more : List ℕ) × (line ≡ codes "policy " ++ more))
-policy_line line h = by_word (word_of (tokens_of line)) refl h
+-- a line of the word is that word, or goes on behind a space
+word_line : (w : Word) → (line : List ℕ) → begins_with w (word_of (tokens_of line)) ≡ true → (line ≡ spelling_of w) ⊎ ((more : List ℕ) × (line ≡ spaced_word w ++ more))
+word_line w line h = by_word (word_of (tokens_of line)) refl h
   where
-    by_tokens : (tokens : List (List ℕ)) → line ≡ join_with_byte 32 (codes "policy" ∷ tokens) → (line ≡ codes "policy") ⊎ ((more : List ℕ) × (line ≡ codes "policy " ++ more))
+    by_tokens : (tokens : List (List ℕ)) → line ≡ join_with_byte 32 (spelling_of w ∷ tokens) → (line ≡ spelling_of w) ⊎ ((more : List ℕ) × (line ≡ spaced_word w ++ more))
     by_tokens [] e = inl e
     by_tokens (token ∷ tokens) e = inr (join_with_byte 32 (token ∷ tokens), e)
 
-    by_word : (word : _) → word_of (tokens_of line) ≡ word → begins_policy word ≡ true → (line ≡ codes "policy") ⊎ ((more : List ℕ) × (line ≡ codes "policy " ++ more))
+    by_word : (word : _) → word_of (tokens_of line) ≡ word → begins_with w word ≡ true → (line ≡ spelling_of w) ⊎ ((more : List ℕ) × (line ≡ spaced_word w ++ more))
     by_word (Err kind) e b = cc
     by_word (Ok parts) e b = by_tokens parts.1 (
         sym (join_with_byte-slice_split 32 line)
-        ∙ ap (join_with_byte 32) (word_tokens (tokens_of line) parts e ∙ ap (λ w. spelling_of w ∷ parts.1) (policy_word parts.0 b))
+        ∙ ap (join_with_byte 32) (word_tokens (tokens_of line) parts e ∙ ap (λ x. spelling_of x ∷ parts.1) (one_word w parts.0 b))
         )
 
--- only what begins so becomes a `policy` line
-pub begins_policy_line : (rest : List ℕ) → Lacks 10 rest → MayBecomePolicy rest → BeginsPolicy rest
-begins_policy_line rest lacks (more, is) =
+-- only what begins so becomes a line of the word
+pub begins_as : (w : Word) → (rest : List ℕ) → Lacks 10 rest → MayBecome w rest → BeginsAs w rest
+begins_as w rest lacks (more, is) =
     let front = some_part 10 more in
     by_parts front.0 front.1 (front_part 10 rest more front.0 front.1 lacks front.2)
   where
-    by_line : (first : List ℕ) → length (rest ++ first) ≤ MAX_LINE → (rest ++ first ≡ codes "policy") ⊎ ((tail : List ℕ) × (rest ++ first ≡ codes "policy " ++ tail))
-        → BeginsPolicy rest
+    by_line : (first : List ℕ) → length (rest ++ first) ≤ MAX_LINE → (rest ++ first ≡ spelling_of w) ⊎ ((tail : List ℕ) × (rest ++ first ≡ spaced_word w ++ tail))
+        → BeginsAs w rest
     by_line first short (inl word) = inl (first ++ 32 ∷ [], ap (λ l. l ++ 32 ∷ []) (sym word) ∙ append_assoc rest first (32 ∷ []))
-    by_line first short (inr (tail, line)) = elim (one_in_front rest (codes "policy ") first tail line) [
+    by_line first short (inr (tail, line)) = elim (one_in_front rest (spaced_word w) first tail line) [
       | inl longer ↦ inl longer
       | inr longer ↦ inr (longer.0, longer.1, omega (arith, length-append rest first))
     ]
 
     by_parts : (first : List ℕ) (parts : List (List ℕ)) → lines_of (rest ++ more) ≡ (rest ++ first) ∷ parts
-        → BeginsPolicy rest
-    by_parts first [] lines = let never : false ≡ true = sym (ap is_policy_next lines) ∙ is in cc
+        → BeginsAs w rest
+    by_parts first [] lines = let never : false ≡ true = sym (ap (is_next w) lines) ∙ is in cc
     by_parts first (next ∷ parts) lines =
-        let both = and_parts (leb (length (rest ++ first)) MAX_LINE) (begins_policy (word_of (tokens_of (rest ++ first)))) (sym (ap is_policy_next lines) ∙ is) in
-        by_line first (leb-true (length (rest ++ first)) MAX_LINE both.0) (policy_line (rest ++ first) both.1)
+        let both = and_parts (leb (length (rest ++ first)) MAX_LINE) (begins_with w (word_of (tokens_of (rest ++ first)))) (sym (ap (is_next w) lines) ∙ is) in
+        by_line first (leb-true (length (rest ++ first)) MAX_LINE both.0) (word_line w (rest ++ first) both.1)
 
 -- whether the bytes begin so is found by two tests
-abbrev pub test_beginning : List ℕ → Bool
-test_beginning rest = starts_with (λ a b. a == b) (codes "policy ") rest || starts_with (λ a b. a == b) rest (codes "policy ") && leb (length rest) MAX_LINE
+abbrev pub test_beginning : Word → List ℕ → Bool
+test_beginning w rest = starts_with (λ a b. a == b) (spaced_word w) rest || starts_with (λ a b. a == b) rest (spaced_word w) && leb (length rest) MAX_LINE
 
-pub beginning_found : (rest : List ℕ) (front behind short : Bool) → front ≡ starts_with (λ a b. a == b) (codes "policy ") rest → behind ≡ starts_with (λ a b. a == b) rest (codes "policy ")
-    → short ≡ leb (length rest) MAX_LINE → (IsTrue (front || behind && short) → BeginsPolicy rest) × (BeginsPolicy rest → IsTrue (front || behind && short))
-beginning_found rest front behind short f b s = (found front behind short f b s, tested)
+pub beginning_found : (w : Word) → (rest : List ℕ) (front behind short : Bool) → front ≡ starts_with (λ a b. a == b) (spaced_word w) rest → behind ≡ starts_with (λ a b. a == b) rest (spaced_word w)
+    → short ≡ leb (length rest) MAX_LINE → (IsTrue (front || behind && short) → BeginsAs w rest) × (BeginsAs w rest → IsTrue (front || behind && short))
+beginning_found w rest front behind short f b s = (found front behind short f b s, tested)
   where
-    found : (front behind short : Bool) → front ≡ starts_with (λ a b. a == b) (codes "policy ") rest → behind ≡ starts_with (λ a b. a == b) rest (codes "policy ") → short ≡ leb (length rest) MAX_LINE
-        → IsTrue (front || behind && short) → BeginsPolicy rest
-    found true behind short f b s h = inl (_, (starts_is Decides-eqb (codes "policy ") rest _ refl).0 (sym f))
-    found false true true f b s h = inr (_, (starts_is Decides-eqb rest (codes "policy ") _ refl).0 (sym b), leb-true (length rest) MAX_LINE (sym s))
+    found : (front behind short : Bool) → front ≡ starts_with (λ a b. a == b) (spaced_word w) rest → behind ≡ starts_with (λ a b. a == b) rest (spaced_word w) → short ≡ leb (length rest) MAX_LINE
+        → IsTrue (front || behind && short) → BeginsAs w rest
+    found true behind short f b s h = inl (_, (starts_is Decides-eqb (spaced_word w) rest _ refl).0 (sym f))
+    found false true true f b s h = inr (_, (starts_is Decides-eqb rest (spaced_word w) _ refl).0 (sym b), leb-true (length rest) MAX_LINE (sym s))
     found false true false f b s h = cc
     found false false short f b s h = cc
 
@@ -178,10 +202,10 @@ beginning_found rest front behind short f b s = (found front behind short f b s,
     or_true true = refl
     or_true false = refl
 
-    tested : BeginsPolicy rest → IsTrue (front || behind && short)
-    tested (inl (m, e)) = ap (λ t. t || behind && short) (f ∙ (starts_is Decides-eqb (codes "policy ") rest _ refl).1 m e)
+    tested : BeginsAs w rest → IsTrue (front || behind && short)
+    tested (inl (m, e)) = ap (λ t. t || behind && short) (f ∙ (starts_is Decides-eqb (spaced_word w) rest _ refl).1 m e)
     tested (inr (m, e, le)) =
-        ap (λ t. front || t && short) (b ∙ (starts_is Decides-eqb rest (codes "policy ") _ refl).1 m e)
+        ap (λ t. front || t && short) (b ∙ (starts_is Decides-eqb rest (spaced_word w) _ refl).1 m e)
         ∙ ap (λ t. front || t) (s ∙ le-leb (length rest) MAX_LINE le)
         ∙ or_true front
 
@@ -195,9 +219,13 @@ open_lacks mark text =
     let A : List (List ℕ) → Type 0 = AllByRecursion (Lacks mark) in
     last_lacks mark ending.whole ending.rest (subst A ending.parts (parts_lack mark text))
 
--- whether one more row may follow
-pub policy_may_follow : (text : List ℕ) (n : ℕ) → PolicyMayFollow text n ⊎ (PolicyMayFollow text n → ⊥)
-policy_may_follow text n = by_count (eqb (length ending.whole) n) refl
+-- a line of the word may follow the text's last whole line, which is its nth
+abbrev pub WordMayFollow : Word → List ℕ → ℕ → Type 0
+WordMayFollow w text n = (rest : List ℕ) × EndsIn text n rest × MayBecome w rest
+
+-- whether one more line may follow
+pub may_follow : (w : Word) → (text : List ℕ) (n : ℕ) → WordMayFollow w text n ⊎ (WordMayFollow w text n → ⊥)
+may_follow w text n = by_count (eqb (length ending.whole) n) refl
   where
     ending : Open 10 text
     ending = open_of 10 text
@@ -208,12 +236,12 @@ policy_may_follow text n = by_count (eqb (length ending.whole) n) refl
     same_rest : (rest : List ℕ) → EndsIn text n rest → ending.rest ≡ rest
     same_rest rest (lines, parts, count) = one_last ending.whole lines ending.rest rest (sym ending.parts ∙ parts)
 
-    by_test : (b : Bool) → test_beginning ending.rest ≡ b → length ending.whole ≡ n
-        → PolicyMayFollow text n ⊎ (PolicyMayFollow text n → ⊥)
-    by_test true e count = inl (ending.rest, (ending.whole, ending.parts, count), becomes_policy ending.rest lacks ((beginning_found ending.rest _ _ _ refl refl refl).0 e))
+    by_test : (b : Bool) → test_beginning w ending.rest ≡ b → length ending.whole ≡ n
+        → WordMayFollow w text n ⊎ (WordMayFollow w text n → ⊥)
+    by_test true e count = inl (ending.rest, (ending.whole, ending.parts, count), becomes_line w ending.rest lacks ((beginning_found w ending.rest _ _ _ refl refl refl).0 e))
     by_test false e count = inr (λ may.
-        let here : MayBecomePolicy ending.rest = subst MayBecomePolicy (sym (same_rest may.0 may.1)) may.2 in
-        let wrong : false ≡ true = sym e ∙ (beginning_found ending.rest _ _ _ refl refl refl).1 (begins_policy_line ending.rest lacks here) in
+        let here : MayBecome w ending.rest = subst (MayBecome w) (sym (same_rest may.0 may.1)) may.2 in
+        let wrong : false ≡ true = sym e ∙ (beginning_found w ending.rest _ _ _ refl refl refl).1 (begins_as w ending.rest lacks here) in
         cc)
 
     counted : (lines : List (List ℕ)) (rest : List ℕ) → lines_of text ≡ lines ++ rest ∷ [] → length lines + 1 ≡ length (lines_of text)
@@ -222,8 +250,8 @@ policy_may_follow text n = by_count (eqb (length ending.whole) n) refl
     same_count : (rest : List ℕ) → EndsIn text n rest → length ending.whole ≡ n
     same_count rest (lines, parts, count) = let all = counted lines rest parts in let ours = counted ending.whole ending.rest ending.parts in omega arith
 
-    by_count : (b : Bool) → eqb (length ending.whole) n ≡ b → PolicyMayFollow text n ⊎ (PolicyMayFollow text n → ⊥)
-    by_count true e = by_test (test_beginning ending.rest) refl (eqb-true (length ending.whole) n e)
+    by_count : (b : Bool) → eqb (length ending.whole) n ≡ b → WordMayFollow w text n ⊎ (WordMayFollow w text n → ⊥)
+    by_count true e = by_test (test_beginning w ending.rest) refl (eqb-true (length ending.whole) n e)
     by_count false e = inr (λ may. let wrong : true ≡ false = sym (eq-eqb (length ending.whole) n (same_count may.0 may.1)) ∙ e in cc)
 
 -- what stands behind the last mark is one part
@@ -263,26 +291,10 @@ ends_whole text never =
     (([], alone, omega arith), alone)
 
 -- what the two tests tell of bytes that are one line
-pub becomes : (rest : List ℕ) (front behind : Bool) → lines_of rest ≡ rest ∷ [] → front ≡ starts_with (λ a b. a == b) (codes "policy ") rest → behind ≡ starts_with (λ a b. a == b) rest (codes "policy ")
-    → IsTrue (front || behind && leb (length rest) MAX_LINE) ↔ MayBecomePolicy rest
-becomes rest front behind alone f b =
+pub becomes : (w : Word) (rest : List ℕ) (front behind : Bool) → lines_of rest ≡ rest ∷ [] → front ≡ starts_with (λ a b. a == b) (spaced_word w) rest → behind ≡ starts_with (λ a b. a == b) rest (spaced_word w)
+    → IsTrue (front || behind && leb (length rest) MAX_LINE) ↔ MayBecome w rest
+becomes w rest front behind alone f b =
     let A : List (List ℕ) → Type 0 = AllByRecursion (Lacks 10) in
     let lacks : Lacks 10 rest = (subst A alone (parts_lack 10 rest)).0 in
-    let tested = beginning_found rest front behind _ f b refl in
-    (λ h. becomes_policy rest lacks (tested.0 h), λ may. tested.1 (begins_policy_line rest lacks may))
-
--- the fault of a policy table on the last whole line may change where a `policy` line may follow
-pub table_changes : (text rest : List ℕ) (n : ℕ) (fault : PolicyFault) (b : Bool) → EndsIn text n rest → IsTrue b ↔ MayBecomePolicy rest → IsTrue b ↔ MayChange text n (kinds.Policy fault)
-table_changes text rest n fault b (lines, parts, count) is = (λ t. inr ((fault, refl), (rest, (lines, parts, count), is.0 t)), by_cause)
-  where
-    by_cause : MayChange text n (kinds.Policy fault) → IsTrue b
-    by_cause (inl unfinished) = cc
-    by_cause (inr (table, (other, (others, other_parts, other_count), may))) = is.1 (subst MayBecomePolicy (one_last others lines other rest (sym other_parts ∙ parts)) may)
-
--- on another line it may not
-pub table_stands : (text : List ℕ) (lines n : ℕ) (fault : PolicyFault) → lines ≡ line_count text → (lines ≡ n → ⊥) → MayChange text n (kinds.Policy fault) → ⊥
-table_stands text lines n fault counted other (inl unfinished) = cc
-table_stands text lines n fault counted other (inr (table, (rest, (whole, parts, count), may))) =
-    let all = parts_counted 10 text in
-    let sum : length (lines_of text) ≡ length whole + 1 = ap length parts ∙ length-append whole (rest ∷ []) in
-    other (omega arith)
+    let tested = beginning_found w rest front behind _ f b refl in
+    (λ h. becomes_line w rest lacks (tested.0 h), λ may. tested.1 (begins_as w rest lacks may))

@@ -18,7 +18,7 @@ use Rattle.he_text.proofs.ToldLaws.{outcome}
 
 -- the groups of which the lines are counted
 abbrev pub is_counted : ℕ → Bool
-is_counted group = (ltb 1 group && ltb group 7) || (group == 8)
+is_counted group = (ltb 1 group && ltb group 7) || (group == 10)
 
 abbrev pub counted_lines : ℕ → List (List ℕ) → ℕ
 counted_lines group lines = cond (is_counted group) (lines_with group lines) 0
@@ -62,6 +62,8 @@ counted_word words.Source = inr (_, refl, refl)
 counted_word words.Route = inr (_, refl, refl)
 counted_word words.Aaaa = inr (_, refl, refl)
 counted_word words.A = inr (_, refl, refl)
+counted_word words.Rtt = inl (refl, refl)
+counted_word words.Used = inl (refl, refl)
 counted_word words.Connect = inl (refl, refl)
 counted_word words.Pause = inr (_, refl, refl)
 counted_word words.End = inl (refl, refl)

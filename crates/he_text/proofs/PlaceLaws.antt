@@ -18,9 +18,9 @@ use Rattle.he_text.specs.declared.fault.TextKind.TheVariants as kinds
 use Rattle.he_text.specs.declared.words.Word.{Word}
 use Rattle.he_text.specs.declared.words.Word.TheVariants as words
 use Rattle.he_text.specs.Faults.{test, group_on, lines_with, too_often, anyone, said_before}
-use Rattle.he_text.specs.Forms.{◌>>=◌, number_from, setting_in, row_in, host_source_in, host_route_in, answer_in, known_in, mark_in, connect_in, pause_in, end_in, word_of, said_by, said_in}
+use Rattle.he_text.specs.Forms.{◌>>=◌, number_from, setting_in, row_in, host_source_in, host_route_in, answer_in, known_in, mark_in, round_trip_in, used_in, connect_in, pause_in, end_in, word_of, said_by, said_in}
 use Rattle.he_text.specs.Parts.{tokens_of}
-use Rattle.he_text.specs.Said.{Said, Setting, PolicyRow, HostSource, HostRoute, Answer, Told, Paused, Ended, source_said, route_said, answer_said, pause_said, at_front, race_of}
+use Rattle.he_text.specs.Said.{Said, Setting, PolicyRow, HostSource, HostRoute, Answer, RoundTrip, UsedBefore, Told, Paused, Ended, source_said, route_said, answer_said, pause_said, at_front, race_of}
 use Rattle.he_text.specs.Text.{group_said}
 use Rattle.he_text.specs.Words.{group_of}
 use Rattle.he_text.proofs.FormFacts.{outcome_of}
@@ -49,6 +49,12 @@ said_group known words.Aaaa tokens s h =
 said_group known words.A tokens s h =
     let read = bind_ok (answer_in families.V4 tokens) (λ reply. Ok (Answer families.V4 reply)) s h in
     let same : Answer families.V4 read.0 ≡ s = cc (read.2) in ap group_said (sym same)
+said_group known words.Rtt tokens s h =
+    let read = bind_ok (round_trip_in known tokens) (λ told. Ok (RoundTrip told.0 told.1)) s h in
+    let same : RoundTrip read.0.0 read.0.1 ≡ s = cc (read.2) in ap group_said (sym same)
+said_group known words.Used tokens s h =
+    let read = bind_ok (used_in known tokens) (λ ip. Ok (UsedBefore ip)) s h in
+    let same : UsedBefore read.0 ≡ s = cc (read.2) in ap group_said (sym same)
 said_group known words.Connect tokens s h =
     let read = bind_ok (connect_in known tokens) (λ told. Ok (Told told.0 told.1)) s h in
     let same : Told read.0.0 read.0.1 ≡ s = cc (read.2) in ap group_said (sym same)
@@ -77,6 +83,21 @@ connect_anyone known (a ∷ b ∷ c ∷ []) told h =
     let ip = bind_ok (known_in known a) (λ ip. mark_in b >>= λ succeeds. number_from MIN_DURATION MAX_DURATION c >>= λ ticks. Ok (ip, outcome_of succeeds ticks)) told h in
     ap (λ r. r >>= λ ip. mark_in b >>= λ succeeds. number_from MIN_DURATION MAX_DURATION c >>= λ ticks. Ok (ip, outcome_of succeeds ticks)) (known_anyone known a ip.0 ip.1) ∙ ip.2
 
+round_trip_anyone : (known : Ip → Bool) (tokens : List (List ℕ)) (told : Ip × ℕ) → round_trip_in known tokens ≡ Ok told → round_trip_in anyone tokens ≡ Ok told
+unfolding round_trip_in
+round_trip_anyone known [] told h = cc
+round_trip_anyone known (a ∷ []) told h = cc
+round_trip_anyone known (a ∷ b ∷ c ∷ more) told h = cc
+round_trip_anyone known (a ∷ b ∷ []) told h =
+    let ip = bind_ok (known_in known a) (λ ip. number_from MIN_DURATION MAX_DURATION b >>= λ rtt. Ok (ip, rtt)) told h in
+    ap (λ r. r >>= λ ip. number_from MIN_DURATION MAX_DURATION b >>= λ rtt. Ok (ip, rtt)) (known_anyone known a ip.0 ip.1) ∙ ip.2
+
+used_anyone : (known : Ip → Bool) (tokens : List (List ℕ)) (ip : Ip) → used_in known tokens ≡ Ok ip → used_in anyone tokens ≡ Ok ip
+unfolding used_in
+used_anyone known [] ip h = cc
+used_anyone known (a ∷ []) ip h = known_anyone known a ip h
+used_anyone known (a ∷ b ∷ more) ip h = cc
+
 by_anyone : (known : Ip → Bool) (word : Word) (tokens : List (List ℕ)) (s : Said) → said_by known word tokens ≡ Ok s → said_by anyone word tokens ≡ Ok s
 unfolding said_by
 by_anyone known words.Set tokens s h = h
@@ -85,6 +106,12 @@ by_anyone known words.Source tokens s h = h
 by_anyone known words.Route tokens s h = h
 by_anyone known words.Aaaa tokens s h = h
 by_anyone known words.A tokens s h = h
+by_anyone known words.Rtt tokens s h =
+    let read = bind_ok (round_trip_in known tokens) (λ told. Ok (RoundTrip told.0 told.1)) s h in
+    ap (λ r. r >>= λ told. Ok (RoundTrip told.0 told.1)) (round_trip_anyone known tokens read.0 read.1) ∙ read.2
+by_anyone known words.Used tokens s h =
+    let read = bind_ok (used_in known tokens) (λ ip. Ok (UsedBefore ip)) s h in
+    ap (λ r. r >>= λ ip. Ok (UsedBefore ip)) (used_anyone known tokens read.0 read.1) ∙ read.2
 by_anyone known words.Connect tokens s h =
     let read = bind_ok (connect_in known tokens) (λ told. Ok (Told told.0 told.1)) s h in
     ap (λ r. r >>= λ told. Ok (Told told.0 told.1)) (connect_anyone known tokens read.0 read.1) ∙ read.2
@@ -145,6 +172,8 @@ aaaa_tell (HostSource source) reply h = cc
 aaaa_tell (HostRoute route) reply h = cc
 aaaa_tell (Answer families.V6 r) reply h = refl
 aaaa_tell (Answer families.V4 r) reply h = cc
+aaaa_tell (RoundTrip ip rtt) reply h = cc
+aaaa_tell (UsedBefore ip) reply h = cc
 aaaa_tell (Told ip outcome) reply h = cc
 aaaa_tell (Paused from to) reply h = cc
 aaaa_tell Ended reply h = cc
@@ -156,6 +185,8 @@ a_tell (HostSource source) reply h = cc
 a_tell (HostRoute route) reply h = cc
 a_tell (Answer families.V6 r) reply h = cc
 a_tell (Answer families.V4 r) reply h = refl
+a_tell (RoundTrip ip rtt) reply h = cc
+a_tell (UsedBefore ip) reply h = cc
 a_tell (Told ip outcome) reply h = cc
 a_tell (Paused from to) reply h = cc
 a_tell Ended reply h = cc
@@ -167,6 +198,8 @@ sources_tell (HostSource x) source h = refl
 sources_tell (HostRoute x) source h = cc
 sources_tell (Answer families.V6 r) source h = cc
 sources_tell (Answer families.V4 r) source h = cc
+sources_tell (RoundTrip ip rtt) source h = cc
+sources_tell (UsedBefore ip) source h = cc
 sources_tell (Told ip outcome) source h = cc
 sources_tell (Paused from to) source h = cc
 sources_tell Ended source h = cc
@@ -178,17 +211,21 @@ routes_tell (HostSource x) route h = cc
 routes_tell (HostRoute x) route h = refl
 routes_tell (Answer families.V6 r) route h = cc
 routes_tell (Answer families.V4 r) route h = cc
+routes_tell (RoundTrip ip rtt) route h = cc
+routes_tell (UsedBefore ip) route h = cc
 routes_tell (Told ip outcome) route h = cc
 routes_tell (Paused from to) route h = cc
 routes_tell Ended route h = cc
 
-pauses_tell : (s : Said) (pause : ℕ × ℕ) → pause_said s ≡ Some pause → group_said s ≡ 8
+pauses_tell : (s : Said) (pause : ℕ × ℕ) → pause_said s ≡ Some pause → group_said s ≡ 10
 pauses_tell (Setting name value) pause h = cc
 pauses_tell (PolicyRow row) pause h = cc
 pauses_tell (HostSource source) pause h = cc
 pauses_tell (HostRoute route) pause h = cc
 pauses_tell (Answer families.V6 r) pause h = cc
 pauses_tell (Answer families.V4 r) pause h = cc
+pauses_tell (RoundTrip ip rtt) pause h = cc
+pauses_tell (UsedBefore ip) pause h = cc
 pauses_tell (Told ip outcome) pause h = cc
 pauses_tell (Paused from to) pause h = refl
 pauses_tell Ended pause h = cc
@@ -214,9 +251,11 @@ has_place words.A tokens before h =
     let few = leb-false 1 (lines_with 6 before) (not_failed (leb 1 (lines_with 6 before)) kinds.Repeated h) in
     let count = given_count (answer_said families.V4) 6 a_tell before in
     none_given (filter_map (answer_said families.V4) (said_before before)) (omega arith)
+has_place words.Rtt tokens before h = tt
+has_place words.Used tokens before h = tt
 has_place words.Connect tokens before h = tt
 has_place words.Pause tokens before h =
-    let few = leb-false MAX_PAUSES (lines_with 8 before) (not_failed (leb MAX_PAUSES (lines_with 8 before)) kinds.TooMany h) in
-    let count = given_count pause_said 8 pauses_tell before in
+    let few = leb-false MAX_PAUSES (lines_with 10 before) (not_failed (leb MAX_PAUSES (lines_with 10 before)) kinds.TooMany h) in
+    let count = given_count pause_said 10 pauses_tell before in
     omega arith
 has_place words.End tokens before h = tt

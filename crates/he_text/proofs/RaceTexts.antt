@@ -19,12 +19,13 @@ use Rattle.he_select.specs.declared.host.Route.{Route}
 use Rattle.he_text.specs.declared.fault.TextKind.{TextKind}
 use Rattle.he_text.specs.declared.fault.TextKind.TheVariants as kinds
 use Rattle.he_text.specs.declared.limits.TheConstants.{MAX_LINE}
+use Rattle.he_text.specs.declared.words.Version.{Version}
 use Rattle.he_text.specs.declared.words.Name.{Name}
 use Rattle.he_text.specs.declared.words.Name.TheVariants.{Resolution, Attempt, Count, Limit}
 use Rattle.he_text.specs.declared.words.Word.{Word}
 use Rattle.he_text.specs.declared.words.Word.TheVariants as words
 use Rattle.std.specs.Result.{result_ok}
-use Rattle.he_text.specs.Faults.{anyone, first_fault, test, group_on, last_group, known_to, said_before, too_long, unfinished, wrong_header, wrong_word, too_often, wrong_bounds, repeated, wrong_table, line_fault, ends}
+use Rattle.he_text.specs.Faults.{anyone, first_fault, test, group_on, last_group, known_to, said_before, too_long, unfinished, wrong_header, wrong_word, too_often, wrong_bounds, repeated, wrong_group, line_fault, ends}
 use Rattle.he_text.specs.Forms.{◌>>=◌, setting_in, row_in, host_source_in, host_route_in, answer_in, connect_in, pause_in, end_in, word_of, said_by, said_in}
 use Rattle.he_text.specs.Parts.{lines_of, tokens_of}
 use Rattle.he_text.specs.Reading.{read_lines}
@@ -208,15 +209,15 @@ first_two false [] checks h = cc
 first_two false (next ∷ after) None h = (refl, omega arith, refl)
 first_two false (next ∷ after) (Some kind) h = cc
 
-is_right : (before : List (List ℕ)) (line : List ℕ) (after : List (List ℕ)) → line_fault before line after ≡ None → IsRight before line after
-is_right before line after h = by_word (word_of (tokens_of line)) refl
+is_right : (v : Version) → (before : List (List ℕ)) (line : List ℕ) (after : List (List ℕ)) → line_fault v before line after ≡ None → IsRight before line after
+is_right v before line after h = by_word (word_of (tokens_of line)) refl
   where
     by_word : (word : Result (Word × List (List ℕ)) TextKind) → word_of (tokens_of line) ≡ word → IsRight before line after
     by_word (Err kind) e =
-        let three = first_two (ltb MAX_LINE (length line)) after (line_checks before line after (Err kind)) (sym (line_fault_is before line after (Err kind) e) ∙ h) in
+        let three = first_two (ltb MAX_LINE (length line)) after (line_checks before line after (Err kind)) (sym (line_fault_is v before line after (Err kind) e) ∙ h) in
         absurd (no_fault three.2)
     by_word (Ok parts) e =
-        let three = first_two (ltb MAX_LINE (length line)) after (line_checks before line after (Ok parts)) (sym (line_fault_is before line after (Ok parts) e) ∙ h) in
+        let three = first_two (ltb MAX_LINE (length line)) after (line_checks before line after (Ok parts)) (sym (line_fault_is v before line after (Ok parts) e) ∙ h) in
         record { short = ltb-false MAX_LINE (length line) three.0; ended = three.1; parts = parts; word = e; checks = three.2 }
 
 -- one more line that is right and doesn't end the race
@@ -224,7 +225,7 @@ right_more : (before : List (List ℕ)) (line : List ℕ) (after : List (List �
 right_more before line after right r goes =
     let told : List Said = said_before before in
     let known : Ip → Bool = known_to told in
-    let passed = checks_passed (wrong_word (last_group 0 before) (Ok r.parts)) (too_often before (Ok r.parts)) (said_by known r.parts.0 r.parts.1) (wrong_bounds told) (repeated told) (wrong_table told after) r.checks in
+    let passed = checks_passed (wrong_word (last_group 0 before) (Ok r.parts)) (too_often before (Ok r.parts)) (said_by known r.parts.0 r.parts.1) (wrong_bounds told) (repeated told) (wrong_group told after) r.checks in
     let s : Said = passed.s in
     let more : said_before (before ++ line ∷ []) ≡ told ++ s ∷ [] = said_more known before line r.parts.0 r.parts.1 s r.word passed.said_is in
     let group : group_said s ≡ group_of r.parts.0 = said_group known r.parts.0 r.parts.1 s passed.said_is in
@@ -277,24 +278,24 @@ pub record IsWalked (all : List (List ℕ)) (used rest : List (List ℕ)) : Type
   pub all_are : all ≡ used ++ rest
   pub some : 0 < length rest
 
-pub walked : (n : ℕ) (before lines : List (List ℕ)) (x : List (List ℕ) × List (List ℕ)) → AreRight before → walk n before lines ≡ Ok x → IsWalked (before ++ lines) x.0 x.1
+pub walked : (v : Version) → (n : ℕ) (before lines : List (List ℕ)) (x : List (List ℕ) × List (List ℕ)) → AreRight before → walk v n before lines ≡ Ok x → IsWalked (before ++ lines) x.0 x.1
 unfolding walk
-walked n before [] x right h = cc
-walked n before (line ∷ after) x right h =
-    let passed = not_stopped n (line_fault before line after) (cond (ends line) (Ok (before ++ line ∷ [], after)) (walk (n + 1) (before ++ line ∷ []) after)) x h in
-    let r = is_right before line after passed.0 in
-    by_end r (ends line) (ends_known line r.parts.0 r.parts.1 r.word) passed.1 (λ more. walked (n + 1) (before ++ line ∷ []) after x more)
+walked v n before [] x right h = cc
+walked v n before (line ∷ after) x right h =
+    let passed = not_stopped n (line_fault v before line after) (cond (ends line) (Ok (before ++ line ∷ [], after)) (walk v (n + 1) (before ++ line ∷ []) after)) x h in
+    let r = is_right v before line after passed.0 in
+    by_end r (ends line) (ends_known line r.parts.0 r.parts.1 r.word) passed.1 (λ more. walked v (n + 1) (before ++ line ∷ []) after x more)
   where
     joined : (before ++ line ∷ []) ++ after ≡ before ++ line ∷ after
     joined = append_assoc before (line ∷ []) after
 
-    by_end : (r : IsRight before line after) (b : Bool) → b ≡ is_end r.parts.0 → cond b (Ok (before ++ line ∷ [], after)) (walk (n + 1) (before ++ line ∷ []) after) ≡ Ok x
-        → (AreRight (before ++ line ∷ []) → walk (n + 1) (before ++ line ∷ []) after ≡ Ok x → IsWalked ((before ++ line ∷ []) ++ after) x.0 x.1)
+    by_end : (r : IsRight before line after) (b : Bool) → b ≡ is_end r.parts.0 → cond b (Ok (before ++ line ∷ [], after)) (walk v (n + 1) (before ++ line ∷ []) after) ≡ Ok x
+        → (AreRight (before ++ line ∷ []) → walk v (n + 1) (before ++ line ∷ []) after ≡ Ok x → IsWalked ((before ++ line ∷ []) ++ after) x.0 x.1)
         → IsWalked (before ++ line ∷ after) x.0 x.1
     by_end r true e got later =
         let same : (before ++ line ∷ [], after) ≡ x = cc (got) in
         let known : Ip → Bool = known_to (said_before before) in
-        let said = checks_said (wrong_word (last_group 0 before) (Ok r.parts)) (too_often before (Ok r.parts)) (said_by known r.parts.0 r.parts.1) (wrong_bounds (said_before before)) (repeated (said_before before)) (wrong_table (said_before before) after) r.checks in
+        let said = checks_said (wrong_word (last_group 0 before) (Ok r.parts)) (too_often before (Ok r.parts)) (said_by known r.parts.0 r.parts.1) (wrong_bounds (said_before before)) (repeated (said_before before)) (wrong_group (said_before before) after) r.checks in
         let is : line ≡ codes "end" = end_line known line r.parts said.0 r.word (sym e) said.1 in
         let P : List (List ℕ) × List (List ℕ) → Type 0 = λ p. IsWalked (before ++ line ∷ after) p.0 p.1 in
         subst P same (record {
@@ -390,6 +391,6 @@ begins_with_race text rest race h fits =
     by_lines : (ls used : List (List ℕ)) → lines_of text ≡ ls → walk_all ls ≡ Ok (used, lines_of rest) → race ≡ race_of (said_before used) → BeginsWith text rest race
     by_lines [] used e w value = cc
     by_lines (line ∷ after) used e w value =
-        let passed = not_stopped 1 (first_fault (too_long line ∷ unfinished after ∷ wrong_header line ∷ [])) (walk 2 [] after) (used, lines_of rest) w in
+        let passed = not_stopped 1 (first_fault (too_long line ∷ unfinished after ∷ wrong_header line ∷ [])) (walk (version_on line) 2 [] after) (used, lines_of rest) w in
         let three = first_two (ltb MAX_LINE (length line)) after (wrong_header line) passed.0 in
-        begins_by text rest race line after used e (header_ok line (bytes_eq line (codes "race 1")) refl three.2) (walked 2 [] after (used, lines_of rest) none_right passed.1) value fits
+        begins_by text rest race line after used e (header_ok line (bytes_eq line (codes "race 1")) refl three.2) (walked (version_on line) 2 [] after (used, lines_of rest) none_right passed.1) value fits

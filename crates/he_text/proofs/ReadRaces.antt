@@ -36,6 +36,7 @@ use Rattle.he_text.specs.declared.draft.LastGroup.{LastGroup}
 use Rattle.he_text.specs.declared.fault.TextKind.{TextKind}
 use Rattle.he_text.specs.declared.fault.TextKind.TheVariants as kinds
 use Rattle.he_text.specs.declared.limits.TheConstants.{MAX_LINE}
+use Rattle.he_text.specs.declared.words.Version.{Version}
 use Rattle.he_text.specs.declared.words.Word.{Word}
 use Rattle.he_text.specs.declared.words.Word.TheVariants as words
 use Rattle.he_text.specs.Forms.{◌>>=◌, word_of, answer_in, connect_in, pause_in, end_in}
@@ -116,9 +117,9 @@ told_fits words.Policy tokens race new fits h = cc
 told_fits words.Source tokens race new fits h = cc
 told_fits words.Route tokens race new fits h = cc
 
-line_fits : (tokens : List (List ℕ)) (so_far : LastGroup) (race : Race) (next : Word × LastGroup × Race) → IsRace race → take_line tokens so_far race ≡ Ok next → IsRace next.2
+line_fits : (v : Version) → (tokens : List (List ℕ)) (so_far : LastGroup) (race : Race) (next : Word × LastGroup × Race) → IsRace race → take_line v tokens so_far race ≡ Ok next → IsRace next.2
 unfolding take_line
-line_fits tokens so_far race next fits h =
+line_fits v tokens so_far race next fits h =
     let word = bind_ok (word_of tokens) (λ parts. admit parts.0 so_far >>= λ next. take_told parts.0 parts.1 race >>= λ told. Ok (parts.0, next, told)) next h in
     let placed = bind_ok (admit word.0.0 so_far) (λ next. take_told word.0.0 word.0.1 race >>= λ told. Ok (word.0.0, next, told)) next word.2 in
     let told = bind_ok (take_told word.0.0 word.0.1 race) (λ told. Ok (word.0.0, placed.0, told)) next placed.2 in
@@ -223,50 +224,50 @@ whole_some : (line : List ℕ) (after : List (List ℕ)) → wholeness (line ∷
 unfolding wholeness
 whole_some line after h = ended_some after (not_stopped (ltb MAX_LINE (length line)) (ended_by after) kinds.TooMany tt h).1
 
-body_reads : (n : ℕ) (so_far : LastGroup) (race : Race) (lines : List (List ℕ)) (x : Race × List (List ℕ)) → IsRace race → read_body n so_far race lines ≡ Ok x → IsReading lines x
+body_reads : (v : Version) → (n : ℕ) (so_far : LastGroup) (race : Race) (lines : List (List ℕ)) (x : Race × List (List ℕ)) → IsRace race → read_body v n so_far race lines ≡ Ok x → IsReading lines x
 unfolding read_body
-body_reads n so_far race [] x fits h = cc
-body_reads n so_far race (line ∷ after) x fits h =
-    let whole = bind_ok (at_line n (wholeness (line ∷ after))) (λ _. at_line n (take_line (tokens_of line) so_far race) >>= λ next. cond (is_end next.0) (Ok (next.2, after)) (read_body (n + 1) next.1 next.2 after)) x h in
-    let taken = bind_ok (at_line n (take_line (tokens_of line) so_far race)) (λ next. cond (is_end next.0) (Ok (next.2, after)) (read_body (n + 1) next.1 next.2 after)) x whole.2 in
-    let new = line_fits (tokens_of line) so_far race taken.0 fits (line_ok n (take_line (tokens_of line) so_far race) taken.0 taken.1) in
+body_reads v n so_far race [] x fits h = cc
+body_reads v n so_far race (line ∷ after) x fits h =
+    let whole = bind_ok (at_line n (wholeness (line ∷ after))) (λ _. at_line n (take_line v (tokens_of line) so_far race) >>= λ next. cond (is_end next.0) (Ok (next.2, after)) (read_body v (n + 1) next.1 next.2 after)) x h in
+    let taken = bind_ok (at_line n (take_line v (tokens_of line) so_far race)) (λ next. cond (is_end next.0) (Ok (next.2, after)) (read_body v (n + 1) next.1 next.2 after)) x whole.2 in
+    let new = line_fits v (tokens_of line) so_far race taken.0 fits (line_ok n (take_line v (tokens_of line) so_far race) taken.0 taken.1) in
     by_end (is_end taken.0.0) taken.0 new (whole_some line after (line_ok n (wholeness (line ∷ after)) tt whole.1)) taken.2
-    (λ more. later line after x (body_reads (n + 1) taken.0.1 taken.0.2 after x new more))
+    (λ more. later line after x (body_reads v (n + 1) taken.0.1 taken.0.2 after x new more))
   where
-    by_end : (b : Bool) (next : Word × LastGroup × Race) → IsRace next.2 → 0 < length after → cond b (Ok (next.2, after)) (read_body (n + 1) next.1 next.2 after) ≡ Ok x
-        → (read_body (n + 1) next.1 next.2 after ≡ Ok x → IsReading (line ∷ after) x) → IsReading (line ∷ after) x
+    by_end : (b : Bool) (next : Word × LastGroup × Race) → IsRace next.2 → 0 < length after → cond b (Ok (next.2, after)) (read_body v (n + 1) next.1 next.2 after) ≡ Ok x
+        → (read_body v (n + 1) next.1 next.2 after ≡ Ok x → IsReading (line ∷ after) x) → IsReading (line ∷ after) x
     by_end true next new some e more =
         let same : (next.2, after) ≡ x = cc (e) in
         let P : Race × List (List ℕ) → Type 0 = IsReading (line ∷ after) in
         subst P same (record { fits = new; some = some; lack = λ lack. lack.1 })
     by_end false next new some e more = more e
 
-head_reads : (n : ℕ) (so_far : LastGroup) (head : HeadGiven) (lines : List (List ℕ)) (x : Race × List (List ℕ)) → read_head n so_far head lines ≡ Ok x → IsReading lines x
+head_reads : (v : Version) → (n : ℕ) (so_far : LastGroup) (head : HeadGiven) (lines : List (List ℕ)) (x : Race × List (List ℕ)) → read_head v n so_far head lines ≡ Ok x → IsReading lines x
 unfolding read_head settle
-head_reads n so_far head [] x h = cc
-head_reads n so_far head (line ∷ after) x h =
-    let whole = bind_ok (at_line n (wholeness (line ∷ after))) (λ _. step (head_of (tokens_of line))) x h in
-    by_head (head_of (tokens_of line)) whole.2 (λ next more. later line after x (head_reads (n + 1) next.0 next.1 after x more))
+head_reads v n so_far head [] x h = cc
+head_reads v n so_far head (line ∷ after) x h =
+    let whole = bind_ok (at_line n (wholeness (line ∷ after))) (λ _. step (head_of v (tokens_of line))) x h in
+    by_head (head_of v (tokens_of line)) whole.2 (λ next more. later line after x (head_reads v (n + 1) next.0 next.1 after x more))
   where
     step : Option (Word × List (List ℕ)) → Result (Race × List (List ℕ)) (ℕ × TextKind)
-    step None = at_line n (race_begun head) >>= λ race. read_body n so_far race (line ∷ after)
-    step (Some parts) = at_line n (take_head after parts so_far head) >>= λ next. read_head (n + 1) next.0 next.1 after
+    step None = at_line n (race_begun head) >>= λ race. read_body v n so_far race (line ∷ after)
+    step (Some parts) = at_line n (take_head after parts so_far head) >>= λ next. read_head v (n + 1) next.0 next.1 after
 
-    by_head : (parts : Option (Word × List (List ℕ))) → step parts ≡ Ok x → ((next : LastGroup × HeadGiven) → read_head (n + 1) next.0 next.1 after ≡ Ok x → IsReading (line ∷ after) x) → IsReading (line ∷ after) x
+    by_head : (parts : Option (Word × List (List ℕ))) → step parts ≡ Ok x → ((next : LastGroup × HeadGiven) → read_head v (n + 1) next.0 next.1 after ≡ Ok x → IsReading (line ∷ after) x) → IsReading (line ∷ after) x
     by_head None e more =
-        let race = bind_ok (at_line n (race_begun head)) (λ race. read_body n so_far race (line ∷ after)) x e in
-        body_reads n so_far race.0 (line ∷ after) x (start_fits head race.0 (line_ok n (race_begun head) race.0 race.1)) race.2
+        let race = bind_ok (at_line n (race_begun head)) (λ race. read_body v n so_far race (line ∷ after)) x e in
+        body_reads v n so_far race.0 (line ∷ after) x (start_fits head race.0 (line_ok n (race_begun head) race.0 race.1)) race.2
     by_head (Some parts) e more =
-        let next = bind_ok (at_line n (take_head after parts so_far head)) (λ next. read_head (n + 1) next.0 next.1 after) x e in
+        let next = bind_ok (at_line n (take_head after parts so_far head)) (λ next. read_head v (n + 1) next.0 next.1 after) x e in
         more next.0 next.2
 
 pub lines_read : (lines : List (List ℕ)) (x : Race × List (List ℕ)) → read_lines lines ≡ Ok x → IsReading lines x
 unfolding read_lines
 lines_read [] x h = cc
 lines_read (line ∷ after) x h =
-    let whole = bind_ok (at_line 1 (wholeness (line ∷ after))) (λ _. cond (bytes_eq line (codes "race 1")) (read_head 2 group_at_start no_head after) (Err (1, kinds.Header))) x h in
+    let whole = bind_ok (at_line 1 (wholeness (line ∷ after))) (λ _. cond (bytes_eq line (codes "race 1")) (read_head (version_on line) 2 group_at_start no_head after) (Err (1, kinds.Header))) x h in
     by_header (bytes_eq line (codes "race 1")) whole.2
   where
-    by_header : (b : Bool) → cond b (read_head 2 group_at_start no_head after) (Err (1, kinds.Header)) ≡ Ok x → IsReading (line ∷ after) x
-    by_header true e = later line after x (head_reads 2 group_at_start no_head after x e)
+    by_header : (b : Bool) → cond b (read_head (version_on line) 2 group_at_start no_head after) (Err (1, kinds.Header)) ≡ Ok x → IsReading (line ∷ after) x
+    by_header true e = later line after x (head_reads (version_on line) 2 group_at_start no_head after x e)
     by_header false e = cc

@@ -9,12 +9,13 @@ use Rattle.he_text.specs.declared.draft.LastGroup.{LastGroup}
 use Rattle.he_text.specs.declared.fault.TextKind.{TextKind}
 use Rattle.he_text.specs.declared.fault.TextKind.TheVariants as kinds
 use Rattle.he_text.specs.declared.limits.TheConstants.{MAX_LINE}
+use Rattle.he_text.specs.declared.words.Version.{Version}
 use Rattle.he_text.specs.declared.words.Word.{Word}
 use Rattle.he_text.specs.Forms.{◌>>=◌}
 use Rattle.he_text.specs.Left.{lines_left, IsAmong}
 use Rattle.he_text.specs.Parts.{pieces_of, lines_of, tokens_of}
 use Rattle.he_text.specs.declared.lines.Lines.{Lines}
-use Rattle.he_text.specs.Reading.{Fails, FailsAt, at_line, ended_by, wholeness, take_line, read_body, HeadGiven, head_of, take_head, race_begun, settle, read_head, read_lines, group_at_start, no_head}
+use Rattle.he_text.specs.Reading.{Fails, FailsAt, at_line, ended_by, wholeness, take_line, read_body, HeadGiven, head_of, take_head, race_begun, settle, read_head, header_in, read_lines, group_at_start, no_head}
 use Rattle.he_text.specs.Text.{IsLineOf}
 use Rattle.he_text.specs.Words.{is_end}
 
@@ -42,51 +43,51 @@ unfolding wholeness
 unended lines line is short = ap wholeness is ∙ ap (λ b. cond b (Err kinds.TooMany) (Err kinds.Unfinished)) (le-ltb MAX_LINE (length line) short)
 
 -- the other groups: what follows a line
-abbrev body_after : ℕ → List (List ℕ) → Result (Word × LastGroup × Race) TextKind → Result (Race × List (List ℕ)) (ℕ × TextKind)
-body_after n after taken = at_line n taken >>= λ next. cond (is_end next.0) (Ok (next.2, after)) (read_body (n + 1) next.1 next.2 after)
+abbrev body_after : (v : Version) → ℕ → List (List ℕ) → Result (Word × LastGroup × Race) TextKind → Result (Race × List (List ℕ)) (ℕ × TextKind)
+body_after v n after taken = at_line n taken >>= λ next. cond (is_end next.0) (Ok (next.2, after)) (read_body v (n + 1) next.1 next.2 after)
 
-pub body_unwhole : (n : ℕ) (so_far : LastGroup) (race : Race) (lines : List (List ℕ)) (kind : TextKind) → wholeness lines ≡ Err kind → read_body n so_far race lines ≡ Err (n, kind)
+pub body_unwhole : (v : Version) → (n : ℕ) (so_far : LastGroup) (race : Race) (lines : List (List ℕ)) (kind : TextKind) → wholeness lines ≡ Err kind → read_body v n so_far race lines ≡ Err (n, kind)
 unfolding read_body wholeness
-body_unwhole n so_far race [] kind h = ap (λ w. at_line n w >>= λ _. Err (n, kinds.Unfinished)) h
-body_unwhole n so_far race (line ∷ after) kind h = ap (λ w. at_line n w >>= λ _. body_after n after (take_line (tokens_of line) so_far race)) h
+body_unwhole v n so_far race [] kind h = ap (λ w. at_line n w >>= λ _. Err (n, kinds.Unfinished)) h
+body_unwhole v n so_far race (line ∷ after) kind h = ap (λ w. at_line n w >>= λ _. body_after v n after (take_line v (tokens_of line) so_far race)) h
 
-pub body_whole : (n : ℕ) (so_far : LastGroup) (race : Race) (lines after : List (List ℕ)) (line : List ℕ) → lines ≡ line ∷ after → wholeness lines ≡ Ok tt
-    → read_body n so_far race lines ≡ body_after n after (take_line (tokens_of line) so_far race)
+pub body_whole : (v : Version) → (n : ℕ) (so_far : LastGroup) (race : Race) (lines after : List (List ℕ)) (line : List ℕ) → lines ≡ line ∷ after → wholeness lines ≡ Ok tt
+    → read_body v n so_far race lines ≡ body_after v n after (take_line v (tokens_of line) so_far race)
 unfolding read_body
-body_whole n so_far race lines after line is whole =
-    ap (read_body n so_far race) is
-    ∙ ap (λ w. at_line n w >>= λ _. body_after n after (take_line (tokens_of line) so_far race)) (ap wholeness (sym is) ∙ whole)
+body_whole v n so_far race lines after line is whole =
+    ap (read_body v n so_far race) is
+    ∙ ap (λ w. at_line n w >>= λ _. body_after v n after (take_line v (tokens_of line) so_far race)) (ap wholeness (sym is) ∙ whole)
 
-pub body_wrong : (n : ℕ) (so_far : LastGroup) (race : Race) (lines after : List (List ℕ)) (line : List ℕ) (kind : TextKind) → lines ≡ line ∷ after → wholeness lines ≡ Ok tt
-    → take_line (tokens_of line) so_far race ≡ Err kind → read_body n so_far race lines ≡ Err (n, kind)
-body_wrong n so_far race lines after line kind is whole taken =
-    body_whole n so_far race lines after line is whole ∙ ap (body_after n after) taken
+pub body_wrong : (v : Version) → (n : ℕ) (so_far : LastGroup) (race : Race) (lines after : List (List ℕ)) (line : List ℕ) (kind : TextKind) → lines ≡ line ∷ after → wholeness lines ≡ Ok tt
+    → take_line v (tokens_of line) so_far race ≡ Err kind → read_body v n so_far race lines ≡ Err (n, kind)
+body_wrong v n so_far race lines after line kind is whole taken =
+    body_whole v n so_far race lines after line is whole ∙ ap (body_after v n after) taken
 
-pub body_ends : (n : ℕ) (so_far next : LastGroup) (race told : Race) (word : Word) (lines after : List (List ℕ)) (line : List ℕ) → lines ≡ line ∷ after → wholeness lines ≡ Ok tt
-    → take_line (tokens_of line) so_far race ≡ Ok (word, next, told) → is_end word ≡ true → read_body n so_far race lines ≡ Ok (told, after)
-body_ends n so_far next race told word lines after line is whole taken ends =
-    body_whole n so_far race lines after line is whole ∙ ap (body_after n after) taken
-    ∙ ap (λ b. cond b (Ok (told, after)) (read_body (n + 1) next told after)) ends
+pub body_ends : (v : Version) → (n : ℕ) (so_far next : LastGroup) (race told : Race) (word : Word) (lines after : List (List ℕ)) (line : List ℕ) → lines ≡ line ∷ after → wholeness lines ≡ Ok tt
+    → take_line v (tokens_of line) so_far race ≡ Ok (word, next, told) → is_end word ≡ true → read_body v n so_far race lines ≡ Ok (told, after)
+body_ends v n so_far next race told word lines after line is whole taken ends =
+    body_whole v n so_far race lines after line is whole ∙ ap (body_after v n after) taken
+    ∙ ap (λ b. cond b (Ok (told, after)) (read_body v (n + 1) next told after)) ends
 
-pub body_more : (n : ℕ) (so_far next : LastGroup) (race told : Race) (word : Word) (lines after : List (List ℕ)) (line : List ℕ) → lines ≡ line ∷ after → wholeness lines ≡ Ok tt
-    → take_line (tokens_of line) so_far race ≡ Ok (word, next, told) → is_end word ≡ false → read_body n so_far race lines ≡ read_body (n + 1) next told after
-body_more n so_far next race told word lines after line is whole taken ends =
-    body_whole n so_far race lines after line is whole ∙ ap (body_after n after) taken
-    ∙ ap (λ b. cond b (Ok (told, after)) (read_body (n + 1) next told after)) ends
+pub body_more : (v : Version) → (n : ℕ) (so_far next : LastGroup) (race told : Race) (word : Word) (lines after : List (List ℕ)) (line : List ℕ) → lines ≡ line ∷ after → wholeness lines ≡ Ok tt
+    → take_line v (tokens_of line) so_far race ≡ Ok (word, next, told) → is_end word ≡ false → read_body v n so_far race lines ≡ read_body v (n + 1) next told after
+body_more v n so_far next race told word lines after line is whole taken ends =
+    body_whole v n so_far race lines after line is whole ∙ ap (body_after v n after) taken
+    ∙ ap (λ b. cond b (Ok (told, after)) (read_body v (n + 1) next told after)) ends
 
 above_next : (n : ℕ) (read : Result (Race × List (List ℕ)) (ℕ × TextKind)) → IfErr read (λ fault. n + 1 ≤ fault.0) → IfErr read (λ fault. n ≤ fault.0)
 above_next n (Ok x) h = tt
 above_next n (Err fault) h = omega arith
 
-not_before_after : (n : ℕ) (after : List (List ℕ)) (taken : Result (Word × LastGroup × Race) TextKind)
-    → ((so_far : LastGroup) (race : Race) → IfErr (read_body (n + 1) so_far race after) (λ fault. n + 1 ≤ fault.0))
-    → IfErr (body_after n after taken) (λ fault. n ≤ fault.0)
-not_before_after n after (Err kind) later = omega arith
-not_before_after n after (Ok next) later = by_end (is_end next.0)
+not_before_after : (v : Version) → (n : ℕ) (after : List (List ℕ)) (taken : Result (Word × LastGroup × Race) TextKind)
+    → ((so_far : LastGroup) (race : Race) → IfErr (read_body v (n + 1) so_far race after) (λ fault. n + 1 ≤ fault.0))
+    → IfErr (body_after v n after taken) (λ fault. n ≤ fault.0)
+not_before_after v n after (Err kind) later = omega arith
+not_before_after v n after (Ok next) later = by_end (is_end next.0)
   where
-    by_end : (b : Bool) → IfErr (cond b (Ok (next.2, after)) (read_body (n + 1) next.1 next.2 after)) (λ fault. n ≤ fault.0)
+    by_end : (b : Bool) → IfErr (cond b (Ok (next.2, after)) (read_body v (n + 1) next.1 next.2 after)) (λ fault. n ≤ fault.0)
     by_end true = tt
-    by_end false = above_next n (read_body (n + 1) next.1 next.2 after) (later next.1 next.2)
+    by_end false = above_next n (read_body v (n + 1) next.1 next.2 after) (later next.1 next.2)
 
 not_before_whole : (n : ℕ) (w : Result (Unit {0}) TextKind) (read : Result (Race × List (List ℕ)) (ℕ × TextKind))
     → IfErr read (λ fault. n ≤ fault.0) → IfErr (at_line n w >>= λ _. read) (λ fault. n ≤ fault.0)
@@ -94,124 +95,124 @@ not_before_whole n (Ok done) read h = h
 not_before_whole n (Err kind) read h = omega arith
 
 -- a fault isn't above the line from which is read
-pub body_not_before : (n : ℕ) (so_far : LastGroup) (race : Race) (lines : List (List ℕ)) → IfErr (read_body n so_far race lines) (λ fault. n ≤ fault.0)
+pub body_not_before : (v : Version) → (n : ℕ) (so_far : LastGroup) (race : Race) (lines : List (List ℕ)) → IfErr (read_body v n so_far race lines) (λ fault. n ≤ fault.0)
 unfolding read_body
-body_not_before n so_far race [] = omega arith
-body_not_before n so_far race (line ∷ after) =
-    not_before_whole n (wholeness (line ∷ after)) (body_after n after (take_line (tokens_of line) so_far race))
-    (not_before_after n after (take_line (tokens_of line) so_far race) (λ next told. body_not_before (n + 1) next told after))
+body_not_before v n so_far race [] = omega arith
+body_not_before v n so_far race (line ∷ after) =
+    not_before_whole n (wholeness (line ∷ after)) (body_after v n after (take_line v (tokens_of line) so_far race))
+    (not_before_after v n after (take_line v (tokens_of line) so_far race) (λ next told. body_not_before v (n + 1) next told after))
 
 -- the first four groups: what follows a whole line
-abbrev pub head_after : ℕ → LastGroup → HeadGiven → List (List ℕ) → List (List ℕ) → Option (Word × List (List ℕ)) → Result (Race × List (List ℕ)) (ℕ × TextKind)
-head_after n so_far given lines after head = elim head [
-  | None ↦ settle n so_far given lines
-  | Some parts ↦ at_line n (take_head after parts so_far given) >>= λ next. read_head (n + 1) next.0 next.1 after
+abbrev pub head_after : (v : Version) → ℕ → LastGroup → HeadGiven → List (List ℕ) → List (List ℕ) → Option (Word × List (List ℕ)) → Result (Race × List (List ℕ)) (ℕ × TextKind)
+head_after v n so_far given lines after head = elim head [
+  | None ↦ settle v n so_far given lines
+  | Some parts ↦ at_line n (take_head after parts so_far given) >>= λ next. read_head v (n + 1) next.0 next.1 after
 ]
 
-pub head_unwhole : (n : ℕ) (so_far : LastGroup) (given : HeadGiven) (lines : List (List ℕ)) (kind : TextKind) → wholeness lines ≡ Err kind → read_head n so_far given lines ≡ Err (n, kind)
+pub head_unwhole : (v : Version) → (n : ℕ) (so_far : LastGroup) (given : HeadGiven) (lines : List (List ℕ)) (kind : TextKind) → wholeness lines ≡ Err kind → read_head v n so_far given lines ≡ Err (n, kind)
 unfolding read_head wholeness
-head_unwhole n so_far given [] kind h = ap (λ w. at_line n w >>= λ _. Err (n, kinds.Unfinished)) h
-head_unwhole n so_far given (line ∷ after) kind h = ap (λ w. at_line n w >>= λ _. head_after n so_far given (line ∷ after) after (head_of (tokens_of line))) h
+head_unwhole v n so_far given [] kind h = ap (λ w. at_line n w >>= λ _. Err (n, kinds.Unfinished)) h
+head_unwhole v n so_far given (line ∷ after) kind h = ap (λ w. at_line n w >>= λ _. head_after v n so_far given (line ∷ after) after (head_of v (tokens_of line))) h
 
-pub head_whole : (n : ℕ) (so_far : LastGroup) (given : HeadGiven) (lines after : List (List ℕ)) (line : List ℕ) → lines ≡ line ∷ after → wholeness lines ≡ Ok tt
-    → read_head n so_far given lines ≡ head_after n so_far given lines after (head_of (tokens_of line))
+pub head_whole : (v : Version) → (n : ℕ) (so_far : LastGroup) (given : HeadGiven) (lines after : List (List ℕ)) (line : List ℕ) → lines ≡ line ∷ after → wholeness lines ≡ Ok tt
+    → read_head v n so_far given lines ≡ head_after v n so_far given lines after (head_of v (tokens_of line))
 unfolding read_head
-head_whole n so_far given lines after line is whole =
-    ap (read_head n so_far given) is
-    ∙ ap (λ w. at_line n w >>= λ _. head_after n so_far given (line ∷ after) after (head_of (tokens_of line))) (ap wholeness (sym is) ∙ whole)
-    ∙ ap (λ ls. head_after n so_far given ls after (head_of (tokens_of line))) (sym is)
+head_whole v n so_far given lines after line is whole =
+    ap (read_head v n so_far given) is
+    ∙ ap (λ w. at_line n w >>= λ _. head_after v n so_far given (line ∷ after) after (head_of v (tokens_of line))) (ap wholeness (sym is) ∙ whole)
+    ∙ ap (λ ls. head_after v n so_far given ls after (head_of v (tokens_of line))) (sym is)
 
-pub head_settles : (n : ℕ) (so_far : LastGroup) (given : HeadGiven) (lines after : List (List ℕ)) (line : List ℕ) → lines ≡ line ∷ after → wholeness lines ≡ Ok tt
-    → head_of (tokens_of line) ≡ None → read_head n so_far given lines ≡ settle n so_far given lines
-head_settles n so_far given lines after line is whole none =
-    head_whole n so_far given lines after line is whole ∙ ap (head_after n so_far given lines after) none
+pub head_settles : (v : Version) → (n : ℕ) (so_far : LastGroup) (given : HeadGiven) (lines after : List (List ℕ)) (line : List ℕ) → lines ≡ line ∷ after → wholeness lines ≡ Ok tt
+    → head_of v (tokens_of line) ≡ None → read_head v n so_far given lines ≡ settle v n so_far given lines
+head_settles v n so_far given lines after line is whole none =
+    head_whole v n so_far given lines after line is whole ∙ ap (head_after v n so_far given lines after) none
 
-pub head_wrong : (n : ℕ) (so_far : LastGroup) (given : HeadGiven) (parts : Word × List (List ℕ)) (lines after : List (List ℕ)) (line : List ℕ) (kind : TextKind) → lines ≡ line ∷ after → wholeness lines ≡ Ok tt
-    → head_of (tokens_of line) ≡ Some parts → take_head after parts so_far given ≡ Err kind → read_head n so_far given lines ≡ Err (n, kind)
-head_wrong n so_far given parts lines after line kind is whole some taken =
-    head_whole n so_far given lines after line is whole ∙ ap (head_after n so_far given lines after) some
-    ∙ ap (λ t. at_line n t >>= λ next. read_head (n + 1) next.0 next.1 after) taken
+pub head_wrong : (v : Version) → (n : ℕ) (so_far : LastGroup) (given : HeadGiven) (parts : Word × List (List ℕ)) (lines after : List (List ℕ)) (line : List ℕ) (kind : TextKind) → lines ≡ line ∷ after → wholeness lines ≡ Ok tt
+    → head_of v (tokens_of line) ≡ Some parts → take_head after parts so_far given ≡ Err kind → read_head v n so_far given lines ≡ Err (n, kind)
+head_wrong v n so_far given parts lines after line kind is whole some taken =
+    head_whole v n so_far given lines after line is whole ∙ ap (head_after v n so_far given lines after) some
+    ∙ ap (λ t. at_line n t >>= λ next. read_head v (n + 1) next.0 next.1 after) taken
 
-pub head_more : (n : ℕ) (so_far next : LastGroup) (given more : HeadGiven) (parts : Word × List (List ℕ)) (lines after : List (List ℕ)) (line : List ℕ) → lines ≡ line ∷ after → wholeness lines ≡ Ok tt
-    → head_of (tokens_of line) ≡ Some parts → take_head after parts so_far given ≡ Ok (next, more) → read_head n so_far given lines ≡ read_head (n + 1) next more after
-head_more n so_far next given more parts lines after line is whole some taken =
-    head_whole n so_far given lines after line is whole ∙ ap (head_after n so_far given lines after) some
-    ∙ ap (λ t. at_line n t >>= λ next. read_head (n + 1) next.0 next.1 after) taken
+pub head_more : (v : Version) → (n : ℕ) (so_far next : LastGroup) (given more : HeadGiven) (parts : Word × List (List ℕ)) (lines after : List (List ℕ)) (line : List ℕ) → lines ≡ line ∷ after → wholeness lines ≡ Ok tt
+    → head_of v (tokens_of line) ≡ Some parts → take_head after parts so_far given ≡ Ok (next, more) → read_head v n so_far given lines ≡ read_head v (n + 1) next more after
+head_more v n so_far next given more parts lines after line is whole some taken =
+    head_whole v n so_far given lines after line is whole ∙ ap (head_after v n so_far given lines after) some
+    ∙ ap (λ t. at_line n t >>= λ next. read_head v (n + 1) next.0 next.1 after) taken
 
-settle_not_before : (n : ℕ) (so_far : LastGroup) (lines : List (List ℕ)) (start : Result Race TextKind) → IfErr (at_line n start >>= λ race. read_body n so_far race lines) (λ fault. n ≤ fault.0)
-settle_not_before n so_far lines (Ok race) = body_not_before n so_far race lines
-settle_not_before n so_far lines (Err kind) = omega arith
+settle_not_before : (v : Version) → (n : ℕ) (so_far : LastGroup) (lines : List (List ℕ)) (start : Result Race TextKind) → IfErr (at_line n start >>= λ race. read_body v n so_far race lines) (λ fault. n ≤ fault.0)
+settle_not_before v n so_far lines (Ok race) = body_not_before v n so_far race lines
+settle_not_before v n so_far lines (Err kind) = omega arith
 
-taken_not_before : (n : ℕ) (after : List (List ℕ)) (taken : Result (LastGroup × HeadGiven) TextKind) → ((so_far : LastGroup) (given : HeadGiven) → IfErr (read_head (n + 1) so_far given after) (λ fault. n + 1 ≤ fault.0))
-    → IfErr (at_line n taken >>= λ next. read_head (n + 1) next.0 next.1 after) (λ fault. n ≤ fault.0)
-taken_not_before n after (Err kind) later = omega arith
-taken_not_before n after (Ok next) later = above_next n (read_head (n + 1) next.0 next.1 after) (later next.0 next.1)
+taken_not_before : (v : Version) → (n : ℕ) (after : List (List ℕ)) (taken : Result (LastGroup × HeadGiven) TextKind) → ((so_far : LastGroup) (given : HeadGiven) → IfErr (read_head v (n + 1) so_far given after) (λ fault. n + 1 ≤ fault.0))
+    → IfErr (at_line n taken >>= λ next. read_head v (n + 1) next.0 next.1 after) (λ fault. n ≤ fault.0)
+taken_not_before v n after (Err kind) later = omega arith
+taken_not_before v n after (Ok next) later = above_next n (read_head v (n + 1) next.0 next.1 after) (later next.0 next.1)
 
 -- a fault of what the lines of the first groups begin isn't above the line from which is read
-pub head_not_before : (n : ℕ) (so_far : LastGroup) (given : HeadGiven) (lines : List (List ℕ)) → IfErr (read_head n so_far given lines) (λ fault. n ≤ fault.0)
+pub head_not_before : (v : Version) → (n : ℕ) (so_far : LastGroup) (given : HeadGiven) (lines : List (List ℕ)) → IfErr (read_head v n so_far given lines) (λ fault. n ≤ fault.0)
 unfolding read_head settle
-head_not_before n so_far given [] = omega arith
-head_not_before n so_far given (line ∷ after) =
-    not_before_whole n (wholeness (line ∷ after)) (head_after n so_far given (line ∷ after) after (head_of (tokens_of line)))
-    (by_head (head_of (tokens_of line)) (λ next more. head_not_before (n + 1) next more after))
+head_not_before v n so_far given [] = omega arith
+head_not_before v n so_far given (line ∷ after) =
+    not_before_whole n (wholeness (line ∷ after)) (head_after v n so_far given (line ∷ after) after (head_of v (tokens_of line)))
+    (by_head (head_of v (tokens_of line)) (λ next more. head_not_before v (n + 1) next more after))
   where
-    by_head : (head : Option (Word × List (List ℕ))) → ((next : LastGroup) (more : HeadGiven) → IfErr (read_head (n + 1) next more after) (λ fault. n + 1 ≤ fault.0))
-        → IfErr (head_after n so_far given (line ∷ after) after head) (λ fault. n ≤ fault.0)
-    by_head None later = settle_not_before n so_far (line ∷ after) (race_begun given)
-    by_head (Some parts) later = taken_not_before n after (take_head after parts so_far given) later
+    by_head : (head : Option (Word × List (List ℕ))) → ((next : LastGroup) (more : HeadGiven) → IfErr (read_head v (n + 1) next more after) (λ fault. n + 1 ≤ fault.0))
+        → IfErr (head_after v n so_far given (line ∷ after) after head) (λ fault. n ≤ fault.0)
+    by_head None later = settle_not_before v n so_far (line ∷ after) (race_begun given)
+    by_head (Some parts) later = taken_not_before v n after (take_head after parts so_far given) later
 
 -- a line of the first groups that is refused, for its fault or for memory
-pub fails_head : (n : ℕ) (so_far : LastGroup) (given : HeadGiven) (parts : Word × List (List ℕ)) (lines after : List (List ℕ)) (line : List ℕ) (kind : TextKind) (read : Result (Race × List (List ℕ)) (ℕ × TextKind))
-    → read ≡ read_head n so_far given lines → lines ≡ line ∷ after → wholeness lines ≡ Ok tt → head_of (tokens_of line) ≡ Some parts
+pub fails_head : (v : Version) → (n : ℕ) (so_far : LastGroup) (given : HeadGiven) (parts : Word × List (List ℕ)) (lines after : List (List ℕ)) (line : List ℕ) (kind : TextKind) (read : Result (Race × List (List ℕ)) (ℕ × TextKind))
+    → read ≡ read_head v n so_far given lines → lines ≡ line ∷ after → wholeness lines ≡ Ok tt → head_of v (tokens_of line) ≡ Some parts
     → Fails kind (take_head after parts so_far given) → FailsAt n kind read
-fails_head n so_far given parts lines after line kind read reads is whole some (inl memory) =
+fails_head v n so_far given parts lines after line kind read reads is whole some (inl memory) =
     let P : Result (Race × List (List ℕ)) (ℕ × TextKind) → Type 0 = λ r. IfErr r (λ fault. n ≤ fault.0) in
-    inl (memory, subst P (sym reads) (head_not_before n so_far given lines))
-fails_head n so_far given parts lines after line kind read reads is whole some (inr wrong) =
-    inr (reads ∙ head_wrong n so_far given parts lines after line kind is whole some wrong)
+    inl (memory, subst P (sym reads) (head_not_before v n so_far given lines))
+fails_head v n so_far given parts lines after line kind read reads is whole some (inr wrong) =
+    inr (reads ∙ head_wrong v n so_far given parts lines after line kind is whole some wrong)
 
 -- a line of the other groups that is refused, for its fault or for memory
-pub fails_body : (n : ℕ) (so_far : LastGroup) (race : Race) (lines after : List (List ℕ)) (line : List ℕ) (kind : TextKind) (read : Result (Race × List (List ℕ)) (ℕ × TextKind))
-    → read ≡ read_body n so_far race lines → lines ≡ line ∷ after → wholeness lines ≡ Ok tt
-    → Fails kind (take_line (tokens_of line) so_far race) → FailsAt n kind read
-fails_body n so_far race lines after line kind read reads is whole (inl memory) =
+pub fails_body : (v : Version) → (n : ℕ) (so_far : LastGroup) (race : Race) (lines after : List (List ℕ)) (line : List ℕ) (kind : TextKind) (read : Result (Race × List (List ℕ)) (ℕ × TextKind))
+    → read ≡ read_body v n so_far race lines → lines ≡ line ∷ after → wholeness lines ≡ Ok tt
+    → Fails kind (take_line v (tokens_of line) so_far race) → FailsAt n kind read
+fails_body v n so_far race lines after line kind read reads is whole (inl memory) =
     let P : Result (Race × List (List ℕ)) (ℕ × TextKind) → Type 0 = λ r. IfErr r (λ fault. n ≤ fault.0) in
-    inl (memory, subst P (sym reads) (body_not_before n so_far race lines))
-fails_body n so_far race lines after line kind read reads is whole (inr wrong) = inr (reads ∙ body_wrong n so_far race lines after line kind is whole wrong)
+    inl (memory, subst P (sym reads) (body_not_before v n so_far race lines))
+fails_body v n so_far race lines after line kind read reads is whole (inr wrong) = inr (reads ∙ body_wrong v n so_far race lines after line kind is whole wrong)
 
 -- what the lines of the first groups make
-pub settle_reads : (n : ℕ) (so_far : LastGroup) (given : HeadGiven) (lines : List (List ℕ)) (race : Race) → race_begun given ≡ Ok race → settle n so_far given lines ≡ read_body n so_far race lines
+pub settle_reads : (v : Version) → (n : ℕ) (so_far : LastGroup) (given : HeadGiven) (lines : List (List ℕ)) (race : Race) → race_begun given ≡ Ok race → settle v n so_far given lines ≡ read_body v n so_far race lines
 unfolding settle
-settle_reads n so_far given lines race h = ap (λ s. at_line n s >>= λ race. read_body n so_far race lines) h
+settle_reads v n so_far given lines race h = ap (λ s. at_line n s >>= λ race. read_body v n so_far race lines) h
 
-pub settle_wrong : (n : ℕ) (so_far : LastGroup) (given : HeadGiven) (lines : List (List ℕ)) (kind : TextKind) → race_begun given ≡ Err kind → settle n so_far given lines ≡ Err (n, kind)
+pub settle_wrong : (v : Version) → (n : ℕ) (so_far : LastGroup) (given : HeadGiven) (lines : List (List ℕ)) (kind : TextKind) → race_begun given ≡ Err kind → settle v n so_far given lines ≡ Err (n, kind)
 unfolding settle
-settle_wrong n so_far given lines kind h = ap (λ s. at_line n s >>= λ race. read_body n so_far race lines) h
+settle_wrong v n so_far given lines kind h = ap (λ s. at_line n s >>= λ race. read_body v n so_far race lines) h
 
-settled_not_before : (n : ℕ) (so_far : LastGroup) (given : HeadGiven) (lines : List (List ℕ)) → IfErr (settle n so_far given lines) (λ fault. n ≤ fault.0)
+settled_not_before : (v : Version) → (n : ℕ) (so_far : LastGroup) (given : HeadGiven) (lines : List (List ℕ)) → IfErr (settle v n so_far given lines) (λ fault. n ≤ fault.0)
 unfolding settle
-settled_not_before n so_far given lines = settle_not_before n so_far lines (race_begun given)
+settled_not_before v n so_far given lines = settle_not_before v n so_far lines (race_begun given)
 
 -- what the lines of the first groups give is refused, for its fault or for memory
-pub fails_settle : (n : ℕ) (so_far : LastGroup) (given : HeadGiven) (lines : List (List ℕ)) (kind : TextKind) → Fails kind (race_begun given) → FailsAt n kind (settle n so_far given lines)
-fails_settle n so_far given lines kind (inl memory) = inl (memory, settled_not_before n so_far given lines)
-fails_settle n so_far given lines kind (inr wrong) = inr (settle_wrong n so_far given lines kind wrong)
+pub fails_settle : (v : Version) → (n : ℕ) (so_far : LastGroup) (given : HeadGiven) (lines : List (List ℕ)) (kind : TextKind) → Fails kind (race_begun given) → FailsAt n kind (settle v n so_far given lines)
+fails_settle v n so_far given lines kind (inl memory) = inl (memory, settled_not_before v n so_far given lines)
+fails_settle v n so_far given lines kind (inr wrong) = inr (settle_wrong v n so_far given lines kind wrong)
 
 -- the first line
-abbrev pub begin : List ℕ → List (List ℕ) → Bool → Result (Race × List (List ℕ)) (ℕ × TextKind)
-begin line after same = cond same (read_head 2 group_at_start no_head after) (Err (1, kinds.Header))
+abbrev pub begin : List (List ℕ) → Result Version TextKind → Result (Race × List (List ℕ)) (ℕ × TextKind)
+begin after header = at_line 1 header >>= λ version. read_head version 2 group_at_start no_head after
 
 pub lines_unwhole : (lines : List (List ℕ)) (kind : TextKind) → wholeness lines ≡ Err kind → read_lines lines ≡ Err (1, kind)
 unfolding read_lines wholeness
 lines_unwhole [] kind h = ap (λ w. at_line 1 w >>= λ _. Err (1, kinds.Unfinished)) h
-lines_unwhole (line ∷ after) kind h = ap (λ w. at_line 1 w >>= λ _. begin line after (bytes_eq line (codes "race 1"))) h
+lines_unwhole (line ∷ after) kind h = ap (λ w. at_line 1 w >>= λ _. begin after (header_in line)) h
 
-pub lines_begin : (lines after : List (List ℕ)) (line : List ℕ) (same : Bool) → lines ≡ line ∷ after → wholeness lines ≡ Ok tt → bytes_eq line (codes "race 1") ≡ same → read_lines lines ≡ begin line after same
+pub lines_begin : (lines after : List (List ℕ)) (line : List ℕ) (header : Result Version TextKind) → lines ≡ line ∷ after → wholeness lines ≡ Ok tt → header_in line ≡ header → read_lines lines ≡ begin after header
 unfolding read_lines
-lines_begin lines after line same is whole tested =
+lines_begin lines after line header is whole read =
     ap read_lines is
-    ∙ ap (λ w. at_line 1 w >>= λ _. begin line after (bytes_eq line (codes "race 1"))) (ap wholeness (sym is) ∙ whole)
-    ∙ ap (begin line after) tested
+    ∙ ap (λ w. at_line 1 w >>= λ _. begin after (header_in line)) (ap wholeness (sym is) ∙ whole)
+    ∙ ap (begin after) read
 
 -- a test that was denied
 pub agrees : (b : Bool) → false ≡ not b → b ≡ true

@@ -8,15 +8,15 @@ use Rattle.he_addr.specs.declared.ip.Ip.{Ip}
 use Rattle.he_text.specs.declared.fault.TextKind.{TextKind}
 use Rattle.he_text.specs.declared.fault.TextKind.TheVariants as kinds
 use Rattle.he_text.specs.declared.words.Name.{Name}
-use Rattle.he_text.specs.declared.words.Name.TheVariants.{Resolution, Attempt, Count, Limit}
+use Rattle.he_text.specs.declared.words.Name.TheVariants.{Resolution, Attempt, Count, Limit, Floor}
 use Rattle.he_text.specs.declared.words.Word.{Word}
 use Rattle.he_text.specs.declared.words.Word.TheVariants as words
-use Rattle.he_text.specs.Forms.{setting_in, row_in, host_source_in, host_route_in, answer_in, connect_in, pause_in, word_of, said_by}
+use Rattle.he_text.specs.Forms.{setting_in, row_in, host_source_in, host_route_in, answer_in, round_trip_in, used_in, connect_in, pause_in, word_of, said_by}
 use Rattle.he_text.specs.Parts.{tokens_of}
-use Rattle.he_text.specs.Said.{Said, Setting, PolicyRow, HostSource, HostRoute, Answer, Told, Paused}
+use Rattle.he_text.specs.Said.{Said, Setting, PolicyRow, HostSource, HostRoute, Answer, RoundTrip, UsedBefore, Told, Paused}
 use Rattle.he_text.proofs.LineReads.{Reads}
 use Rattle.he_text.specs.Words.{spelling_of, name_spelling, word_in, name_in, is_end}
-use Rattle.he_text.proofs.FormFacts.{setting_ok, answer_ok, connect_ok, pause_ok}
+use Rattle.he_text.proofs.FormFacts.{setting_ok, answer_ok, round_trip_ok, used_ok, connect_ok, pause_ok}
 use Rattle.he_text.proofs.Results.{bind_ok, ok_or_ok}
 use Rattle.he_text.proofs.SelectionFacts.{row_ok, source_ok, route_ok}
 
@@ -37,9 +37,11 @@ word_spelled token w h =
     (spelled_or token words.Route w _ _ refl
     (spelled_or token words.Aaaa w _ _ refl
     (spelled_or token words.A w _ _ refl
+    (spelled_or token words.Rtt w _ _ refl
+    (spelled_or token words.Used w _ _ refl
     (spelled_or token words.Connect w _ _ refl
     (spelled_or token words.Pause w _ _ refl
-    (spelled_or token words.End w _ _ refl (λ e. absurd (no_word w e))))))))))
+    (spelled_or token words.End w _ _ refl (λ e. absurd (no_word w e))))))))))))
     h
   where
     no_word : (w : Word) → None ≡ Some w → ⊥
@@ -51,13 +53,14 @@ named_or token v w true rest e later h =
     (bytes_eq-Decides token (name_spelling v)).0 e ∙ ap name_spelling same
 named_or token v w false rest e later h = later h
 
-name_spelled : (token : List ℕ) (w : Name) → name_in token ≡ Some w → token ≡ name_spelling w
+pub name_spelled : (token : List ℕ) (w : Name) → name_in token ≡ Some w → token ≡ name_spelling w
 unfolding name_in
 name_spelled token w h =
     named_or token Resolution w _ _ refl
     (named_or token Attempt w _ _ refl
     (named_or token Count w _ _ refl
-    (named_or token Limit w _ _ refl (λ e. absurd (no_name w e)))))
+    (named_or token Limit w _ _ refl
+    (named_or token Floor w _ _ refl (λ e. absurd (no_name w e))))))
     h
   where
     no_name : (w : Name) → None ≡ Some w → ⊥
@@ -115,6 +118,18 @@ says known line words.A tokens s is h e =
     let same : Answer families.V4 read.0 ≡ s = cc (read.2) in
     let P : Said → Type 0 = Reads line in
     subst P same (fact.first, fact.others, is ∙ ap (λ ts. spelling_of words.A ∷ ts) fact.tokens_are, fact.tick, fact.addresses.listed, fact.few)
+says known line words.Rtt tokens s is h e =
+    let read = bind_ok (round_trip_in known tokens) (λ told. Ok (RoundTrip told.0 told.1)) s e in
+    let fact = round_trip_ok known tokens read.0 read.1 in
+    let same : RoundTrip read.0.0 read.0.1 ≡ s = cc (read.2) in
+    let P : Said → Type 0 = Reads line in
+    subst P same (fact.first, fact.second, is ∙ ap (λ ts. spelling_of words.Rtt ∷ ts) fact.tokens_are, fact.ip_is, fact.rtt_is)
+says known line words.Used tokens s is h e =
+    let read = bind_ok (used_in known tokens) (λ ip. Ok (UsedBefore ip)) s e in
+    let fact = used_ok known tokens read.0 read.1 in
+    let same : UsedBefore read.0 ≡ s = cc (read.2) in
+    let P : Said → Type 0 = Reads line in
+    subst P same (fact.first, is ∙ ap (λ ts. spelling_of words.Used ∷ ts) fact.tokens_are, fact.ip_is)
 says known line words.Connect tokens s is h e =
     let read = bind_ok (connect_in known tokens) (λ told. Ok (Told told.0 told.1)) s e in
     let fact = connect_ok known tokens read.0 read.1 in

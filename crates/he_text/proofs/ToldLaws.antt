@@ -5,24 +5,24 @@ use Rattle.std.proofs.lemmas.Bool.{le-leb, le-ltb, lt-leb, and_from}
 use Rattle.he_addr.specs.declared.ip.Family.{Family}
 use Rattle.he_addr.specs.declared.ip.Family.TheVariants as families
 use Rattle.he_addr.specs.declared.ip.Ip.{Ip}
-use Rattle.he_plan.specs.Building.{add_answer, add_outcome, add_pause, with_answer, last_end}
+use Rattle.he_plan.specs.Building.{add_answer, add_rtt, add_used, add_outcome, add_pause, with_answer, last_end}
 use Rattle.he_plan.specs.declared.builder.BuildFault.{BuildFault}
 use Rattle.he_plan.specs.declared.builder.BuildFault.TheVariants as faults
 use Rattle.he_plan.specs.declared.limits.TheConstants.{MAX_TICK, MIN_DURATION, MAX_DURATION, MAX_PAUSE_END, MAX_PAUSES, MAX_ADDRESSES}
 use Rattle.he_plan.specs.declared.outcome.Outcome.{Outcome}
 use Rattle.he_select.specs.declared.limits.TheConstants.{SOURCES, ROUTES}
-use Rattle.he_plan.specs.Race.{Race, Reply, reply_of, is_in_answer, has_outcome}
+use Rattle.he_plan.specs.Race.{Race, Reply, reply_of, has_ip, is_in_answer, is_told, has_outcome}
 use Rattle.he_plan.specs.Timeline.{are_of, are_distinct, is_duration, duration_of}
 use Rattle.he_text.specs.declared.fault.TextKind.{TextKind}
 use Rattle.he_text.specs.declared.fault.TextKind.TheVariants as kinds
 use Rattle.he_text.specs.declared.words.Word.{Word}
 use Rattle.he_text.specs.declared.words.Word.TheVariants as words
-use Rattle.he_text.specs.Faults.{first_fault, test, wrong_bounds, repeated, wrong_table, known_to}
-use Rattle.he_text.specs.Forms.{◌>>=◌, answer_in, connect_in, pause_in, end_in, said_by}
+use Rattle.he_text.specs.Faults.{first_fault, test, wrong_bounds, repeated, is_next, group_fault, wrong_group, known_to}
+use Rattle.he_text.specs.Forms.{◌>>=◌, answer_in, round_trip_in, used_in, connect_in, pause_in, end_in, said_by}
 use Rattle.he_text.specs.Reading.{built, take_answer, take_told, is_head_word}
-use Rattle.he_text.specs.Said.{Said, Answer, Told, Paused, Ended, sources_given, routes_given, outcomes_given, pauses_given, race_of}
-use Rattle.he_text.proofs.FormFacts.{IsAnswer, IsTold, IsPause, answer_ok, connect_ok, pause_ok}
-use Rattle.he_text.proofs.SaidLaws.{race_answered, race_told, race_paused, race_ended}
+use Rattle.he_text.specs.Said.{Said, Answer, RoundTrip, UsedBefore, Told, Paused, Ended, sources_given, routes_given, rtts_given, used_given, outcomes_given, pauses_given, race_of, word_said}
+use Rattle.he_text.proofs.FormFacts.{IsAnswer, IsRoundTrip, IsUsed, IsTold, IsPause, answer_ok, round_trip_ok, used_ok, connect_ok, pause_ok}
+use Rattle.he_text.proofs.SaidLaws.{race_answered, race_timed, race_used, race_told, race_paused, race_ended}
 
 -- a value, unless there is a fault
 abbrev pub outcome : {B : Type 0} → Option TextKind → B → Result B TextKind
@@ -31,7 +31,7 @@ outcome (Some kind) x = Err kind
 
 -- the last three checks, and the race with what was said
 abbrev pub judged : List (List ℕ) → List Said → Said → Result Race TextKind
-judged after said s = outcome (first_fault (wrong_bounds said s ∷ repeated said s ∷ wrong_table said after s ∷ [])) (race_of (said ++ s ∷ []))
+judged after said s = outcome (first_fault (wrong_bounds said s ∷ repeated said s ∷ wrong_group said after s ∷ [])) (race_of (said ++ s ∷ []))
 
 -- the builder's checks that can't fail behind the form
 admitted : (b1 b2 b3 b4 : Bool) (rest : Result Race BuildFault) → b1 ≡ false → b2 ≡ false → b3 ≡ false → b4 ≡ true
@@ -59,6 +59,7 @@ answer_judged after family tokens said reply none is =
     (cond (not (are_distinct reply.addresses)) (Err faults.Repeated) (Ok (with_answer (race_of said) family reply)))
     (is_none _ none) (le-ltb MAX_TICK reply.tick tick) (le-ltb MAX_ADDRESSES (length reply.addresses) (omega arith)) is.addresses.of_family
     ∙ distinct_judged (are_distinct reply.addresses) (with_answer (race_of said) family reply) (race_of (said ++ Answer family reply ∷ [])) (sym (race_answered family said reply none))
+    ∙ sym (no_group after said (Answer family reply) _ _ _ refl)
 
 by_answer : (after : List (List ℕ)) (family : Family) (tokens : List (List ℕ)) (said : List Said) (read : Result Reply TextKind) → reply_of (race_of said) family ≡ None → ((reply : Reply) → read ≡ Ok reply → IsAnswer family tokens reply)
     → (read >>= λ reply. built (add_answer family reply.tick reply.addresses (race_of said))) ≡ ((read >>= λ reply. Ok (Answer family reply)) >>= judged after said)
@@ -69,6 +70,15 @@ pub answer_agrees : (after : List (List ℕ)) (family : Family) (tokens : List (
     → take_answer family tokens (race_of said) ≡ ((answer_in family tokens >>= λ reply. Ok (Answer family reply)) >>= judged after said)
 unfolding take_answer
 answer_agrees after family tokens said none = by_answer after family tokens said (answer_in family tokens) none (answer_ok family tokens)
+
+-- a line of the other groups leaves no group open
+pub no_group : {B : Type 0} (after : List (List ℕ)) (said : List Said) (s : Said) (other : B) (first : Option TextKind) (again : Option TextKind) → group_fault said s ≡ None
+    → outcome (first_fault (first ∷ again ∷ wrong_group said after s ∷ [])) other ≡ outcome (first_fault (first ∷ again ∷ None ∷ [])) other
+no_group after said s other first again none = ap (λ o. outcome (first_fault (first ∷ again ∷ o ∷ [])) other) (by_next (is_next (word_said s) after) none)
+  where
+    by_next : (b : Bool) → group_fault said s ≡ None → cond b None (group_fault said s) ≡ None
+    by_next true e = refl
+    by_next false e = e
 
 -- outcomes
 told_checked : (b1 b2 b3 : Bool) (race other : Race) → b1 ≡ true → b2 ≡ true → race ≡ other
@@ -94,11 +104,52 @@ told_judged after said tokens ip o is =
     let lasts : is_duration (duration_of o) ≡ true = and_from _ _ (le-leb MIN_DURATION (duration_of o) least) (le-leb (duration_of o) MAX_DURATION most) in
     told_checked (is_duration (duration_of o)) (is_in_answer (race_of said) ip) (has_outcome ip (race_of said).outcomes) _ (race_of (said ++ Told ip o ∷ [])) lasts is.known_is (sym (race_told said ip o))
     ∙ ap (λ os. outcome (first_fault (None ∷ test (has_outcome ip os) kinds.Repeated ∷ None ∷ [])) (race_of (said ++ Told ip o ∷ []))) (outcomes_of said)
+    ∙ sym (no_group after said (Told ip o) _ _ _ refl)
 
 by_told : (after : List (List ℕ)) (said : List Said) (tokens : List (List ℕ)) (read : Result (Ip × Outcome) TextKind) → ((told : Ip × Outcome) → read ≡ Ok told → IsTold (known_to said) tokens told.0 told.1)
     → (read >>= λ told. built (add_outcome told.0 told.1 (race_of said))) ≡ ((read >>= λ told. Ok (Told told.0 told.1)) >>= judged after said)
 by_told after said tokens (Err kind) facts = refl
 by_told after said tokens (Ok told) facts = told_judged after said tokens told.0 told.1 (facts told refl)
+
+-- round trip times
+rtts_of : (said : List Said) → (race_of said).history.rtts ≡ rtts_given said
+unfolding race_of
+rtts_of said = refl
+
+used_of : (said : List Said) → (race_of said).history.used ≡ used_given said
+unfolding race_of
+used_of said = refl
+
+round_trip_judged : (after : List (List ℕ)) (said : List Said) (tokens : List (List ℕ)) (ip : Ip) (rtt : ℕ) → IsRoundTrip (known_to said) tokens ip rtt
+    → built (add_rtt ip rtt (race_of said)) ≡ judged after said (RoundTrip ip rtt)
+round_trip_judged after said tokens ip rtt is =
+    let lasts : is_duration rtt ≡ true = and_from _ _ (le-leb MIN_DURATION rtt is.rtt_is.least) (le-leb rtt MAX_DURATION is.rtt_is.most) in
+    told_checked (is_duration rtt) (is_in_answer (race_of said) ip) (is_told ip (race_of said).history.rtts) _ (race_of (said ++ RoundTrip ip rtt ∷ [])) lasts is.known_is (sym (race_timed said ip rtt))
+    ∙ ap (λ rs. outcome (first_fault (None ∷ test (is_told ip rs) kinds.Repeated ∷ None ∷ [])) (race_of (said ++ RoundTrip ip rtt ∷ []))) (rtts_of said)
+    ∙ sym (no_group after said (RoundTrip ip rtt) _ _ _ refl)
+
+by_round_trip : (after : List (List ℕ)) (said : List Said) (tokens : List (List ℕ)) (read : Result (Ip × ℕ) TextKind) → ((told : Ip × ℕ) → read ≡ Ok told → IsRoundTrip (known_to said) tokens told.0 told.1)
+    → (read >>= λ told. built (add_rtt told.0 told.1 (race_of said))) ≡ ((read >>= λ told. Ok (RoundTrip told.0 told.1)) >>= judged after said)
+by_round_trip after said tokens (Err kind) facts = refl
+by_round_trip after said tokens (Ok told) facts = round_trip_judged after said tokens told.0 told.1 (facts told refl)
+
+-- addresses used before
+used_checked : (b2 b3 : Bool) (race other : Race) → b2 ≡ true → race ≡ other
+    → built (cond (not b2) (Err faults.Stranger) (cond b3 (Err faults.Repeated) (Ok race))) ≡ outcome (first_fault (None ∷ test b3 kinds.Repeated ∷ None ∷ [])) other
+used_checked false b3 race other h2 same = cc
+used_checked true true race other h2 same = refl
+used_checked true false race other h2 same = ap Ok same
+
+used_judged : (after : List (List ℕ)) (said : List Said) (tokens : List (List ℕ)) (ip : Ip) → IsUsed (known_to said) tokens ip → built (add_used ip (race_of said)) ≡ judged after said (UsedBefore ip)
+used_judged after said tokens ip is =
+    used_checked (is_in_answer (race_of said) ip) (has_ip ip (race_of said).history.used) _ (race_of (said ++ UsedBefore ip ∷ [])) is.known_is (sym (race_used said ip))
+    ∙ ap (λ us. outcome (first_fault (None ∷ test (has_ip ip us) kinds.Repeated ∷ None ∷ [])) (race_of (said ++ UsedBefore ip ∷ []))) (used_of said)
+    ∙ sym (no_group after said (UsedBefore ip) _ _ _ refl)
+
+by_used : (after : List (List ℕ)) (said : List Said) (tokens : List (List ℕ)) (read : Result Ip TextKind) → ((ip : Ip) → read ≡ Ok ip → IsUsed (known_to said) tokens ip)
+    → (read >>= λ ip. built (add_used ip (race_of said))) ≡ ((read >>= λ ip. Ok (UsedBefore ip)) >>= judged after said)
+by_used after said tokens (Err kind) facts = refl
+by_used after said tokens (Ok ip) facts = used_judged after said tokens ip (facts ip refl)
 
 -- pauses
 pause_checked : (b1 b2 b3 few : Bool) (race other : Race) → b3 ≡ true → few ≡ false → race ≡ other
@@ -118,6 +169,7 @@ pause_judged after said tokens from to few is =
     pause_checked (leb (last_end (race_of said).pauses) from) (ltb from to) (leb to MAX_PAUSE_END) (leb MAX_PAUSES (length (race_of said).pauses)) _ (race_of (said ++ Paused from to ∷ []))
     (le-leb to MAX_PAUSE_END ends) (lt-leb MAX_PAUSES (length (race_of said).pauses) count) (sym (race_paused said from to))
     ∙ ap (λ ps. outcome (first_fault (test (not (leb (last_end ps) from && ltb from to)) kinds.Range ∷ None ∷ None ∷ [])) (race_of (said ++ Paused from to ∷ []))) (pauses_of said)
+    ∙ sym (no_group after said (Paused from to) _ _ _ refl)
 
 by_pause : (after : List (List ℕ)) (said : List Said) (tokens : List (List ℕ)) (read : Result (ℕ × ℕ) TextKind) → length (pauses_given said) < MAX_PAUSES → ((p : ℕ × ℕ) → read ≡ Ok p → IsPause tokens p.0 p.1)
     → (read >>= λ p. built (add_pause p.0 p.1 (race_of said))) ≡ ((read >>= λ p. Ok (Paused p.0 p.1)) >>= judged after said)
@@ -126,7 +178,7 @@ by_pause after said tokens (Ok p) few facts = pause_judged after said tokens p.0
 
 by_end : (after : List (List ℕ)) (said : List Said) (read : Result (Unit {0}) TextKind) → (read >>= λ _. Ok (race_of said)) ≡ ((read >>= λ _. Ok Ended) >>= judged after said)
 by_end after said (Err kind) = refl
-by_end after said (Ok done) = ap Ok (sym (race_ended said))
+by_end after said (Ok done) = ap Ok (sym (race_ended said)) ∙ sym (no_group after said Ended _ None None refl)
 
 -- what must hold before a line of the word is taken: its bound on lines
 abbrev pub HasPlace : Word → List Said → Type 0
@@ -146,6 +198,8 @@ told_agrees after words.Source tokens said h place = cc
 told_agrees after words.Route tokens said h place = cc
 told_agrees after words.Aaaa tokens said h place = answer_agrees after families.V6 tokens said place
 told_agrees after words.A tokens said h place = answer_agrees after families.V4 tokens said place
+told_agrees after words.Rtt tokens said h place = by_round_trip after said tokens (round_trip_in (known_to said) tokens) (round_trip_ok (known_to said) tokens)
+told_agrees after words.Used tokens said h place = by_used after said tokens (used_in (known_to said) tokens) (used_ok (known_to said) tokens)
 told_agrees after words.Connect tokens said h place = by_told after said tokens (connect_in (known_to said) tokens) (connect_ok (known_to said) tokens)
 told_agrees after words.Pause tokens said h place = by_pause after said tokens (pause_in tokens) place (pause_ok tokens)
 told_agrees after words.End tokens said h place = by_end after said (end_in tokens)

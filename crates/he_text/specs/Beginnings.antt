@@ -1,11 +1,14 @@
 -- What is known of a text of which only a first part was read.
-use Rattle.std.specs.Prelude.{ℕ, ◌≡◌, ◌≢◌, ◌⊎◌, ◌++◌, List, [], ◌∷◌, Some, IsTrue, length}
-use Rattle.he_select.specs.declared.policy.PolicyFault.{PolicyFault}
+use Rattle.std.specs.Prelude.{ℕ, ◌≡◌, ◌≢◌, ◌⊎◌, ◌+◌, ◌++◌, List, [], ◌∷◌, Option, Some, None, Result, Ok, IsTrue, length}
 use Rattle.he_text.specs.declared.fault.TextKind.{TextKind}
 use Rattle.he_text.specs.declared.fault.TextKind.TheVariants as kinds
-use Rattle.he_text.specs.Faults.{is_policy_next}
+use Rattle.he_text.specs.declared.words.Word.{Word}
+use Rattle.he_text.specs.declared.words.Word.TheVariants as words
+use Rattle.he_text.specs.Faults.{anyone, is_next}
 use Rattle.he_text.specs.FaultSearch.{fault_of}
+use Rattle.he_text.specs.Forms.{said_in}
 use Rattle.he_text.specs.Parts.{lines_of}
+use Rattle.he_text.specs.Said.{Said, Setting}
 
 -- the fault of every text that begins with these bytes
 abbrev pub FaultStands : List ℕ → ℕ → TextKind → Type 0
@@ -15,28 +18,41 @@ FaultStands text n kind = (more : List ℕ) → fault_of (text ++ more) ≡ Some
 abbrev pub FaultChanges : List ℕ → ℕ → TextKind → Type 0
 FaultChanges text n kind = (more : List ℕ) × (fault_of (text ++ more) ≢ Some (n, kind))
 
-abbrev pub IsPolicyFault : TextKind → Type 0
-IsPolicyFault kind = (fault : PolicyFault) × (kind ≡ kinds.Policy fault)
-
--- what follows these bytes may make a `policy` line of them, right or not
-abbrev pub MayBecomePolicy : List ℕ → Type 0
-MayBecomePolicy rest = (more : List ℕ) × IsTrue (is_policy_next (lines_of (rest ++ more)))
+-- what follows these bytes may make a line of them that begins with the word, right or not
+abbrev pub MayBecome : Word → List ℕ → Type 0
+MayBecome word rest = (more : List ℕ) × IsTrue (is_next word (lines_of (rest ++ more)))
 
 -- the text is so many whole lines, and these bytes behind the last line end
 abbrev pub EndsIn : List ℕ → ℕ → List ℕ → Type 0
 EndsIn text n rest = (lines : List (List ℕ)) × (lines_of text ≡ lines ++ rest ∷ []) × (length lines ≡ n)
 
--- a `policy` line may follow the text's last whole line, which is its nth
-abbrev pub PolicyMayFollow : List ℕ → ℕ → Type 0
-PolicyMayFollow text n = (rest : List ℕ) × EndsIn text n rest × MayBecomePolicy rest
+-- the text's last whole line is this one, its nth, and these bytes stand behind its line end
+abbrev pub EndsBehind : List ℕ → ℕ → List ℕ → List ℕ → Type 0
+EndsBehind text n line rest = (before : List (List ℕ)) × (lines_of text ≡ before ++ line ∷ rest ∷ []) × (length before + 1 ≡ n)
 
--- the fault of a policy table on the last whole line, where more rows may follow and mend the table
-abbrev pub IsTableFaultAtEnd : List ℕ → ℕ → TextKind → Type 0
-IsTableFaultAtEnd text n kind = IsPolicyFault kind × PolicyMayFollow text n
+-- a setting that is right by itself, whose fault can only be that of all settings together
+abbrev pub word_of_setting : Result Said TextKind → Option Word
+word_of_setting (Ok (Setting name value)) = Some words.Set
+word_of_setting _ = None
+
+-- what the fault of a group's last line waits for: the word of the lines that mend it
+abbrev pub awaited : List ℕ → TextKind → Option Word
+awaited line (kinds.Policy fault) = Some words.Policy
+awaited line kinds.Range = word_of_setting (said_in anyone line)
+awaited line kind = None
+
+-- the fault of a group on the last whole line, where one more line of the group may follow and mend it
+pub record IsGroupFaultAtEnd (text : List ℕ) (n : ℕ) (kind : TextKind) : Type 0 where
+  pub line : List ℕ
+  pub rest : List ℕ
+  pub word : Word
+  pub ends : EndsBehind text n line rest
+  pub waits : awaited line kind ≡ Some word
+  pub may : MayBecome word rest
 
 -- a fault that what follows may mend
 abbrev pub MayChange : List ℕ → ℕ → TextKind → Type 0
-MayChange text n kind = (kind ≡ kinds.Unfinished) ⊎ IsTableFaultAtEnd text n kind
+MayChange text n kind = (kind ≡ kinds.Unfinished) ⊎ IsGroupFaultAtEnd text n kind
 
 -- what the text is depends on what follows it: it is empty, or has a fault that not every text has that begins with its bytes
 abbrev pub MayGoOn : List ℕ → Type 0

@@ -1,13 +1,14 @@
 -- What is wrong with a text. A line undergoes the checks in the order in which they stand here; each is a condition on the line,
--- on the lines before it (which are right, since the least faulty line decides), and for the second and the last check on what
--- follows it.
-use Rattle.std.specs.Prelude.{ℕ, ◌==◌, ◌&&◌, Bool, true, false, not, List, [], ◌∷◌, ◌++◌, length, Option, Some, None, option_map, is_some, Result, Ok, Err, if◌then◌else◌, nat_le, nat_lt, count_by, codes}
+-- on the lines before it (which are right, since the least faulty line decides), for the second check and those of a
+-- group's last line on what follows it, and for the fourth on the version of the text.
+use Rattle.std.specs.Prelude.{ℕ, ◌==◌, ◌&&◌, ◌||◌, Bool, true, false, not, List, [], ◌∷◌, ◌++◌, length, Option, Some, None, option_map, is_some, Result, Ok, Err, if◌then◌else◌, nat_le, nat_lt, count_by}
 use Rattle.std.specs.List.{filter_map, list_any}
 use Rattle.std.specs.Result.{result_ok, result_err}
 use Rattle.std.specs.Str.{bytes_eq}
 use Rattle.he_addr.specs.declared.ip.Ip.{Ip}
 use Rattle.he_plan.specs.Building.{last_end}
-use Rattle.he_plan.specs.Race.{is_in_answer, has_outcome}
+use Rattle.he_plan.specs.Race.{has_ip, is_in_answer, is_told, has_outcome}
+use Rattle.he_plan.specs.Settings.{SettingValues}
 use Rattle.he_plan.specs.Timeline.{are_distinct}
 use Rattle.he_text.specs.Ranges.{most_line_bytes}
 use Rattle.he_text.specs.declared.fault.TextKind.{TextKind}
@@ -15,11 +16,13 @@ use Rattle.he_text.specs.declared.fault.TextKind.TheVariants as kinds
 use Rattle.he_select.specs.Hosts.{same_source, same_route}
 use Rattle.he_select.specs.TableFaults.{table_fault}
 use Rattle.he_select.specs.Tables.{same_row}
+use Rattle.he_text.specs.declared.words.Version.{Version}
+use Rattle.he_text.specs.declared.words.Version.TheVariants.{One, Two}
 use Rattle.he_text.specs.declared.words.Word.{Word}
-use Rattle.he_text.specs.Forms.{word_of, said_in}
+use Rattle.he_text.specs.Forms.{word_of, version_word, said_from, said_in}
 use Rattle.he_text.specs.Parts.{tokens_of}
-use Rattle.he_text.specs.Said.{Said, Setting, PolicyRow, HostSource, HostRoute, Answer, Told, Paused, setting_given, rows_given, sources_given, routes_given, outcomes_given, pauses_given, race_of}
-use Rattle.he_text.specs.Words.{group_of, most_lines, is_policy, is_end}
+use Rattle.he_text.specs.Said.{Said, Setting, PolicyRow, HostSource, HostRoute, Answer, RoundTrip, UsedBefore, Told, Paused, setting_given, rows_given, sources_given, routes_given, rtts_given, used_given, outcomes_given, pauses_given, settings_given, race_of, word_said}
+use Rattle.he_text.specs.Words.{group_of, header_of, most_lines, same_word, is_end}
 
 -- the fault of a check
 abbrev pub test : Bool → TextKind → Option TextKind
@@ -68,11 +71,14 @@ abbrev pub unfinished : List (List ℕ) → Option TextKind
 unfinished [] = Some kinds.Unfinished
 unfinished (part ∷ parts) = None
 
--- 3: the first line of a race
+-- 3: the first line of a race, which tells the version
 abbrev pub wrong_header : List ℕ → Option TextKind
-wrong_header line = test (not (bytes_eq line (codes "race 1"))) kinds.Header
+wrong_header line = test (not (bytes_eq line (header_of One) || bytes_eq line (header_of Two))) kinds.Header
 
--- 4: no word, or one of an earlier group than the line before
+abbrev pub version_on : List ℕ → Version
+version_on line = if bytes_eq line (header_of Two) then Two else One
+
+-- 4: no word of the version, or one of an earlier group than the line before
 abbrev pub wrong_word : ℕ → Result (Word × List (List ℕ)) TextKind → Option TextKind
 wrong_word group (Err kind) = Some kinds.Word
 wrong_word group (Ok parts) = test (nat_lt (group_of parts.0) group) kinds.Word
@@ -92,30 +98,44 @@ wrong_bounds before (Paused from to) = test (not (nat_le (last_end (pauses_given
 wrong_bounds before said = None
 
 -- 9: a setting, the prefix of a row, the address of a source or the prefix of a route given twice, an address twice in an
--- answer, a second outcome of an address
+-- answer, a second round trip time, use or outcome of an address
 abbrev pub repeated : List Said → Said → Option TextKind
 repeated before (Setting name value) = test (is_some (setting_given name before)) kinds.Repeated
 repeated before (PolicyRow row) = test (list_any (same_row row) (rows_given before)) kinds.Repeated
 repeated before (HostSource source) = test (list_any (same_source source) (sources_given before)) kinds.Repeated
 repeated before (HostRoute route) = test (list_any (same_route route) (routes_given before)) kinds.Repeated
 repeated before (Answer family reply) = test (not (are_distinct reply.addresses)) kinds.Repeated
+repeated before (RoundTrip ip rtt) = test (is_told ip (rtts_given before)) kinds.Repeated
+repeated before (UsedBefore ip) = test (has_ip ip (used_given before)) kinds.Repeated
 repeated before (Told ip outcome) = test (has_outcome ip (outcomes_given before)) kinds.Repeated
 repeated before said = None
 
--- whether the next line begins with `policy`, be it right or not; a line that is too long or has no line end is none
-abbrev pub begins_policy : Result (Word × List (List ℕ)) TextKind → Bool
-begins_policy (Ok parts) = is_policy parts.0
-begins_policy (Err kind) = false
+-- whether the next line begins with the word, be it right or not; a line that is too long or has no line end is none
+abbrev pub begins_with : Word → Result (Word × List (List ℕ)) TextKind → Bool
+begins_with word (Ok parts) = same_word word parts.0
+begins_with word (Err kind) = false
 
-abbrev pub is_policy_next : List (List ℕ) → Bool
-is_policy_next (line ∷ next ∷ after) = nat_le (length line) most_line_bytes && begins_policy (word_of (tokens_of line))
-is_policy_next _ = false
+abbrev pub is_next : Word → List (List ℕ) → Bool
+is_next word (line ∷ next ∷ after) = nat_le (length line) most_line_bytes && begins_with word (word_of (tokens_of line))
+is_next word _ = false
 
--- 10: on the last line of a policy table, a table that isn't admitted
-abbrev pub wrong_table : List Said → List (List ℕ) → Said → Option TextKind
-wrong_table before after (PolicyRow row) =
-    if is_policy_next after then None else option_map kinds.Policy (table_fault (rows_given before ++ row ∷ []))
-wrong_table before after said = None
+-- a floor above the attempt delay
+abbrev pub is_above : Option ℕ → ℕ → Bool
+is_above None delay = false
+is_above (Some floor) delay = nat_lt delay floor
+
+abbrev pub floor_is_above : SettingValues → Bool
+floor_is_above settings = is_above settings.floor settings.attempt
+
+-- what the lines of a group give together: a policy table that isn't admitted; a floor above the attempt delay
+abbrev pub group_fault : List Said → Said → Option TextKind
+group_fault before (PolicyRow row) = option_map kinds.Policy (table_fault (rows_given before ++ row ∷ []))
+group_fault before (Setting name value) = test (floor_is_above (settings_given (before ++ Setting name value ∷ []))) kinds.Range
+group_fault before said = None
+
+-- 10 and 11: on the last line of a group, which the next line's word tells
+abbrev pub wrong_group : List Said → List (List ℕ) → Said → Option TextKind
+wrong_group before after said = if is_next (word_said said) after then None else group_fault before said
 
 -- a check of what the line says, where it says something
 abbrev pub of_said : (Said → Option TextKind) → Result Said TextKind → Option TextKind
@@ -124,11 +144,11 @@ of_said check (Err kind) = None
 
 -- the fault of a line behind the first one. The sixth and the seventh check are those of what the line says by itself (`Forms`): the
 -- number of tokens, then each of them from left to right.
-unfoldable pub line_fault : List (List ℕ) → List ℕ → List (List ℕ) → Option TextKind
-line_fault before line after =
-    let word = word_of (tokens_of line) in
+unfoldable pub line_fault : Version → List (List ℕ) → List ℕ → List (List ℕ) → Option TextKind
+line_fault version before line after =
+    let word = version_word version (tokens_of line) in
     let told = said_before before in
-    let said = said_in (known_to told) line in
+    let said = said_from (known_to told) word in
     first_fault (
     too_long line
     ∷ unfinished after
@@ -137,7 +157,7 @@ line_fault before line after =
     ∷ result_err said
     ∷ of_said (wrong_bounds told) said
     ∷ of_said (repeated told) said
-    ∷ of_said (wrong_table told after) said
+    ∷ of_said (wrong_group told after) said
     ∷ [])
 
 -- whether a line ends the race

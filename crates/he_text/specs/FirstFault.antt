@@ -1,13 +1,13 @@
 -- The fault of a text in words: the first check that fails on the first faulty line, where no race ends before.
 use Rattle.std.specs.Prelude.{ℕ, ◌≡◌, ◌+◌, ◌++◌, Bool, false, List, [], ◌∷◌, length, Option, Some, None}
 use Rattle.he_text.specs.declared.fault.TextKind.{TextKind}
-use Rattle.he_text.specs.Faults.{header_fault, line_fault, ends}
+use Rattle.he_text.specs.Faults.{header_fault, version_on, line_fault, ends}
 use Rattle.he_text.specs.Parts.{lines_of}
 
 -- the first check that fails on a line, by the lines before it and the parts behind it
 abbrev pub fault_on : List (List ℕ) → List ℕ → List (List ℕ) → Option TextKind
 fault_on [] line after = header_fault line after
-fault_on (first ∷ before) line after = line_fault before line after
+fault_on (first ∷ before) line after = line_fault (version_on first) before line after
 
 -- whether a race ends with the line; the first line ends none
 abbrev pub ends_race : List (List ℕ) → List ℕ → Bool

@@ -11,12 +11,14 @@ use Rattle.he_plan.specs.declared.outcome.Outcome.TheVariants as outcomes
 use Rattle.he_plan.specs.Race.{Reply}
 use Rattle.he_plan.specs.Timeline.{is_of}
 use Rattle.he_select.specs.Ranges.{least_interface}
-use Rattle.he_plan.specs.declared.limits.TheConstants.{MAX_ADDRESSES, MAX_RESOLUTION, MIN_ATTEMPT, MAX_ATTEMPT, MIN_COUNT, MAX_COUNT, MIN_LIMIT, MAX_LIMIT, MAX_TICK, MIN_DURATION, MAX_DURATION, MAX_PAUSE_END}
+use Rattle.he_plan.specs.declared.limits.TheConstants.{MAX_ADDRESSES, MAX_RESOLUTION, MIN_ATTEMPT, MAX_ATTEMPT, MIN_COUNT, MAX_COUNT, MIN_LIMIT, MAX_LIMIT, MIN_FLOOR, MAX_TICK, MIN_DURATION, MAX_DURATION, MAX_PAUSE_END}
 use Rattle.he_text.specs.Ranges.{most_source_marks, most_route_marks, most_u16, least_pause_end}
 use Rattle.he_text.specs.declared.fault.TextKind.{TextKind}
 use Rattle.he_text.specs.declared.fault.TextKind.TheVariants as kinds
 use Rattle.he_text.specs.declared.words.Name.{Name}
-use Rattle.he_text.specs.declared.words.Name.TheVariants.{Resolution, Attempt, Count, Limit}
+use Rattle.he_text.specs.declared.words.Name.TheVariants.{Resolution, Attempt, Count, Limit, Floor}
+use Rattle.he_text.specs.declared.words.Version.{Version}
+use Rattle.he_text.specs.declared.words.Version.TheVariants.{One, Two}
 use Rattle.he_text.specs.declared.words.Word.{Word}
 use Rattle.he_text.specs.declared.words.Word.TheVariants as words
 use Rattle.he_addr.specs.Ip.{is_usable}
@@ -24,9 +26,9 @@ use Rattle.he_addr.specs.Reading.{number_in, ip_in, prefix_in, source_in}
 use Rattle.he_select.specs.declared.policy.Row.{Row}
 use Rattle.he_select.specs.declared.host.Source.{Source}
 use Rattle.he_select.specs.declared.host.Route.{Route}
-use Rattle.he_text.specs.Said.{Said, Setting, PolicyRow, HostSource, HostRoute, Answer, Told, Paused, Ended}
+use Rattle.he_text.specs.Said.{Said, Setting, PolicyRow, HostSource, HostRoute, Answer, RoundTrip, UsedBefore, Told, Paused, Ended}
 use Rattle.he_text.specs.Parts.{tokens_of}
-use Rattle.he_text.specs.Words.{name_in, word_in}
+use Rattle.he_text.specs.Words.{name_in, name_spelling, word_in}
 
 infixl 10 ◌>>=◌
 abbrev pub ◌>>=◌ : {A B E : Type 0} → Result A E → (A → Result B E) → Result B E
@@ -39,12 +41,14 @@ least_value Resolution = 0
 least_value Attempt = MIN_ATTEMPT
 least_value Count = MIN_COUNT
 least_value Limit = MIN_LIMIT
+least_value Floor = MIN_FLOOR
 
 abbrev pub most_value : Name → ℕ
 most_value Resolution = MAX_RESOLUTION
 most_value Attempt = MAX_ATTEMPT
 most_value Count = MAX_COUNT
 most_value Limit = MAX_LIMIT
+most_value Floor = MAX_ATTEMPT
 
 abbrev pub within : ℕ → ℕ → ℕ → Result ℕ TextKind
 within low high n = if nat_le low n && nat_le n high then Ok n else Err kinds.Range
@@ -151,6 +155,19 @@ known_in known token = do
   ip ← ok_or (ip_in token) kinds.Address
   if known ip then Ok ip else Err kinds.Address
 
+-- rtt ADDRESS N
+unfoldable pub round_trip_in : (Ip → Bool) → List (List ℕ) → Result (Ip × ℕ) TextKind
+round_trip_in known (address ∷ number ∷ []) = do
+  ip ← known_in known address
+  rtt ← number_from MIN_DURATION MAX_DURATION number
+  Ok (ip, rtt)
+round_trip_in known _ = Err kinds.Word
+
+-- used ADDRESS
+unfoldable pub used_in : (Ip → Bool) → List (List ℕ) → Result Ip TextKind
+used_in known (address ∷ []) = known_in known address
+used_in known _ = Err kinds.Word
+
 -- what a connect does, by its mark
 unfoldable pub mark_in : List ℕ → Result Bool TextKind
 mark_in token = if bytes_eq token (codes "ok") then Ok true else if bytes_eq token (codes "fail") then Ok false else Err kinds.Word
@@ -182,6 +199,25 @@ unfoldable pub word_of : List (List ℕ) → Result (Word × List (List ℕ)) Te
 word_of [] = Err kinds.Word
 word_of (token ∷ tokens) = ok_or (word_in token) kinds.Word >>= λ word. Ok (word, tokens)
 
+-- what version 2 adds: the words `rtt` and `used`, and the setting `floor`
+abbrev pub names_floor : List (List ℕ) → Bool
+names_floor [] = false
+names_floor (token ∷ tokens) = bytes_eq token (name_spelling Floor)
+
+abbrev pub is_added : Word × List (List ℕ) → Bool
+is_added (words.Rtt, tokens) = true
+is_added (words.Used, tokens) = true
+is_added (words.Set, tokens) = names_floor tokens
+is_added _ = false
+
+-- a word and the tokens behind it, if a text of the version has them
+abbrev pub of_version : Version → Word × List (List ℕ) → Result (Word × List (List ℕ)) TextKind
+of_version One parts = if is_added parts then Err kinds.Word else Ok parts
+of_version Two parts = Ok parts
+
+unfoldable pub version_word : Version → List (List ℕ) → Result (Word × List (List ℕ)) TextKind
+version_word version line = word_of line >>= of_version version
+
 -- what a line says, by its word and the tokens behind it, where these addresses are known
 unfoldable pub said_by : (Ip → Bool) → Word → List (List ℕ) → Result Said TextKind
 said_by known words.Set tokens = setting_in tokens >>= λ setting. Ok (Setting setting.0 setting.1)
@@ -190,9 +226,14 @@ said_by known words.Source tokens = host_source_in tokens >>= λ source. Ok (Hos
 said_by known words.Route tokens = host_route_in tokens >>= λ route. Ok (HostRoute route)
 said_by known words.Aaaa tokens = answer_in families.V6 tokens >>= λ reply. Ok (Answer families.V6 reply)
 said_by known words.A tokens = answer_in families.V4 tokens >>= λ reply. Ok (Answer families.V4 reply)
+said_by known words.Rtt tokens = round_trip_in known tokens >>= λ told. Ok (RoundTrip told.0 told.1)
+said_by known words.Used tokens = used_in known tokens >>= λ ip. Ok (UsedBefore ip)
 said_by known words.Connect tokens = connect_in known tokens >>= λ told. Ok (Told told.0 told.1)
 said_by known words.Pause tokens = pause_in tokens >>= λ pause. Ok (Paused pause.0 pause.1)
 said_by known words.End tokens = end_in tokens >>= λ _. Ok Ended
 
+abbrev pub said_from : (Ip → Bool) → Result (Word × List (List ℕ)) TextKind → Result Said TextKind
+said_from known word = word >>= λ parts. said_by known parts.0 parts.1
+
 abbrev pub said_in : (Ip → Bool) → List ℕ → Result Said TextKind
-said_in known line = word_of (tokens_of line) >>= λ parts. said_by known parts.0 parts.1
+said_in known line = said_from known (word_of (tokens_of line))

@@ -1,8 +1,9 @@
 -- The ranges that the parts of a race have in the program by their types. A race of the definitions may have others, which no
 -- text spells.
-use Rattle.std.specs.Prelude.{◌≤◌}
+use Rattle.std.specs.Prelude.{ℕ, ◌≤◌}
 use Rattle.std.specs.List.{All}
 use Rattle.he_addr.specs.Ip.{InRange}
+use Rattle.he_addr.specs.declared.ip.Ip.{Ip}
 use Rattle.he_addr.specs.Prefix.{IsPrefix}
 use Rattle.he_plan.specs.Race.{Race, addresses_of}
 use Rattle.he_select.specs.declared.policy.Row.{Row}
@@ -26,3 +27,5 @@ pub record RaceInRange (race : Race) : Type 0 where
   pub routes : All RouteInRange race.host.routes
   pub aaaa : All InRange (addresses_of race.aaaa)
   pub a : All InRange (addresses_of race.a)
+  pub rtts : All (λ (told : Ip × ℕ). InRange told.0) race.history.rtts
+  pub used : All InRange race.history.used

@@ -1,6 +1,6 @@
 -- Mirrors the code: what the private readers answer, as functions on lists. What the lines of a race are stands in `Text`,
 -- what is wrong with them in `Faults`.
-use Rattle.std.specs.Prelude.{ℕ, ◌≡◌, ◌⊎◌, ◌≤◌, ◌+◌, ◌++◌, ◌==◌, ◌&&◌, Bool, List, [], ◌∷◌, length, Option, Some, None, option_map, Result, Ok, Err, if◌then◌else◌, nat_le, nat_lt, unwrap_or, IfErr, codes}
+use Rattle.std.specs.Prelude.{ℕ, ◌≡◌, ◌⊎◌, ◌≤◌, ◌+◌, ◌++◌, ◌==◌, Bool, List, [], ◌∷◌, length, Option, Some, None, option_map, Result, Ok, Err, if◌then◌else◌, nat_le, nat_lt, unwrap_or, IfErr}
 use Rattle.std.specs.List.{list_any}
 use Rattle.std.specs.Option.{option_map_or}
 use Rattle.std.specs.Str.{bytes_eq}
@@ -10,9 +10,9 @@ use Rattle.he_addr.specs.declared.ip.Family.TheVariants as families
 use Rattle.he_plan.specs.declared.builder.BuildFault.{BuildFault}
 use Rattle.he_plan.specs.declared.builder.BuildFault.TheVariants as faults
 use Rattle.he_plan.specs.declared.limits.TheConstants.{DEFAULT_RESOLUTION, DEFAULT_ATTEMPT, DEFAULT_COUNT, DEFAULT_LIMIT}
-use Rattle.he_plan.specs.Building.{add_answer, add_outcome, add_pause, empty_race}
+use Rattle.he_plan.specs.Building.{add_answer, add_rtt, add_used, add_outcome, add_pause, empty_race}
 use Rattle.he_plan.specs.Race.{Race, Reply, is_in_answer}
-use Rattle.he_plan.specs.Settings.{SettingValues, settings_of}
+use Rattle.he_plan.specs.Settings.{SettingValues, settings_of, with_floor}
 use Rattle.he_select.specs.declared.policy.Row.{Row}
 use Rattle.he_select.specs.declared.policy.PolicyFault.{PolicyFault}
 use Rattle.he_select.specs.declared.policy.PolicyFault.TheVariants as tables
@@ -31,13 +31,15 @@ use Rattle.he_text.specs.declared.fault.TextKind.{TextKind}
 use Rattle.he_text.specs.declared.fault.TextKind.TheVariants as kinds
 use Rattle.he_text.specs.declared.limits.TheConstants.{MAX_LINE}
 use Rattle.he_text.specs.declared.words.Name.{Name}
-use Rattle.he_text.specs.declared.words.Name.TheVariants.{Resolution, Attempt, Count, Limit}
+use Rattle.he_text.specs.declared.words.Name.TheVariants.{Resolution, Attempt, Count, Limit, Floor}
+use Rattle.he_text.specs.declared.words.Version.{Version}
+use Rattle.he_text.specs.declared.words.Version.TheVariants.{One, Two}
 use Rattle.he_text.specs.declared.words.Word.{Word}
 use Rattle.he_text.specs.declared.words.Word.TheVariants as words
-use Rattle.he_text.specs.Faults.{is_policy_next}
-use Rattle.he_text.specs.Forms.{◌>>=◌, word_of, setting_in, row_in, host_source_in, host_route_in, listed_in, answer_in, connect_in, pause_in, end_in}
+use Rattle.he_text.specs.Faults.{is_above, is_next}
+use Rattle.he_text.specs.Forms.{◌>>=◌, version_word, setting_in, row_in, host_source_in, host_route_in, listed_in, answer_in, round_trip_in, used_in, connect_in, pause_in, end_in}
 use Rattle.he_text.specs.Parts.{lines_of, tokens_of}
-use Rattle.he_text.specs.Words.{group_of, most_lines, is_policy, is_end}
+use Rattle.he_text.specs.Words.{group_of, header_of, most_lines, is_end}
 
 -- a call that failed did so as `read` does, or was refused memory
 abbrev pub Fails : {B : Type 0} → TextKind → Result B TextKind → Type 0
@@ -75,7 +77,7 @@ abbrev pub group_at_start : LastGroup
 group_at_start = record { group = 0; lines = 0 }
 
 abbrev pub none_given : GivenSettings
-none_given = record { resolution = None; attempt = None; count = None; limit = None }
+none_given = record { resolution = None; attempt = None; count = None; limit = None; floor = None }
 
 -- a value that may be given once
 abbrev pub once : Option ℕ → ℕ → Result (Option ℕ) TextKind
@@ -86,11 +88,17 @@ unfoldable pub put : Name → ℕ → GivenSettings → Result GivenSettings Tex
 put Resolution value given = once given.resolution value >>= λ (more : Option ℕ). Ok (record given { resolution = more })
 put Attempt value given = once given.attempt value >>= λ (more : Option ℕ). Ok (record given { attempt = more })
 put Count value given = once given.count value >>= λ (more : Option ℕ). Ok (record given { count = more })
+put Floor value given = once given.floor value >>= λ (more : Option ℕ). Ok (record given { floor = more })
 put Limit value given = once given.limit value >>= λ (more : Option ℕ). Ok (record given { limit = more })
 
 abbrev pub ranged : {B R : Type 0} → Result B R → Result B TextKind
 ranged (Ok settings) = Ok settings
 ranged (Err range) = Err kinds.Range
+
+-- the settings with the floor, where one is given
+abbrev pub floored : Option ℕ → SettingValues → Result SettingValues TextKind
+floored None settings = Ok settings
+floored (Some floor) settings = ranged (with_floor settings floor)
 
 -- the settings, where one that isn't given has its default
 unfoldable pub settings_from : GivenSettings → Result SettingValues TextKind
@@ -98,7 +106,15 @@ settings_from given = ranged (settings_of
     (unwrap_or given.resolution DEFAULT_RESOLUTION)
     (unwrap_or given.attempt DEFAULT_ATTEMPT)
     (unwrap_or given.count DEFAULT_COUNT)
-    (unwrap_or given.limit DEFAULT_LIMIT))
+    (unwrap_or given.limit DEFAULT_LIMIT)) >>= floored given.floor
+
+-- a floor above the attempt delay
+abbrev pub given_is_above : GivenSettings → Bool
+given_is_above given = is_above given.floor (unwrap_or given.attempt DEFAULT_ATTEMPT)
+
+-- the settings of which no more come are to have a floor of at most the attempt delay
+abbrev pub settled : Bool → GivenSettings → Result GivenSettings TextKind
+settled more given = if more then Ok given else if given_is_above given then Err kinds.Range else Ok given
 
 -- what the lines of the first four groups give
 pub record HeadGiven : Type 0 where
@@ -110,8 +126,10 @@ pub record HeadGiven : Type 0 where
 abbrev pub no_head : HeadGiven
 no_head = record { settings = none_given; rows = []; sources = []; routes = [] }
 
-unfoldable pub add_setting : Name → ℕ → HeadGiven → Result HeadGiven TextKind
-add_setting name value head = put name value head.settings >>= λ (more : GivenSettings). Ok (record head { settings = more })
+-- one more setting; whether more come
+unfoldable pub add_setting : Bool → Name → ℕ → HeadGiven → Result HeadGiven TextKind
+add_setting more name value head =
+    (put name value head.settings >>= settled more) >>= λ (given : GivenSettings). Ok (record head { settings = given })
 
 abbrev pub with_row : Row → HeadGiven → HeadGiven
 with_row row head = record head { rows = head.rows ++ row ∷ [] }
@@ -131,9 +149,9 @@ unfoldable pub add_route : Route → HeadGiven → Result HeadGiven TextKind
 add_route route head =
     if list_any (same_route route) head.routes then Err kinds.Repeated else Ok (record head { routes = head.routes ++ route ∷ [] })
 
--- a line of the first four groups; whether a row follows it
+-- a line of the first four groups; whether one of its word follows it
 unfoldable pub take_given : Bool → Word → List (List ℕ) → HeadGiven → Result HeadGiven TextKind
-take_given more words.Set tokens head = setting_in tokens >>= λ setting. add_setting setting.0 setting.1 head
+take_given more words.Set tokens head = setting_in tokens >>= λ setting. add_setting more setting.0 setting.1 head
 take_given more words.Policy tokens head = row_in tokens >>= λ row. add_row more row head
 take_given more words.Source tokens head = host_source_in tokens >>= λ source. add_source source head
 take_given more words.Route tokens head = host_route_in tokens >>= λ route. add_route route head
@@ -189,14 +207,16 @@ take_answer family tokens race = answer_in family tokens >>= λ reply. built (ad
 unfoldable pub take_told : Word → List (List ℕ) → Race → Result Race TextKind
 take_told words.Aaaa tokens race = take_answer families.V6 tokens race
 take_told words.A tokens race = take_answer families.V4 tokens race
+take_told words.Rtt tokens race = round_trip_in (is_in_answer race) tokens >>= λ told. built (add_rtt told.0 told.1 race)
+take_told words.Used tokens race = used_in (is_in_answer race) tokens >>= λ ip. built (add_used ip race)
 take_told words.Connect tokens race = connect_in (is_in_answer race) tokens >>= λ told. built (add_outcome told.0 told.1 race)
 take_told words.Pause tokens race = pause_in tokens >>= λ pause. built (add_pause pause.0 pause.1 race)
 take_told words.End tokens race = end_in tokens >>= λ _. Ok race
 take_told _ tokens race = Err kinds.Word
 
-unfoldable pub take_line : List (List ℕ) → LastGroup → Race → Result (Word × LastGroup × Race) TextKind
-take_line line so_far race = do
-  parts ← word_of line
+unfoldable pub take_line : Version → List (List ℕ) → LastGroup → Race → Result (Word × LastGroup × Race) TextKind
+take_line version line so_far race = do
+  parts ← version_word version line
   next ← admit parts.0 so_far
   told ← take_told parts.0 parts.1 race
   Ok (parts.0, next, told)
@@ -216,12 +236,12 @@ at_line n (Ok x) = Ok x
 at_line n (Err kind) = Err (n, kind)
 
 -- reading on from line n: the race and what stands behind it
-unfoldable pub read_body : ℕ → LastGroup → Race → List (List ℕ) → Result (Race × List (List ℕ)) (ℕ × TextKind)
-read_body n so_far race [] = Err (n, kinds.Unfinished)
-read_body n so_far race (line ∷ after) =
+unfoldable pub read_body : Version → ℕ → LastGroup → Race → List (List ℕ) → Result (Race × List (List ℕ)) (ℕ × TextKind)
+read_body version n so_far race [] = Err (n, kinds.Unfinished)
+read_body version n so_far race (line ∷ after) =
     at_line n (wholeness (line ∷ after)) >>= λ _.
-    at_line n (take_line (tokens_of line) so_far race) >>= λ next.
-    if is_end next.0 then Ok (next.2, after) else read_body (n + 1) next.1 next.2 after
+    at_line n (take_line version (tokens_of line) so_far race) >>= λ next.
+    if is_end next.0 then Ok (next.2, after) else read_body version (n + 1) next.1 next.2 after
 
 -- the words of the first four groups
 abbrev pub is_head_word : Word → Bool
@@ -232,35 +252,39 @@ head_part (Ok parts) = if is_head_word parts.0 then Some parts else None
 head_part (Err kind) = None
 
 -- the word of a line and what follows it, if the word is of the first four groups
-unfoldable pub head_of : List (List ℕ) → Option (Word × List (List ℕ))
-head_of line = head_part (word_of line)
+unfoldable pub head_of : Version → List (List ℕ) → Option (Word × List (List ℕ))
+head_of version line = head_part (version_word version line)
 
 -- such a line, and whether it has a place, by what stands behind it
 unfoldable pub take_head : List (List ℕ) → Word × List (List ℕ) → LastGroup → HeadGiven → Result (LastGroup × HeadGiven) TextKind
 take_head after parts so_far head = do
   next ← admit parts.0 so_far
-  more ← take_given (is_policy parts.0 && is_policy_next after) parts.0 parts.1 head
+  more ← take_given (is_next parts.0 after) parts.0 parts.1 head
   Ok (next, more)
 
 -- what follows the lines of the first four groups
-unfoldable pub settle : ℕ → LastGroup → HeadGiven → List (List ℕ) → Result (Race × List (List ℕ)) (ℕ × TextKind)
-settle n so_far head lines = at_line n (race_begun head) >>= λ race. read_body n so_far race lines
+unfoldable pub settle : Version → ℕ → LastGroup → HeadGiven → List (List ℕ) → Result (Race × List (List ℕ)) (ℕ × TextKind)
+settle version n so_far head lines = at_line n (race_begun head) >>= λ race. read_body version n so_far race lines
 
 -- the lines of the first four groups, and then the others
-unfoldable pub read_head : ℕ → LastGroup → HeadGiven → List (List ℕ) → Result (Race × List (List ℕ)) (ℕ × TextKind)
-read_head n so_far head [] = Err (n, kinds.Unfinished)
-read_head n so_far head (line ∷ after) =
+unfoldable pub read_head : Version → ℕ → LastGroup → HeadGiven → List (List ℕ) → Result (Race × List (List ℕ)) (ℕ × TextKind)
+read_head version n so_far head [] = Err (n, kinds.Unfinished)
+read_head version n so_far head (line ∷ after) =
     at_line n (wholeness (line ∷ after)) >>= λ _.
-    elim (head_of (tokens_of line)) [
-      | None ↦ settle n so_far head (line ∷ after)
-      | Some parts ↦ at_line n (take_head after parts so_far head) >>= λ next. read_head (n + 1) next.0 next.1 after
+    elim (head_of version (tokens_of line)) [
+      | None ↦ settle version n so_far head (line ∷ after)
+      | Some parts ↦ at_line n (take_head after parts so_far head) >>= λ next. read_head version (n + 1) next.0 next.1 after
     ]
+
+-- the version that a first line tells
+abbrev pub header_in : List ℕ → Result Version TextKind
+header_in line = if bytes_eq line (header_of One) then Ok One else if bytes_eq line (header_of Two) then Ok Two else Err kinds.Header
 
 unfoldable pub read_lines : List (List ℕ) → Result (Race × List (List ℕ)) (ℕ × TextKind)
 read_lines [] = Err (1, kinds.Unfinished)
 read_lines (line ∷ after) =
     at_line 1 (wholeness (line ∷ after)) >>= λ _.
-    if bytes_eq line (codes "race 1") then read_head 2 group_at_start no_head after else Err (1, kinds.Header)
+    at_line 1 (header_in line) >>= λ version. read_head version 2 group_at_start no_head after
 
 -- a text was read: its race, how many bytes stand behind it, and how many lines it has
 pub record ReadsFirst (text : List ℕ) (race : Race) (left lines : ℕ) : Type 0 where

@@ -7,10 +7,12 @@ use Rattle.he_addr.specs.declared.ip.Family.TheVariants as families
 use Rattle.he_addr.specs.declared.ip.Ip.{Ip}
 use Rattle.he_plan.specs.declared.outcome.Outcome.{Outcome}
 use Rattle.he_plan.specs.Settings.{SettingValues}
-use Rattle.he_plan.specs.Race.{Race, Reply}
+use Rattle.he_plan.specs.Race.{History, Race, Reply}
 use Rattle.he_plan.specs.declared.limits.TheConstants.{DEFAULT_RESOLUTION, DEFAULT_ATTEMPT, DEFAULT_COUNT, DEFAULT_LIMIT}
 use Rattle.he_text.specs.declared.words.Name.{Name}
-use Rattle.he_text.specs.declared.words.Name.TheVariants.{Resolution, Attempt, Count, Limit}
+use Rattle.he_text.specs.declared.words.Name.TheVariants.{Resolution, Attempt, Count, Limit, Floor}
+use Rattle.he_text.specs.declared.words.Word.{Word}
+use Rattle.he_text.specs.declared.words.Word.TheVariants as words
 use Rattle.he_text.specs.Words.{name_spelling}
 use Rattle.he_select.specs.declared.policy.Row.{Row}
 use Rattle.he_select.specs.declared.host.Source.{Source}
@@ -18,17 +20,33 @@ use Rattle.he_select.specs.declared.host.Route.{Route}
 use Rattle.he_select.specs.Hosts.{HostLists}
 use Rattle.he_select.specs.Standard.{standard_rows}
 
--- what a line says: a setting, a row of the policy table, a source or a route of the host, an answer, an outcome, a pause, or
--- that the race ends
+-- what a line says: a setting, a row of the policy table, a source or a route of the host, an answer, a round trip time, an
+-- address that was used before, an outcome, a pause, or that the race ends
 pub data Said : Type 0 where
   Setting : Name → ℕ → Said
   PolicyRow : Row → Said
   HostSource : Source → Said
   HostRoute : Route → Said
   Answer : Family → Reply → Said
+  RoundTrip : Ip → ℕ → Said
+  UsedBefore : Ip → Said
   Told : Ip → Outcome → Said
   Paused : ℕ → ℕ → Said
   Ended : Said
+
+-- the word of the lines that say it
+abbrev pub word_said : Said → Word
+word_said (Setting name value) = words.Set
+word_said (PolicyRow row) = words.Policy
+word_said (HostSource source) = words.Source
+word_said (HostRoute route) = words.Route
+word_said (Answer families.V6 reply) = words.Aaaa
+word_said (Answer families.V4 reply) = words.A
+word_said (RoundTrip ip rtt) = words.Rtt
+word_said (UsedBefore ip) = words.Used
+word_said (Told ip outcome) = words.Connect
+word_said (Paused from to) = words.Pause
+word_said Ended = words.End
 
 abbrev pub same_name : Name → Name → Bool
 same_name name other = bytes_eq (name_spelling name) (name_spelling other)
@@ -54,6 +72,14 @@ answer_said families.V6 (Answer families.V6 reply) = Some reply
 answer_said families.V4 (Answer families.V4 reply) = Some reply
 answer_said family _ = None
 
+abbrev pub rtt_said : Said → Option (Ip × ℕ)
+rtt_said (RoundTrip ip rtt) = Some (ip, rtt)
+rtt_said _ = None
+
+abbrev pub used_said : Said → Option Ip
+used_said (UsedBefore ip) = Some ip
+used_said _ = None
+
 abbrev pub outcome_said : Said → Option (Ip × Outcome)
 outcome_said (Told ip outcome) = Some (ip, outcome)
 outcome_said _ = None
@@ -66,7 +92,8 @@ abbrev pub at_front : {A : Type 0} → List A → Option A
 at_front [] = None
 at_front (x ∷ xs) = Some x
 
--- what the lines give: the value of a setting, a family's answer, and rows, sources, routes, outcomes and pauses in their order
+-- what the lines give: the value of a setting, a family's answer, and rows, sources, routes, round trip times, addresses
+-- used before, outcomes and pauses in their order
 abbrev pub setting_given : Name → List Said → Option ℕ
 setting_given name said = at_front (filter_map (setting_said name) said)
 
@@ -82,19 +109,26 @@ routes_given said = filter_map route_said said
 abbrev pub answer_given : Family → List Said → Option Reply
 answer_given family said = at_front (filter_map (answer_said family) said)
 
+abbrev pub rtts_given : List Said → List (Ip × ℕ)
+rtts_given said = filter_map rtt_said said
+
+abbrev pub used_given : List Said → List Ip
+used_given said = filter_map used_said said
+
 abbrev pub outcomes_given : List Said → List (Ip × Outcome)
 outcomes_given said = filter_map outcome_said said
 
 abbrev pub pauses_given : List Said → List (ℕ × ℕ)
 pauses_given said = filter_map pause_said said
 
--- a setting that isn't given has its default
+-- a setting that isn't given has its default; without a floor there is none
 abbrev pub settings_given : List Said → SettingValues
 settings_given said = record {
   resolution = unwrap_or (setting_given Resolution said) DEFAULT_RESOLUTION;
   attempt = unwrap_or (setting_given Attempt said) DEFAULT_ATTEMPT;
   count = unwrap_or (setting_given Count said) DEFAULT_COUNT;
   limit = unwrap_or (setting_given Limit said) DEFAULT_LIMIT;
+  floor = setting_given Floor said;
 }
 
 -- the given rows are the whole table; where none is given, the standard table holds
@@ -105,6 +139,9 @@ table_of_rows (row ∷ rows) = row ∷ rows
 abbrev pub host_given : List Said → HostLists
 host_given said = record { sources = sources_given said; routes = routes_given said }
 
+abbrev pub history_given : List Said → History
+history_given said = record { rtts = rtts_given said; used = used_given said }
+
 unfoldable pub race_of : List Said → Race
 race_of said = record {
   settings = settings_given said;
@@ -112,6 +149,7 @@ race_of said = record {
   host = host_given said;
   aaaa = answer_given families.V6 said;
   a = answer_given families.V4 said;
+  history = history_given said;
   outcomes = outcomes_given said;
   pauses = pauses_given said;
 }

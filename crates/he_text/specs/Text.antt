@@ -1,6 +1,6 @@
 -- The texts of races: which lines stand in them, what they say, and the race that they make.
 use Rattle.std.specs.Prelude.{ℕ, ◌≡◌, ◌⊎◌, ◌<◌, ◌≤◌, ◌&&◌, Bool, true, IsTrue, List, [], ◌∷◌, ◌++◌, length, Option, Some, nat_le, if◌then◌else◌, codes, MatchOption}
-use Rattle.std.specs.List.{AllByRecursion, AllZip, filter_map}
+use Rattle.std.specs.List.{AllByRecursion, AllZip, filter_map, list_all}
 use Rattle.he_addr.specs.declared.ip.Family.{Family}
 use Rattle.he_addr.specs.declared.ip.Family.TheVariants as families
 use Rattle.he_addr.specs.declared.ip.Ip.{Ip}
@@ -18,12 +18,15 @@ use Rattle.he_text.specs.Ranges.{most_line_bytes, most_u16, least_pause_end}
 use Rattle.he_text.specs.declared.fault.TextKind.{TextKind}
 use Rattle.he_text.specs.declared.fault.TextKind.TheVariants as kinds
 use Rattle.he_text.specs.declared.words.Name.{Name}
+use Rattle.he_text.specs.declared.words.Name.TheVariants.{Floor}
+use Rattle.he_text.specs.declared.words.Version.{Version}
+use Rattle.he_text.specs.declared.words.Version.TheVariants.{One, Two}
 use Rattle.he_text.specs.declared.words.Word.{Word}
 use Rattle.he_text.specs.declared.words.Word.TheVariants as words
 use Rattle.he_text.specs.Forms.{least_value, most_value}
 use Rattle.he_text.specs.Parts.{lines_of, tokens_of}
-use Rattle.he_text.specs.Said.{Said, Setting, PolicyRow, HostSource, HostRoute, Answer, Told, Paused, Ended, setting_said, answer_said, race_of}
-use Rattle.he_text.specs.Words.{spelling_of, name_spelling}
+use Rattle.he_text.specs.Said.{Said, Setting, PolicyRow, HostSource, HostRoute, Answer, RoundTrip, UsedBefore, Told, Paused, Ended, setting_said, answer_said, race_of, word_said}
+use Rattle.he_text.specs.Words.{group_of, header_of, spelling_of, name_spelling}
 
 -- a token that spells a number from `low` to `high`
 pub record IsNumber (low high : ℕ) (token : List ℕ) (n : ℕ) : Type 0 where
@@ -69,6 +72,10 @@ Says line (HostRoute route) =
 Says line (Answer family reply) =
     (number : List ℕ) × (tokens : List (List ℕ)) × (tokens_of line ≡ spelling_of (answer_word family) ∷ number ∷ tokens)
     × IsNumber 0 MAX_TICK number reply.tick × Lists tokens reply.addresses × (length tokens ≤ MAX_ADDRESSES)
+Says line (RoundTrip ip rtt) =
+    (address : List ℕ) × (number : List ℕ) × (tokens_of line ≡ spelling_of words.Rtt ∷ address ∷ number ∷ [])
+    × Spells address ip × IsNumber MIN_DURATION MAX_DURATION number rtt
+Says line (UsedBefore ip) = (address : List ℕ) × (tokens_of line ≡ spelling_of words.Used ∷ address ∷ []) × Spells address ip
 Says line (Told ip outcome) =
     (address : List ℕ) × (number : List ℕ) × (tokens_of line ≡ spelling_of words.Connect ∷ address ∷ mark_text outcome ∷ number ∷ [])
     × Spells address ip × IsNumber MIN_DURATION MAX_DURATION number (duration_of outcome)
@@ -81,20 +88,25 @@ Says line Ended = ⊥
 abbrev pub IsAllowed : (Ip → Bool) → Said → Type 0
 IsAllowed known (HostSource source) = IsTrue (is_usable source.ip)
 IsAllowed known (Answer family reply) = IsTrue (are_of family reply.addresses)
+IsAllowed known (RoundTrip ip rtt) = IsTrue (known ip)
+IsAllowed known (UsedBefore ip) = IsTrue (known ip)
 IsAllowed known (Told ip outcome) = IsTrue (known ip)
 IsAllowed known said = Unit {0}
 
 -- the group of the lines that say it
 abbrev pub group_said : Said → ℕ
-group_said (Setting name value) = 1
-group_said (PolicyRow row) = 2
-group_said (HostSource source) = 3
-group_said (HostRoute route) = 4
-group_said (Answer families.V6 reply) = 5
-group_said (Answer families.V4 reply) = 6
-group_said (Told ip outcome) = 7
-group_said (Paused from to) = 8
-group_said Ended = 9
+group_said said = group_of (word_said said)
+
+-- a text of the version may say it: version 2 adds round trip times, addresses used before, and the floor
+abbrev pub has_name : Version → Name → Bool
+has_name One Floor = false
+has_name version name = true
+
+abbrev pub may_say : Version → Said → Bool
+may_say version (Setting name value) = has_name version name
+may_say One (RoundTrip ip rtt) = false
+may_say One (UsedBefore ip) = false
+may_say version said = true
 
 -- the groups never fall, from this one on
 abbrev pub are_in_order : ℕ → List Said → Bool
@@ -102,21 +114,24 @@ are_in_order group [] = true
 are_in_order group (s ∷ said) = nat_le group (group_said s) && are_in_order (group_said s) said
 
 -- the lines between the first and the last one of a race, and what they say
-pub record AreLines (lines : List (List ℕ)) (said : List Said) : Type 0 where
+pub record AreLines (version : Version) (lines : List (List ℕ)) (said : List Said) : Type 0 where
   pub short : AllByRecursion (λ line. length line ≤ most_line_bytes) lines
   pub say : AllZip Says lines said
+  pub words : IsTrue (list_all (may_say version) said)
   pub order : IsTrue (are_in_order 0 said)
   pub settings_once : (name : Name) → length (filter_map (setting_said name) said) ≤ 1
   pub answers_once : (family : Family) → length (filter_map (answer_said family) said) ≤ 1
 
 -- the whole text is a race with that value. Each line has a line end, so the last part of the text is empty. That a race keeps its
 -- ranges, that its policy table is admitted, that sources and routes are a host's, that addresses of an answer are of its family
--- and differ, that outcomes are of addresses in an answer and one of each, and that pauses follow each other, is `IsRace`.
+-- and differ, that round trip times, uses and outcomes are of addresses in an answer and one of each, that a floor is at most the attempt
+-- delay, and that pauses follow each other, is `IsRace`.
 pub record IsRaceText (text : List ℕ) (race : Race) : Type 0 where
+  pub version : Version
   pub lines : List (List ℕ)
   pub said : List Said
-  pub parts : lines_of text ≡ codes "race 1" ∷ lines ++ codes "end" ∷ [] ∷ []
-  pub are : AreLines lines said
+  pub parts : lines_of text ≡ header_of version ∷ lines ++ codes "end" ∷ [] ∷ []
+  pub are : AreLines version lines said
   pub value : race ≡ race_of said
   pub fits : IsRace race
 

@@ -1,5 +1,5 @@
 -- The words of timeline texts: how they are spelled, and the groups in which their lines stand.
-use Rattle.std.specs.Prelude.{ℕ, List, [], ◌∷◌, Bool, true, false, Option, Some, None, find, codes}
+use Rattle.std.specs.Prelude.{ℕ, ◌==◌, List, [], ◌∷◌, Bool, true, false, Option, Some, None, find, codes}
 use Rattle.std.specs.Str.{bytes_eq}
 use Rattle.he_select.specs.Ranges.{most_rows, most_sources, most_routes}
 use Rattle.he_plan.specs.declared.limits.TheConstants.{MAX_PAUSES}
@@ -7,9 +7,11 @@ use Rattle.he_text.specs.Ranges.{most_answers}
 use Rattle.he_text.specs.declared.fault.TextKind.{TextKind}
 use Rattle.he_text.specs.declared.fault.TextKind.TheVariants as kinds
 use Rattle.he_text.specs.declared.words.Word.{Word}
-use Rattle.he_text.specs.declared.words.Word.TheVariants.{Set, Policy, Source, Route, Aaaa, A, Connect, Pause, End}
+use Rattle.he_text.specs.declared.words.Version.{Version}
+use Rattle.he_text.specs.declared.words.Version.TheVariants.{One, Two}
+use Rattle.he_text.specs.declared.words.Word.TheVariants.{Set, Policy, Source, Route, Aaaa, A, Rtt, Used, Connect, Pause, End}
 use Rattle.he_text.specs.declared.words.Name.{Name}
-use Rattle.he_text.specs.declared.words.Name.TheVariants.{Resolution, Attempt, Count, Limit}
+use Rattle.he_text.specs.declared.words.Name.TheVariants.{Resolution, Attempt, Count, Limit, Floor}
 
 -- the groups of lines behind the first one, in the order in which they stand
 abbrev pub group_of : Word → ℕ
@@ -19,9 +21,15 @@ group_of Source = 3
 group_of Route = 4
 group_of Aaaa = 5
 group_of A = 6
-group_of Connect = 7
-group_of Pause = 8
-group_of End = 9
+group_of Rtt = 7
+group_of Used = 8
+group_of Connect = 9
+group_of Pause = 10
+group_of End = 11
+
+-- the lines of two words are of one group
+abbrev pub same_word : Word → Word → Bool
+same_word word other = group_of word == group_of other
 
 abbrev pub spelling_of : Word → List ℕ
 spelling_of Set = codes "set"
@@ -30,6 +38,8 @@ spelling_of Source = codes "source"
 spelling_of Route = codes "route"
 spelling_of Aaaa = codes "aaaa"
 spelling_of A = codes "a"
+spelling_of Rtt = codes "rtt"
+spelling_of Used = codes "used"
 spelling_of Connect = codes "connect"
 spelling_of Pause = codes "pause"
 spelling_of End = codes "end"
@@ -39,11 +49,12 @@ name_spelling Resolution = codes "resolution"
 name_spelling Attempt = codes "attempt"
 name_spelling Count = codes "count"
 name_spelling Limit = codes "limit"
+name_spelling Floor = codes "floor"
 
--- the word of a row of the policy table
-abbrev pub is_policy : Word → Bool
-is_policy Policy = true
-is_policy _ = false
+-- the first line of a race, by the version of its text
+abbrev pub header_of : Version → List ℕ
+header_of One = codes "race 1"
+header_of Two = codes "race 2"
 
 -- the word of the last line
 abbrev pub is_end : Word → Bool
@@ -63,8 +74,8 @@ most_lines _ = None
 -- the word that a token spells
 unfoldable pub word_in : List ℕ → Option Word
 word_in token =
-    find (λ word. bytes_eq token (spelling_of word)) (Set ∷ Policy ∷ Source ∷ Route ∷ Aaaa ∷ A ∷ Connect ∷ Pause ∷ End ∷ [])
+    find (λ word. bytes_eq token (spelling_of word)) (Set ∷ Policy ∷ Source ∷ Route ∷ Aaaa ∷ A ∷ Rtt ∷ Used ∷ Connect ∷ Pause ∷ End ∷ [])
 
 -- the setting that a token names
 unfoldable pub name_in : List ℕ → Option Name
-name_in token = find (λ name. bytes_eq token (name_spelling name)) (Resolution ∷ Attempt ∷ Count ∷ Limit ∷ [])
+name_in token = find (λ name. bytes_eq token (name_spelling name)) (Resolution ∷ Attempt ∷ Count ∷ Limit ∷ Floor ∷ [])

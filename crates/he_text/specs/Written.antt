@@ -9,14 +9,17 @@ use Rattle.he_plan.specs.declared.transcript.Outcome3.{Outcome3}
 use Rattle.he_plan.specs.declared.transcript.Outcome3.TheVariants as results
 use Rattle.he_plan.specs.Transcript.{Report}
 use Rattle.he_plan.specs.declared.outcome.Outcome.{Outcome}
-use Rattle.he_plan.specs.Race.{Race, Reply}
+use Rattle.he_plan.specs.Race.{History, Race, Reply}
 use Rattle.he_plan.specs.Settings.{SettingValues}
 use Rattle.he_plan.specs.Timeline.{duration_of}
 use Rattle.he_select.specs.declared.policy.Row.{Row}
 use Rattle.he_select.specs.declared.host.Source.{Source}
 use Rattle.he_select.specs.declared.host.Route.{Route}
 use Rattle.he_select.specs.Hosts.{HostLists}
+use Rattle.he_text.specs.declared.words.Version.{Version}
+use Rattle.he_text.specs.declared.words.Version.TheVariants.{One, Two}
 use Rattle.he_text.specs.Ranges.{line_end, token_end}
+use Rattle.he_text.specs.Words.{header_of}
 use Rattle.he_text.specs.Text.{mark_text, source_marks, route_marks}
 use Rattle.he_addr.specs.Printing.{printed, source_text, prefix_text}
 
@@ -57,9 +60,25 @@ delays_text settings = setting_text (codes "resolution") settings.resolution ++ 
 abbrev pub bounds_text : SettingValues → List ℕ
 bounds_text settings = setting_text (codes "count") settings.count ++ setting_text (codes "limit") settings.limit
 
--- the first line and the settings, all four
-abbrev pub top_text : SettingValues → List ℕ
-top_text settings = written_line (codes "race 1" ∷ []) ++ (delays_text settings ++ bounds_text settings)
+abbrev pub floor_text : Option ℕ → List ℕ
+floor_text None = []
+floor_text (Some floor) = setting_text (codes "floor") floor
+
+-- all settings, the floor where there is one
+abbrev pub settings_text : SettingValues → List ℕ
+settings_text settings = delays_text settings ++ (bounds_text settings ++ floor_text settings.floor)
+
+-- the version whose words the race needs: 2 where it has a floor, a round trip time or an address used before
+abbrev pub version_for : Option ℕ → List (Ip × ℕ) → List Ip → Version
+version_for None [] [] = One
+version_for _ _ _ = Two
+
+abbrev pub version_of : Race → Version
+version_of race = version_for race.settings.floor race.history.rtts race.history.used
+
+-- the first line and the settings
+abbrev pub top_text : Race → List ℕ
+top_text race = written_line (header_of (version_of race) ∷ []) ++ settings_text race.settings
 
 -- policy PREFIX PRECEDENCE LABEL, every prefix in IPv6 form
 abbrev pub row_text : Row → List ℕ
@@ -92,6 +111,17 @@ answer_text word (Some reply) = reply_text word reply.tick reply.addresses
 abbrev pub answers_text : Race → List ℕ
 answers_text race = answer_text (codes "aaaa") race.aaaa ++ answer_text (codes "a") race.a
 
+-- rtt ADDRESS N
+abbrev pub rtt_text : Ip × ℕ → List ℕ
+rtt_text told = written_line (codes "rtt" ∷ printed told.0 ∷ decimal told.1 ∷ [])
+
+-- used ADDRESS
+abbrev pub used_text : Ip → List ℕ
+used_text ip = written_line (codes "used" ∷ printed ip ∷ [])
+
+abbrev pub history_text : History → List ℕ
+history_text history = flat_map rtt_text history.rtts ++ flat_map used_text history.used
+
 -- connect ADDRESS ok N, connect ADDRESS fail N
 abbrev pub outcome_text : Ip × Outcome → List ℕ
 outcome_text told = written_line (codes "connect" ∷ printed told.0 ∷ mark_text told.1 ∷ decimal (duration_of told.1) ∷ [])
@@ -105,4 +135,5 @@ told_text race = flat_map outcome_text race.outcomes ++ flat_map pause_text race
 
 -- the text of a timeline
 abbrev pub timeline_text : Race → List ℕ
-timeline_text race = (top_text race.settings ++ (selection_text race ++ (answers_text race ++ told_text race))) ++ written_line (codes "end" ∷ [])
+timeline_text race =
+    (top_text race ++ (selection_text race ++ (answers_text race ++ (history_text race.history ++ told_text race)))) ++ written_line (codes "end" ∷ [])

@@ -1,13 +1,18 @@
 //! What may change of a text that goes on.
 
 ghost use Rattle.std.specs.Prelude.{◌≡◌, ◌↔◌, ◌∷◌, [], IsTrue};
-ghost use Rattle.he_text.specs.Beginnings.{EndsIn, MayBecomePolicy, MayChange};
+ghost use Rattle.he_text.specs.Beginnings.{EndsIn, IsGroupFaultAtEnd, MayBecome, MayChange, awaited, word_of_setting};
+ghost use Rattle.he_text.specs.Faults.{anyone};
+ghost use Rattle.he_text.specs.Forms.{said_in};
 ghost use Rattle.he_text.specs.Inputs.{line_count};
 ghost use Rattle.he_text.specs.Parts.{lines_of};
 
 use crate::fault::{TextFault, TextKind};
+use crate::first_words::first_word;
+use crate::forms;
 use crate::limits::MAX_LINE;
-use crate::parts::{LINE_END, marks_in};
+use crate::parts::{LINE_END, Line, TOKEN_END, marks_in};
+use crate::words::Word;
 use memchr::memrchr;
 
 // Whether what follows the text may mend its fault: where it doesn't, every text that begins with these bytes has this
@@ -17,10 +22,44 @@ pub(crate) fn may_change(text: &[u8], fault: TextFault) -> bool
 {
     match fault.kind {
         TextKind::Unfinished => true,
-        TextKind::Policy(_) => {
-            marks_in(text, LINE_END) as u64 == fault.line && may_become_policy(open_line(text))
-        }
-        _ => false,
+        _ => may_be_mended(text, fault),
+    }
+}
+
+// Whether it is the fault of a group's last line, with which the whole lines of the text end, and one more line of the
+// group may follow and mend it.
+fn may_be_mended(text: &[u8], fault: TextFault) -> bool
+    ensures { IsTrue result ↔ IsGroupFaultAtEnd text.now fault.line fault.kind }
+{
+    let rest = open_line(text);
+    if marks_in(text, LINE_END) as u64 != fault.line || rest.len() == text.len() {
+        return false;
+    }
+    let line = open_line(&text[..text.len() - rest.len() - 1]);
+    match awaited(line, fault.kind) {
+        Some(word) => may_become(word, rest),
+        None => false,
+    }
+}
+
+// The word of the lines that may mend the fault of a group's last line.
+fn awaited(line: &[u8], kind: TextKind) -> Option<Word>
+    ensures { result ≡ awaited line.now kind }
+{
+    match kind {
+        TextKind::Policy(_) => Some(Word::Policy),
+        TextKind::Range => word_of_setting(line),
+        _ => None,
+    }
+}
+
+// The word of a line that is a setting, right by itself.
+fn word_of_setting(bytes: &[u8]) -> Option<Word>
+    ensures { result ≡ word_of_setting (said_in anyone bytes.now) }
+{
+    match first_word(Line::new(bytes, bytes.len())) {
+        Ok((Word::Set, tokens)) if forms::setting(tokens).is_ok() => Some(Word::Set),
+        _ => None,
     }
 }
 
@@ -35,13 +74,14 @@ fn open_line(text: &[u8]) -> &[u8]
     }
 }
 
-// The beginning of a `policy` line of more than its word.
-const POLICY: &[u8] = b"policy ";
-
-// Whether what follows bytes without a line end may make a `policy` line of them.
-fn may_become_policy(rest: &[u8]) -> bool
+// Whether what follows bytes without a line end may make a line of them that begins with the word.
+fn may_become(word: Word, rest: &[u8]) -> bool
     requires { lines_of rest.now ≡ rest.now ∷ [] }
-    ensures { IsTrue result ↔ MayBecomePolicy rest.now }
+    ensures { IsTrue result ↔ MayBecome word rest.now }
 {
-    POLICY.starts_with(rest) || rest.starts_with(POLICY) && rest.len() <= MAX_LINE
+    let spelled = word.spelling().as_bytes();
+    match rest.get(spelled.len()) {
+        None => spelled.starts_with(rest),
+        Some(next) => *next == TOKEN_END && rest.starts_with(spelled) && rest.len() <= MAX_LINE,
+    }
 }

@@ -2,7 +2,7 @@
 
 ghost use Rattle.std.specs.Prelude.{◌≡◌, ◌⊎◌, ◌≤◌, [], ◌∷◌, IsOk, Ok, Err, length, MatchResult};
 ghost use Rattle.he_text.specs.Left.{tokens_left};
-ghost use Rattle.he_text.specs.Reading.{Fails, admit, once, put, settings_from, take_answer, take_listed, take_told, group_at_start, none_given};
+ghost use Rattle.he_text.specs.Reading.{Fails, admit, once, put, given_is_above, settings_from, take_answer, take_listed, take_told, group_at_start, none_given};
 
 use crate::fault::TextKind;
 use crate::forms;
@@ -57,6 +57,7 @@ pub(crate) struct GivenSettings {
     attempt: Option<u64>,
     count: Option<u64>,
     limit: Option<u64>,
+    floor: Option<u64>,
 }
 
 impl GivenSettings {
@@ -68,6 +69,7 @@ impl GivenSettings {
             attempt: None,
             count: None,
             limit: None,
+            floor: None,
         }
     }
 
@@ -93,6 +95,10 @@ impl GivenSettings {
                 limit: once(self.limit, value)?,
                 ..self
             }),
+            Name::Floor => Ok(GivenSettings {
+                floor: once(self.floor, value)?,
+                ..self
+            }),
         }
     }
 
@@ -107,7 +113,20 @@ impl GivenSettings {
             self.count.unwrap_or(DEFAULT_COUNT),
             self.limit.unwrap_or(DEFAULT_LIMIT),
         )?;
-        Ok(settings)
+        match self.floor {
+            None => Ok(settings),
+            Some(floor) => Ok(settings.with_floor(floor)?),
+        }
+    }
+
+    // Whether the floor is above the attempt delay.
+    pub(crate) fn is_above(self) -> bool
+        ensures { result ≡ given_is_above self }
+    {
+        match self.floor {
+            None => false,
+            Some(floor) => self.attempt.unwrap_or(DEFAULT_ATTEMPT) < floor,
+        }
     }
 }
 
@@ -182,6 +201,14 @@ pub(crate) fn take<A: Allocator + Copy>(
     match word {
         Word::Aaaa => take_answer(alloc, Family::V6, tokens, race),
         Word::A => take_answer(alloc, Family::V4, tokens, race),
+        Word::Rtt => {
+            let (ip, rtt) = forms::round_trip(tokens, race)?;
+            Ok(race.rtt(ip, rtt)?)
+        }
+        Word::Used => {
+            let ip = forms::used(tokens, race)?;
+            Ok(race.used(ip)?)
+        }
         Word::Connect => {
             let (ip, outcome) = forms::connect(tokens, race)?;
             Ok(race.outcome_of_known(ip, outcome)?)

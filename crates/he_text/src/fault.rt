@@ -13,7 +13,7 @@ use thiserror::Error;
 /// first of the checks that a line undergoes.
 #[derive(Clone, Copy, Debug, PartialEq, Eq, Error)]
 pub enum TextKind {
-    /// The first line of a race isn't `race 1`.
+    /// The first line of a race is neither `race 1` nor `race 2`.
     #[error("header")]
     Header,
     /// A line begins with no word of its group or a later one, has too few or too many tokens, or a token is none of
@@ -33,7 +33,7 @@ pub enum TextKind {
     /// Something is given twice that may be given once.
     #[error("repeated")]
     Repeated,
-    /// A number is out of its range, or a pause overlaps the one before.
+    /// A number is out of its range, a pause overlaps the one before, or the floor is above the attempt delay.
     #[error("range")]
     Range,
     /// A line is too long, or there is one line or address more than there may be.

@@ -12,7 +12,7 @@ use crate::fault::TextKind;
 use crate::limits::MIN_PAUSE_END;
 use crate::parts::Tokens;
 use crate::words::Name;
-pub(crate) use answers::{AnswerLine, address, answer, connect, listed};
+pub(crate) use answers::{AnswerLine, address, answer, connect, listed, round_trip, used};
 use he_addr::read_number;
 use he_plan::limits::{MAX_PAUSE_END, MAX_TICK};
 pub(crate) use selection::{route, row, source};

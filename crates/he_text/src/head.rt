@@ -5,11 +5,15 @@ ghost use Rattle.std.specs.Option.{option_map_or};
 ghost use Rattle.he_plan.specs.Building.{empty_race};
 ghost use Rattle.he_select.specs.TableFaults.{table_fault};
 ghost use Rattle.he_text.specs.declared.fault.TextKind.TheVariants as kinds;
+ghost use Rattle.he_text.specs.declared.words.Word.TheVariants as words;
+ghost use Rattle.he_text.specs.Faults.{is_next};
 ghost use Rattle.he_text.specs.Left.{tokens_left};
+ghost use Rattle.he_text.specs.Parts.{lines_of};
 ghost use Rattle.he_text.specs.Reading.{Fails, no_head, add_setting, add_row, add_source, add_route, take_given, policy_from, host_from, race_begun};
 
 use crate::draft::GivenSettings;
 use crate::fault::TextKind;
+use crate::first_words::is_next;
 use crate::forms;
 use crate::parts::Tokens;
 use crate::words::{Name, Word};
@@ -57,11 +61,16 @@ impl<A: Allocator + Copy> Head<A> {
         }
     }
 
+    // Adds a setting. If no more settings follow it, a floor is to be at most the attempt delay.
     #[tactic(auto, unfolding(crate::specs::Reading::add_setting))]
-    fn add_setting(&mut self, name: Name, value: u64) -> Result<(), TextKind>
-        ensures { MatchResult result (λ _. add_setting name value self.old ≡ Ok self.new) (λ kind. Fails kind (add_setting name value self.old)) }
+    fn add_setting(&mut self, name: Name, value: u64, rest: &[u8]) -> Result<(), TextKind>
+        ensures { MatchResult result (λ _. add_setting (is_next words.Set (lines_of rest.now)) name value self.old ≡ Ok self.new) (λ kind. Fails kind (add_setting (is_next words.Set (lines_of rest.now)) name value self.old)) }
     {
-        self.settings = self.settings.put(name, value)?;
+        let given = self.settings.put(name, value)?;
+        if given.is_above() && !is_next(Word::Set, rest) {
+            return Err(TextKind::Range);
+        }
+        self.settings = given;
         Ok(())
     }
 
@@ -102,19 +111,20 @@ impl<A: Allocator + Copy> Head<A> {
         Ok(())
     }
 
-    // Adds what a line of the first four groups gives, behind its word. Whether more rows follow it is told for a row.
+    // Adds what a line of the first four groups gives, behind its word. What stands behind the line tells whether more of
+    // its group follow.
     #[tactic(auto, unfolding(crate::specs::Reading::take_given))]
-    pub(crate) fn take(&mut self, word: Word, tokens: Tokens, more: bool) -> Result<(), TextKind>
-        ensures { MatchResult result (λ _. take_given more word (tokens_left tokens.entry) self.old ≡ Ok self.new) (λ kind. Fails kind (take_given more word (tokens_left tokens.entry) self.old)) }
+    pub(crate) fn take(&mut self, word: Word, tokens: Tokens, rest: &[u8]) -> Result<(), TextKind>
+        ensures { MatchResult result (λ _. take_given (is_next word (lines_of rest.now)) word (tokens_left tokens.entry) self.old ≡ Ok self.new) (λ kind. Fails kind (take_given (is_next word (lines_of rest.now)) word (tokens_left tokens.entry) self.old)) }
     {
         match word {
             Word::Set => {
                 let (name, value) = forms::setting(tokens)?;
-                self.add_setting(name, value)
+                self.add_setting(name, value, rest)
             }
             Word::Policy => {
                 let row = forms::row(tokens)?;
-                self.add_row(row, more)
+                self.add_row(row, is_next(Word::Policy, rest))
             }
             Word::Source => {
                 let source = forms::source(tokens)?;

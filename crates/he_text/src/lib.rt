@@ -1,8 +1,8 @@
 //! Texts of timelines, transcripts and orders.
 //!
-//! [`read_race`] reads the race that begins at a place of a text. A race is `race 1`, then lines in the order of their groups
-//! (`set`, `policy`, `source`, `route`, `aaaa`, `a`, `connect`, `pause`), then `end`; each line ends with one LF, and its
-//! tokens are parted by single spaces. [`write_timeline`], [`write_transcript`] and [`write_order`] write texts.
+//! [`read_race`] reads the race that begins at a place of a text. A race is `race 1` or `race 2`, then lines in the order of
+//! their groups (`set`, `policy`, `source`, `route`, `aaaa`, `a`, `rtt`, `used`, `connect`, `pause`), then `end`; each line
+//! ends with one LF, and its tokens are parted by single spaces. Version 2 adds `rtt`, `used` and `set floor`. [`write_timeline`], [`write_transcript`] and [`write_order`] write texts.
 //!
 //! Proved: `read_race` finds exactly the race's text that stands at the place, with its value (`specs/Text`), memory aside;
 //! where it answers a fault, that is the first check that fails on the least faulty line (`specs/Faults`), counted from 1 at
@@ -17,6 +17,7 @@
 mod changes;
 mod draft;
 pub mod fault;
+mod first_words;
 mod forms;
 mod head;
 pub mod inputs;
@@ -41,4 +42,4 @@ pub use reading::read_race;
 pub use timelines::write_timeline;
 pub use transcripts::write_transcript;
 pub use walks::{Ending, Walk, WalkFault};
-pub use words::{Name, Word};
+pub use words::{Name, Version, Word};

@@ -1,8 +1,9 @@
 // The ranges that the parts of a timeline have by their types, told of all of it at once.
 
-ghost use Rattle.std.specs.Prelude.{◌≡◌};
+ghost use Rattle.std.specs.Prelude.{◌≡◌, ℕ};
 ghost use Rattle.std.specs.List.{All};
 ghost use Rattle.he_addr.specs.Ip.{InRange};
+ghost use Rattle.he_addr.specs.declared.ip.Ip.{Ip};
 ghost use Rattle.he_plan.specs.Race.{reply_of, addresses_of};
 ghost use Rattle.he_text.specs.InRange.{RowInRange, SourceInRange, RouteInRange, RaceInRange};
 
@@ -71,6 +72,14 @@ fn answer_range<A: Allocator + Copy>(timeline: &Timeline<A>, family: Family)
     }
 }
 
+fn rtts_range(rtts: &[(Ip, u64)])
+    ensures { All (λ (told : Ip × ℕ). InRange told.0) rtts.now }
+{
+    for told in rtts {
+        ip_range(told.0);
+    }
+}
+
 // The prefixes, addresses and 16-bit numbers of a timeline are in their ranges.
 pub(crate) fn timeline_range<A: Allocator + Copy>(timeline: &Timeline<A>)
     ensures { RaceInRange timeline.now }
@@ -80,4 +89,6 @@ pub(crate) fn timeline_range<A: Allocator + Copy>(timeline: &Timeline<A>)
     routes_range(timeline.host().routes());
     answer_range(timeline, Family::V6);
     answer_range(timeline, Family::V4);
+    rtts_range(timeline.rtts());
+    ips_range(timeline.used_addresses());
 }

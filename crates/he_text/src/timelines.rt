@@ -4,9 +4,9 @@ ghost use Rattle.std.specs.Prelude.{◌≡◌, ◌++◌, OnOk, OnErr};
 ghost use Rattle.std.specs.List.{flat_map};
 ghost use Rattle.he_plan.specs.Race.{reply_of};
 ghost use Rattle.he_text.specs.Writing.{AppendsText};
-ghost use Rattle.he_text.specs.Written.{setting_text, delays_text, bounds_text, top_text, reply_text, answer_text, answers_text, outcome_text, pause_text, told_text, row_text, host_source_text, host_route_text, host_text, selection_text, timeline_text};
+ghost use Rattle.he_text.specs.Written.{setting_text, delays_text, bounds_text, floor_text, settings_text, version_of, top_text, reply_text, answer_text, answers_text, rtt_text, used_text, history_text, outcome_text, pause_text, told_text, row_text, host_source_text, host_route_text, host_text, selection_text, timeline_text};
 
-use crate::words::HEADER;
+use crate::words::Version;
 use crate::writing::{Token, write_line, write_listed};
 use he_addr::{Family, Ip, Memory};
 use he_plan::{Outcome, Settings, Timeline};
@@ -37,21 +37,54 @@ fn write_bounds<A: Allocator + Copy>(settings: Settings, out: &mut Vec<u8, A>) -
     write_setting(b"limit", settings.limit(), out)
 }
 
+fn write_floor<A: Allocator + Copy>(floor: Option<u64>, out: &mut Vec<u8, A>) -> Result<(), Memory>
+    ensures { AppendsText result out.old.items out.new.items (floor_text floor) }
+{
+    match floor {
+        Some(floor) => write_setting(b"floor", floor, out),
+        None => Ok(()),
+    }
+}
+
+fn write_limits<A: Allocator + Copy>(settings: Settings, out: &mut Vec<u8, A>) -> Result<(), Memory>
+    ensures { AppendsText result out.old.items out.new.items (bounds_text settings ++ floor_text settings.floor) }
+{
+    write_bounds(settings, out)?;
+    write_floor(settings.floor(), out)
+}
+
 fn write_settings<A: Allocator + Copy>(
     settings: Settings,
     out: &mut Vec<u8, A>,
 ) -> Result<(), Memory>
-    ensures { AppendsText result out.old.items out.new.items (delays_text settings ++ bounds_text settings) }
+    ensures { AppendsText result out.old.items out.new.items (settings_text settings) }
 {
     write_delays(settings, out)?;
-    write_bounds(settings, out)
+    write_limits(settings, out)
 }
 
-fn write_top<A: Allocator + Copy>(settings: Settings, out: &mut Vec<u8, A>) -> Result<(), Memory>
-    ensures { AppendsText result out.old.items out.new.items (top_text settings) }
+// The version whose words the timeline needs.
+fn version<B: Allocator>(timeline: &Timeline<B>) -> Version
+    ensures { result ≡ version_of timeline.now }
 {
-    write_line(HEADER, &[], out)?;
-    write_settings(settings, out)
+    match (
+        timeline.settings().floor(),
+        timeline.rtts(),
+        timeline.used_addresses(),
+    ) {
+        (None, [], []) => Version::One,
+        _ => Version::Two,
+    }
+}
+
+fn write_top<A: Allocator + Copy, B: Allocator>(
+    timeline: &Timeline<B>,
+    out: &mut Vec<u8, A>,
+) -> Result<(), Memory>
+    ensures { AppendsText result out.old.items out.new.items (top_text timeline.now) }
+{
+    write_line(version(timeline).header(), &[], out)?;
+    write_settings(timeline.settings(), out)
 }
 
 // policy PREFIX PRECEDENCE LABEL
@@ -187,6 +220,53 @@ fn write_answers<A: Allocator + Copy, B: Allocator>(
     write_answer(timeline, b"a", Family::V4, out)
 }
 
+// rtt ADDRESS N
+fn write_rtt<A: Allocator + Copy>(told: (Ip, u64), out: &mut Vec<u8, A>) -> Result<(), Memory>
+    ensures { AppendsText result out.old.items out.new.items (rtt_text told) }
+{
+    write_line(
+        b"rtt",
+        &[Token::Address(&told.0), Token::Number(told.1)],
+        out,
+    )
+}
+
+fn write_rtts<A: Allocator + Copy>(rtts: &[(Ip, u64)], out: &mut Vec<u8, A>) -> Result<(), Memory>
+    ensures { AppendsText result out.old.items out.new.items (flat_map rtt_text rtts.now) }
+{
+    for told in rtts {
+        write_rtt(*told, out)?;
+    }
+    Ok(())
+}
+
+// used ADDRESS
+fn write_used<A: Allocator + Copy>(ip: Ip, out: &mut Vec<u8, A>) -> Result<(), Memory>
+    ensures { AppendsText result out.old.items out.new.items (used_text ip) }
+{
+    write_line(b"used", &[Token::Address(&ip)], out)
+}
+
+fn write_all_used<A: Allocator + Copy>(ips: &[Ip], out: &mut Vec<u8, A>) -> Result<(), Memory>
+    ensures { AppendsText result out.old.items out.new.items (flat_map used_text ips.now) }
+{
+    for ip in ips {
+        write_used(*ip, out)?;
+    }
+    Ok(())
+}
+
+// What is known of addresses from earlier.
+fn write_history<A: Allocator + Copy, B: Allocator>(
+    timeline: &Timeline<B>,
+    out: &mut Vec<u8, A>,
+) -> Result<(), Memory>
+    ensures { AppendsText result out.old.items out.new.items (history_text timeline.now.history) }
+{
+    write_rtts(timeline.rtts(), out)?;
+    write_all_used(timeline.used_addresses(), out)
+}
+
 fn write_outcome<A: Allocator + Copy>(
     told: (Ip, Outcome),
     out: &mut Vec<u8, A>,
@@ -249,14 +329,24 @@ fn write_told<A: Allocator + Copy, B: Allocator>(
     write_pauses(timeline.pauses(), out)
 }
 
+fn write_told_and_known<A: Allocator + Copy, B: Allocator>(
+    timeline: &Timeline<B>,
+    out: &mut Vec<u8, A>,
+) -> Result<(), Memory>
+    ensures { AppendsText result out.old.items out.new.items (history_text timeline.now.history ++ told_text timeline.now) }
+{
+    write_history(timeline, out)?;
+    write_told(timeline, out)
+}
+
 fn write_events<A: Allocator + Copy, B: Allocator>(
     timeline: &Timeline<B>,
     out: &mut Vec<u8, A>,
 ) -> Result<(), Memory>
-    ensures { AppendsText result out.old.items out.new.items (answers_text timeline.now ++ told_text timeline.now) }
+    ensures { AppendsText result out.old.items out.new.items (answers_text timeline.now ++ (history_text timeline.now.history ++ told_text timeline.now)) }
 {
     write_answers(timeline, out)?;
-    write_told(timeline, out)
+    write_told_and_known(timeline, out)
 }
 
 // All that stands behind the settings.
@@ -264,7 +354,7 @@ fn write_rest<A: Allocator + Copy, B: Allocator>(
     timeline: &Timeline<B>,
     out: &mut Vec<u8, A>,
 ) -> Result<(), Memory>
-    ensures { AppendsText result out.old.items out.new.items (selection_text timeline.now ++ (answers_text timeline.now ++ told_text timeline.now)) }
+    ensures { AppendsText result out.old.items out.new.items (selection_text timeline.now ++ (answers_text timeline.now ++ (history_text timeline.now.history ++ told_text timeline.now))) }
 {
     write_selection(timeline, out)?;
     write_events(timeline, out)
@@ -274,9 +364,9 @@ fn write_lines<A: Allocator + Copy, B: Allocator>(
     timeline: &Timeline<B>,
     out: &mut Vec<u8, A>,
 ) -> Result<(), Memory>
-    ensures { AppendsText result out.old.items out.new.items (top_text timeline.now.settings ++ (selection_text timeline.now ++ (answers_text timeline.now ++ told_text timeline.now))) }
+    ensures { AppendsText result out.old.items out.new.items (top_text timeline.now ++ (selection_text timeline.now ++ (answers_text timeline.now ++ (history_text timeline.now.history ++ told_text timeline.now)))) }
 {
-    write_top(timeline.settings(), out)?;
+    write_top(timeline, out)?;
     write_rest(timeline, out)
 }
 
@@ -290,9 +380,10 @@ fn write_whole<A: Allocator + Copy, B: Allocator>(
     write_line(b"end", &[], out)
 }
 
-/// Appends the text of a timeline: `race 1`, its four settings, all rows of its policy table with prefixes in IPv6
-/// form, the host's sources and its routes, those for IPv4 in IPv4 form, the answers that there are, the outcomes and
-/// the pauses in the order in which they were given, and `end`. After `Memory` the vector holds what it held.
+/// Appends the text of a timeline: `race 2` where it has a floor, a round trip time or an address used before, else
+/// `race 1`; its four settings, and the floor if there is one; all rows of its policy table with prefixes in IPv6
+/// form, the host's sources and its routes, those for IPv4 in IPv4 form, the answers that there are, the round trip times, the
+/// addresses used before, the outcomes and the pauses in the order in which they were given, and `end`. After `Memory` the vector holds what it held.
 pub fn write_timeline<A: Allocator + Copy, B: Allocator>(
     timeline: &Timeline<B>,
     out: &mut Vec<u8, A>,

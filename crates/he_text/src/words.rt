@@ -1,20 +1,49 @@
 //! The words of timeline texts.
 
 ghost use Rattle.std.specs.Prelude.{◌≡◌};
-ghost use Rattle.he_text.specs.Words.{word_in, name_in, group_of, is_policy, is_end, most_lines, spelling_of};
+ghost use Rattle.he_text.specs.Words.{word_in, name_in, group_of, header_of, is_end, most_lines, same_word, spelling_of};
 ghost use Rattle.he_text.specs.Forms.{least_value, most_value};
-ghost use Rattle.he_text.specs.Reading.{is_head_word};
+ghost use Rattle.he_text.specs.Reading.{header_in, is_head_word};
 
 use crate::fault::TextKind;
 use crate::limits::MAX_ANSWERS;
 use he_plan::limits::{
     MAX_ATTEMPT, MAX_COUNT, MAX_LIMIT, MAX_PAUSES, MAX_RESOLUTION, MIN_ATTEMPT, MIN_COUNT,
-    MIN_LIMIT,
+    MIN_FLOOR, MIN_LIMIT,
 };
 use he_select::limits::{ROUTES, ROWS, SOURCES};
 
-/// The first line of a race.
-pub(crate) const HEADER: &[u8] = b"race 1";
+/// The versions of a race's text. Version 2 adds the words `rtt` and `used` and the setting `floor`.
+#[derive(Clone, Copy, Debug, PartialEq, Eq)]
+pub enum Version {
+    One,
+    Two,
+}
+
+impl Version {
+    /// The version that the first line of a race tells.
+    pub(crate) fn read(line: &[u8]) -> Result<Version, TextKind>
+        ensures { result ≡ header_in line.now }
+    {
+        if line == Version::One.header() {
+            Ok(Version::One)
+        } else if line == Version::Two.header() {
+            Ok(Version::Two)
+        } else {
+            Err(TextKind::Header)
+        }
+    }
+
+    /// The first line of a race.
+    pub fn header(self) -> &'static [u8]
+        ensures { result.now ≡ header_of self }
+    {
+        match self {
+            Version::One => b"race 1",
+            Version::Two => b"race 2",
+        }
+    }
+}
 
 /// The words that begin a line behind the first one, in the order in which the lines of a race stand.
 #[derive(Clone, Copy, Debug, PartialEq, Eq)]
@@ -25,6 +54,8 @@ pub enum Word {
     Route,
     Aaaa,
     A,
+    Rtt,
+    Used,
     Connect,
     Pause,
     End,
@@ -52,6 +83,10 @@ impl Word {
             Some(Word::Aaaa)
         } else if token == b"a".as_slice() {
             Some(Word::A)
+        } else if token == b"rtt".as_slice() {
+            Some(Word::Rtt)
+        } else if token == b"used".as_slice() {
+            Some(Word::Used)
         } else if token == b"connect".as_slice() {
             Some(Word::Connect)
         } else if token == b"pause".as_slice() {
@@ -74,6 +109,8 @@ impl Word {
             Word::Route => "route",
             Word::Aaaa => "aaaa",
             Word::A => "a",
+            Word::Rtt => "rtt",
+            Word::Used => "used",
             Word::Connect => "connect",
             Word::Pause => "pause",
             Word::End => "end",
@@ -91,9 +128,11 @@ impl Word {
             Word::Route => 4,
             Word::Aaaa => 5,
             Word::A => 6,
-            Word::Connect => 7,
-            Word::Pause => 8,
-            Word::End => 9,
+            Word::Rtt => 7,
+            Word::Used => 8,
+            Word::Connect => 9,
+            Word::Pause => 10,
+            Word::End => 11,
         }
     }
 
@@ -104,14 +143,11 @@ impl Word {
         self.group() <= LAST_HEAD_GROUP
     }
 
-    // Whether its lines are rows of the policy table.
-    pub(crate) fn is_policy(self) -> bool
-        ensures { result ≡ is_policy self }
+    // Whether it is this word.
+    pub(crate) fn is(self, word: Word) -> bool
+        ensures { result ≡ same_word word self }
     {
-        match self {
-            Word::Policy => true,
-            _ => false,
-        }
+        word.group() == self.group()
     }
 
     pub(crate) fn is_end(self) -> bool
@@ -145,6 +181,7 @@ pub enum Name {
     Attempt,
     Count,
     Limit,
+    Floor,
 }
 
 impl Name {
@@ -157,10 +194,11 @@ impl Name {
             Name::Attempt => MIN_ATTEMPT,
             Name::Count => MIN_COUNT,
             Name::Limit => MIN_LIMIT,
+            Name::Floor => MIN_FLOOR,
         }
     }
 
-    /// The greatest value of the setting.
+    /// The greatest value of the setting. A floor is also at most the race's attempt delay.
     pub fn most(self) -> u64
         ensures { result ≡ most_value self }
     {
@@ -169,6 +207,7 @@ impl Name {
             Name::Attempt => MAX_ATTEMPT,
             Name::Count => MAX_COUNT,
             Name::Limit => MAX_LIMIT,
+            Name::Floor => MAX_ATTEMPT,
         }
     }
 
@@ -185,6 +224,8 @@ impl Name {
             Some(Name::Count)
         } else if token == b"limit".as_slice() {
             Some(Name::Limit)
+        } else if token == b"floor".as_slice() {
+            Some(Name::Floor)
         } else {
             None
         }

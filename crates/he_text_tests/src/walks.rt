@@ -26,6 +26,15 @@ const ROW_BEFORE_A_SOURCE: &[u8] = b"race 1\npolicy ::/0 40 1\ns";
 
 const ROW_BEFORE_ANOTHER_WORD: &[u8] = b"race 1\npolicy ::/0 40 1\npolicyx";
 
+// A floor above the attempt delay, in 21 bytes, and the beginning of another setting.
+const FLOOR: &[u8] = b"race 2\nset floor 300\nset x";
+
+// The same floor, and the beginning of a source.
+const FLOOR_BEFORE_A_SOURCE: &[u8] = b"race 2\nset floor 300\nso";
+
+// What is wrong with that floor, if the attempt delay isn't given behind it.
+const FLOOR_ABOVE_DELAY: Told = Told::Fault(2, TextKind::Range);
+
 // What is wrong with a table of that row alone.
 const NO_TABLE: Told = Told::Fault(2, TextKind::Policy(PolicyFault::NoMapped));
 
@@ -53,7 +62,7 @@ enum Told {
 // A text, how many of its bytes are there, what follows them, and what is told of it.
 type Row = (&'static [u8], usize, Ending, Told);
 
-static ROWS: [Row; 15] = [
+static ROWS: [Row; 34] = [
     (RACE, 156, Ending::Open, Told::Race(156)),
     (RACE, 155, Ending::Open, Told::None),
     (
@@ -79,6 +88,82 @@ static ROWS: [Row; 15] = [
     (ROW, 32, Ending::Whole, NO_TABLE),
     (ROW_BEFORE_A_SOURCE, 25, Ending::Open, NO_TABLE),
     (ROW_BEFORE_ANOTHER_WORD, 31, Ending::Open, NO_TABLE),
+    (FLOOR, 21, Ending::Open, Told::None),
+    (FLOOR, 21, Ending::Whole, FLOOR_ABOVE_DELAY),
+    (FLOOR, 24, Ending::Open, Told::None),
+    (FLOOR, 25, Ending::Open, Told::None),
+    (FLOOR, 26, Ending::Open, Told::None),
+    (FLOOR, 26, Ending::Whole, FLOOR_ABOVE_DELAY),
+    (FLOOR_BEFORE_A_SOURCE, 22, Ending::Open, Told::None),
+    (FLOOR_BEFORE_A_SOURCE, 23, Ending::Open, FLOOR_ABOVE_DELAY),
+    // No later setting mends a setting that is out of its own range.
+    (
+        b"race 2\nset floor 9\n",
+        19,
+        Ending::Open,
+        Told::Fault(2, TextKind::Range),
+    ),
+    (
+        b"race 1\nset attempt 9\n",
+        21,
+        Ending::Open,
+        Told::Fault(2, TextKind::Range),
+    ),
+    // Texts that only one of the versions has, and what is wrong with them.
+    (
+        b"race 1\naaaa 5 2001:db8::1\nrtt 2001:db8::1 5\nend\n",
+        48,
+        Ending::Whole,
+        Told::Fault(3, TextKind::Word),
+    ),
+    (
+        b"race 2\nrtt 2001:db8::1 5\nend\n",
+        29,
+        Ending::Whole,
+        Told::Fault(2, TextKind::Address),
+    ),
+    (
+        b"race 2\naaaa 5 2001:db8::1\nrtt 2001:db8::1 0\nend\n",
+        48,
+        Ending::Whole,
+        Told::Fault(3, TextKind::Range),
+    ),
+    (
+        b"race 2\naaaa 5 2001:db8::1\nused 2001:db8::1\nused 2001:db8::1\nend\n",
+        64,
+        Ending::Whole,
+        Told::Fault(4, TextKind::Repeated),
+    ),
+    (
+        b"race 2\naaaa 5 2001:db8::1\nused 2001:db8::1\nrtt 2001:db8::1 5\nend\n",
+        65,
+        Ending::Whole,
+        Told::Fault(4, TextKind::Word),
+    ),
+    (
+        b"race 1\nset floor 100\nend\n",
+        25,
+        Ending::Whole,
+        Told::Fault(2, TextKind::Word),
+    ),
+    (
+        b"race 2\nset floor 9\nend\n",
+        23,
+        Ending::Whole,
+        Told::Fault(2, TextKind::Range),
+    ),
+    (
+        b"race 2\nset floor 300\nset count 1\nend\n",
+        37,
+        Ending::Whole,
+        Told::Fault(3, TextKind::Range),
+    ),
+    (
+        b"race 2\nset floor 300\nset attempt 400\nend\n",
+        41,
+        Ending::Whole,
+        Told::Race(41),
+    ),
 ];
 
 // What a walk tells of the bytes. It passes a race that it answers, and else stays.

@@ -74,6 +74,40 @@ end
 limit 9
 ";
 
+// A race of version 2, as it is written, and behind it its order and its transcript. A round trip time that is known
+// comes before one that isn't, and before an earlier use (RFC 8305 section 4). The first attempt fails at 30, the floor
+// after its start.
+const SECOND: &str = "race 2
+set resolution 50
+set attempt 250
+set count 1
+set limit 30000
+set floor 10
+policy ::/0 40 1
+policy ::ffff:0:0/96 35 4
+source 2001:db8::2/64 1
+route ::/0 1
+aaaa 20 2001:db8:1::1 2001:db8:1::2
+rtt 2001:db8:1::2 30
+used 2001:db8:1::1
+connect 2001:db8:1::2 fail 10
+end
+0 2001:db8:1::2 from 2001:db8::2
+1 2001:db8:1::1 from 2001:db8::2
+end
+attempt 0 20 2001:db8:1::2 failed 30
+attempt 1 30 2001:db8:1::1 cancelled 30000
+limit 30000
+";
+
+// The short race again, with the first line of version 2 and none of its words.
+const SHORT_SECOND: &str = "race 2
+set limit 9
+aaaa 20 2001:DB8:1:0::1
+a 25 none
+end
+";
+
 // Each function below holds at most one value that has to be dropped, and returns at one place while it does: where
 // such a value is live, each place at which a function returns is dear to prove.
 
@@ -147,7 +181,12 @@ fn refused_in_turn(heap: &Refusing, text: &str, wanted: &str) -> u64 {
 #[test]
 fn races(rt: HostRuntime) {
     let heap = Refusing::new(rt.alloc());
-    for (text, wanted) in [(FULL, FULL), (SHORT, SHORT_WRITTEN)] {
+    for (text, wanted) in [
+        (FULL, FULL),
+        (SHORT, SHORT_WRITTEN),
+        (SECOND, SECOND),
+        (SHORT_SECOND, SHORT_WRITTEN),
+    ] {
         let refused = refused_in_turn(&heap, text, wanted);
         assert!(rt; refused > 0, "{text}");
     }

@@ -1,10 +1,11 @@
-// What happens in a race: the answers that come, and what becomes of a connect to an address.
+// What happens in a race: the answers that come, what is known of an address from earlier, and what becomes of a connect
+// to it.
 
 ghost use Rattle.std.specs.Prelude.{◌≡◌, ◌<◌, ◌≤◌, ◌++◌, [], ◌∷◌, Ok, Err, true, length, IfOk, MatchResult};
 ghost use Rattle.he_addr.specs.declared.ip.Family.{Family};
 ghost use Rattle.he_plan.specs.declared.limits.TheConstants.{MAX_ADDRESSES};
 ghost use Rattle.he_plan.specs.Race.{is_in_answer};
-ghost use Rattle.he_text.specs.Forms.{address_in, addresses_in, listed_in, answer_in, known_in, mark_in, connect_in};
+ghost use Rattle.he_text.specs.Forms.{address_in, addresses_in, listed_in, answer_in, known_in, round_trip_in, used_in, mark_in, connect_in};
 ghost use Rattle.he_text.specs.Reading.{Fails, with_tick};
 ghost use Rattle.he_text.specs.Left.{tokens_left};
 
@@ -114,6 +115,37 @@ fn known<A: Allocator + Copy>(token: &[u8], race: &TimelineBuilder<A>) -> Result
         Ok(ip)
     } else {
         Err(TextKind::Address)
+    }
+}
+
+// rtt ADDRESS N
+#[tactic(auto, unfolding(crate::specs::Forms::round_trip_in))]
+pub(crate) fn round_trip<A: Allocator + Copy>(
+    tokens: Tokens,
+    race: &TimelineBuilder<A>,
+) -> Result<(Ip, u64), TextKind>
+    ensures { result ≡ round_trip_in (is_in_answer race.now) (tokens_left tokens.entry) }
+{
+    let Some((address, rtt)) = tokens.two() else {
+        return Err(TextKind::Word);
+    };
+    let address = known(address, race)?;
+    let rtt = number(MIN_DURATION, MAX_DURATION, rtt)?;
+    Ok((address, rtt))
+}
+
+// used ADDRESS
+#[tactic(auto, unfolding(crate::specs::Forms::used_in))]
+pub(crate) fn used<A: Allocator + Copy>(
+    tokens: Tokens,
+    race: &TimelineBuilder<A>,
+) -> Result<Ip, TextKind>
+    ensures { result ≡ used_in (is_in_answer race.now) (tokens_left tokens.entry) }
+{
+    let mut left = tokens;
+    match (left.next(), left.next()) {
+        (Some(address), None) => known(address, race),
+        _ => Err(TextKind::Word),
     }
 }
 

@@ -6,7 +6,7 @@ use Rattle.he_text.proofs.reading.read_told.Given as goal
 -- reading on from here is reading from the start
 abbrev pub invariant-loop-line : goal.invariant-loop-line
 invariant-loop-line g l =
-    (read_body l.fn.lines.number l.fn.first l.fn.race (lines_left l.fn.lines) ≡ read_body l.lines.number l.so_far l.race (lines_left l.lines))
+    (read_body l.fn.version l.fn.lines.number l.fn.first l.fn.race (lines_left l.fn.lines) ≡ read_body l.fn.version l.lines.number l.so_far l.race (lines_left l.lines))
     × HasRoom l.lines
     × (length l.lines.rest.now ≤ length l.fn.lines.rest.now)
     × IsAmong l.fn.lines l.lines
