@@ -1,13 +1,15 @@
 -- The least of the ticks that the code looks at after a turn is the due tick.
 use Rattle.std.proofs.Common.{◌≡◌, ℕ, ◌+◌, ◌≤◌, ◌<◌, ◌⊎◌, Bool, true, false, not, List, [], ◌∷◌, if◌then◌else◌, filter, Option, Some, None, MatchOption, IfSome, IfNone, IsSomeAnd, nat_le, refl, sym, ◌∙◌, subst, arith, inl, inr}
-use Rattle.std.specs.List.{list_any}
+use Rattle.std.specs.List.{list_all, list_any}
+use Rattle.std.specs.Option.{option_map_or}
 use Rattle.std.proofs.lemmas.Bool.{cases_lt}
 use Rattle.std.proofs.lemmas.List.Folds.{list_any-append}
 use Rattle.he_addr.specs.Ip.{is_usable}
 use Rattle.he_plan.specs.declared.attempts.Attempt.{Attempt}
-use Rattle.he_plan.specs.Attempts.{IsAnswered, IsDelayOver, IsFree, IsLeast, IsPositive, MayBegin, MayFollow, MayStart, is_untried, last_of, received, received_of, seen}
+use Rattle.he_plan.specs.declared.limits.TheConstants.{MIN_FLOOR}
+use Rattle.he_plan.specs.Attempts.{IsAnswered, IsDelayOver, HasWaited, HaveFailed, IsFree, IsLeast, IsPositive, MayBegin, MayFollow, MayStart, has_failed, is_untried, last_of, received, received_of, seen}
 use Rattle.he_plan.specs.Building.{last_end}
-use Rattle.he_plan.specs.Due.{IsAfterTurn, IsAnswerDue, IsDelayDue, IsDue, IsDueTick, IsStartDue, IsTaken, IsWaiting}
+use Rattle.he_plan.specs.Due.{IsAfterTurn, IsAnswerDue, IsDelayDue, IsDue, IsDueTick, IsStartDue, IsTaken, IsWaiting, start_delay}
 use Rattle.he_plan.specs.Race.{Race, Reply}
 use Rattle.he_plan.specs.Timeline.{IsRace}
 use Rattle.he_plan.proofs.Bools.{clash, le_from, le_test, not_le, or_left, or_one, or_right}
@@ -16,6 +18,7 @@ use Rattle.he_plan.proofs.Planned.{last_of-some}
 use Rattle.he_plan.proofs.Starting.{SeesOwn, SeesOwn-free, any_filter}
 use Rattle.he_race.specs.Answered.{earliest, is_taken, untaken_tick}
 use Rattle.he_race.specs.Kept.{first_after}
+use Rattle.he_race.proofs.Failing.{failed-later}
 
 taken_by : (turn : Option ℕ) (t : ℕ) (reply : Reply) → IfSome turn (λ n. n ≤ t) → IsTaken turn reply → reply.tick ≤ t
 taken_by None t reply by h = absurd h
@@ -32,9 +35,47 @@ waiting_one race turn t by own done h =
     list_any-append (is_untried done) (received_of race t race.aaaa) (received_of race t race.a)
     ∙ elim h [ inl k ↦ or_left _ _ (waiting_received race turn t by own done race.aaaa k) | inr k ↦ or_right _ _ (waiting_received race turn t by own done race.a k) ]
 
-follows : (race : Race) (done : List Attempt) (d t : ℕ) → IsFree race t → d ≤ t → list_any (is_untried done) (received race t) ≡ true → (o : Option Attempt) → IsSomeAnd o (λ last. last.tick + race.settings.attempt ≡ d) → MatchOption o (MayBegin race t) (MayFollow race done t)
-follows race done d t free up some None h = absurd h
-follows race done d t free up some (Some last) h = record { free = free; delay = omega (arith, h); some = some }
+-- once the delay after the last start is over it was waited for
+delay_waited : (race : Race) (turn : Option ℕ) (done : List Attempt) (last : Attempt) (d t : ℕ) → IfSome turn (λ n. n ≤ t) → d ≤ t → last.tick + start_delay race turn done ≡ d → HasWaited race done t last
+delay_waited race None done last d t by up e = inl (omega (arith, e))
+delay_waited race (Some n) done last d t by up e = by_test (list_all (has_failed race n) done) refl e
+  where
+    by_floor : list_all (has_failed race n) done ≡ true → (f : Option ℕ) → race.settings.floor ≡ f → last.tick + option_map_or (λ floor. floor) f race.settings.attempt ≡ d → HasWaited race done t last
+    by_floor all None is e = inl (omega (arith, e))
+    by_floor all (Some floor) is e = inr (rw is (omega (arith, e), failed-later race n t by done all))
+
+    by_test : (b : Bool) → list_all (has_failed race n) done ≡ b → last.tick + (if b then option_map_or (λ floor. floor) race.settings.floor race.settings.attempt else race.settings.attempt) ≡ d → HasWaited race done t last
+    by_test true all e = by_floor all race.settings.floor refl e
+    by_test false all e = inl (omega (arith, e))
+
+delay_most : (race : Race) → IsRace race → (turn : Option ℕ) (done : List Attempt) → start_delay race turn done ≤ race.settings.attempt
+delay_most race r None done = omega arith
+delay_most race r (Some n) done = by_test (list_all (has_failed race n) done)
+  where
+    by_floor : (f : Option ℕ) → IfSome f (λ n. (MIN_FLOOR ≤ n) × (n ≤ race.settings.attempt)) → option_map_or (λ floor. floor) f race.settings.attempt ≤ race.settings.attempt
+    by_floor None h = omega arith
+    by_floor (Some floor) h = h.1
+
+    by_test : (b : Bool) → (if b then option_map_or (λ floor. floor) race.settings.floor race.settings.attempt else race.settings.attempt) ≤ race.settings.attempt
+    by_test true = by_floor race.settings.floor r.settings.floor
+    by_test false = omega arith
+
+-- where the last attempt was waited for, the delay after its start is over
+waited_delay : (race : Race) → IsRace race → (turn : Option ℕ) (done : List Attempt) (last : Attempt) (t : ℕ) (reply : Reply) → IsTaken turn reply → IsAfterTurn race turn done → HasWaited race done t last → last.tick + start_delay race turn done ≤ t
+waited_delay race r None done last t reply taken after h = absurd taken
+waited_delay race r (Some n) done last t reply taken after (inl over) = omega (arith, over, delay_most race r (Some n) done)
+waited_delay race r (Some n) done last t reply taken after (inr floor) = by_floor race.settings.floor refl floor
+  where
+    by_floor : (f : Option ℕ) → race.settings.floor ≡ f → IsSomeAnd f (λ floor. (last.tick + floor ≤ t) × HaveFailed race done t) → last.tick + start_delay race (Some n) done ≤ t
+    by_floor None is h = absurd h
+    by_floor (Some floor) is h =
+        let all : list_all (has_failed race n) done ≡ true = after.3 t h.1 in
+        let same : start_delay race (Some n) done ≡ floor = rw (all, is) refl in
+        omega (arith, same, h.0)
+
+follows : (race : Race) (turn : Option ℕ) (done : List Attempt) (d t : ℕ) → IfSome turn (λ n. n ≤ t) → IsFree race t → d ≤ t → list_any (is_untried done) (received race t) ≡ true → (o : Option Attempt) → IsSomeAnd o (λ last. last.tick + start_delay race turn done ≡ d) → MatchOption o (MayBegin race t) (MayFollow race done t)
+follows race turn done d t by free up some None h = absurd h
+follows race turn done d t by free up some (Some last) h = record { free = free; waited = delay_waited race turn done last d t by up h; some = some }
 
 delayed : (race : Race) (turn : Option ℕ) (d t : ℕ) → IfSome turn (λ n. n ≤ t) → SeesOwn race t → d ≤ t → (reply : Option Reply) → IsSomeAnd reply (λ r. (list_any is_usable r.addresses ≡ true) × IsTaken turn r × (r.tick + race.settings.resolution ≡ d)) → IsPositive race t reply × IsSomeAnd reply (λ r. seen race (r.tick + race.settings.resolution) ≤ t)
 delayed race turn d t by own up None h = absurd h
@@ -51,7 +92,7 @@ due_starts race r turn done d t due by up free early = elim due [
       let begins : MayBegin race t = (free, inr (k.0, inr k.1)) in
       let first : MayStart race [] t = (early, begins) in
       subst (λ (xs : List Attempt). MayStart race xs t) (sym delay.none) first
-  | inr start ↦ (early, follows race done d t free up (waiting_one race turn t by (SeesOwn-free race r t free) done start.some) (last_of done) start.delay)
+  | inr start ↦ (early, follows race turn done d t by free up (waiting_one race turn t by (SeesOwn-free race r t free) done start.some) (last_of done) start.delay)
 ]
 
 -- something is due by the tick
@@ -117,30 +158,30 @@ module _ (race : Race) (r : IsRace race) (turn : Option ℕ) where
         | inr not ↦ let own : SeesOwn race t = SeesOwn-free race r t free in (x.tick + race.settings.resolution, inr (inr (inl (delay (rw is not) taken))), own.own (x.tick + race.settings.resolution) h)
       ]
 
-  waiting_due : (done : List Attempt) (last : Attempt) (t : ℕ) → last_of done ≡ Some last → SeesOwn race t → last.tick + race.settings.attempt ≤ t → (reply : Option Reply) → (IsWaiting turn done reply → IsWaiting turn done race.aaaa ⊎ IsWaiting turn done race.a) → ((d : ℕ) → IsAnswerDue turn reply d → IsDue race turn done d) → list_any (is_untried done) (received_of race t reply) ≡ true → IsDueBy race turn done t
-  waiting_due done last t is own late None waits answer h = cc
-  waiting_due done last t is own late (Some x) waits answer h = by_seen (nat_le (seen race x.tick) t) refl h
+  waiting_due : (done : List Attempt) (last : Attempt) (t : ℕ) → last_of done ≡ Some last → SeesOwn race t → IsAfterTurn race turn done → HasWaited race done t last → (reply : Option Reply) → (IsWaiting turn done reply → IsWaiting turn done race.aaaa ⊎ IsWaiting turn done race.a) → ((d : ℕ) → IsAnswerDue turn reply d → IsDue race turn done d) → list_any (is_untried done) (received_of race t reply) ≡ true → IsDueBy race turn done t
+  waiting_due done last t is own after late None waits answer h = cc
+  waiting_due done last t is own after late (Some x) waits answer h = by_seen (nat_le (seen race x.tick) t) refl h
     where
       by_seen : (b : Bool) → nat_le (seen race x.tick) t ≡ b → list_any (is_untried done) (if b then filter is_usable x.addresses else []) ≡ true → IsDueBy race turn done t
       by_seen false e h = cc
       by_seen true e h = elim (taken_or_not turn x) [
         | inl taken ↦ (
-          last.tick + race.settings.attempt,
+          last.tick + start_delay race turn done,
           inr (inr (inr (inl (record {
-            delay = subst (λ (o : Option Attempt). IsSomeAnd o (λ y. y.tick + race.settings.attempt ≡ last.tick + race.settings.attempt)) (sym is) refl;
+            delay = subst (λ (o : Option Attempt). IsSomeAnd o (λ y. y.tick + start_delay race turn done ≡ last.tick + start_delay race turn done)) (sym is) refl;
             some = waits (taken, sym (any_filter (is_untried done) is_usable x.addresses) ∙ h);
           })))),
-          late,
+          waited_delay race r turn done last t x taken after late,
         )
         | inr not ↦ (x.tick, answer x.tick (not, refl), own.own x.tick (le_from _ _ e))
       ]
 
-  follow_due : (done : List Attempt) (last : Attempt) (t : ℕ) → last_of done ≡ Some last → MayFollow race done t last → IsDueBy race turn done t
-  follow_due done last t is m =
+  follow_due : (done : List Attempt) (last : Attempt) (t : ℕ) → IsAfterTurn race turn done → last_of done ≡ Some last → MayFollow race done t last → IsDueBy race turn done t
+  follow_due done last t after is m =
       let own : SeesOwn race t = SeesOwn-free race r t m.free in
       elim (or_one _ _ (sym (list_any-append (is_untried done) (received_of race t race.aaaa) (received_of race t race.a)) ∙ m.some)) [
-        | inl k ↦ waiting_due done last t is own m.delay race.aaaa (λ w. inl w) (λ d a. inl a) k
-        | inr k ↦ waiting_due done last t is own m.delay race.a (λ w. inr w) (λ d a. inr (inl a)) k
+        | inl k ↦ waiting_due done last t is own after m.waited race.aaaa (λ w. inl w) (λ d a. inl a) k
+        | inr k ↦ waiting_due done last t is own after m.waited race.a (λ w. inr w) (λ d a. inr (inl a)) k
       ]
 
   -- where an attempt may start, something was due by then
@@ -150,7 +191,7 @@ module _ (race : Race) (r : IsRace race) (turn : Option ℕ) where
     where
       by_last : (o : Option Attempt) → last_of (y ∷ ys) ≡ o → MatchOption o (MayBegin race t) (MayFollow race (y ∷ ys) t) → IsDueBy race turn (y ∷ ys) t
       by_last None is may = absurd (last_of-some ys y is)
-      by_last (Some last) is may = follow_due (y ∷ ys) last t is may
+      by_last (Some last) is may = follow_due (y ∷ ys) last t after is may
 
   -- before the least of two ticks something is due, if it is before each
   earliest_by : (done : List Attempt) (due : ℕ) (o : Option ℕ) → IsDueBy race turn done due → IfSome o (IsDueBy race turn done) → IsDueBy race turn done (earliest due o)

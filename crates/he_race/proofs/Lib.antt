@@ -4,7 +4,9 @@ pub mod Counted
 pub mod Driven
 pub mod DueTicks
 pub mod Ending
+pub mod Failing
 pub mod Finished
+pub mod Held
 pub mod Onward
 pub mod Races
 pub mod Recorded

@@ -1,8 +1,9 @@
 -- What a turn leaves of a race that follows a script, and what its ticker is asked for.
-use Rattle.std.proofs.Common.{◌≡◌, ℕ, zero, suc, ◌+◌, ◌≤◌, ◌<◌, ◌||◌, ◌++◌, ◌⊎◌, Bool, true, false, List, [], ◌∷◌, if◌then◌else◌, length, get_or, take, find, Option, Some, None, Result, Ok, IfSome, is_some, max, min, nat_lt, refl, sym, ◌∙◌, ap, subst, arith, inl, inr, length-append}
+use Rattle.std.proofs.Common.{◌≡◌, ℕ, zero, suc, ◌+◌, ◌≤◌, ◌<◌, ◌↔◌, ◌||◌, ◌++◌, ◌⊎◌, Bool, true, false, List, [], ◌∷◌, if◌then◌else◌, length, get_or, take, find, Option, Some, None, Result, Ok, IfSome, is_some, max, min, nat_lt, refl, sym, ◌∙◌, ap, subst, arith, inl, inr, length-append}
 use Rattle.std.specs.List.{All, Contains, list_all, list_any}
+use Rattle.std.proofs.lemmas.Bool.{cases_lt}
 use Rattle.std.proofs.lemmas.List.{append-nil, get_or_append_left}
-use Rattle.std.proofs.lemmas.List.Elements.{All-nil, All-push, All-weaker}
+use Rattle.std.proofs.lemmas.List.Elements.{All-contains, All-nil, All-push, All-weaker}
 use Rattle.std.proofs.lemmas.List.Folds.{list_all-append, list_any-append}
 use Rattle.he_addr.specs.Ip.{same_ip}
 use Rattle.he_addr.specs.declared.ip.Ip.{Ip}
@@ -10,7 +11,7 @@ use Rattle.he_plan.specs.declared.attempts.Attempt.{Attempt}
 use Rattle.he_plan.specs.declared.outcome.Outcome.{Outcome}
 use Rattle.he_plan.specs.declared.outcome.Outcome.TheVariants as outcomes
 use Rattle.he_plan.specs.Agreement.{AreAlike}
-use Rattle.he_plan.specs.Attempts.{AreNextInTurn, IsFree, IsNext, IsSeen, is_paused, is_untried, seen}
+use Rattle.he_plan.specs.Attempts.{AreNextInTurn, IsFree, IsNext, IsSeen, MayStart, has_failed, is_paused, is_untried, seen}
 use Rattle.he_plan.specs.Building.{with_pause}
 use Rattle.he_plan.specs.Due.{IsAnswerDue}
 use Rattle.he_plan.specs.Finish.{outcome_of}
@@ -34,17 +35,20 @@ use Rattle.he_race.specs.declared.trial.Trial.{Ghosts as TrialOf}
 use Rattle.he_race.specs.Answered.{earliest}
 use Rattle.he_race.specs.Attempt.{due_of}
 use Rattle.he_race.specs.Following.{EndsFrom, Follows, IsAsScripted, IsConnecting, IsScript, SeesAs, is_held}
-use Rattle.he_race.specs.Kept.{first_after, IsLive}
+use Rattle.he_race.specs.Kept.{FailedBelow, first_after, IsLive}
 use Rattle.he_race.specs.Recording.{slept}
 use Rattle.he_race.specs.Running.{IsScripted, scripted_trial}
 use Rattle.he_race.specs.Scripted.{script, script_of, tick_of}
 use Rattle.he_race.specs.Turns.{ArePolled, BeginsNext, Goes, StaysAs, Sweep, asked_tick, begun, unpolled}
 use Rattle.he_race.proofs.Awake.{free-slept, sees-by, sees-same}
+use Rattle.he_race.proofs.Failing.{all-same}
+use Rattle.he_race.proofs.Held.{held-all}
 use Rattle.he_race.proofs.Recorded.{due_later, get_last, own_ip}
+use Rattle.he_race.proofs.Replayed.{EndsAfter, fail-same, failed-script, told-as}
 use Rattle.he_race.proofs.Runs.{at_false, seen_from, seen_rises}
 use Rattle.he_race.proofs.Sweeps.{asked-early}
 use Rattle.he_race.proofs.Swept.{IsPending, Sweeps, swept-all}
-use Rattle.he_race.proofs.Turning.{alike-later, going-early, same_limit, slept-alike}
+use Rattle.he_race.proofs.Turning.{alike-later, contains-at, going-early, same_limit, slept-alike}
 
 get_push : (xs : List Attempt) (x d : Attempt) → get_or (xs ++ x ∷ []) (length xs) d ≡ x
 get_push [] x d = refl
@@ -61,16 +65,23 @@ more_told : (race : Race) (xs : List Attempt) (x : Attempt) (told : List (Ip × 
 more_told race xs x told h =
     All-weaker (IsAsScripted race xs) (IsAsScripted race (xs ++ x ∷ [])) (λ p k. record { x = k.x; made = contains_more xs x k.x k.made; at = k.at; outcome = k.outcome; is = k.is; ends = k.ends }) told h
 
--- an attempt that is the next one in the record is the next one in the script
-next_script : (race end : Race) → IsRace race → IsRace end → AreAlike race end → ((t : ℕ) → IsFree race t → IsFree end t) → (xs : List Attempt) (x : Attempt) → IsFree race x.tick → IsNext end xs x → IsNext race xs x
-next_script race end rr re alike free xs x clear is = record {
+-- an attempt that is the next one in the record is the next one in the script, where those before it have failed by each tick
+-- up to its start in both or in neither
+next_script : (race end : Race) → IsRace race → IsRace end → AreAlike race end → ((t : ℕ) → IsFree race t → IsFree end t) → (xs : List Attempt) (x : Attempt) → ((t : ℕ) → t ≤ x.tick → list_all (has_failed end t) xs ≡ list_all (has_failed race t) xs) → IsFree race x.tick → IsNext end xs x → IsNext race xs x
+next_script race end rr re alike free xs x same clear is = record {
   place = is.place;
-  tick = record {
-    holds = (starts-shared race end rr re alike xs x.tick clear (free x.tick clear)).1 is.tick.holds;
-    least = λ t m. (let open_then : IsFree race t = starts-free race rr xs t m in is.tick.least t ((starts-shared race end rr re alike xs t open_then (free t open_then)).0 m));
-  };
+  tick = record { holds = (both x.tick (omega arith) clear).1 is.tick.holds; least = least };
   ip = subst (λ (ips : List Ip). find (is_untried xs) ips ≡ Some x.ip) (sym (order-shared race end rr re alike x.tick clear (free x.tick clear))) is.ip;
 }
+  where
+    both : (t : ℕ) → t ≤ x.tick → IsFree race t → MayStart race xs t ↔ MayStart end xs t
+    both t by open_then = starts-shared race end rr re alike xs t (λ h. same t by ∙ h, λ h. sym (same t by) ∙ h) open_then (free t open_then)
+
+    least : (t : ℕ) → MayStart race xs t → x.tick ≤ t
+    least t m = elim (cases_lt t x.tick) [
+      | inl sooner ↦ is.tick.least t ((both t (omega arith) (starts-free race rr xs t m)).0 m)
+      | inr by ↦ by
+    ]
 
 pub take_all_of : (xs : List Attempt) (x : Attempt) → take (length xs) (xs ++ x ∷ []) ≡ xs
 take_all_of [] x = refl
@@ -115,7 +126,7 @@ module _ {C : Type 0} (connector : ConnectorOf C (Unit {0}) ScriptedTrial) (race
   abbrev Polled : Sweep C (Unit {0}) ScriptedTrial → List Held → Type 0
   Polled to os = Sweeps connector race ss.valid c made at f.awake paused to os
 
-  begun_at : (z : Race) → z.outcomes ≡ live.recorder.recorded.outcomes → AreAlike race z → Sweeps connector race ss.valid c made at f.awake z.pauses (unpolled c (record live.recorder { recorded = z })) live.unfinished.items
+  begun_at : (z : Race) → z.outcomes ≡ live.recorder.recorded.outcomes → AreAlike race z → Sweeps connector race ss.valid c made at f.awake z.pauses (unpolled c z made) live.unfinished.items
   begun_at z same alike = record {
     still = refl;
     attempts = refl;
@@ -218,7 +229,7 @@ module _ {C : Type 0} (connector : ConnectorOf C (Unit {0}) ScriptedTrial) (race
     due = k.due;
   }
 
-  module _ (to : Sweep C (Unit {0}) ScriptedTrial) (w : Polled to []) (new : Live C (Unit {0}) ScriptedTrial) (recorded : new.recorder.recorded ≡ to.recorder.recorded) (live_on : IsLive connector scripted_trial new) (turned : new.recorder.turn ≡ Some at) (tick : ℕ) (asked : tick ≡ asked_tick connector scripted_trial new.recorder.due new.unfinished.items) (c' : C) where
+  module _ (to : Sweep C (Unit {0}) ScriptedTrial) (w : Polled to []) (new : Live C (Unit {0}) ScriptedTrial) (recorded : new.recorder.recorded ≡ to.recorded) (live_on : IsLive connector scripted_trial new) (turned : new.recorder.turn ≡ Some at) (tick : ℕ) (asked : tick ≡ asked_tick connector scripted_trial new.recorder.due new.unfinished.items) (c' : C) where
     alike_on : AreAlike race new.recorder.recorded
     alike_on = subst (AreAlike race) (sym recorded) w.alike
 
@@ -245,10 +256,10 @@ module _ {C : Type 0} (connector : ConnectorOf C (Unit {0}) ScriptedTrial) (race
             let by : asked_tick connector scripted_trial new.recorder.due new.unfinished.items ≤ new.recorder.due = asked-early connector scripted_trial new.recorder.due new.unfinished.items in
             omega arith
 
-    none_began : StaysAs connector scripted_trial to.connector to.recorder.underway.attempts new.recorder.underway.attempts to.pending c' new.unfinished.items → Goes_on new tick c'
+    none_began : StaysAs connector scripted_trial to.connector to.attempts new.recorder.underway.attempts to.pending c' new.unfinished.items → Goes_on new tick c'
     none_began s =
         let same : new.recorder.underway.attempts ≡ made = s.none ∙ w.attempts in
-        let held : list_all (is_held to.pending to.recorder.recorded) made ≡ true = subst (λ (os : List Held). list_all (is_held os to.recorder.recorded) made ≡ true) (append-nil to.pending) w.held in
+        let held : list_all (is_held to.pending to.recorded) made ≡ true = subst (λ (os : List Held). list_all (is_held os to.recorded) made ≡ true) (append-nil to.pending) w.held in
         let up : tick ≤ asked_tick connector scripted_trial new.recorder.due to.pending = omega (arith, asked, ap (asked_tick connector scripted_trial new.recorder.due) s.same) in
         let connecting : All (IsConnecting race made (next_tick tick)) to.pending = still_connecting made (λ y h. h) tick new.recorder.due to.pending up w.pending in
         record {
@@ -277,7 +288,7 @@ module _ {C : Type 0} (connector : ConnectorOf C (Unit {0}) ScriptedTrial) (race
         ]
 
     -- the attempt that begins connects as the script says
-    began_future : (n : BeginsNext connector scripted_trial to.connector at to.recorder.underway.attempts new.recorder.underway.attempts to.pending c' new.unfinished.items) → (c' ≡ c) × (n.o.future ≡ Connecting (Ok (script_of race n.x.ip n.x.tick)) (n.x.tick + 1) true)
+    began_future : (n : BeginsNext connector scripted_trial to.connector at to.attempts new.recorder.underway.attempts to.pending c' new.unfinished.items) → (c' ≡ c) × (n.o.future ≡ Connecting (Ok (script_of race n.x.ip n.x.tick)) (n.x.tick + 1) true)
     began_future n =
         let b = at_false _ _ (nat_lt n.x.tick n.x.tick) (not_lt n.x.tick n.x.tick (omega arith)) n.begins.polls.1 in
         let own : IsScripted connector race to.connector = subst (IsScripted connector race) (sym w.still) sc in
@@ -294,13 +305,49 @@ module _ {C : Type 0} (connector : ConnectorOf C (Unit {0}) ScriptedTrial) (race
         by_outcome None lasts = tt
         by_outcome (Some out) lasts = seen_rises race ss.valid (max tick (at + 1)) (x.tick + duration_of out) (omega (arith, lasts.0))
 
-    one_began : BeginsNext connector scripted_trial to.connector at to.recorder.underway.attempts new.recorder.underway.attempts to.pending c' new.unfinished.items → Goes_on new tick c'
+    pending_left : (t : ℕ) → t ≤ at → (o : Held) → IsPending connector race ss.valid c made at f.awake o → Contains made o.attempt × EndsAfter race t o.attempt
+    pending_left t by o p = (p.made, by_outcome (outcome_of race o.attempt.ip) p.late)
+      where
+        by_outcome : (x : Option Outcome) → IfSome x (λ outcome. at < o.attempt.tick + duration_of outcome) → IfSome x (λ outcome. t < seen race (o.attempt.tick + duration_of outcome))
+        by_outcome None h = tt
+        by_outcome (Some outcome) h = let k : at < o.attempt.tick + duration_of outcome = h in let up : o.attempt.tick + duration_of outcome ≤ seen race (o.attempt.tick + duration_of outcome) = seen_from race ss.valid (o.attempt.tick + duration_of outcome) in omega arith
+
+    -- after the polls of a turn each attempt has failed by a tick, up to the turn's, in the record and in the script or in
+    -- neither
+    same_failed : (x : Attempt) → new.recorder.underway.attempts ≡ to.attempts ++ x ∷ [] → (t : ℕ) → t ≤ at → list_all (has_failed new.recorder.recorded t) made ≡ list_all (has_failed race t) made
+    same_failed x more t by = all-same (has_failed new.recorder.recorded t) (has_failed race t) made (λ k d lt. one (get_or made k d) (contains-at made k d lt))
+      where
+        told : All (IsAsScripted race made) new.recorder.recorded.outcomes
+        told = subst (λ (z : Race). All (IsAsScripted race made) z.outcomes) (sym recorded) w.told
+
+        held : list_all (is_held to.pending new.recorder.recorded) made ≡ true
+        held = rw recorded (subst (λ (os : List Held). list_all (is_held os to.recorded) made ≡ true) (append-nil to.pending) w.held)
+
+        late : (y : Attempt) → Contains made y → outcome_of new.recorder.recorded y.ip ≡ None → EndsAfter race t y
+        late = held-all race new.recorder.recorded made f.in_turn (EndsAfter race t) to.pending (All-weaker (IsPending connector race ss.valid c made at f.awake) (λ (o : Held). Contains made o.attempt × EndsAfter race t o.attempt) (pending_left t by) to.pending w.pending) held
+
+        free_fail : (y : Attempt) (o : Option Outcome) → IfSome o (FailedBelow new.recorder.recorded (first_after new.recorder.turn) y) → IfSome o (λ out. (d : ℕ) → out ≡ outcomes.Fail d → IsFree new.recorder.recorded (y.tick + d))
+        free_fail y None h = tt
+        free_fail y (Some (outcomes.Ok d)) h = absurd h
+        free_fail y (Some (outcomes.Fail d)) h = λ n same. subst (λ (k : ℕ). IsFree new.recorder.recorded (y.tick + k)) (fail-same d n same) h.0
+
+        among : (y : Attempt) → Contains made y → Contains new.recorder.underway.attempts y
+        among y h = subst (λ (xs : List Attempt). Contains xs y) (sym (more ∙ ap (λ (xs : List Attempt). xs ++ x ∷ []) w.attempts)) (contains_more made x y h)
+
+        one : (y : Attempt) → Contains made y → has_failed new.recorder.recorded t y ≡ has_failed race t y
+        one y h =
+            failed-script race new.recorder.recorded is_race t y (outcome_of new.recorder.recorded y.ip)
+            (free_fail y (outcome_of new.recorder.recorded y.ip) (All-contains (λ (z : Attempt). IfSome (outcome_of new.recorder.recorded z.ip) (FailedBelow new.recorder.recorded (first_after new.recorder.turn) z)) new.recorder.underway.attempts y live_on.recorder.rests.failed (among y h)))
+            (told-as race made f.in_turn y h new.recorder.recorded.outcomes told)
+            (λ none. late y h none)
+
+    one_began : BeginsNext connector scripted_trial to.connector at to.attempts new.recorder.underway.attempts to.pending c' new.unfinished.items → Goes_on new tick c'
     one_began n =
         let same : new.recorder.underway.attempts ≡ made ++ n.x ∷ [] = n.more ∙ ap (λ (xs : List Attempt). xs ++ n.x ∷ []) w.attempts in
-        let held : list_all (is_held to.pending to.recorder.recorded) made ≡ true = subst (λ (os : List Held). list_all (is_held os to.recorder.recorded) made ≡ true) (append-nil to.pending) w.held in
+        let held : list_all (is_held to.pending to.recorded) made ≡ true = subst (λ (os : List Held). list_all (is_held os to.recorded) made ≡ true) (append-nil to.pending) w.held in
         let next : IsNext new.recorder.recorded made n.x = is_next in
         let clear : IsFree race n.x.tick = subst (IsFree race) (sym n.at) f.awake in
-        let begins : IsNext race made n.x = next_script race new.recorder.recorded ss.valid is_race alike_on (free-end new.recorder.recorded is_race alike_on pauses_on) made n.x clear next in
+        let begins : IsNext race made n.x = next_script race new.recorder.recorded ss.valid is_race alike_on (free-end new.recorder.recorded is_race alike_on pauses_on) made n.x (λ t by. same_failed n.x n.more t (omega (arith, n.at, by))) clear next in
         let b = began_future n in
         let whole : asked_tick connector scripted_trial new.recorder.due new.unfinished.items ≡ earliest (asked_tick connector scripted_trial new.recorder.due to.pending) (due_of connector scripted_trial n.o.future) = ap (asked_tick connector scripted_trial new.recorder.due) n.next ∙ asked_joined connector scripted_trial new.recorder.due to.pending (n.o ∷ []) in
         let due : due_of connector scripted_trial n.o.future ≡ Some (n.x.tick + 1) = ap (due_of connector scripted_trial) b.1 in
@@ -309,8 +356,8 @@ module _ {C : Type 0} (connector : ConnectorOf C (Unit {0}) ScriptedTrial) (race
         record {
           still = b.0;
           in_turn = subst (AreNextInTurn race) (sym same) (in_turn-more race made n.x f.in_turn begins);
-          told = rw (same, recorded) (more_told race made n.x to.recorder.recorded.outcomes w.told);
-          held = rw (same, recorded, n.next) (held_more to.pending n.o n.x to.recorder.recorded n.begins.attempt held);
+          told = rw (same, recorded) (more_told race made n.x to.recorded.outcomes w.told);
+          held = rw (same, recorded, n.next) (held_more to.pending n.o n.x to.recorded n.begins.attempt held);
           connecting = rw (same, n.next) (All-push (IsConnecting race (made ++ n.x ∷ []) (next_tick tick)) to.pending n.o connecting (began_connecting n.o n.x n.begins.attempt n.at b.1 (omega arith)));
         }
       where
@@ -320,17 +367,17 @@ module _ {C : Type 0} (connector : ConnectorOf C (Unit {0}) ScriptedTrial) (race
             let turn : AreNextInTurn new.recorder.recorded (made ++ n.x ∷ []) = subst (AreNextInTurn new.recorder.recorded) same live_on.recorder.rests.made.in_turn in
             subst (λ (xs : List Attempt). IsNext new.recorder.recorded xs n.x) (take_all_of made n.x) (turn (length made) n.x (get_last made n.x))
 
-    pub goes-on : StaysAs connector scripted_trial to.connector to.recorder.underway.attempts new.recorder.underway.attempts to.pending c' new.unfinished.items ⊎ BeginsNext connector scripted_trial to.connector at to.recorder.underway.attempts new.recorder.underway.attempts to.pending c' new.unfinished.items → Follows race new (next_tick tick) × (c' ≡ c)
+    pub goes-on : StaysAs connector scripted_trial to.connector to.attempts new.recorder.underway.attempts to.pending c' new.unfinished.items ⊎ BeginsNext connector scripted_trial to.connector at to.attempts new.recorder.underway.attempts to.pending c' new.unfinished.items → Follows race new (next_tick tick) × (c' ≡ c)
     goes-on (inl s) = let g : Goes_on new tick c' = none_began s in (follows new tick c' kept_on g, g.still)
     goes-on (inr n) = let g : Goes_on new tick c' = one_began n in (follows new tick c' kept_on g, g.still)
 
   -- a turn that goes on is at the tick at which the ticker stands
   turn_at : (now : ℕ) (c' : C) (new : Live C (Unit {0}) ScriptedTrial) (tick : ℕ) → now ≡ min at (live.recorder.recorded.settings.limit + 1) → Goes connector scripted_trial (begun c live now) live.unfinished.items now c' new tick → now ≡ at
   turn_at now c' new tick is g =
-      let early : now < g.swept.recorder.recorded.settings.limit = going-early g.swept.recorder now g.swept.pending (is_some g.swept.first) g.going in
-      let one : new.recorder.recorded.settings.limit ≡ (begun c live now).recorder.recorded.settings.limit = same_limit (begun c live now).recorder.recorded new.recorder.recorded g.alike in
-      let two : (begun c live now).recorder.recorded.settings.limit ≡ live.recorder.recorded.settings.limit = same_limit live.recorder.recorded (slept live.recorder.recorded live.recorder.due now) (slept-alike live.recorder.recorded live.recorder.due now) in
-      let three : new.recorder.recorded.settings.limit ≡ g.swept.recorder.recorded.settings.limit = ap (λ (z : Race). z.settings.limit) g.recorded in
+      let early : now < g.swept.recorded.settings.limit = going-early g.swept.recorded g.swept.attempts now g.swept.pending (is_some g.swept.first) g.going in
+      let one : new.recorder.recorded.settings.limit ≡ (begun c live now).recorded.settings.limit = same_limit (begun c live now).recorded new.recorder.recorded g.alike in
+      let two : (begun c live now).recorded.settings.limit ≡ live.recorder.recorded.settings.limit = same_limit live.recorder.recorded (slept live.recorder.recorded live.recorder.due now) (slept-alike live.recorder.recorded live.recorder.due now) in
+      let three : new.recorder.recorded.settings.limit ≡ g.swept.recorded.settings.limit = ap (λ (z : Race). z.settings.limit) g.recorded in
       omega arith
 
   pub follows-on : (now : ℕ) (c' : C) (new : Live C (Unit {0}) ScriptedTrial) (tick : ℕ) → now ≡ min at (live.recorder.recorded.settings.limit + 1) → Goes connector scripted_trial (begun c live now) live.unfinished.items now c' new tick → Follows race new (next_tick tick) × (c' ≡ c) × (new.recorder.turn ≡ Some at)

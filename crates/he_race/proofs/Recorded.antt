@@ -1,5 +1,5 @@
 -- What is known of a race that is being run when a turn begins, when an attempt finishes in it, and when it ends.
-use Rattle.std.proofs.Common.{◌≡◌, ℕ, zero, suc, ◌+◌, ◌-◌, ◌≤◌, ◌<◌, ◌⊎◌, ◌&&◌, ◌||◌, ◌++◌, Bool, true, false, not, List, [], ◌∷◌, if◌then◌else◌, length, find, get_or, Option, Some, None, Result, Ok, Err, IfSome, OnOk, IsSomeAnd, nat_le, nat_lt, refl, sym, ◌∙◌, ap, subst, arith, inl, inr, length-append}
+use Rattle.std.proofs.Common.{◌≡◌, ℕ, zero, suc, ◌+◌, ◌-◌, ◌≤◌, ◌<◌, ◌⊎◌, ◌&&◌, ◌||◌, ◌++◌, Bool, true, false, not, List, [], ◌∷◌, if◌then◌else◌, length, find, get_or, Option, Some, None, Result, Ok, Err, IfSome, OnOk, IsSomeAnd, MatchOption, map, nat_le, nat_lt, refl, sym, ◌∙◌, ap, subst, arith, inl, inr, length-append}
 use Rattle.std.specs.List.{All, Contains, list_all, slice_get}
 use Rattle.std.specs.Option.{option_map, option_map_or}
 use Rattle.std.proofs.lemmas.Bool.{cases_lt}
@@ -12,28 +12,31 @@ use Rattle.he_addr.specs.Ip.{same_ip}
 use Rattle.he_plan.specs.declared.attempts.Attempt.{Attempt}
 use Rattle.he_plan.specs.declared.outcome.Outcome.{Outcome}
 use Rattle.he_plan.specs.declared.outcome.Outcome.TheVariants as outcomes
-use Rattle.he_plan.specs.Agreement.{AgreeBelow}
-use Rattle.he_plan.specs.Attempts.{AreNextInTurn, IsFree, IsLeast, IsNext, IsSeen, MayStart, is_tried, is_untried, last_of, seen, seen_past}
+use Rattle.he_plan.specs.declared.finish.Fate.{Fate}
+use Rattle.he_plan.specs.Agreement.{AgreeBelow, AreAlike, FailAlike}
+use Rattle.he_plan.specs.Attempts.{AreNextInTurn, HasWaited, HaveFailed, IsFree, IsLeast, IsNext, IsSeen, MayBegin, MayFollow, MayStart, has_failed, has_failed_by, is_tried, is_untried, last_of, seen, seen_past}
 use Rattle.he_plan.specs.Building.{last_end, with_outcome, with_pause}
 use Rattle.he_plan.specs.Continuing.{Follow}
 use Rattle.he_plan.specs.Due.{IsAfterTurn, IsDelayDue, IsDue, IsDueTick, IsStartDue, IsTaken}
-use Rattle.he_plan.specs.Finish.{outcome_in, outcome_of}
+use Rattle.he_plan.specs.Finish.{fate_of, outcome_in, outcome_of}
 use Rattle.he_plan.specs.Race.{Race, Reply, has_outcome}
-use Rattle.he_plan.specs.Timeline.{IsRace}
-use Rattle.he_plan.specs.Underway.{IsUnderway, MakesNext, Progress, was_received}
-use Rattle.he_plan.proofs.Agreeing.{in_turn-below, starts-below}
-use Rattle.he_plan.proofs.Bools.{and_both, and_left, and_right, before, clash, inside, lt_test, not_le, or_left, or_left_none, or_right, or_right_none}
-use Rattle.he_plan.proofs.Dueness.{due-no_sooner, starts-delayed, starts-free}
+use Rattle.he_plan.specs.Timeline.{IsRace, duration_of}
+use Rattle.he_plan.specs.Underway.{EndsOne, IsUnderway, MakesNext, Progress, was_received}
+use Rattle.he_plan.proofs.Agreeing.{alike-below, failed-shared, in_turn-below, starts-below, starts-shared}
+use Rattle.he_plan.proofs.Bools.{and_both, and_left, and_right, before, clash, inside, le_test, lt_test, not_le, or_left, or_left_none, or_right, or_right_none}
+use Rattle.he_plan.proofs.Dueness.{due-no_sooner, finish-failed, finish-silent, starts-free, starts-later}
+use Rattle.he_plan.proofs.Ends.{ends-alike, ends-in_turn}
 use Rattle.he_plan.proofs.Growing.{outcome-below, outcome-others, outcome-own, pause-away, pause-below, pauses-over}
 use Rattle.he_plan.proofs.InTurn.{in_turn-follow, in_turn-more, in_turn-none}
 use Rattle.he_plan.proofs.Lawful.{seen_past-more}
 use Rattle.he_plan.proofs.Planned.{last_of-more}
 use Rattle.he_plan.proofs.Ranges.{same_ip-sym}
-use Rattle.he_plan.proofs.Starting.{IsSeen-seen}
+use Rattle.he_plan.proofs.Starting.{IsSeen-seen, SeesOwn-free}
 use Rattle.he_race.specs.Kept.{Begins, FailedBelow, InTurn, Rests, first_after, taken}
 use Rattle.he_race.specs.Recording.{EndedBy, HasSuccess, ended_by, unrecorded}
 use Rattle.he_race.proofs.Counted.{all_taken_later, due_taken, turn_by}
 use Rattle.he_race.proofs.DueTicks.{due_starts}
+use Rattle.he_race.proofs.Failing.{all-weaker, at-one, map-same, seen-free}
 
 pub own_ip : (ip : Ip) → same_ip ip ip ≡ true
 own_ip (V4 n) = (Decides-eqb n n).1 refl
@@ -96,17 +99,18 @@ begins-late race turn xs due now rest is up late r' =
     let r : IsRace race = rest.valid in
     let agree : AgreeBelow due race race' = pause-below race due now in
     let base : first_after turn ≤ due = due_later race r turn xs due rest.after is.holds in
+    let alike : FailAlike due race race' xs = alike-below due race race' r r' agree xs (λ k d lt. refl) in
     let past : All (λ (x : Attempt). x.tick < due) xs = All-weaker (λ (x : Attempt). x.tick < first_after turn) (λ (x : Attempt). x.tick < due) (λ x h. omega (arith, h)) xs rest.past in
     let failed : All (λ (x : Attempt). IfSome (outcome_of race' x.ip) (FailedBelow race' now x)) xs = All-weaker (λ (x : Attempt). IfSome (outcome_of race x.ip) (FailedBelow race (first_after turn) x)) (λ (x : Attempt). IfSome (outcome_of race' x.ip) (FailedBelow race' now x))
     (λ x h. if_some (FailedBelow race (first_after turn) x) (FailedBelow race' now x) (outcome_of race x.ip) (failed_later race race' (first_after turn) now x up (λ t lt free. (agree.free t (omega arith)).0 free)) h) xs rest.failed in
     record {
       in_turn = record {
         valid = r';
-        made = record { in_turn = in_turn-below due race race' r r' agree xs (all_before due xs past) rest.made.in_turn; tried = rest.made.tried };
+        made = record { in_turn = in_turn-below due race race' r r' agree xs alike (all_before due xs past) rest.made.in_turn; tried = rest.made.tried };
         past = All-weaker (λ (x : Attempt). x.tick < due) (λ (x : Attempt). x.tick < now) (λ x h. omega (arith, h)) xs past;
         over = let e : last_end race'.pauses ≡ now = last_end-more race.pauses (due, now) in omega (arith, e);
         ended = All-weaker (λ (x : Attempt). IfSome (outcome_of race' x.ip) (FailedBelow race' now x)) (λ (x : Attempt). IfSome (outcome_of race' x.ip) (EndedBy race' now false x)) (λ x h. if_some (FailedBelow race' now x) (EndedBy race' now false x) (outcome_of race' x.ip) (failed_ended race' now x) h) xs failed;
-        stops = stops agree;
+        stops = stops agree alike;
         success = λ e. absurd (not_won e);
         few = omega (arith, one_more, rest.few, all_taken_later turn now up race);
         starts = λ more early. starts more early is.holds;
@@ -117,23 +121,30 @@ begins-late race turn xs due now rest is up late r' =
     one_more : length (race.pauses ++ (due, now) ∷ []) ≡ length race.pauses + 1
     one_more = length-append race.pauses ((due, now) ∷ [])
 
-    starts_at : now < race.settings.limit → IsDelayDue (with_pause race due now) turn xs due ⊎ IsStartDue (with_pause race due now) turn xs due → MayStart (with_pause race due now) xs now
+    base : first_after turn ≤ due
+    base = due_later race rest.valid turn xs due rest.after is.holds
+
+    starts_at : now < race.settings.limit → IsDelayDue race turn xs due ⊎ IsStartDue race turn xs due → MayStart (with_pause race due now) xs now
     starts_at early is_due =
         let over : last_end (race.pauses ++ (due, now) ∷ []) ≡ now = last_end-more race.pauses (due, now) in
-        due_starts (with_pause race due now) r' turn xs due now is_due (turn_by turn now up) (omega arith) (pauses-over (with_pause race due now) r' now (omega (arith, over))) early
+        let free : IsFree race now = pauses-over race rest.valid now (omega (arith, rest.over, base)) in
+        let free' : IsFree (with_pause race due now) now = pauses-over (with_pause race due now) r' now (omega (arith, over)) in
+        let same : list_all (has_failed race now) xs ≡ list_all (has_failed (with_pause race due now) now) xs = failed-shared race (with_pause race due now) now (SeesOwn-free race rest.valid now free) (SeesOwn-free (with_pause race due now) r' now free') (λ ip. refl) xs in
+        let may : MayStart race xs now = due_starts race rest.valid turn xs due now is_due (turn_by turn now up) (omega arith) free early in
+        (starts-shared race (with_pause race due now) rest.valid r' refl xs now (λ h. sym same ∙ h, λ h. same ∙ h) free free').0 may
 
     -- the new pause is one too many only where a delay was over, so that an attempt may start
     starts : taken (Some now) race + length xs < length (race.pauses ++ (due, now) ∷ []) → now < race.settings.limit → IsDue race turn xs due → MayStart (with_pause race due now) xs now
     starts more early (inl six) = absurd (let no : ⊥ = omega (arith, more, one_more, rest.few, due_taken turn now due up (omega arith) race (inl six)) in no)
     starts more early (inr (inl four)) = absurd (let no : ⊥ = omega (arith, more, one_more, rest.few, due_taken turn now due up (omega arith) race (inr four)) in no)
-    starts more early (inr (inr (inl delay))) = starts_at early (inl (record { none = delay.none; aaaa = delay.aaaa; a = delay.a }))
-    starts more early (inr (inr (inr (inl start)))) = starts_at early (inr (record { delay = start.delay; some = start.some }))
+    starts more early (inr (inr (inl delay))) = starts_at early (inl delay)
+    starts more early (inr (inr (inr (inl start)))) = starts_at early (inr start)
     starts more early (inr (inr (inr (inr limit)))) = absurd (let no : ⊥ = omega (arith, limit, early) in no)
 
-    stops : AgreeBelow due race (with_pause race due now) → (t : ℕ) → MayStart (with_pause race due now) xs t → now ≤ t
-    stops agree t m = elim (cases_lt t due) [
+    stops : AgreeBelow due race (with_pause race due now) → FailAlike due race (with_pause race due now) xs → (t : ℕ) → MayStart (with_pause race due now) xs t → now ≤ t
+    stops agree alike t m = elim (cases_lt t due) [
       | inl sooner ↦
-          let k : seen race due ≤ t = due-no_sooner race rest.valid turn xs due rest.after is t ((starts-below due race (with_pause race due now) rest.valid r' agree xs t sooner).1 m) in
+          let k : seen race due ≤ t = due-no_sooner race rest.valid turn xs due rest.after is t ((starts-below due race (with_pause race due now) rest.valid r' agree xs alike t sooner).1 m) in
           let s : IsSeen race due (seen race due) = IsSeen-seen race rest.valid due in
           absurd (let l : due ≤ seen race due = s.holds.0 in let no : ⊥ = omega arith in no)
       | inr after ↦ elim (cases_lt t now) [
@@ -187,10 +198,13 @@ last_before tick xs h = by_get (length xs - 1) xs h
     by_get zero (y ∷ ys) h = All-head (λ (x : Attempt). x.tick < tick) y ys h
     by_get (suc k) (y ∷ ys) h = by_get k ys (All-tail (λ (x : Attempt). x.tick < tick) y ys h)
 
-pub underway-slept : (race : Race) (from to : ℕ) (u : Progress) → All (λ (x : Attempt). x.tick < from) u.attempts → AreNextInTurn (with_pause race from to) u.attempts → IsUnderway race u → IsUnderway (with_pause race from to) u
-underway-slept race from to u above in_turn is = record {
+pub underway-slept : (race : Race) (from to : ℕ) (u : Progress) → All (λ (x : Attempt). x.tick < from) u.attempts → All (λ (x : Attempt). fate_of race x ≡ fate_of (with_pause race from to) x) u.attempts → AreNextInTurn (with_pause race from to) u.attempts → IsUnderway race u → IsUnderway (with_pause race from to) u
+underway-slept race from to u above fates in_turn is = record {
   in_turn = in_turn;
   in_range = is.in_range;
+  fates = is.fates ∙ map-same (fate_of race) (fate_of (with_pause race from to)) u.attempts fates;
+  failed = is.failed;
+  latest = is.latest;
   queue = record {
     rest = record { members = is.queue.rest.members; own_six = is.queue.rest.own_six; own_four = is.queue.rest.own_four; rest = is.queue.rest.rest; sorted = is.queue.rest.sorted };
     six = is.queue.six ∙ sym (received_still race from to (last_of u.attempts) race.aaaa (last_before from u.attempts above));
@@ -198,16 +212,16 @@ underway-slept race from to u above in_turn is = record {
   };
 }
 
-pub underway-told : (race : Race) (ip : Ip) (outcome : Outcome) (u : Progress) → AreNextInTurn (with_outcome race ip outcome) u.attempts → IsUnderway race u → IsUnderway (with_outcome race ip outcome) u
-underway-told race ip outcome u in_turn is = record {
-  in_turn = in_turn;
-  in_range = is.in_range;
-  queue = record {
-    rest = record { members = is.queue.rest.members; own_six = is.queue.rest.own_six; own_four = is.queue.rest.own_four; rest = is.queue.rest.rest; sorted = is.queue.rest.sorted };
-    six = is.queue.six;
-    four = is.queue.four;
-  };
-}
+-- what becomes of an attempt that failed or still runs before a pause
+fate_kept : (race race' : Race) → IsRace race → IsRace race' → AreAlike race race' → (below : ℕ) → below ≤ race.settings.limit + 1 → (x : Attempt) → outcome_of race' x.ip ≡ outcome_of race x.ip → ((t : ℕ) → t < below → IsFree race t → IsFree race' t) → (o : Option Outcome) → outcome_of race x.ip ≡ o → IfSome o (FailedBelow race below x) → fate_of race x ≡ fate_of race' x
+fate_kept race race' r r' alike below early x same free None is h = finish-silent race x is ∙ sym (finish-silent race' x (same ∙ is))
+fate_kept race race' r r' alike below early x same free (Some (outcomes.Ok d)) is h = absurd h
+fate_kept race race' r r' alike below early x same free (Some (outcomes.Fail d)) is h =
+    let at : d ≡ (x.tick + d) - x.tick = omega arith in
+    let told : outcome_of race x.ip ≡ Some (outcomes.Fail ((x.tick + d) - x.tick)) = is ∙ ap (λ (k : ℕ). Some (outcomes.Fail k)) at in
+    let limit : race'.settings.limit ≡ race.settings.limit = ap (λ (z : Race). z.settings.limit) alike in
+    finish-failed race r x (x.tick + d) h.0 (omega arith) (omega (arith, h.1, early)) told
+    ∙ sym (finish-failed race' r' x (x.tick + d) (free (x.tick + d) h.1 h.0) (omega arith) (omega (arith, h.1, early, limit)) (same ∙ told))
 
 -- an attempt that was made is tried
 pub tried_made : (xs : List Attempt) (x : Attempt) → Contains xs x → is_tried xs x.ip ≡ true
@@ -276,6 +290,15 @@ failed_now : (race : Race) (now : ℕ) (x : Attempt) (o : Outcome) → EndedBy r
 failed_now race now x (outcomes.Ok d) h = absurd (not_won h.0)
 failed_now race now x (outcomes.Fail d) h = (h.0, omega (arith, h.1))
 
+-- one that has failed by any tick has by the turn
+ended_failed : (race : Race) → IsRace race → (now later : ℕ) (x : Attempt) (o : Option Outcome) → IfSome o (EndedBy race now false x) → has_failed_by race later x.tick o ≡ true → has_failed_by race now x.tick o ≡ true
+ended_failed race r now later x None h k = k
+ended_failed race r now later x (Some (outcomes.Ok d)) h k = k
+ended_failed race r now later x (Some (outcomes.Fail d)) h k = rw (seen-free race r (x.tick + d) h.0) (le_test (x.tick + d) now h.1)
+
+each_ended : (race : Race) → IsRace race → (now later : ℕ) (xs : List Attempt) → All (λ (x : Attempt). IfSome (outcome_of race x.ip) (EndedBy race now false x)) xs → All (λ (x : Attempt). has_failed race later x ≡ true → has_failed race now x ≡ true) xs
+each_ended race r now later xs h k d lt = ended_failed race r now later (get_or xs k d) (outcome_of race (get_or xs k d).ip) (h k d lt)
+
 -- a turn ends
 all_failed : (race : Race) (now : ℕ) (xs : List Attempt) → All (λ (x : Attempt). IfSome (outcome_of race x.ip) (EndedBy race now false x)) xs → All (λ (x : Attempt). IfSome (outcome_of race x.ip) (FailedBelow race (now + 1) x)) xs
 all_failed race now xs h =
@@ -288,7 +311,7 @@ rests-still race now xs t early none = record {
   past = All-weaker (λ (x : Attempt). x.tick < now) (λ (x : Attempt). x.tick < now + 1) (λ x h. omega (arith, h)) xs t.past;
   over = omega (arith, t.over);
   failed = all_failed race now xs t.ended;
-  after = (pauses-over race t.valid now t.over, early, none);
+  after = (pauses-over race t.valid now t.over, early, none, λ later h. all-weaker (has_failed race later) (has_failed race now) xs (each_ended race t.valid now later xs t.ended) h);
   few = elim (cases_lt (taken (Some now) race + length xs) (length race.pauses)) [ inl more ↦ absurd (none (t.starts more early)) | inr few ↦ few ];
 }
 
@@ -308,7 +331,7 @@ rests-started race now xs all t may p =
       past = All-push (λ (x : Attempt). x.tick < now + 1) xs p.next (All-weaker (λ (x : Attempt). x.tick < now) (λ (x : Attempt). x.tick < now + 1) (λ x h. omega (arith, h)) xs t.past) (omega (arith, p.at));
       over = omega (arith, t.over);
       failed = All-push (λ (x : Attempt). IfSome (outcome_of race x.ip) (FailedBelow race (now + 1) x)) xs p.next (all_failed race now xs t.ended) (silent p.next (untold xs race.outcomes p.next.ip t.made.tried (next_untried race xs p.next next)));
-      after = (pauses-over race t.valid now t.over, may.0, none next);
+      after = (pauses-over race t.valid now t.over, may.0, none next, λ later h. all-weaker (has_failed race later) (has_failed race now) (xs ++ p.next ∷ []) (All-push (λ (x : Attempt). has_failed race later x ≡ true → has_failed race now x ≡ true) xs p.next (each_ended race t.valid now later xs t.ended) (unended later p.next (untold xs race.outcomes p.next.ip t.made.tried (next_untried race xs p.next next)))) h);
       few = omega (arith, t.few, length-append xs (p.next ∷ []));
     })
   where
@@ -317,24 +340,40 @@ rests-started race now xs all t may p =
 
     none : IsNext race xs p.next → ¬ MayStart race (xs ++ p.next ∷ []) now
     none next m =
-        let late : p.next.tick + race.settings.attempt ≤ now = starts-delayed race (xs ++ p.next ∷ []) p.next now (last_of-more xs p.next) m in
-        omega (arith, late, p.at, t.valid.settings.attempt_least)
+        omega (arith, starts-later race t.valid (xs ++ p.next ∷ []) p.next now (last_of-more xs p.next) m, p.at)
+
+    unended : (later : ℕ) (x : Attempt) → outcome_of race x.ip ≡ None → has_failed race later x ≡ true → has_failed race now x ≡ true
+    unended later x e h = let no : has_failed_by race later x.tick None ≡ true = subst (λ (o : Option Outcome). has_failed_by race later x.tick o ≡ true) e h in cc
+
+-- an attempt that finishes in a turn ends in it
+ends_at : (ok : Bool) (start now : ℕ) → start < now → start + duration_of (ended_by ok (now - start)) ≡ now
+ends_at true start now lt = omega arith
+ends_at false start now lt = omega arith
+
+pub ends-one : (race new : Race) (now : ℕ) (xs : List Attempt) (won ok : Bool) (x : Attempt) → InTurn race now xs won → Contains xs x → has_outcome x.ip race.outcomes ≡ false → new ≡ with_outcome race x.ip (ended_by ok (now - x.tick)) → EndsOne race new xs x
+ends-one race new now xs won ok x t at first is = record {
+  made = at;
+  silent = first;
+  outcome = ended_by ok (now - x.tick);
+  told = is;
+  late = subst (λ (tick : ℕ). list_all (λ (y : Attempt). nat_lt y.tick tick) xs ≡ true) (sym (ends_at ok x.tick now (All-contains (λ (z : Attempt). z.tick < now) xs x t.past at))) (all_before now xs t.past);
+}
 
 -- an attempt finishes in a turn
 pub finished : (race : Race) (now : ℕ) (xs : List Attempt) (won ok : Bool) (x : Attempt) → InTurn race now xs won → Contains xs x → outcome_of race x.ip ≡ None → has_outcome x.ip race.outcomes ≡ false → IsRace (with_outcome race x.ip (ended_by ok (now - x.tick))) → InTurn (with_outcome race x.ip (ended_by ok (now - x.tick))) now xs (won || ok)
 finished race now xs won ok x t at silent first r' = record {
   valid = r';
   made = record {
-    in_turn = in_turn-below now race race' t.valid r' (outcome-below race x.ip o now) xs (all_before now xs t.past) t.made.in_turn;
+    in_turn = ends-in_turn race race' t.valid r' xs x ends t.made.in_turn;
     tried = list_all-append (λ (p : Ip × Outcome). is_tried xs p.0) race.outcomes ((x.ip, o) ∷ []) ∙ and_both _ _ t.made.tried (and_both _ _ (tried_made xs x at) refl);
   };
   past = t.past;
   over = t.over;
   ended = λ k d lt. by_ip k d lt (same_ip x.ip (get_or xs k d).ip) refl;
-  stops = λ s m. elim (cases_lt s now) [ inl sooner ↦ t.stops s ((starts-below now race race' t.valid r' (outcome-below race x.ip o now) xs s sooner).1 m) | inr later ↦ later ];
+  stops = λ s m. elim (cases_lt s now) [ inl sooner ↦ t.stops s ((starts-below now race race' t.valid r' (outcome-below race x.ip o now) xs alike s sooner).1 m) | inr later ↦ later ];
   success = by_success ok refl won refl;
   few = t.few;
-  starts = λ more early. (starts-below (now + 1) race race' t.valid r' (outcome-below race x.ip o (now + 1)) xs now (omega arith)).0 (t.starts more early);
+  starts = λ more early. (let may : MayStart race xs now = t.starts more early in (may.0, still_starts (last_of xs) may.1));
 }
   where
     o : Outcome
@@ -345,6 +384,26 @@ finished race now xs won ok x t at silent first r' = record {
 
     now_free : IsFree race' now
     now_free = pauses-over race' r' now t.over
+
+    ends : EndsOne race race' xs x
+    ends = ends-one race race' now xs won ok x t at first refl
+
+    -- before the turn attempts have failed as before
+    alike : FailAlike now race race' xs
+    alike = subst (λ (tick : ℕ). FailAlike tick race race' xs) (ends_at ok x.tick now (All-contains (λ (z : Attempt). z.tick < now) xs x t.past at)) (ends-alike race race' t.valid xs x ends t.made.in_turn)
+
+    -- as long as it runs no start is by the floor
+    still_waited : (last : Attempt) → HasWaited race xs now last → HasWaited race' xs now last
+    still_waited last (inl over) = inl over
+    still_waited last (inr floor) = by_floor race.settings.floor floor
+      where
+        by_floor : (f : Option ℕ) → IsSomeAnd f (λ n. (last.tick + n ≤ now) × HaveFailed race xs now) → HasWaited race' xs now last
+        by_floor None h = absurd h
+        by_floor (Some n) h = absurd (clash (has_failed race now x) (at-one (has_failed race now) xs x h.1 at) (ap (has_failed_by race now x.tick) silent))
+
+    still_starts : (last : Option Attempt) → MatchOption last (MayBegin race now) (MayFollow race xs now) → MatchOption last (MayBegin race' now) (MayFollow race' xs now)
+    still_starts None m = m
+    still_starts (Some last) m = record { free = m.free; waited = still_waited last m.waited; some = m.some }
 
     wider : (y : Attempt) (out : Outcome) → EndedBy race now won y out → EndedBy race' now (won || ok) y out
     wider y (outcomes.Ok d) h = (or_left _ _ h.0, h.1)
@@ -392,7 +451,15 @@ pub underway-ok : {E : Type 0} (race new : Race) (turn : Option ℕ) (u : Progre
 underway-ok race new turn u due now rest is p (Ok done) e b =
     let base : first_after turn ≤ due = due_later race rest.valid turn u.attempts due rest.after is.holds in
     let in_turn : AreNextInTurn (with_pause race due now) u.attempts = subst (λ (x : Race). AreNextInTurn x u.attempts) e b.in_turn.made.in_turn in
-    rw e (underway-slept race due now u (All-weaker (λ (x : Attempt). x.tick < first_after turn) (λ (x : Attempt). x.tick < due) (λ x h. omega (arith, h)) u.attempts rest.past) in_turn p)
+    let r' : IsRace (with_pause race due now) = subst IsRace e b.in_turn.valid in
+    let agree : AgreeBelow due race (with_pause race due now) = pause-below race due now in
+    let fates : All (λ (x : Attempt). fate_of race x ≡ fate_of (with_pause race due now) x) u.attempts =
+    λ k d lt. fate_kept race (with_pause race due now) rest.valid r' refl (first_after turn) (turn_early turn rest.after) (get_or u.attempts k d) refl (λ t below free. (agree.free t (omega (arith, base))).0 free) (outcome_of race (get_or u.attempts k d).ip) refl (rest.failed k d lt) in
+    rw e (underway-slept race due now u (All-weaker (λ (x : Attempt). x.tick < first_after turn) (λ (x : Attempt). x.tick < due) (λ x h. omega (arith, h)) u.attempts rest.past) fates in_turn p)
+  where
+    turn_early : (turn : Option ℕ) → IsAfterTurn race turn u.attempts → first_after turn ≤ race.settings.limit + 1
+    turn_early None after = omega arith
+    turn_early (Some n) after = omega (arith, after.1)
 underway-ok race new turn u due now rest is p (Err f) e b = tt
 
 pub rests-new : (race given : Race) → IsRace race → race ≡ unrecorded given → Rests race None []

@@ -2,6 +2,7 @@
 use Rattle.std.proofs.Common.{◌≡◌, ℕ, ◌+◌, ◌-◌, ◌≤◌, ◌<◌, ◌⊎◌, ◌&&◌, ◌||◌, ◌++◌, Bool, true, false, List, [], ◌∷◌, if◌then◌else◌, length, get_or, map, find, Option, Some, None, IfSome, is_some, nat_le, refl, sym, ◌∙◌, ap, subst, arith, inl, inr, append_assoc}
 use Rattle.std.specs.List.{All, Contains, list_all, slice_get}
 use Rattle.std.specs.Option.{option_map, option_map_or}
+use Rattle.std.proofs.lemmas.Bool.{cases_lt}
 use Rattle.std.proofs.lemmas.List.{append-nil}
 use Rattle.std.proofs.lemmas.List.Elements.{All-head, All-tail}
 use Rattle.he_addr.specs.Ip.{InRange, same_ip}
@@ -14,11 +15,11 @@ use Rattle.he_plan.specs.declared.outcome.Outcome.TheVariants as outcomes
 use Rattle.he_plan.specs.declared.transcript.Outcome3.{Outcome3}
 use Rattle.he_plan.specs.declared.transcript.Outcome3.TheVariants as results
 use Rattle.he_plan.specs.Agreement.{AreAlike}
-use Rattle.he_plan.specs.Attempts.{AreNextInTurn, IsFree, MayStart, seen}
+use Rattle.he_plan.specs.Attempts.{AreNextInTurn, IsFree, MayStart, has_failed, has_failed_by, seen}
 use Rattle.he_plan.specs.Finish.{IsWinner, fate_by, fate_of, known_at, known_by, outcome_in, outcome_of}
 use Rattle.he_plan.specs.Planning.{next_winner, told_lines}
 use Rattle.he_plan.specs.Race.{Race, Reply, addresses_of, has_outcome}
-use Rattle.he_plan.specs.Timeline.{duration_of}
+use Rattle.he_plan.specs.Timeline.{IsRace, duration_of}
 use Rattle.he_plan.specs.Transcript.{AreKnown, IsTranscript, Report, failures, greatest, is_failed, is_tried_out, result_of, stop_of, without_winner}
 use Rattle.he_plan.proofs.Agreeing.{starts-shared}
 use Rattle.he_plan.proofs.Bools.{le_from, le_test, not_le}
@@ -29,6 +30,7 @@ use Rattle.he_plan.proofs.Stopping.{stopped-is}
 use Rattle.he_race.specs.Following.{EndsAs, IsAsScripted, IsScript}
 use Rattle.he_race.specs.Recording.{EndedBy, EndsRace}
 use Rattle.he_race.proofs.Ending.{Known, ended-known, winner-stop}
+use Rattle.he_race.proofs.Failing.{all-same, seen-free}
 use Rattle.he_race.proofs.Recorded.{one_attempt}
 use Rattle.he_race.proofs.Turning.{contains-at, same_limit}
 
@@ -81,6 +83,19 @@ none-told (p ∷ told) ip h = by_head (same_ip p.0 ip) h (none-told told ip)
 abbrev pub EndsAfter : Race → ℕ → Attempt → Type 0
 EndsAfter script tick x = IfSome (outcome_of script x.ip) (λ outcome. tick < seen script (x.tick + duration_of outcome))
 
+pub ends-sooner : (script : Race) (low tick : ℕ) (x : Attempt) → tick ≤ low → EndsAfter script low x → EndsAfter script tick x
+ends-sooner script low tick x up h = by_outcome (outcome_of script x.ip) h
+  where
+    by_outcome : (o : Option Outcome) → IfSome o (λ outcome. low < seen script (x.tick + duration_of outcome)) → IfSome o (λ outcome. tick < seen script (x.tick + duration_of outcome))
+    by_outcome None h = tt
+    by_outcome (Some outcome) h = let k : low < seen script (x.tick + duration_of outcome) = h in omega arith
+
+ok_not_fail : (d n : ℕ) → outcomes.Ok d ≡ outcomes.Fail n → ⊥
+ok_not_fail d n same = cc
+
+pub fail-same : (d n : ℕ) → outcomes.Fail d ≡ outcomes.Fail n → d ≡ n
+fail-same d n same = cc
+
 late_runs : (script : Race) (x : Attempt) (tick : ℕ) (o : Option Outcome) → outcome_of script x.ip ≡ o → IfSome o (λ outcome. tick < seen script (x.tick + duration_of outcome)) → known_at script tick x ≡ Running
 late_runs script x tick None is late = ap (λ (o : Option Outcome). known_by tick (fate_by script x.tick o)) is
 late_runs script x tick (Some (outcomes.Ok d)) is late = ap (λ (o : Option Outcome). known_by tick (fate_by script x.tick o)) is ∙ by_limit (nat_le (seen script (x.tick + d)) script.settings.limit)
@@ -93,6 +108,28 @@ late_runs script x tick (Some (outcomes.Fail d)) is late = ap (λ (o : Option Ou
     by_limit : (b : Bool) → known_by tick (if b then Failed (seen script (x.tick + d)) else Running) ≡ Running
     by_limit true = rw (not_le (seen script (x.tick + d)) tick late)
     by_limit false = refl
+
+-- an attempt that ended, or still runs, as the script has it, has failed by a tick in both or in neither
+pub failed-script : (script race : Race) → IsRace race → (tick : ℕ) (x : Attempt) → (o : Option Outcome) → IfSome o (λ out. (d : ℕ) → out ≡ outcomes.Fail d → IsFree race (x.tick + d)) → IfSome o (IsToldAs script x) → (o ≡ None → EndsAfter script tick x) → has_failed_by race tick x.tick o ≡ has_failed script tick x
+failed-script script race r tick x None ended told late = by_outcome (outcome_of script x.ip) (late refl)
+  where
+    by_outcome : (u : Option Outcome) → IfSome u (λ outcome. tick < seen script (x.tick + duration_of outcome)) → false ≡ has_failed_by script tick x.tick u
+    by_outcome None h = refl
+    by_outcome (Some (outcomes.Ok n)) h = refl
+    by_outcome (Some (outcomes.Fail n)) h = sym (not_le (seen script (x.tick + n)) tick h)
+failed-script script race r tick x (Some (outcomes.Ok d)) ended told late = by_outcome told.outcome told.is told.ends
+  where
+    by_outcome : (u : Outcome) → outcome_of script x.ip ≡ Some u → EndsAs script x.tick (outcomes.Ok d) u → false ≡ has_failed script tick x
+    by_outcome (outcomes.Ok n) same ends = sym (ap (has_failed_by script tick x.tick) same)
+    by_outcome (outcomes.Fail n) same ends = absurd ends
+failed-script script race r tick x (Some (outcomes.Fail d)) ended told late = by_outcome told.outcome told.is told.ends
+  where
+    at : seen race (x.tick + d) ≡ x.tick + d
+    at = seen-free race r (x.tick + d) (ended d refl)
+
+    by_outcome : (u : Outcome) → outcome_of script x.ip ≡ Some u → EndsAs script x.tick (outcomes.Fail d) u → nat_le (seen race (x.tick + d)) tick ≡ has_failed script tick x
+    by_outcome (outcomes.Ok n) same ends = absurd ends
+    by_outcome (outcomes.Fail n) same ends = ap (λ (k : ℕ). nat_le k tick) (at ∙ ends) ∙ sym (ap (has_failed_by script tick x.tick) same)
 
 -- what the script has of an attempt that ends by the tick
 known_ok : (script : Race) (x : Attempt) (d finish tick : ℕ) → outcome_of script x.ip ≡ Some (outcomes.Ok d) → finish ≡ seen script (x.tick + d) → finish ≤ tick → finish ≤ script.settings.limit → known_at script tick x ≡ Succeeded finish
@@ -176,10 +213,23 @@ module _ (script race : Race) (ss : IsScript script) (alike : AreAlike script ra
       let tail : map (fate_of race) ys ≡ map (known_at script tick) ys = map_fates tick ys (All-tail P y ys h) in
       cc
 
-  stops : (t : ℕ) → MayStart script xs t → MayStart race xs t
-  stops t m =
+  free_fail : (x : Attempt) (o : Option Outcome) → IfSome o (EndedBy race stop won x) → IfSome o (λ out. (d : ℕ) → out ≡ outcomes.Fail d → IsFree race (x.tick + d))
+  free_fail x None h = tt
+  free_fail x (Some (outcomes.Ok d)) h = λ n same. absurd (ok_not_fail d n same)
+  free_fail x (Some (outcomes.Fail d)) h = λ n same. subst (λ (k : ℕ). IsFree race (x.tick + k)) (fail-same d n same) h.0
+
+  -- each attempt has failed by a tick, up to the stop, in both races or in neither
+  all_failed : (tick : ℕ) → All (IsAsScripted script xs) race.outcomes → ((x : Attempt) → Contains xs x → outcome_of race x.ip ≡ None → EndsAfter script tick x) → list_all (has_failed race tick) xs ≡ list_all (has_failed script tick) xs
+  all_failed tick told late = all-same (has_failed race tick) (has_failed script tick) xs (λ k d lt. one (get_or xs k d) (contains-at xs k d lt) (e.ended k d lt))
+    where
+      one : (x : Attempt) → Contains xs x → IfSome (outcome_of race x.ip) (EndedBy race stop won x) → has_failed race tick x ≡ has_failed script tick x
+      one x made ended = failed-script script race e.valid tick x (outcome_of race x.ip) (free_fail x (outcome_of race x.ip) ended) (told-as script xs turn x made race.outcomes told) (λ none. late x made none)
+
+  stops : (t : ℕ) → All (IsAsScripted script xs) race.outcomes → ((x : Attempt) → Contains xs x → outcome_of race x.ip ≡ None → EndsAfter script t x) → MayStart script xs t → MayStart race xs t
+  stops t told late m =
       let clear : IsFree script t = starts-free script ss.valid xs t m in
-      (starts-shared script race ss.valid e.valid alike xs t clear (free t clear)).0 m
+      let same : list_all (has_failed race t) xs ≡ list_all (has_failed script t) xs = all_failed t told late in
+      (starts-shared script race ss.valid e.valid alike xs t (λ h. same ∙ h, λ h. sym same ∙ h) clear (free t clear)).0 m
 
   -- what the race knows at its end: of each attempt the script's fate by then, and where no attempt has won, when the
   -- answers were seen
@@ -193,7 +243,10 @@ module _ (script race : Race) (ss : IsScript script) (alike : AreAlike script ra
   known_script : (known : List Fate) (winner : Option (ℕ × ℕ)) → known ≡ map (fate_of race) xs → IsWinner known winner → stop_of script winner ≡ (if won then stop else script.settings.limit) → stop ≤ stop_of script winner → ((t : ℕ) → MayStart race xs t → stop_of script winner ≤ t) → KnowsScript → AreKnown script xs known winner
   known_script known winner is w same up after k = record {
     in_turn = turn;
-    stops = λ t m. after t (stops t m);
+    stops = λ t m. elim (cases_lt t (stop_of script winner)) [
+      | inl sooner ↦ after t (stops t k.told (λ x made none. ends-sooner script (stop_of script winner) t x (omega arith) (subst (λ (tick : ℕ). EndsAfter script tick x) (sym same) (k.late x made none))) m)
+      | inr later ↦ later
+    ];
     fates = is ∙ map_fates (stop_of script winner) xs (all_fates (stop_of script winner) up k.told (λ x made none. subst (λ (tick : ℕ). EndsAfter script tick x) (sym same) (k.late x made none)));
     wins = w;
   }

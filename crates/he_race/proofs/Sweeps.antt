@@ -23,7 +23,7 @@ use Rattle.he_race.specs.declared.trial.Trial.{Ghosts as TrialOf}
 use Rattle.he_race.specs.Answered.{earliest}
 use Rattle.he_race.specs.Attempt.{AttemptPolls, due_of}
 use Rattle.he_race.specs.Kept.{MakesOne, first_after, IsLive}
-use Rattle.he_race.specs.Recording.{EndsRace}
+use Rattle.he_race.specs.Recording.{EndsRace, slept}
 use Rattle.he_race.specs.Polling.{AsksInTime, BeginsFrom, BeginsOne, EndsWith, GoesOn, LeftBy, PollsAt, TurnsFrom}
 use Rattle.he_race.specs.Turns.{ArePolled, BeginsAt, EndsPolled, Goes, PolledAt, PolledFrom, Replays, StartsOne, Sweep, Turned, asked_tick, begun, first_of, is_over, told, unpolled}
 use Rattle.he_race.proofs.Turning.{alike-later, drop-set, take-set}
@@ -62,56 +62,58 @@ drop-removed xs i a lt = rw (take-set xs i a, drop-set xs i a) (drop-joined xs (
 
 module _ {C Conn Run : Type 0} (connector : ConnectorOf C Conn Run) (trial : TrialOf Run Conn) where
   -- those before i were polled; where the polls of the others end, so do the polls of all
-  pub record Sweeping (from : Sweep C Conn Run) (os : List (Unfinished C Conn Run)) (now : ℕ) (c : C) (recorder : Recorder) (xs : List (Unfinished C Conn Run)) (i : ℕ) (first : Option Conn) : Type 0 where
-    pub rest : (to : Sweep C Conn Run) → ArePolled connector trial now (record { connector = c; recorder = recorder; pending = take i xs; first = first }) (drop i xs) to → ArePolled connector trial now from os to
+  pub record Sweeping (from : Sweep C Conn Run) (os : List (Unfinished C Conn Run)) (now : ℕ) (c : C) (race : Race) (made : List Attempt) (xs : List (Unfinished C Conn Run)) (i : ℕ) (first : Option Conn) : Type 0 where
+    pub rest : (to : Sweep C Conn Run) → ArePolled connector trial now (record { connector = c; recorded = race; attempts = made; pending = take i xs; first = first }) (drop i xs) to → ArePolled connector trial now from os to
 
-  pub sweeping-none : (c : C) (recorder : Recorder) (os : List (Unfinished C Conn Run)) (now : ℕ) → Sweeping (unpolled c recorder) os now c recorder os 0 None
-  sweeping-none c recorder os now = record { rest = λ to h. h }
+  pub sweeping-none : (c : C) (race : Race) (made : List Attempt) (os : List (Unfinished C Conn Run)) (now : ℕ) → Sweeping (unpolled c race made) os now c race made os 0 None
+  sweeping-none c race made os now = record { rest = λ to h. h }
 
   -- polls that begin at the same state, of the same attempts
   same-polls : (now : ℕ) (s t to : Sweep C Conn Run) (xs ys : List (Unfinished C Conn Run)) → s ≡ t → xs ≡ ys → ArePolled connector trial now s xs to → ArePolled connector trial now t ys to
   same-polls now s t to xs ys e f h = subst (λ (z : Sweep C Conn Run). ArePolled connector trial now z ys to) e (subst (λ (zs : List (Unfinished C Conn Run)). ArePolled connector trial now s zs to) f h)
 
   -- a sweep by its parts
-  abbrev swept_by : C → Recorder → List (Unfinished C Conn Run) → Option Conn → Sweep C Conn Run
-  swept_by c recorder xs first = record { connector = c; recorder = recorder; pending = xs; first = first }
+  abbrev swept_by : C → Race → List Attempt → List (Unfinished C Conn Run) → Option Conn → Sweep C Conn Run
+  swept_by c race made xs first = record { connector = c; recorded = race; attempts = made; pending = xs; first = first }
 
-  pub sweeping-pending : (from : Sweep C Conn Run) (os : List (Unfinished C Conn Run)) (now : ℕ) (c c' : C) (old new : Live C Conn Run) (i : ℕ) (first : Option Conn) (answer : Option (Result Conn ConnectFault)) → Sweeping from os now c old.recorder old.unfinished.items i first → i < length old.unfinished.items → answer ≡ None → PollsAt connector trial c old i now answer c' new → Sweeping from os now c' new.recorder new.unfinished.items (i + 1) first
+  pub sweeping-pending : (from : Sweep C Conn Run) (os : List (Unfinished C Conn Run)) (now : ℕ) (c c' : C) (old new : Live C Conn Run) (i : ℕ) (first : Option Conn) (answer : Option (Result Conn ConnectFault)) → Sweeping from os now c old.recorder.recorded old.recorder.underway.attempts old.unfinished.items i first → i < length old.unfinished.items → answer ≡ None → PollsAt connector trial c old i now answer c' new → Sweeping from os now c' new.recorder.recorded new.recorder.underway.attempts new.unfinished.items (i + 1) first
   sweeping-pending from os now c c' old new i first answer s lt e p = by_poll p.polled p.polls p.left
     where
-      by_poll : (polled : Poll (Finish Conn)) → AttemptPolls connector trial c p.o.future now polled c' p.future → LeftBy connector trial old i now p.o polled p.future answer new → Sweeping from os now c' new.recorder new.unfinished.items (i + 1) first
+      by_poll : (polled : Poll (Finish Conn)) → AttemptPolls connector trial c p.o.future now polled c' p.future → LeftBy connector trial old i now p.o polled p.future answer new → Sweeping from os now c' new.recorder.recorded new.recorder.underway.attempts new.unfinished.items (i + 1) first
       by_poll (Ready f) polls left = cc (e, left.0)
       by_poll Pending polls left = record {
         rest = λ to h.
             let pending : take (i + 1) new.unfinished.items ≡ take i old.unfinished.items ++ record p.o { future = p.future } ∷ [] = ap (λ (k : ℕ). take k new.unfinished.items) (one-more i) ∙ ap (take (suc i)) left.2 ∙ take-one old.unfinished.items i (record p.o { future = p.future }) lt in
             let others : drop (i + 1) new.unfinished.items ≡ drop (suc i) old.unfinished.items = ap (λ (k : ℕ). drop k new.unfinished.items) (one-more i) ∙ ap (drop (suc i)) left.2 ∙ drop-set old.unfinished.items i (record p.o { future = p.future }) in
-            let state : record { connector = c'; recorder = new.recorder; pending = take (i + 1) new.unfinished.items; first = first } ≡ record { connector = c'; recorder = old.recorder; pending = take i old.unfinished.items ++ record p.o { future = p.future } ∷ []; first = first } = cc (pending, left.1) in
+            let recorded : new.recorder.recorded ≡ old.recorder.recorded = ap (λ (x : Recorder). x.recorded) left.1 in
+            let made : new.recorder.underway.attempts ≡ old.recorder.underway.attempts = ap (λ (x : Recorder). x.underway.attempts) left.1 in
+            let state : record { connector = c'; recorded = new.recorder.recorded; attempts = new.recorder.underway.attempts; pending = take (i + 1) new.unfinished.items; first = first } ≡ record { connector = c'; recorded = old.recorder.recorded; attempts = old.recorder.underway.attempts; pending = take i old.unfinished.items ++ record p.o { future = p.future } ∷ []; first = first } = cc (pending, recorded, made) in
             let more = same-polls now _ _ to _ _ state others h in
-            s.rest to (subst (λ (zs : List (Unfinished C Conn Run)). ArePolled connector trial now (record { connector = c; recorder = old.recorder; pending = take i old.unfinished.items; first = first }) zs to) (sym (from-at old.unfinished.items i p.o p.at)) (Pending, c', p.future, polls, more));
+            s.rest to (subst (λ (zs : List (Unfinished C Conn Run)). ArePolled connector trial now (record { connector = c; recorded = old.recorder.recorded; attempts = old.recorder.underway.attempts; pending = take i old.unfinished.items; first = first }) zs to) (sym (from-at old.unfinished.items i p.o p.at)) (Pending, c', p.future, polls, more));
       }
 
-  pub sweeping-ready : (from : Sweep C Conn Run) (os : List (Unfinished C Conn Run)) (now : ℕ) (c c' : C) (old new : Live C Conn Run) (i : ℕ) (first more : Option Conn) (answer : Option (Result Conn ConnectFault)) (a : Result Conn ConnectFault) → Sweeping from os now c old.recorder old.unfinished.items i first → i < length old.unfinished.items → answer ≡ Some a → more ≡ first_of first a → PollsAt connector trial c old i now answer c' new → Sweeping from os now c' new.recorder new.unfinished.items i more
+  pub sweeping-ready : (from : Sweep C Conn Run) (os : List (Unfinished C Conn Run)) (now : ℕ) (c c' : C) (old new : Live C Conn Run) (i : ℕ) (first more : Option Conn) (answer : Option (Result Conn ConnectFault)) (a : Result Conn ConnectFault) → Sweeping from os now c old.recorder.recorded old.recorder.underway.attempts old.unfinished.items i first → i < length old.unfinished.items → answer ≡ Some a → more ≡ first_of first a → PollsAt connector trial c old i now answer c' new → Sweeping from os now c' new.recorder.recorded new.recorder.underway.attempts new.unfinished.items i more
   sweeping-ready from os now c c' old new i first more answer a s lt e m p = by_poll p.polled p.polls p.left
     where
-      by_poll : (polled : Poll (Finish Conn)) → AttemptPolls connector trial c p.o.future now polled c' p.future → LeftBy connector trial old i now p.o polled p.future answer new → Sweeping from os now c' new.recorder new.unfinished.items i more
+      by_poll : (polled : Poll (Finish Conn)) → AttemptPolls connector trial c p.o.future now polled c' p.future → LeftBy connector trial old i now p.o polled p.future answer new → Sweeping from os now c' new.recorder.recorded new.recorder.underway.attempts new.unfinished.items i more
       by_poll Pending polls left = cc (e, left.0)
       by_poll (Ready f) polls left = record {
         rest = λ to h.
             let same : f.result ≡ a = cc (e, left.0) in
-            let pending : take i new.unfinished.items ≡ take i old.unfinished.items = ap (take i) left.2 ∙ take-removed old.unfinished.items i (record p.o { future = p.future }) lt in
-            let others : drop i new.unfinished.items ≡ drop (suc i) old.unfinished.items = ap (drop i) left.2 ∙ drop-removed old.unfinished.items i (record p.o { future = p.future }) lt in
+            let pending : take i new.unfinished.items ≡ take i old.unfinished.items = ap (take i) left.3 ∙ take-removed old.unfinished.items i (record p.o { future = p.future }) lt in
+            let others : drop i new.unfinished.items ≡ drop (suc i) old.unfinished.items = ap (drop i) left.3 ∙ drop-removed old.unfinished.items i (record p.o { future = p.future }) lt in
             let won : more ≡ first_of first f.result = m ∙ ap (first_of first) (sym same) in
-            let state : record { connector = c'; recorder = new.recorder; pending = take i new.unfinished.items; first = more } ≡ record { connector = c'; recorder = told old.recorder p.o.attempt now f.result; pending = take i old.unfinished.items; first = first_of first f.result } = cc (pending, left.1, won) in
+            let state : record { connector = c'; recorded = new.recorder.recorded; attempts = new.recorder.underway.attempts; pending = take i new.unfinished.items; first = more } ≡ record { connector = c'; recorded = told old.recorder.recorded p.o.attempt now f.result; attempts = old.recorder.underway.attempts; pending = take i old.unfinished.items; first = first_of first f.result } = cc (pending, left.1, left.2, won) in
             let rest = same-polls now _ _ to _ _ state others h in
-            s.rest to (subst (λ (zs : List (Unfinished C Conn Run)). ArePolled connector trial now (record { connector = c; recorder = old.recorder; pending = take i old.unfinished.items; first = first }) zs to) (sym (from-at old.unfinished.items i p.o p.at)) (Ready f, c', p.future, polls, rest));
+            s.rest to (subst (λ (zs : List (Unfinished C Conn Run)). ArePolled connector trial now (record { connector = c; recorded = old.recorder.recorded; attempts = old.recorder.underway.attempts; pending = take i old.unfinished.items; first = first }) zs to) (sym (from-at old.unfinished.items i p.o p.at)) (Ready f, c', p.future, polls, rest));
       }
 
-  pub sweeping-over : (from : Sweep C Conn Run) (os : List (Unfinished C Conn Run)) (now : ℕ) (c : C) (recorder : Recorder) (xs : List (Unfinished C Conn Run)) (i : ℕ) (first : Option Conn) → Sweeping from os now c recorder xs i first → i ≡ length xs → ArePolled connector trial now from os (record { connector = c; recorder = recorder; pending = xs; first = first })
-  sweeping-over from os now c recorder xs i first s e =
+  pub sweeping-over : (from : Sweep C Conn Run) (os : List (Unfinished C Conn Run)) (now : ℕ) (c : C) (race : Race) (made : List Attempt) (xs : List (Unfinished C Conn Run)) (i : ℕ) (first : Option Conn) → Sweeping from os now c race made xs i first → i ≡ length xs → ArePolled connector trial now from os (record { connector = c; recorded = race; attempts = made; pending = xs; first = first })
+  sweeping-over from os now c race made xs i first s e =
       let pending : take i xs ≡ xs = ap (λ k. take k xs) e ∙ take-length xs in
       let none : drop i xs ≡ [] = drop_of_length-le xs (omega (arith, e)) in
-      let to : Sweep C Conn Run = record { connector = c; recorder = recorder; pending = xs; first = first } in
-      s.rest to (subst (λ (zs : List (Unfinished C Conn Run)). ArePolled connector trial now (record { connector = c; recorder = recorder; pending = take i xs; first = first }) zs to) (sym none) (ap (λ (ys : List (Unfinished C Conn Run)). swept_by c recorder ys first) (sym pending)))
+      let to : Sweep C Conn Run = record { connector = c; recorded = race; attempts = made; pending = xs; first = first } in
+      s.rest to (subst (λ (zs : List (Unfinished C Conn Run)). ArePolled connector trial now (record { connector = c; recorded = race; attempts = made; pending = take i xs; first = first }) zs to) (sym none) (ap (λ (ys : List (Unfinished C Conn Run)). swept_by c race made ys first) (sym pending)))
 
   get-past : (xs : List Attempt) → slice_get xs (length xs) ≡ None
   get-past [] = refl
@@ -150,7 +152,7 @@ module _ {C Conn Run : Type 0} (connector : ConnectorOf C Conn Run) (trial : Tri
       omega (arith, early, asked-early live.recorder.due live.unfinished.items, h.recorder.rests.valid.settings.limit_most)
 
   -- a turn that ends the race
-  pub ended-swept : {E : Type 0} (from : Sweep C Conn Run) (os : List (Unfinished C Conn Run)) (now : ℕ) (to : Sweep C Conn Run) (r : Result (AfterPoll C Conn Run) E) → ArePolled connector trial now from os to → is_over to.recorder now to.pending (is_some to.first) ≡ true → EndsRace to.recorder.recorded now to.recorder.underway.attempts (is_some to.first) → AreAlike from.recorder.recorded to.recorder.recorded → to.recorder.recorded.pauses ≡ from.recorder.recorded.pauses → IfOk r (EndsWith to.recorder.recorded to.first) → IfOk r (TurnsFrom connector trial from os now to.connector)
+  pub ended-swept : {E : Type 0} (from : Sweep C Conn Run) (os : List (Unfinished C Conn Run)) (now : ℕ) (to : Sweep C Conn Run) (r : Result (AfterPoll C Conn Run) E) → ArePolled connector trial now from os to → is_over to.recorded to.attempts now to.pending (is_some to.first) ≡ true → EndsRace to.recorded now to.attempts (is_some to.first) → AreAlike from.recorded to.recorded → to.recorded.pauses ≡ from.recorded.pauses → IfOk r (EndsWith to.recorded to.first) → IfOk r (TurnsFrom connector trial from os now to.connector)
   ended-swept from os now to (Err e) polled over ended alike pauses h = tt
   ended-swept from os now to (Ok (after_polls.Waits new tick)) polled over ended alike pauses h = absurd h
   ended-swept from os now to (Ok (after_polls.Ended raced)) polled over ended alike pauses h = record {
@@ -162,7 +164,7 @@ module _ {C Conn Run : Type 0} (connector : ConnectorOf C Conn Run) (trial : Tri
     recorded = h.1;
     winner = h.2;
     replays = record {
-      alike = alike-later from.recorder.recorded to.recorder.recorded raced.recorded alike h.0.alike;
+      alike = alike-later from.recorded to.recorded raced.recorded alike h.0.alike;
       transcript = h.0.transcript;
       winner = h.0.winner;
     };
@@ -170,28 +172,32 @@ module _ {C Conn Run : Type 0} (connector : ConnectorOf C Conn Run) (trial : Tri
   }
 
   -- a turn that goes on
-  pub gone-on : {E : Type 0} (from : Sweep C Conn Run) (os : List (Unfinished C Conn Run)) (now : ℕ) (c c' : C) (first : Option Conn) (old : Live C Conn Run) (r : Result (AfterPoll C Conn Run) E) → ArePolled connector trial now from os (record { connector = c; recorder = old.recorder; pending = old.unfinished.items; first = first }) → is_over old.recorder now old.unfinished.items (is_some first) ≡ false → AreAlike from.recorder.recorded old.recorder.recorded → old.recorder.recorded.pauses ≡ from.recorder.recorded.pauses → IfOk r (GoesOn connector trial c old now c') → IfOk r (TurnsFrom connector trial from os now c')
+  pub gone-on : {E : Type 0} (from : Sweep C Conn Run) (os : List (Unfinished C Conn Run)) (now : ℕ) (c c' : C) (first : Option Conn) (old : Live C Conn Run) (r : Result (AfterPoll C Conn Run) E) → ArePolled connector trial now from os (record { connector = c; recorded = old.recorder.recorded; attempts = old.recorder.underway.attempts; pending = old.unfinished.items; first = first }) → is_over old.recorder.recorded old.recorder.underway.attempts now old.unfinished.items (is_some first) ≡ false → AreAlike from.recorded old.recorder.recorded → old.recorder.recorded.pauses ≡ from.recorded.pauses → IfOk r (GoesOn connector trial c old now c') → IfOk r (TurnsFrom connector trial from os now c')
   gone-on from os now c c' first old (Err e) polled going alike pauses h = tt
   gone-on from os now c c' first old (Ok (after_polls.Ended raced)) polled going alike pauses h = absurd h
   gone-on from os now c c' first old (Ok (after_polls.Waits new tick)) polled going alike pauses h = record {
-    swept = record { connector = c; recorder = old.recorder; pending = old.unfinished.items; first = first };
+    swept = record { connector = c; recorded = old.recorder.recorded; attempts = old.recorder.underway.attempts; pending = old.unfinished.items; first = first };
     polled = polled;
     going = going;
     recorded = h.recorded;
     starts = h.starts;
     kept = h.kept;
-    alike = subst (AreAlike from.recorder.recorded) (sym h.recorded) alike;
+    alike = subst (AreAlike from.recorded) (sym h.recorded) alike;
     pauses = ap (λ (race : Race). race.pauses) h.recorded ∙ pauses;
     turn = h.turn;
     asked = h.asked;
   }
 
+  -- the recorder once what was slept is recorded
+  abbrev pub slept_from : Live C Conn Run → ℕ → Recorder
+  slept_from live now = record live.recorder { recorded = slept live.recorder.recorded live.recorder.due now }
+
   -- a turn past the limit
-  pub turned-late : {E : Type 0} (c : C) (live : Live C Conn Run) (now : ℕ) (recorder : Recorder) (r : Result (AfterPoll C Conn Run) E) → recorder ≡ (begun c live now).recorder → recorder.recorded.settings.limit < now → EndsRace recorder.recorded recorder.recorded.settings.limit recorder.underway.attempts false → IfOk r (EndsWith recorder.recorded None) → IfOk r (Turned connector trial c live now c)
+  pub turned-late : {E : Type 0} (c : C) (live : Live C Conn Run) (now : ℕ) (recorder : Recorder) (r : Result (AfterPoll C Conn Run) E) → recorder ≡ slept_from live now → recorder.recorded.settings.limit < now → EndsRace recorder.recorded recorder.recorded.settings.limit recorder.underway.attempts false → IfOk r (EndsWith recorder.recorded None) → IfOk r (Turned connector trial c live now c)
   turned-late c live now recorder (Err e) same late ended h = tt
   turned-late c live now recorder (Ok (after_polls.Waits new tick)) same late ended h = absurd h
   turned-late c live now recorder (Ok (after_polls.Ended raced)) same late ended h =
-      let recorded : recorder.recorded ≡ (begun c live now).recorder.recorded = ap (λ (x : Recorder). x.recorded) same in
+      let recorded : recorder.recorded ≡ slept live.recorder.recorded live.recorder.due now = ap (λ (x : Recorder). x.recorded) same in
       inl (record {
         late = subst (λ (race : Race). race.settings.limit < now) recorded late;
         ended = subst (λ (x : Recorder). EndsRace x.recorded x.recorded.settings.limit x.underway.attempts false) same ended;
@@ -202,12 +208,12 @@ module _ {C Conn Run : Type 0} (connector : ConnectorOf C Conn Run) (trial : Tri
       })
 
   -- a turn at or before the limit
-  pub turned-run : {E : Type 0} (c c' : C) (live : Live C Conn Run) (now : ℕ) (recorder : Recorder) (r : Result (AfterPoll C Conn Run) E) → recorder ≡ (begun c live now).recorder → IfOk r (TurnsFrom connector trial (unpolled c recorder) live.unfinished.items now c') → IfOk r (Turned connector trial c live now c')
+  pub turned-run : {E : Type 0} (c c' : C) (live : Live C Conn Run) (now : ℕ) (recorder : Recorder) (r : Result (AfterPoll C Conn Run) E) → recorder ≡ slept_from live now → IfOk r (TurnsFrom connector trial (unpolled c recorder.recorded recorder.underway.attempts) live.unfinished.items now c') → IfOk r (Turned connector trial c live now c')
   turned-run c c' live now recorder (Err e) same h = tt
   turned-run c c' live now recorder (Ok (after_polls.Ended raced)) same h =
-      inr (subst (λ (x : Recorder). EndsPolled connector trial (unpolled c x) live.unfinished.items now c' raced) same h)
+      inr (subst (λ (x : Recorder). EndsPolled connector trial (unpolled c x.recorded x.underway.attempts) live.unfinished.items now c' raced) same h)
   turned-run c c' live now recorder (Ok (after_polls.Waits new tick)) same h =
-      subst (λ (x : Recorder). Goes connector trial (unpolled c x) live.unfinished.items now c' new tick) same h
+      subst (λ (x : Recorder). Goes connector trial (unpolled c x.recorded x.underway.attempts) live.unfinished.items now c' new tick) same h
 
   -- a turn asks for a tick that may be asked for
   pub turn-in_time : {E : Type 0} (c c' : C) (live : Live C Conn Run) (now : ℕ) (r : Result (AfterPoll C Conn Run) E) → IfOk r (Turned connector trial c live now c') → IfOk r AsksInTime

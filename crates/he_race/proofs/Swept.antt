@@ -78,11 +78,11 @@ module _ {C : Type 0} (connector : ConnectorOf C (Unit {0}) ScriptedTrial) (race
   -- a turn in which some attempts were polled, and these were not yet
   pub record Sweeps (paused : List (ℕ × ℕ)) (s : Sweep C (Unit {0}) ScriptedTrial) (os : List Held) : Type 0 where
     pub still : s.connector ≡ c
-    pub attempts : s.recorder.underway.attempts ≡ xs
-    pub alike : AreAlike race s.recorder.recorded
-    pub pauses : s.recorder.recorded.pauses ≡ paused
-    pub told : All (IsAsScripted race xs) s.recorder.recorded.outcomes
-    pub held : list_all (is_held (s.pending ++ os) s.recorder.recorded) xs ≡ true
+    pub attempts : s.attempts ≡ xs
+    pub alike : AreAlike race s.recorded
+    pub pauses : s.recorded.pauses ≡ paused
+    pub told : All (IsAsScripted race xs) s.recorded.outcomes
+    pub held : list_all (is_held (s.pending ++ os) s.recorded) xs ≡ true
     pub pending : All IsPending s.pending
     pub rest : All (IsConnecting race xs now) os
 
@@ -145,7 +145,7 @@ module _ {C : Type 0} (connector : ConnectorOf C (Unit {0}) ScriptedTrial) (race
         alike = w.alike;
         pauses = w.pauses;
         told = w.told;
-        held = held_moved s.recorder.recorded s.pending os o (record o { future = future }) refl w.held;
+        held = held_moved s.recorded s.pending os o (record o { future = future }) refl w.held;
         pending = All-push IsPending s.pending (record o { future = future }) w.pending (record {
           made = is.made;
           future = a.1.2 ∙ ap (λ (t : ScriptedTrial). Connecting (Ok t) (o.attempt.tick + 1) false) a.1.1.1;
@@ -161,10 +161,10 @@ module _ {C : Type 0} (connector : ConnectorOf C (Unit {0}) ScriptedTrial) (race
       record {
         still = a.0 ∙ w.still;
         attempts = w.attempts;
-        alike = alike-later race s.recorder.recorded (with_outcome s.recorder.recorded o.attempt.ip outcome) w.alike refl;
+        alike = alike-later race s.recorded (with_outcome s.recorded o.attempt.ip outcome) w.alike refl;
         pauses = w.pauses;
-        told = All-push (IsAsScripted race xs) s.recorder.recorded.outcomes (o.attempt.ip, outcome) w.told (ended_as o.attempt is.made is.started (outcome_of race o.attempt.ip) refl is.ends f.result a.1.1.0);
-        held = held_told s.recorder.recorded s.pending os o outcome w.held;
+        told = All-push (IsAsScripted race xs) s.recorded.outcomes (o.attempt.ip, outcome) w.told (ended_as o.attempt is.made is.started (outcome_of race o.attempt.ip) refl is.ends f.result a.1.1.0);
+        held = held_told s.recorded s.pending os o outcome w.held;
         pending = w.pending;
         rest = All-tail (IsConnecting race xs now) o os w.rest;
       }

@@ -29,8 +29,8 @@ use Rattle.he_race.specs.Answered.{is_tried_out_by}
 use Rattle.he_race.specs.Kept.{Begins, FailedBelow, InTurn, IsEnded, MakesOne, IsUnfinished, are_untold}
 use Rattle.he_race.specs.Recording.{EndedBy, EndsRace, ended_by, slept}
 use Rattle.he_race.specs.Polling.{Answers, Polled, Records}
-use Rattle.he_race.specs.Turns.{is_connection, is_over}
-use Rattle.he_race.proofs.Recorded.{finished, underway-told}
+use Rattle.he_race.specs.Turns.{is_connection, is_over, told}
+use Rattle.he_race.proofs.Recorded.{finished}
 
 pub take-set : {X : Type 0} (xs : List X) (i : ℕ) (a : X) → take i (slice_set xs i a) ≡ take i xs
 take-set [] zero a = refl
@@ -59,32 +59,22 @@ no_outcome (p ∷ told) ip h = by_head (same_ip p.0 ip) (or_left_none _ _ h) (no
 -- the turn goes on where an attempt was recorded
 pub recorded-turn : {Conn : Type 0} (old new : Recorder) (now : ℕ) (won : Bool) (answer : Result Conn ConnectFault) → InTurn old.recorded now old.underway.attempts won → Records old now answer new → InTurn new.recorded now new.underway.attempts (won || is_connection answer)
 recorded-turn old new now won answer t r =
-    let told : Recorder = record old { recorded = with_outcome old.recorded r.x.ip (ended_by (is_connection answer) (now - r.x.tick)) } in
-    let P : Recorder → Type 0 = λ c. InTurn c.recorded now c.underway.attempts (won || is_connection answer) in
-    subst P (sym r.is) (finished old.recorded now old.underway.attempts won (is_connection answer) r.x t r.made (no_outcome old.recorded.outcomes r.x.ip r.first) r.first (subst (λ (c : Recorder). IsRace c.recorded) r.is r.valid))
+    let after : InTurn (told old.recorded r.x now answer) now old.underway.attempts (won || is_connection answer) = finished old.recorded now old.underway.attempts won (is_connection answer) r.x t r.made (no_outcome old.recorded.outcomes r.x.ip r.first) r.first (subst IsRace r.is r.valid) in
+    rw (r.is, r.attempts) after
 
 pub alike-later : (x y z : Race) → AreAlike x y → AreAlike y z → AreAlike x z
 alike-later x y z e f = f ∙ ap (λ (r : Race). record r { outcomes = z.outcomes; pauses = z.pauses }) e
 
-pub polled-none : (old : Recorder) → Polled old old
-polled-none old = record { is = refl; alike = refl; pauses = refl; underway = λ h. h }
+pub polled-none : (old : Recorder) → IsUnderway old.recorded old.underway → Polled old old
+polled-none old underway = record { attempts = refl; alike = refl; pauses = refl; underway = underway }
 
-pub polled-more : {Conn : Type 0} (first old new : Recorder) (now : ℕ) (answer : Result Conn ConnectFault) → AreNextInTurn new.recorded new.underway.attempts → Polled first old → Records old now answer new → Polled first new
-polled-more first old new now answer in_turn p r =
-    let recorded : new.recorded ≡ with_outcome old.recorded r.x.ip (ended_by (is_connection answer) (now - r.x.tick)) = ap (λ (c : Recorder). c.recorded) r.is in
-    let made : new.underway ≡ first.underway = ap (λ (c : Recorder). c.underway) r.is ∙ ap (λ (c : Recorder). c.underway) p.is in
-    let turn : AreNextInTurn (with_outcome old.recorded r.x.ip (ended_by (is_connection answer) (now - r.x.tick))) first.underway.attempts =
-    subst (λ (race : Race). AreNextInTurn race first.underway.attempts) recorded (subst (λ (u : Progress). AreNextInTurn new.recorded u.attempts) made in_turn) in
-    record {
-      is = r.is ∙ ap (λ (c : Recorder). record c { recorded = with_outcome old.recorded r.x.ip (ended_by (is_connection answer) (now - r.x.tick)) }) p.is ∙ ap (λ (race : Race). record first { recorded = race }) (sym recorded);
-      alike = alike-later first.recorded old.recorded new.recorded p.alike (subst (AreAlike old.recorded) (sym recorded) refl);
-      pauses = ap (λ (race : Race). race.pauses) recorded ∙ p.pauses;
-      underway = λ h. rw recorded (underway-told old.recorded r.x.ip (ended_by (is_connection answer) (now - r.x.tick)) first.underway turn (p.underway h));
-    }
-
--- the queue is still the one of the attempts
-pub underway-still : (old new : Recorder) → Polled old new → IsUnderway old.recorded old.underway → IsUnderway new.recorded new.underway
-underway-still old new p h = subst (λ (x : Recorder). IsUnderway x.recorded x.underway) (sym p.is) (p.underway h)
+pub polled-more : {Conn : Type 0} (first old new : Recorder) (now : ℕ) (answer : Result Conn ConnectFault) → Polled first old → Records old now answer new → Polled first new
+polled-more first old new now answer p r = record {
+  attempts = r.attempts ∙ p.attempts;
+  alike = alike-later first.recorded old.recorded new.recorded p.alike (subst (AreAlike old.recorded) (sym r.is) refl);
+  pauses = ap (λ (race : Race). race.pauses) r.is ∙ p.pauses;
+  underway = r.underway;
+}
 
 -- past the limit the race ends at it
 pub ends-late : (race : Race) (now : ℕ) (xs : List Attempt) → Begins race now xs → now ≡ race.settings.limit + 1 → EndsRace race race.settings.limit xs false
@@ -117,12 +107,12 @@ tried_out race now xs (Some s) None six four h k = cc
 tried_out race now xs (Some s) (Some r) six four h k = none_left-ends race xs s r six four (and_right _ _ h) (and_right _ _ k)
 
 -- a turn that is over ends the race
-pub ends-turn : {X : Type 0} (recorder : Recorder) (now : ℕ) (unfinished : List X) (won : Bool) → InTurn recorder.recorded now recorder.underway.attempts won → now ≤ recorder.recorded.settings.limit → is_over recorder now unfinished won ≡ true → EndsRace recorder.recorded now recorder.underway.attempts won
-ends-turn recorder now unfinished won t early over = record {
+pub ends-turn : {X : Type 0} (race : Race) (xs : List Attempt) (now : ℕ) (unfinished : List X) (won : Bool) → InTurn race now xs won → now ≤ race.settings.limit → is_over race xs now unfinished won ≡ true → EndsRace race now xs won
+ends-turn race xs now unfinished won t early over = record {
   valid = t.valid;
   in_turn = t.made.in_turn;
-  past = All-weaker (λ (x : Attempt). x.tick < now) (λ (x : Attempt). x.tick ≤ now) (λ x h. omega (arith, h)) recorder.underway.attempts t.past;
-  free = λ yes. pauses-over recorder.recorded t.valid now t.over;
+  past = All-weaker (λ (x : Attempt). x.tick < now) (λ (x : Attempt). x.tick ≤ now) (λ x h. omega (arith, h)) xs t.past;
+  free = λ yes. pauses-over race t.valid now t.over;
   early = early;
   ended = t.ended;
   stops = t.stops;
@@ -130,26 +120,25 @@ ends-turn recorder now unfinished won t early over = record {
   over = λ lost s m. none lost over s m;
 }
   where
-    none : won ≡ false → is_over recorder now unfinished won ≡ true → (s : ℕ) → ¬ MayStart recorder.recorded recorder.underway.attempts s
+    none : won ≡ false → is_over race xs now unfinished won ≡ true → (s : ℕ) → ¬ MayStart race xs s
     none lost over s m =
-        let late : Bool = nat_le recorder.recorded.settings.limit now in
-        let six : Bool = is_tried_out_by now recorder.underway.attempts recorder.recorded.aaaa in
-        let four : Bool = is_tried_out_by now recorder.underway.attempts recorder.recorded.a in
-        let e : (late || ((length unfinished == 0) && (six && four))) ≡ true = subst (λ (b : Bool). is_over recorder now unfinished b ≡ true) lost over in
+        let late : Bool = nat_le race.settings.limit now in
+        let six : Bool = is_tried_out_by now xs race.aaaa in
+        let four : Bool = is_tried_out_by now xs race.a in
+        let e : (late || ((length unfinished == 0) && (six && four))) ≡ true = subst (λ (b : Bool). is_over race xs now unfinished b ≡ true) lost over in
         elim (or_one late ((length unfinished == 0) && (six && four)) e) [
-          | inl limit ↦ let k : now ≤ s = t.stops s m in let l : recorder.recorded.settings.limit ≤ now = le_from recorder.recorded.settings.limit now limit in omega (arith, m.0)
+          | inl limit ↦ let k : now ≤ s = t.stops s m in let l : race.settings.limit ≤ now = le_from race.settings.limit now limit in omega (arith, m.0)
           | inr out ↦
               let both : (six && four) ≡ true = and_right (length unfinished == 0) (six && four) out in
-              tried_out recorder.recorded now recorder.underway.attempts recorder.recorded.aaaa recorder.recorded.a refl refl (and_left six four both) (and_right six four both) s m
+              tried_out race now xs race.aaaa race.a refl refl (and_left six four both) (and_right six four both) s m
         ]
 
-pub ended-turn : {X : Type 0} (recorder : Recorder) (now : ℕ) (unfinished : List X) (won : Bool) → InTurn recorder.recorded now recorder.underway.attempts won → now ≤ recorder.recorded.settings.limit → is_over recorder now unfinished won ≡ true → IsEnded recorder.recorded recorder.underway.attempts won
-ended-turn recorder now unfinished won t early over = record { stop = now; ends = ends-turn recorder now unfinished won t early over }
+pub ended-turn : {X : Type 0} (race : Race) (xs : List Attempt) (now : ℕ) (unfinished : List X) (won : Bool) → InTurn race now xs won → now ≤ race.settings.limit → is_over race xs now unfinished won ≡ true → IsEnded race xs won
+ended-turn race xs now unfinished won t early over = record { stop = now; ends = ends-turn race xs now unfinished won t early over }
 
 -- a race that goes on is below its limit
-pub going-early : {X : Type 0} (recorder : Recorder) (now : ℕ) (unfinished : List X) (won : Bool) → is_over recorder now unfinished won ≡ false → now < recorder.recorded.settings.limit
-going-early recorder now unfinished won e =
-    above recorder.recorded.settings.limit now (or_left_none _ _ (or_right_none won _ e))
+pub going-early : {X : Type 0} (race : Race) (xs : List Attempt) (now : ℕ) (unfinished : List X) (won : Bool) → is_over race xs now unfinished won ≡ false → now < race.settings.limit
+going-early race xs now unfinished won e = above race.settings.limit now (or_left_none _ _ (or_right_none won _ e))
 
 pub contains-at : (xs : List Attempt) (k : ℕ) (d : Attempt) → k < length xs → Contains xs (get_or xs k d)
 contains-at xs k d lt = (k, lt, same xs k (get_or xs k d) d lt)
@@ -196,12 +185,12 @@ module _ {C Conn Run : Type 0} (connector : ConnectorOf C Conn Run) (trial : Tri
       let same : b ≡ a = cc in
       let r : Records cur.recorder now a new.recorder = subst (λ (x : Result Conn ConnectFault). Records cur.recorder now x new.recorder) same recorder in
       let turn : InTurn new.recorder.recorded now new.recorder.underway.attempts (won || is_connection a) = recorded-turn cur.recorder new.recorder now won a p.turn r in
-      let Q : Recorder → Type 0 = λ c. All (IsUnfinished connector trial c.underway.attempts) new.unfinished.items in
+      let Q : List Attempt → Type 0 = λ xs. All (IsUnfinished connector trial xs) new.unfinished.items in
       record {
         turn = subst (InTurn new.recorder.recorded now new.recorder.underway.attempts) (sym m) turn;
-        unfinished = subst Q (sym r.is) left;
+        unfinished = subst Q (sym r.attempts) left;
         untold = untold;
-        polled = polled-more first cur.recorder new.recorder now a turn.made.in_turn p.polled r;
+        polled = polled-more first cur.recorder new.recorder now a p.polled r;
         within = omega (arith, len);
       }
 

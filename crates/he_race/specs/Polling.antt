@@ -30,8 +30,10 @@ pub record Records {Conn : Type 0} (old : Recorder) (now : ℕ) (answer : Result
   pub x : Attempt
   pub made : Contains old.underway.attempts x
   pub first : has_outcome x.ip old.recorded.outcomes ≡ false
-  pub is : new ≡ record old { recorded = with_outcome old.recorded x.ip (ended_by (is_connection answer) (now - x.tick)) }
+  pub is : new.recorded ≡ told old.recorded x now answer
+  pub attempts : new.underway.attempts ≡ old.underway.attempts
   pub valid : IsRace new.recorded
+  pub underway : IsUnderway new.recorded new.underway
 
 -- a pending attempt changes nothing of the record
 abbrev pub Answers : {Conn : Type 0} → Recorder → ℕ → Option (Result Conn ConnectFault) → Recorder → Type 0
@@ -44,7 +46,8 @@ module _ {C Conn Run : Type 0} (connector : ConnectorOf C Conn Run) (trial : Tri
   LeftBy old i now o Pending future answer new =
       (answer ≡ None) × (new.recorder ≡ old.recorder) × (new.unfinished.items ≡ slice_set old.unfinished.items i (record o { future = future }))
   LeftBy old i now o (Ready f) future answer new =
-      (answer ≡ Some f.result) × (new.recorder ≡ told old.recorder o.attempt now f.result)
+      (answer ≡ Some f.result) × (new.recorder.recorded ≡ told old.recorder.recorded o.attempt now f.result)
+      × (new.recorder.underway.attempts ≡ old.recorder.underway.attempts)
       × (new.unfinished.items ≡ remove (slice_set old.unfinished.items i (record o { future = future })) i)
 
   -- the attempt that stands at `i` is polled once
@@ -93,7 +96,7 @@ EndsWith race winner (after_polls.Waits new tick) = ⊥
 
 -- after all attempts were polled: outcomes are recorded, and nothing else has changed
 pub record Polled (old new : Recorder) : Type 0 where
-  pub is : new ≡ record old { recorded = new.recorded }
+  pub attempts : new.underway.attempts ≡ old.underway.attempts
   pub alike : AreAlike old.recorded new.recorded
   pub pauses : new.recorded.pauses ≡ old.recorded.pauses
-  pub underway : IsUnderway old.recorded old.underway → IsUnderway new.recorded old.underway
+  pub underway : IsUnderway new.recorded new.underway

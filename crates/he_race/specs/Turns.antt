@@ -11,7 +11,6 @@ use Rattle.he_race.specs.declared.attempt.AttemptFuture.{AttemptFuture}
 use Rattle.he_race.specs.declared.attempt.AttemptFuture.TheVariants.{Sleeping}
 use Rattle.he_race.specs.declared.attempt.Finish.{Finish}
 use Rattle.he_race.specs.declared.connector.Connector.{Ghosts as ConnectorOf}
-use Rattle.he_race.specs.declared.recorder.Recorder.{Recorder}
 use Rattle.he_race.specs.declared.faults.ConnectFault.{ConnectFault}
 use Rattle.he_race.specs.declared.faults.RaceFault.{RaceFault}
 use Rattle.he_race.specs.declared.live.Live.{Live}
@@ -52,16 +51,14 @@ GivesOf {C} {Conn} {Run} live result = GivesFrom {Conn = Conn} (option_map (λ (
 
 -- the race ends at the tick: it is won, or at its limit, or exhausted: no attempt is unfinished, and each usable
 -- address of both answers, which have come, was tried
-abbrev pub is_over : {X : Type 0} → Recorder → ℕ → List X → Bool → Bool
-is_over recorder now unfinished won =
-    won || (nat_le recorder.recorded.settings.limit now
-    || ((length unfinished == 0)
-    && (is_tried_out_by now recorder.underway.attempts recorder.recorded.aaaa && is_tried_out_by now recorder.underway.attempts recorder.recorded.a)))
+abbrev pub is_over : {X : Type 0} → Race → List Attempt → ℕ → List X → Bool → Bool
+is_over race attempts now unfinished won =
+    won || (nat_le race.settings.limit now
+    || ((length unfinished == 0) && (is_tried_out_by now attempts race.aaaa && is_tried_out_by now attempts race.a)))
 
 -- the record with how an attempt ended: after the ticks since its start
-abbrev pub told : {Conn : Type 0} → Recorder → Attempt → ℕ → Result Conn ConnectFault → Recorder
-told recorder x now answer =
-    record recorder { recorded = with_outcome recorder.recorded x.ip (ended_by (is_connection answer) (now - x.tick)) }
+abbrev pub told : {Conn : Type 0} → Race → Attempt → ℕ → Result Conn ConnectFault → Race
+told race x now answer = with_outcome race x.ip (ended_by (is_connection answer) (now - x.tick))
 
 -- the connection that there is, or else the answer's
 abbrev pub first_of : {Conn : Type 0} → Option Conn → Result Conn ConnectFault → Option Conn
@@ -69,17 +66,18 @@ first_of (Some conn) answer = Some conn
 first_of None (Ok conn) = Some conn
 first_of None (Err fault) = None
 
--- a turn in which some of the unfinished attempts were polled: the connector, what is recorded, those that are still
--- pending, and the first connection
+-- a turn in which some of the unfinished attempts were polled: the connector, what is recorded, the attempts that were
+-- made, those of them that are still pending, and the first connection
 pub record Sweep (C Conn Run : Type 0) : Type 0 where
   pub connector : C
-  pub recorder : Recorder
+  pub recorded : Race
+  pub attempts : List Attempt
   pub pending : List (Unfinished C Conn Run)
   pub first : Option Conn
 
 -- a turn that begins, in which nothing was polled yet
-abbrev pub unpolled : {C Conn Run : Type 0} → C → Recorder → Sweep C Conn Run
-unpolled c recorder = record { connector = c; recorder = recorder; pending = []; first = None }
+abbrev pub unpolled : {C Conn Run : Type 0} → C → Race → List Attempt → Sweep C Conn Run
+unpolled c race attempts = record { connector = c; recorded = race; attempts = attempts; pending = []; first = None }
 
 -- a race before its first turn: nothing is recorded, and no attempt was made
 pub record IsNew {C Conn Run : Type 0} (race : Race) (live : Live C Conn Run) : Type 0 where
@@ -90,7 +88,7 @@ pub record IsNew {C Conn Run : Type 0} (race : Race) (live : Live C Conn Run) : 
 
 -- a turn begins: the client slept from the due tick on
 abbrev pub begun : {C Conn Run : Type 0} → C → Live C Conn Run → ℕ → Sweep C Conn Run
-begun c live now = unpolled c (record live.recorder { recorded = slept live.recorder.recorded live.recorder.due now })
+begun c live now = unpolled c (slept live.recorder.recorded live.recorder.due now) live.recorder.underway.attempts
 
 module _ {C Conn Run : Type 0} (connector : ConnectorOf C Conn Run) (trial : TrialOf Run Conn) where
   -- the least of the due tick and the ticks at which an unfinished attempt is due
@@ -103,7 +101,7 @@ module _ {C Conn Run : Type 0} (connector : ConnectorOf C Conn Run) (trial : Tri
   abbrev pub after_poll : Sweep C Conn Run → Unfinished C Conn Run → ℕ → Poll (Finish Conn) → C → AttemptFuture C Conn Run → Sweep C Conn Run
   after_poll s o now Pending c future = record s { connector = c; pending = s.pending ++ record o { future = future } ∷ [] }
   after_poll s o now (Ready f) c future =
-      record s { connector = c; recorder = told s.recorder o.attempt now f.result; first = first_of s.first f.result }
+      record s { connector = c; recorded = told s.recorded o.attempt now f.result; first = first_of s.first f.result }
 
   -- each of the attempts is polled once at the tick: with the answer, the connector and the state that the poll
   -- leaves
@@ -141,12 +139,12 @@ module _ {C Conn Run : Type 0} (connector : ConnectorOf C Conn Run) (trial : Tri
   pub record Goes (from : Sweep C Conn Run) (os : List (Unfinished C Conn Run)) (now : ℕ) (c' : C) (new : Live C Conn Run) (tick : ℕ) : Type 0 where
     pub swept : Sweep C Conn Run
     pub polled : ArePolled now from os swept
-    pub going : is_over swept.recorder now swept.pending (is_some swept.first) ≡ false
-    pub recorded : new.recorder.recorded ≡ swept.recorder.recorded
-    pub starts : StartsOne swept.connector now swept.recorder.underway.attempts new.recorder.underway.attempts swept.pending c' new.unfinished.items
+    pub going : is_over swept.recorded swept.attempts now swept.pending (is_some swept.first) ≡ false
+    pub recorded : new.recorder.recorded ≡ swept.recorded
+    pub starts : StartsOne swept.connector now swept.attempts new.recorder.underway.attempts swept.pending c' new.unfinished.items
     pub kept : IsLive connector trial new
-    pub alike : AreAlike from.recorder.recorded new.recorder.recorded
-    pub pauses : new.recorder.recorded.pauses ≡ from.recorder.recorded.pauses
+    pub alike : AreAlike from.recorded new.recorder.recorded
+    pub pauses : new.recorder.recorded.pauses ≡ from.recorded.pauses
     pub turn : new.recorder.turn ≡ Some now
     pub asked : tick ≡ asked_tick new.recorder.due new.unfinished.items
 
@@ -154,22 +152,22 @@ module _ {C Conn Run : Type 0} (connector : ConnectorOf C Conn Run) (trial : Tri
   pub record EndsPolled (from : Sweep C Conn Run) (os : List (Unfinished C Conn Run)) (now : ℕ) (c' : C) (raced : Raced Conn) : Type 0 where
     pub swept : Sweep C Conn Run
     pub polled : ArePolled now from os swept
-    pub over : is_over swept.recorder now swept.pending (is_some swept.first) ≡ true
-    pub ended : EndsRace swept.recorder.recorded now swept.recorder.underway.attempts (is_some swept.first)
+    pub over : is_over swept.recorded swept.attempts now swept.pending (is_some swept.first) ≡ true
+    pub ended : EndsRace swept.recorded now swept.attempts (is_some swept.first)
     pub still : c' ≡ swept.connector
-    pub recorded : raced.recorded ≡ swept.recorder.recorded
+    pub recorded : raced.recorded ≡ swept.recorded
     pub winner : raced.winner ≡ swept.first
-    pub replays : Replays from.recorder.recorded raced
-    pub pauses : raced.recorded.pauses ≡ from.recorder.recorded.pauses
+    pub replays : Replays from.recorded raced
+    pub pauses : raced.recorded.pauses ≡ from.recorded.pauses
 
   -- past the limit the race ends, and nothing is polled
   pub record EndsLate (from : Sweep C Conn Run) (now : ℕ) (c' : C) (raced : Raced Conn) : Type 0 where
-    pub late : from.recorder.recorded.settings.limit < now
-    pub ended : EndsRace from.recorder.recorded from.recorder.recorded.settings.limit from.recorder.underway.attempts false
+    pub late : from.recorded.settings.limit < now
+    pub ended : EndsRace from.recorded from.recorded.settings.limit from.attempts false
     pub still : c' ≡ from.connector
-    pub recorded : raced.recorded ≡ from.recorder.recorded
+    pub recorded : raced.recorded ≡ from.recorded
     pub winner : raced.winner ≡ None
-    pub replays : Replays from.recorder.recorded raced
+    pub replays : Replays from.recorded raced
 
   -- a turn at the tick ends the race or goes on
   abbrev pub Turned : C → Live C Conn Run → ℕ → C → AfterPoll C Conn Run → Type 0

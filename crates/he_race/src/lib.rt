@@ -46,7 +46,9 @@
 //! A poll of a race takes a turn at the ticker's tick where there was none at that tick or later, and else asks for
 //! the tick after the last turn. In a turn the race records what it slept, polls each unfinished attempt once,
 //! records those that answered, ends where it is won, exhausted or at its limit, or else begins the attempt that is
-//! due; then it asks the ticker for the least tick at which anything can change.
+//! due; then it asks the ticker for the least tick at which anything can change. An attempt is due once the Connection
+//! Attempt Delay after the last start has passed, or the floor, where the settings have one and each attempt has failed
+//! by then: those that fail in this turn count.
 //!
 //! ```text
 //! let mut race = RaceFuture::new(alloc, &timeline, connector, ticker)?;

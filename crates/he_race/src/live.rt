@@ -128,7 +128,7 @@ impl<C: Connector> Live<C> {
         requires unfinished { All (IsUnfinished C.Connector C.Run.Trial self.recorder.underway.attempts) self.unfinished.items }
         requires untold { are_untold self.recorder.recorded.outcomes self.unfinished.items ≡ true }
         requires early { now ≤ self.recorder.recorded.settings.limit }
-        ensures turned { IfOk result (TurnsFrom C.Connector C.Run.Trial (unpolled connector.old self.recorder) self.unfinished.items now connector.new) }
+        ensures turned { IfOk result (TurnsFrom C.Connector C.Run.Trial (unpolled connector.old self.recorder.recorded self.recorder.underway.attempts) self.unfinished.items now connector.new) }
         ensures kept { Keeps cx.old cx.new }
     {
         match self.poll_all(now, connector, cx) {
@@ -155,6 +155,7 @@ impl<C: Connector> Live<C> {
         cx: &mut Context<'_>,
     ) -> Result<Option<C::Conn>, Memory>
         requires turn { InTurn self.old.recorder.recorded now self.old.recorder.underway.attempts false }
+        requires underway { IsUnderway self.old.recorder.recorded self.old.recorder.underway }
         requires unfinished { All (IsUnfinished C.Connector C.Run.Trial self.old.recorder.underway.attempts) self.old.unfinished.items }
         requires untold { are_untold self.old.recorder.recorded.outcomes self.old.unfinished.items ≡ true }
         requires in_time { now ≤ MAX_LIMIT }
@@ -162,7 +163,7 @@ impl<C: Connector> Live<C> {
         ensures unfinished { OnOk result (All (IsUnfinished C.Connector C.Run.Trial self.new.recorder.underway.attempts) self.new.unfinished.items) }
         ensures untold { OnOk result (are_untold self.new.recorder.recorded.outcomes self.new.unfinished.items ≡ true) }
         ensures recorder { OnOk result (Polled self.old.recorder self.new.recorder) }
-        ensures each { IfOk result (λ won. ArePolled C.Connector C.Run.Trial now (unpolled connector.old self.old.recorder) self.old.unfinished.items (record { connector = connector.new; recorder = self.new.recorder; pending = self.new.unfinished.items; first = won })) }
+        ensures each { IfOk result (λ won. ArePolled C.Connector C.Run.Trial now (unpolled connector.old self.old.recorder.recorded self.old.recorder.underway.attempts) self.old.unfinished.items (record { connector = connector.new; recorded = self.new.recorder.recorded; attempts = self.new.recorder.underway.attempts; pending = self.new.unfinished.items; first = won })) }
         ensures kept { Keeps cx.old cx.new }
     {
         let mut winner = None;
@@ -186,6 +187,7 @@ impl<C: Connector> Live<C> {
     ) -> Result<Option<Result<C::Conn, ConnectFault>>, Memory>
         requires below { i < vec_len self.old.unfinished }
         requires turn { (won : Bool) × InTurn self.old.recorder.recorded now self.old.recorder.underway.attempts won }
+        requires underway { IsUnderway self.old.recorder.recorded self.old.recorder.underway }
         requires unfinished { All (IsUnfinished C.Connector C.Run.Trial self.old.recorder.underway.attempts) self.old.unfinished.items }
         requires untold { are_untold self.old.recorder.recorded.outcomes self.old.unfinished.items ≡ true }
         requires in_time { now ≤ MAX_LIMIT }
@@ -214,7 +216,7 @@ impl<C: Connector> Live<C> {
     // Whether the race ends at the tick: it is won, at its limit, or exhausted, since nothing is left to wait for or
     // to try.
     fn is_over(&self, now: u64, is_won: bool) -> bool
-        ensures { result ≡ is_over self.now.recorder now self.now.unfinished.items is_won }
+        ensures { result ≡ is_over self.now.recorder.recorded self.now.recorder.underway.attempts now self.now.unfinished.items is_won }
     {
         is_won
             || now >= self.recorder.limit()
@@ -275,7 +277,8 @@ impl<C: Connector> Live<C> {
     }
 
     fn end(self, winner: Option<C::Conn>) -> Result<AfterPoll<C>, Memory>
-        requires { IsEnded self.recorder.recorded self.recorder.underway.attempts (is_some winner) }
+        requires ended { IsEnded self.recorder.recorded self.recorder.underway.attempts (is_some winner) }
+        requires underway { IsUnderway self.recorder.recorded self.recorder.underway }
         ensures { IfOk result (EndsWith self.recorder.recorded winner) }
     {
         let Live {

@@ -1,7 +1,7 @@
 // A race that is being run, apart from its connections: what is recorded of it, the attempts that were made, and
 // what is due next.
 
-ghost use Rattle.std.specs.Prelude.{◌≡◌, ◌+◌, ◌-◌, ◌<◌, ◌≤◌, ◌&&◌, ◌||◌, not, Bool, [], Ok, Err, Some, None, true, false, length, map, option_map, IfErr, IfOk, IfSome, OnErr, OnOk};
+ghost use Rattle.std.specs.Prelude.{◌≡◌, ◌+◌, ◌-◌, ◌<◌, ◌≤◌, ◌&&◌, ◌||◌, not, Bool, [], Ok, Err, Some, None, true, false, length, option_map, IfErr, IfOk, IfSome, OnErr, OnOk};
 ghost use Rattle.std.specs.List.{Contains, list_all};
 ghost use Rattle.he_addr.specs.Ip.{is_usable};
 ghost use Rattle.he_addr.specs.declared.ip.Family.TheVariants as families;
@@ -10,7 +10,6 @@ ghost use Rattle.he_plan.specs.declared.limits.TheConstants.{MAX_LIMIT, MAX_PAUS
 ghost use Rattle.he_plan.specs.Attempts.{is_tried};
 ghost use Rattle.he_plan.specs.Building.{empty_race, last_end, with_answer, with_outcome, with_pause};
 ghost use Rattle.he_plan.specs.Due.{IsAfterTurn, IsDueTick};
-ghost use Rattle.he_plan.specs.Finish.{fate_of};
 ghost use Rattle.he_plan.specs.Race.{has_outcome, is_in_answer, reply_of};
 ghost use Rattle.he_plan.specs.Timeline.{IsRace, duration_of, is_answer, is_duration};
 ghost use Rattle.he_plan.specs.Transcript.{IsTranscript};
@@ -21,7 +20,7 @@ ghost use Rattle.he_race.specs.Recording.{ended_by, is_won, slept, unrecorded};
 
 use he_addr::{Family, Ip, Memory};
 use he_plan::{
-    Attempt, BuildFault, Fate, Outcome, Timeline, TimelineBuilder, Transcript, Underway,
+    Attempt, BuildFault, Outcome, Timeline, TimelineBuilder, Transcript, Underway,
     transcript_at_stop, winner,
 };
 use std::alloc::{Allocator, Global};
@@ -86,9 +85,12 @@ impl Recorder {
         requires turn { (won : Bool) × InTurn self.old.recorded now self.old.underway.attempts won }
         requires made { Contains self.old.underway.attempts attempt }
         requires unfinished { has_outcome attempt.ip self.old.recorded.outcomes ≡ false }
+        requires underway { IsUnderway self.old.recorded self.old.underway }
         requires in_time { now ≤ MAX_LIMIT }
-        ensures recorded { OnOk result (self.new ≡ record self.old { recorded = with_outcome self.old.recorded attempt.ip (ended_by is_won (now - attempt.tick)) }) }
+        ensures recorded { OnOk result (self.new.recorded ≡ with_outcome self.old.recorded attempt.ip (ended_by is_won (now - attempt.tick))) }
+        ensures attempts { OnOk result (self.new.underway.attempts ≡ self.old.underway.attempts) }
         ensures valid { OnOk result (IsRace self.new.recorded) }
+        ensures underway { OnOk result (IsUnderway self.new.recorded self.new.underway) }
     {
         let duration = now - attempt.tick;
         let outcome = if is_won {
@@ -96,7 +98,9 @@ impl Recorder {
         } else {
             Outcome::Fail(duration)
         };
-        add_outcome(&mut self.recorded, attempt.ip, outcome)
+        add_outcome(&mut self.recorded, attempt.ip, outcome)?;
+        self.underway.end(self.recorded.timeline(), attempt);
+        Ok(())
     }
 
     // Whether both answers have come by the tick, and each of their usable addresses was tried.
@@ -146,15 +150,19 @@ impl Recorder {
 
     // The transcript of the race that ended.
     pub(crate) fn transcript(&self) -> Result<Transcript, Memory>
-        requires { (won : Bool) × IsEnded self.now.recorded self.now.underway.attempts won }
+        requires ended { (won : Bool) × IsEnded self.now.recorded self.now.underway.attempts won }
+        requires underway { IsUnderway self.now.recorded self.now.underway }
         ensures transcript { IfOk result (IsTranscript self.now.recorded) }
         ensures ending { IfOk result (λ t. (won : Bool) → IsEnded self.now.recorded self.now.underway.attempts won → is_won t.result ≡ won) }
     {
-        let timeline = self.recorded.timeline();
-        let attempts = self.underway.attempts();
-        let fates = fates_of(self.alloc, timeline, attempts)?;
-        let winner = winner(&fates);
-        transcript_at_stop(self.alloc, timeline, attempts, &fates, winner)
+        let fates = self.underway.fates();
+        transcript_at_stop(
+            self.alloc,
+            self.recorded.timeline(),
+            self.underway.attempts(),
+            fates,
+            winner(fates),
+        )
     }
 }
 
@@ -356,15 +364,4 @@ fn is_tried(attempts: &[Attempt], ip: Ip) -> bool
     ensures { result ≡ is_tried attempts.now ip }
 {
     attempts.iter().any(|attempt| attempt.ip == ip)
-}
-
-// What became of each attempt, by place.
-fn fates_of(alloc: Global, timeline: &Timeline, attempts: &[Attempt]) -> Result<Vec<Fate>, Memory>
-    ensures { IfOk result (λ fates. fates.items ≡ map (fate_of timeline.now) attempts.now) }
-{
-    let mut fates = Vec::with_capacity(alloc, attempts.len()).map_err(|_| Memory)?;
-    for attempt in attempts {
-        fates.push(timeline.fate(attempt)).map_err(|_| Memory)?;
-    }
-    Ok(fates)
 }

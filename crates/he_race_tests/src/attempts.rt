@@ -18,6 +18,8 @@ struct Case {
 const fn plain(limit: u64, v6: Option<Outcome>, v4: Option<Outcome>) -> Given {
     Given {
         limit,
+        floor: None,
+        has_second: false,
         answers: (20, 20),
         v6,
         v4,
@@ -32,6 +34,8 @@ fn cases() -> [Case; 9] {
     let silent = plain(30_000, None, None);
     let paused = Given {
         limit: 30_000,
+        floor: None,
+        has_second: false,
         answers: (90, 10),
         v6: Some(Outcome::Ok(20)),
         v4: None,

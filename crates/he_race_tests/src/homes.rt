@@ -1,7 +1,7 @@
 // The host and the addresses of the worked races.
 
 use he_addr::{Family, Ip, Prefix};
-use he_plan::{Outcome, Settings, Timeline, TimelineBuilder};
+use he_plan::{Outcome, Range, Settings, Timeline, TimelineBuilder};
 use he_select::{Host, Policy, Route, Source};
 use std::alloc::Global;
 use std::mem::drop;
@@ -9,6 +9,9 @@ use std::test::Fail;
 
 /// 2001:db8:1::1
 pub const V6_A: Ip = Ip::V6(0x2001_0db8_0001_0000_0000_0000_0000_0001);
+
+// 2001:db8:1::2
+const V6_B: Ip = Ip::V6(0x2001_0db8_0001_0000_0000_0000_0000_0002);
 
 /// 198.51.100.1
 pub const V4_A: Ip = Ip::V4(0xc633_6401);
@@ -44,10 +47,13 @@ fn host(alloc: Global) -> Result<Host, Fail> {
     Ok(Host::new(alloc, &sources, &routes)?)
 }
 
-/// A race whose answers come at these ticks, with these outcomes of its two addresses.
+/// A race whose answers come at these ticks, with these outcomes of its two addresses, and maybe with a floor and with a
+/// second IPv6 address, which is silent.
 #[derive(Clone, Copy)]
 pub struct Given {
     pub limit: u64,
+    pub floor: Option<u64>,
+    pub has_second: bool,
     pub answers: (u64, u64),
     pub v6: Option<Outcome>,
     pub v4: Option<Outcome>,
@@ -55,7 +61,8 @@ pub struct Given {
 }
 
 fn fill(builder: &mut TimelineBuilder, given: &Given) -> Result<(), Fail> {
-    builder.answer(Family::V6, given.answers.0, &[V6_A])?;
+    let count = if given.has_second { 2 } else { 1 };
+    builder.answer(Family::V6, given.answers.0, &[V6_A, V6_B][..count])?;
     builder.answer(Family::V4, given.answers.1, &[V4_A])?;
     if let Some(outcome) = given.v6 {
         builder.outcome(V6_A, outcome)?;
@@ -79,9 +86,16 @@ fn empty(alloc: Global, settings: Settings, host: Host) -> Result<TimelineBuilde
     }
 }
 
-pub fn race(alloc: Global, given: &Given) -> Result<Timeline, Fail> {
+fn settings(given: &Given) -> Result<Settings, Range> {
     let settings = Settings::new(50, 250, 1, given.limit)?;
-    let mut builder = empty(alloc, settings, host(alloc)?)?;
+    match given.floor {
+        Some(floor) => settings.with_floor(floor),
+        None => Ok(settings),
+    }
+}
+
+pub fn race(alloc: Global, given: &Given) -> Result<Timeline, Fail> {
+    let mut builder = empty(alloc, settings(given)?, host(alloc)?)?;
     match fill(&mut builder, given) {
         Ok(()) => Ok(builder.finish()),
         Err(fault) => {
@@ -95,6 +109,8 @@ pub fn race(alloc: Global, given: &Given) -> Result<Timeline, Fail> {
 pub fn first_race(v4: Option<Outcome>) -> Given {
     Given {
         limit: 30_000,
+        floor: None,
+        has_second: false,
         answers: (20, 25),
         v6: Some(Outcome::Ok(35)),
         v4,

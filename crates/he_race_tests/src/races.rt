@@ -1,4 +1,7 @@
-// Races as futures, over tickers that stand still, go back, jump or are lost, and a connector that cannot begin.
+// Races as futures, over tickers that stand still, go back, jump or are lost, a connector that cannot begin, and with
+// floors.
+
+ghost use Rattle.std.specs.Prelude.{◌≤◌};
 
 use crate::homes::{Given, V4_A, V6_A, first_race, race};
 use futures::Future;
@@ -302,6 +305,8 @@ fn pause_over_the_start_is_recorded(rt: HostRuntime) -> Result<(), Fail> {
     let alloc: Global = rt.alloc();
     let given = Given {
         limit: 30_000,
+        floor: None,
+        has_second: false,
         answers: (90, 10),
         v6: Some(Outcome::Ok(20)),
         v4: None,
@@ -317,5 +322,85 @@ fn pause_over_the_start_is_recorded(rt: HostRuntime) -> Result<(), Fail> {
         v4: None,
     };
     assert_eq!(rt; by_wheel(alloc, &solo, &given, 0)?, Seen::Gave(slept));
+    Ok(())
+}
+
+// A race with this floor, both answers at 20 and these failures, and what is seen of it: the second attempt starts at
+// a tick and fails 5 ticks later, where the race ends unless it is told otherwise.
+fn by_floor(floor: u64, v6: u64, start: u64) -> (Given, Short)
+    requires { start ≤ 270 }
+{
+    let given = Given {
+        limit: 30_000,
+        floor: Some(floor),
+        has_second: false,
+        answers: (20, 20),
+        v6: Some(Outcome::Fail(v6)),
+        v4: Some(Outcome::Fail(5)),
+        pause: None,
+    };
+    let seen = Short {
+        result: Outcome3::Exhausted(start + 5),
+        attempts: 2,
+        last: Some((start, Mark::Failed(start + 5))),
+        pauses: 0,
+        pause: None,
+        v6: given.v6,
+        v4: given.v4,
+    };
+    (given, seen)
+}
+
+// With a floor a start waits for it, for the first attempt's failure at 25, 30, 80 or 320, and for no more than the
+// attempt delay; a pause moves it; and the first attempt may run, so that only the attempt delay counts.
+fn floors() -> [(Given, Short); 6] {
+    let (plain, seen) = by_floor(100, 5, 120);
+    let (late, exhausted) = by_floor(10, 300, 270);
+    let late_end = Short {
+        result: Outcome3::Exhausted(320),
+        ..exhausted
+    };
+    let paused = Given {
+        pause: Some((100, 200)),
+        ..plain
+    };
+    let slept = Short {
+        result: Outcome3::Exhausted(205),
+        last: Some((200, Mark::Failed(205))),
+        pauses: 1,
+        pause: Some((120, 200)),
+        ..seen
+    };
+    let running = Given {
+        limit: 1_000,
+        floor: Some(10),
+        has_second: true,
+        v6: None,
+        ..plain
+    };
+    let limit = Short {
+        result: Outcome3::Limit(1_000),
+        attempts: 3,
+        last: Some((520, Mark::Cancelled(1_000))),
+        v6: None,
+        ..seen
+    };
+    [
+        (plain, seen),
+        by_floor(10, 10, 30),
+        by_floor(10, 60, 80),
+        (late, late_end),
+        (paused, slept),
+        (running, limit),
+    ]
+}
+
+#[test]
+fn starts_by_the_floor(rt: HostRuntime) -> Result<(), Fail> {
+    let solo = Solo::new(&rt, Doorbell::spinning())?;
+    let alloc: Global = rt.alloc();
+    for (given, short) in floors() {
+        assert_eq!(rt; by_wheel(alloc, &solo, &given, 0)?, Seen::Gave(short));
+    }
     Ok(())
 }

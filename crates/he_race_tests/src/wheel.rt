@@ -49,6 +49,8 @@ fn ticker_goes_where_it_was_asked(rt: HostRuntime) -> Result<(), Fail> {
         alloc,
         &Given {
             limit: 30_000,
+            floor: None,
+            has_second: false,
             answers: (90, 10),
             v6: None,
             v4: None,

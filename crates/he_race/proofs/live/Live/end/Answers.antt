@@ -10,7 +10,7 @@ returns-in-Ok g c =
       record {
         alike = subst (AreAlike c.args.self.recorder.recorded) (sym same) refl;
         transcript = subst (λ (race : Race). IsTranscript race c.in-Ok.transcript) (sym same) c.in-Ok.ensures.transcript;
-        winner = sym (c.in-Ok.ensures.ending (is_some c.args.winner) c.requires);
+        winner = sym (c.in-Ok.ensures.ending (is_some c.args.winner) c.requires.ended);
       },
       same,
       refl,

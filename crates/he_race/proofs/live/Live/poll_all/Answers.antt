@@ -25,4 +25,4 @@ returns-clause-untold g c = c.loop-i.invariant.0.untold
 
 pub returns-clause-each : goal.returns-clause-each
 returns-clause-each g c =
-    sweeping-over g.C.Connector g.C.Run.Trial _ _ c.args.now c.loop-i.connector c.loop-i.self.recorder c.loop-i.self.unfinished.items c.loop-i.i c.loop-i.winner c.loop-i.invariant.1 (omega (arith, c.loop-i.invariant.0.within))
+    sweeping-over g.C.Connector g.C.Run.Trial _ _ c.args.now c.loop-i.connector c.loop-i.self.recorder.recorded c.loop-i.self.recorder.underway.attempts c.loop-i.self.unfinished.items c.loop-i.i c.loop-i.winner c.loop-i.invariant.1 (omega (arith, c.loop-i.invariant.0.within))

@@ -2,7 +2,7 @@ use Rattle.std.proofs.Common.{◌≡◌, ◌∙◌, ◌<◌, Some, length, refl,
 use Rattle.std.proofs.lemmas.List.Elements.{All-set}
 use Rattle.futures.specs.declared.task.Poll.TheVariants.{Pending, Ready}
 use Rattle.he_plan.specs.declared.attempts.Attempt.{Attempt}
-use Rattle.he_race.specs.declared.recorder.Recorder.{Recorder}
+use Rattle.he_plan.specs.Race.{Race}
 use Rattle.he_race.specs.Kept.{IsUnfinished}
 use Rattle.he_race.specs.Turns.{told}
 use Rattle.he_race.proofs.Turning.{All-left}
@@ -49,14 +49,16 @@ returns-in_ok-finish-in-Ready-clause-recorder g c =
       x = c.index.result.now.attempt;
       made = was.made;
       first = rw c.index.ensures (untold-at c.args.self.now.recorder.recorded.outcomes c.args.self.now.unfinished.items c.requires.untold c.args.i c.index.result.now lt);
-      is = c.in_ok-finish-in-Ready.ensures.recorded ∙ ended-told c.args.self.now.recorder c.index.result.now.attempt c.args.now c.in-Ready.finish.result c.is_ok.result c.is_ok.ensures.value;
+      is = c.in_ok-finish-in-Ready.ensures.recorded ∙ ended-told c.args.self.now.recorder.recorded c.index.result.now.attempt c.args.now c.in-Ready.finish.result c.is_ok.result c.is_ok.ensures.value;
+      attempts = c.in_ok-finish-in-Ready.ensures.attempts;
       valid = c.in_ok-finish-in-Ready.ensures.valid;
+      underway = c.in_ok-finish-in-Ready.ensures.underway;
     }
 
 pub returns-in_ok-finish-in-Ready-clause-untold : goal.returns-in_ok-finish-in-Ready-clause-untold
 returns-in_ok-finish-in-Ready-clause-untold g c =
     let lt : c.args.i < length c.args.self.now.unfinished.items = search rules in
-    untold-gone c.args.self.now.recorder.recorded.outcomes c.finish.new.self.recorded.outcomes c.args.self.now.unfinished.items c.remove.new.self.items c.requires.untold c.args.i c.index.result.now _ c.index.result.now lt c.index.ensures _ (ap (λ (x : Recorder). x.recorded.outcomes) c.in_ok-finish-in-Ready.ensures.recorded) c.remove.ensures.items
+    untold-gone c.args.self.now.recorder.recorded.outcomes c.finish.new.self.recorded.outcomes c.args.self.now.unfinished.items c.remove.new.self.items c.requires.untold c.args.i c.index.result.now _ c.index.result.now lt c.index.ensures _ (ap (λ (x : Race). x.outcomes) c.in_ok-finish-in-Ready.ensures.recorded) c.remove.ensures.items
 
 pub returns-in_ok-finish-in-Ready-clause-step : goal.returns-in_ok-finish-in-Ready-clause-step
 returns-in_ok-finish-in-Ready-clause-step g c =
@@ -71,8 +73,9 @@ returns-in_ok-finish-in-Ready-clause-step g c =
       left = (
         refl,
         c.in_ok-finish-in-Ready.ensures.recorded
-            ∙ ended-told c.args.self.now.recorder c.index.result.now.attempt c.args.now c.in-Ready.finish.result c.is_ok.result c.is_ok.ensures.value
-            ∙ ap (λ (x : Attempt). told c.args.self.now.recorder x c.args.now c.in-Ready.finish.result) same,
+            ∙ ended-told c.args.self.now.recorder.recorded c.index.result.now.attempt c.args.now c.in-Ready.finish.result c.is_ok.result c.is_ok.ensures.value
+            ∙ ap (λ (x : Attempt). told c.args.self.now.recorder.recorded x c.args.now c.in-Ready.finish.result) same,
+        c.in_ok-finish-in-Ready.ensures.attempts,
         c.remove.ensures.items,
       );
     }

@@ -9,8 +9,8 @@ use Rattle.he_race.proofs.Turning.{ended-late, ends-late, same_limit, slept-alik
 use Rattle.he_race.proofs.Untold.{slept-outcomes}
 use Rattle.he_race.proofs.live.Live.take_turn.Goals as goal
 
-pub end-requires : goal.end-requires
-end-requires g c =
+pub end-requires-clause-ended : goal.end-requires-clause-ended
+end-requires-clause-ended g c =
     let recorded : c.begin_turn.new.self.recorded ≡ slept c.args.self.recorder.recorded c.args.self.recorder.due c.args.now = ap (λ (x : Recorder). x.recorded) c.in-Ok.ensures.recorded in
     let alike : AreAlike c.args.self.recorder.recorded c.begin_turn.new.self.recorded = subst (AreAlike c.args.self.recorder.recorded) (sym recorded) (slept-alike c.args.self.recorder.recorded c.args.self.recorder.due c.args.now) in
     ended-late c.begin_turn.new.self.recorded c.args.now c.begin_turn.new.self.underway.attempts c.in-Ok.ensures.begins (omega (arith, same_limit c.args.self.recorder.recorded c.begin_turn.new.self.recorded alike))

@@ -1,6 +1,12 @@
+use Rattle.he_race.proofs.Recorded.{ends-one}
 use Rattle.he_race.proofs.Standing.{stands-made}
 use Rattle.he_race.proofs.recorder.Recorder.finish.Goals as goal
 
 pub add_outcome-requires-clause-known : goal.add_outcome-requires-clause-known
 add_outcome-requires-clause-known c =
     stands-made c.args.self.now.recorded c.args.self.now.underway.attempts c.requires.turn.1.made.in_turn c.args.attempt c.requires.made
+
+pub end-requires : goal.end-requires
+end-requires c =
+    let turn = c.requires.turn.1 in
+    (c.args.self.now.recorded, turn.valid, c.requires.underway, ends-one c.args.self.now.recorded c.add_outcome.new.recorded c.args.now c.args.self.now.underway.attempts c.requires.turn.0 c.args.is_won c.args.attempt turn c.requires.made c.requires.unfinished c.in_ok-add_outcome.ensures.recorded)
