@@ -5,16 +5,17 @@ use Rattle.std.specs.List.{list_any}
 use Rattle.std.proofs.lemmas.Bool.{cases_lt}
 use Rattle.he_addr.specs.Ip.{family_of, is_usable}
 use Rattle.he_plan.specs.declared.attempts.Attempt.{Attempt}
-use Rattle.he_plan.specs.Attempts.{IsAnswered, IsFree, IsLeast, IsPositive, IsSeen, MayBegin, MayFollow, MayStart, is_untried, last_of, received, seen, seen_past}
+use Rattle.he_plan.specs.Attempts.{HasWaited, HaveFailed, IsAnswered, IsFree, IsLeast, IsPositive, IsSeen, MayBegin, MayFollow, MayStart, is_untried, last_of, received, seen, seen_past}
 use Rattle.he_plan.specs.Race.{Race, Reply, reply_of}
 use Rattle.he_plan.specs.Timeline.{IsRace}
 use Rattle.he_plan.proofs.Bools.{and_right, clash, lt_from, lt_test, not_lt}
 use Rattle.he_plan.proofs.Starting.{IsSeen-seen}
 use Rattle.he_explain.specs.declared.cause.Cause.{Cause}
-use Rattle.he_explain.specs.declared.cause.Cause.TheVariants.{AaaaAnswer, BothAnswers, ResolutionDelay, AttemptDelay, LaterAnswer}
-use Rattle.he_explain.specs.Causes.{cause_of, due_of, first_cause_by, later_cause, tick_of}
-use Rattle.he_explain.specs.Laws.{CausesStand, DuesStand, IsCausedBy, IsLaterBy}
-use Rattle.he_explain.proofs.LaterLaws.{CameFrom, later_seen, own_answer}
+use Rattle.he_explain.specs.declared.cause.Cause.TheVariants.{AaaaAnswer, BothAnswers, ResolutionDelay, AttemptDelay, Floor, LastFailure, LaterAnswer}
+use Rattle.he_explain.specs.Causes.{cause_of, delay_cause, due_of, first_cause_by, floor_cause, last_failure, later_cause, tick_of}
+use Rattle.he_explain.specs.Laws.{CausesStand, DuesStand, IsByFloor, IsCausedBy, IsLaterBy}
+use Rattle.he_explain.proofs.LaterLaws.{CameFrom, later_seen, own_answer, some_at}
+use Rattle.he_explain.proofs.FloorLaws.{all_from, last_by, seen_max, seen_more}
 
 -- a tick is not seen before it
 pub not_sooner : (pauses : List (ℕ × ℕ)) (x : ℕ) → x ≤ seen_past pauses x
@@ -47,6 +48,8 @@ FirstBy race aaaa a t ResolutionDelay =
     ¬ IsAnswered race t aaaa
     × IsSomeAnd a (λ r. IsTrue (list_any is_usable r.addresses) × (seen race (r.tick + race.settings.resolution) ≡ t))
 FirstBy race aaaa a t (AttemptDelay place delay) = ⊥
+FirstBy race aaaa a t (Floor place floor) = ⊥
+FirstBy race aaaa a t (LastFailure tick) = ⊥
 FirstBy race aaaa a t (LaterAnswer family) = ⊥
 
 answered : (race : Race) (t : ℕ) (reply : Option Reply) → IsPositive race t reply → IsAnswered race t reply
@@ -126,30 +129,129 @@ same_first race t AaaaAnswer done next e is = subst (λ t. FirstBy race race.aaa
 same_first race t BothAnswers done next e is = subst (λ t. FirstBy race race.aaaa race.a t BothAnswers) (sym e) is
 same_first race t ResolutionDelay done next e is = subst (λ t. FirstBy race race.aaaa race.a t ResolutionDelay) (sym e) is
 same_first race t (AttemptDelay place delay) done next e is = absurd is
+same_first race t (Floor place floor) done next e is = absurd is
+same_first race t (LastFailure tick) done next e is = absurd is
 same_first race t (LaterAnswer family) done next e is = absurd is
 
--- a later attempt
-later_is : (race : Race) → IsRace race → (done : List Attempt) (last next : Attempt) → MayFollow race done next.tick last
-    → ((s : ℕ) → s < next.tick → ¬ MayFollow race done s last) → CameFrom race done next.tick (reply_of race (family_of next.ip))
-    → IsLaterBy race done last next (later_cause race last next)
-later_is race r done last next now none from = by_over (nat_lt (seen race (last.tick + race.settings.attempt)) next.tick) refl
-  where
-    untried_by : (t : ℕ) → IsFree race t → last.tick + race.settings.attempt ≤ t → t < next.tick → (b : Bool) → list_any (is_untried done) (received race t) ≡ b → b ≡ false
-    untried_by t free over before true e = absurd (none t before (record { free = free; delay = over; some = e }))
-    untried_by t free over before false e = refl
+-- a later attempt, at no earlier tick than this one
+abbrev IsFirst : Race → List Attempt → Attempt → ℕ → Type 0
+IsFirst race done last t = (s : ℕ) → s < t → ¬ MayFollow race done s last
 
-    by_over : (b : Bool) → nat_lt (seen race (last.tick + race.settings.attempt)) next.tick ≡ b
+-- the wait was over at d, which is earlier
+late_by : (race : Race) → IsRace race → (done : List Attempt) (last next : Attempt) (d : ℕ) → IsFree race d → d < next.tick
+    → ((m : ℕ) → d ≤ m → HasWaited race done m last) → IsFirst race done last next.tick → CameFrom race done next.tick (reply_of race (family_of next.ip))
+    → IsLaterBy race done last next (LaterAnswer (family_of next.ip))
+late_by race r done last next d free before waited none from = (
+  refl,
+  later_seen race r done last next.tick (family_of next.ip) d free before waited none from,
+  (d, free, waited d (omega arith), before),
+  λ t free over early. untried_by t free over early (list_any (is_untried done) (received race t)) refl,
+)
+  where
+    untried_by : (t : ℕ) → IsFree race t → HasWaited race done t last → t < next.tick → (b : Bool) → list_any (is_untried done) (received race t) ≡ b → b ≡ false
+    untried_by t free over early true e = absurd (none t early (record { free = free; waited = over; some = e }))
+    untried_by t free over early false e = refl
+
+-- the delay is over at the attempt's tick
+delay_is : (race : Race) → IsRace race → (done : List Attempt) (last next : Attempt) → IsFree race next.tick → last.tick + race.settings.attempt ≤ next.tick
+    → IsFirst race done last next.tick → CameFrom race done next.tick (reply_of race (family_of next.ip))
+    → IsLaterBy race done last next (delay_cause race last next)
+delay_is race r done last next free over none from = by_before (nat_lt (seen race (last.tick + race.settings.attempt)) next.tick) refl
+  where
+    d : ℕ
+    d = last.tick + race.settings.attempt
+
+    is : IsSeen race d (seen race d)
+    is = IsSeen-seen race r d
+
+    by_before : (b : Bool) → nat_lt (seen race d) next.tick ≡ b
         → IsLaterBy race done last next (if b then LaterAnswer (family_of next.ip) else AttemptDelay last.place race.settings.attempt)
-    by_over true e = let over : seen race (last.tick + race.settings.attempt) < next.tick = lt_from (seen race (last.tick + race.settings.attempt)) next.tick e in (refl, over, later_seen race r done last next.tick (family_of next.ip) over none from, λ t free over before. untried_by t free over before (list_any (is_untried done) (received race t)) refl)
-    by_over false e =
-        let d : ℕ = last.tick + race.settings.attempt in
-        let is : IsSeen race d (seen race d) = IsSeen-seen race r d in
-        let early : seen race d ≤ next.tick = is.least next.tick (now.delay, now.free) in
+    by_before true e =
+        late_by race r done last next (seen race d) is.holds.1 (lt_from (seen race d) next.tick e)
+        (λ m after. inl (omega (arith, after, is.holds.0))) none from
+    by_before false e =
+        let early : seen race d ≤ next.tick = is.least next.tick (over, free) in
         (refl, refl, omega (arith, early, not_before (seen race d) next.tick e))
+
+-- the floor let it start, where the delay is not over
+module _ (race : Race) (r : IsRace race) (done : List Attempt) (last next : Attempt) (floor : ℕ) where
+  abbrev failed : ℕ
+  failed = last_failure race done
+
+  abbrev floor_end : ℕ
+  floor_end = last.tick + floor
+
+  both_before : next.tick ≤ race.settings.limit → IsByFloor race done next.tick last floor → IsFirst race done last next.tick → CameFrom race done next.tick (reply_of race (family_of next.ip))
+      → seen race floor_end < next.tick → seen race failed < next.tick → IsLaterBy race done last next (LaterAnswer (family_of next.ip))
+  both_before inside by none from before failed_before =
+      let end : ℕ = max floor_end failed in
+      let is : IsSeen race end (seen race end) = IsSeen-seen race r end in
+      late_by race r done last next (seen race end) is.holds.1 (omega (arith, seen_max race r floor_end failed, before, failed_before))
+      (λ m after. inr (some_at race.settings.floor floor (λ n. (last.tick + n ≤ m) × HaveFailed race done m) by.0
+      (omega (arith, after, is.holds.0), all_from race r next.tick m done inside by.1 (omega (arith, seen_more race r failed end (omega arith), after)))))
+      none from
+
+  at_failure : last_of done ≡ Some last → IsByFloor race done next.tick last floor → next.tick ≤ seen race failed
+      → IsLaterBy race done last next (LastFailure failed)
+  at_failure e by late = (
+    some_at race.settings.floor floor (IsByFloor race done next.tick last) by.0 by,
+    record { holds = by.1; least = λ m all. omega (arith, late, last_by race r m done last e all) },
+    omega (arith, late, last_by race r next.tick done last e by.1),
+  )
+
+  at_floor : IsFree race next.tick → IsByFloor race done next.tick last floor → next.tick ≤ seen race floor_end
+      → IsLaterBy race done last next (Floor last.place floor)
+  at_floor free by late =
+      let is : IsSeen race floor_end (seen race floor_end) = IsSeen-seen race r floor_end in
+      let early : seen race floor_end ≤ next.tick = is.least next.tick (by.2, free) in
+      (refl, by, omega (arith, early, late))
+
+  by_later : last_of done ≡ Some last → IsFree race next.tick → IsByFloor race done next.tick last floor
+      → (next.tick ≤ seen race floor_end) ⊎ (next.tick ≤ seen race failed) → (b : Bool) → nat_lt floor_end failed ≡ b
+      → IsLaterBy race done last next (if b then LastFailure failed else Floor last.place floor)
+  by_later e free by late true less =
+      let more : seen race floor_end ≤ seen race failed = seen_more race r floor_end failed (omega (arith, lt_from floor_end failed less)) in
+      at_failure e by (elim late [ inl k ↦ omega (arith, more, k) | inr k ↦ k ])
+  by_later e free by late false less =
+      let more : seen race failed ≤ seen race floor_end = seen_more race r failed floor_end (not_before floor_end failed less) in
+      at_floor free by (elim late [ inl k ↦ k | inr k ↦ omega (arith, more, k) ])
+
+  by_both : last_of done ≡ Some last → next.tick ≤ race.settings.limit → IsFree race next.tick → IsByFloor race done next.tick last floor → IsFirst race done last next.tick
+      → CameFrom race done next.tick (reply_of race (family_of next.ip)) → (b c : Bool) → nat_lt (seen race floor_end) next.tick ≡ b → nat_lt (seen race failed) next.tick ≡ c
+      → IsLaterBy race done last next (if b && c then LaterAnswer (family_of next.ip) else (if nat_lt floor_end failed then LastFailure failed else Floor last.place floor))
+  by_both e inside free by none from true true k l = both_before inside by none from (lt_from (seen race floor_end) next.tick k) (lt_from (seen race failed) next.tick l)
+  by_both e inside free by none from true false k l = by_later e free by (inr (not_before (seen race failed) next.tick l)) (nat_lt floor_end failed) refl
+  by_both e inside free by none from false c k l = by_later e free by (inl (not_before (seen race floor_end) next.tick k)) (nat_lt floor_end failed) refl
+
+floor_is : (race : Race) → IsRace race → (done : List Attempt) (last next : Attempt) → last_of done ≡ Some last → next.tick ≤ race.settings.limit → IsFree race next.tick
+    → next.tick < last.tick + race.settings.attempt → HasWaited race done next.tick last → IsFirst race done last next.tick
+    → CameFrom race done next.tick (reply_of race (family_of next.ip)) → (o : Option ℕ) → race.settings.floor ≡ o
+    → IsLaterBy race done last next (floor_cause race last (last_failure race done) next o)
+floor_is race r done last next e inside free early (inl over) none from o is = absurd (omega (arith, over, early))
+floor_is race r done last next e inside free early (inr waited) none from None is =
+    absurd (subst (λ o. IsSomeAnd o (λ floor. (last.tick + floor ≤ next.tick) × HaveFailed race done next.tick)) is waited)
+floor_is race r done last next e inside free early (inr waited) none from (Some floor) is =
+    let k : (last.tick + floor ≤ next.tick) × HaveFailed race done next.tick =
+    subst (λ o. IsSomeAnd o (λ floor. (last.tick + floor ≤ next.tick) × HaveFailed race done next.tick)) is waited
+    in
+    by_both race r done last next floor e inside free (is, k.1, k.0, early) none from
+    (nat_lt (seen race (last.tick + floor)) next.tick) (nat_lt (seen race (last_failure race done)) next.tick) refl refl
+
+later_is : (race : Race) → IsRace race → (done : List Attempt) (last next : Attempt) → last_of done ≡ Some last → next.tick ≤ race.settings.limit → MayFollow race done next.tick last
+    → IsFirst race done last next.tick → CameFrom race done next.tick (reply_of race (family_of next.ip))
+    → IsLaterBy race done last next (later_cause race last (last_failure race done) next)
+later_is race r done last next e inside now none from = by_delay (nat_lt next.tick (last.tick + race.settings.attempt)) refl
+  where
+    by_delay : (b : Bool) → nat_lt next.tick (last.tick + race.settings.attempt) ≡ b
+        → IsLaterBy race done last next
+        (if b then floor_cause race last (last_failure race done) next race.settings.floor else delay_cause race last next)
+    by_delay true k =
+        floor_is race r done last next e inside now.free (lt_from next.tick (last.tick + race.settings.attempt) k) now.waited none from race.settings.floor refl
+    by_delay false k = delay_is race r done last next now.free (not_before next.tick (last.tick + race.settings.attempt) k) none from
 
 -- the least tick at which one may start
 stands_by : (race : Race) → IsRace race → (done : List Attempt) (next : Attempt) (last : Option Attempt) → last_of done ≡ last
-    → IsLeast (MayStart race done) next.tick → CameFrom race done next.tick (reply_of race (family_of next.ip)) → IsCausedBy race done last next (cause_of race last next)
+    → IsLeast (MayStart race done) next.tick → CameFrom race done next.tick (reply_of race (family_of next.ip)) → IsCausedBy race done last next (cause_of race last (last_failure race done) next)
 stands_by race r done next None e least from =
     let At : ℕ → Option Attempt → Type 0 = λ s o. MatchOption o (MayBegin race s) (MayFollow race done s) in
     let now : MayBegin race next.tick = subst (At next.tick) e least.holds.1 in
@@ -163,27 +265,11 @@ stands_by race r done next None e least from =
 stands_by race r done next (Some last) e least from =
     let At : ℕ → Option Attempt → Type 0 = λ s o. MatchOption o (MayBegin race s) (MayFollow race done s) in
     let now : MayFollow race done next.tick last = subst (At next.tick) e least.holds.1 in
-    later_is race r done last next now
+    later_is race r done last next e (omega (arith, least.holds.0)) now
     (λ s before may. absurd (omega (arith, before, least.least s (omega (arith, before, least.holds.0), subst (At s) (sym e) may)))) from
 
 pub causes_stand : CausesStand
 causes_stand race r done next is = stands_by race r done next (last_of done) refl is.tick (own_answer race r done next is)
-
--- the later of two ticks is seen when the later one of them is seen
-seen_max : (race : Race) → IsRace race → (x y : ℕ) → seen race (max x y) ≡ max (seen race x) (seen race y)
-seen_max race r x y =
-    let is-x : IsSeen race x (seen race x) = IsSeen-seen race r x in
-    let is-y : IsSeen race y (seen race y) = IsSeen-seen race r y in
-    elim (cases_lt x y) [
-      | inl less ↦
-          let up : max x y ≡ y = omega (arith, less) in
-          let no_sooner : seen race x ≤ seen race y = is-x.least (seen race y) (omega (arith, less, is-y.holds.0), is-y.holds.1) in
-          ap (seen race) up ∙ omega (arith, no_sooner)
-      | inr more ↦
-          let up : max x y ≡ x = omega (arith, more) in
-          let no_sooner : seen race y ≤ seen race x = is-y.least (seen race x) (omega (arith, more, is-x.holds.0), is-x.holds.1) in
-          ap (seen race) up ∙ omega (arith, no_sooner)
-    ]
 
 due_aaaa : (race : Race) (t : ℕ) (U : Reply → Type 0) (reply : Option Reply) → IsSomeAnd reply (λ r. U r × (seen race r.tick ≡ t)) → seen race (tick_of reply) ≡ t
 due_aaaa race t U None h = absurd h
@@ -211,12 +297,16 @@ due_by race r done None next BothAnswers is =
     due_both race r next.tick (λ six. IsFalse (list_any is_usable six.addresses)) (λ four. IsTrue (list_any is_usable four.addresses)) race.aaaa race.a is
 due_by race r done None next ResolutionDelay is = due_delay race next.tick race.settings.resolution (λ r. IsTrue (list_any is_usable r.addresses)) race.a is.1
 due_by race r done None next (AttemptDelay place delay) is = absurd is
+due_by race r done None next (Floor place floor) is = absurd is
+due_by race r done None next (LastFailure tick) is = absurd is
 due_by race r done None next (LaterAnswer family) is = absurd is
 due_by race r done (Some last) next AaaaAnswer is = absurd is
 due_by race r done (Some last) next BothAnswers is = absurd is
 due_by race r done (Some last) next ResolutionDelay is = absurd is
 due_by race r done (Some last) next (AttemptDelay place delay) is = is.2
-due_by race r done (Some last) next (LaterAnswer family) is = due_later race next.tick (reply_of race family) is.2
+due_by race r done (Some last) next (Floor place floor) is = is.2
+due_by race r done (Some last) next (LastFailure tick) is = is.2
+due_by race r done (Some last) next (LaterAnswer family) is = due_later race next.tick (reply_of race family) is.1
 
 pub dues_stand : DuesStand
-dues_stand race r done next is = due_by race r done (last_of done) next (cause_of race (last_of done) next) (causes_stand race r done next is)
+dues_stand race r done next is = due_by race r done (last_of done) next (cause_of race (last_of done) (last_failure race done) next) (causes_stand race r done next is)

@@ -10,11 +10,11 @@ use Rattle.he_addr.specs.declared.ip.Ip.{Ip}
 use Rattle.he_addr.specs.declared.ip.Ip.TheVariants as ips
 use Rattle.he_addr.specs.Ip.{family_of, is_usable, same_ip}
 use Rattle.he_select.specs.Preference.{Member, members_from, order_of}
-use Rattle.he_select.specs.Selection.{SelectionInput, selection_input}
+use Rattle.he_select.specs.Selection.{SelectionInput}
 use Rattle.he_select.proofs.Equality.{ip_self}
 use Rattle.he_plan.specs.declared.attempts.Attempt.{Attempt}
-use Rattle.he_plan.specs.Attempts.{IsFree, IsNext, IsSeen, MayFollow, is_untried, order, order_at, received, received_of, seen}
-use Rattle.he_plan.specs.Race.{Race, Reply, reply_of}
+use Rattle.he_plan.specs.Attempts.{HasWaited, IsFree, IsNext, IsSeen, MayFollow, is_untried, order, order_at, received, received_of, seen}
+use Rattle.he_plan.specs.Race.{Race, Reply, race_input, reply_of}
 use Rattle.he_plan.specs.Timeline.{IsRace, are_of, is_answer, is_of}
 use Rattle.he_plan.proofs.Alternation.{list_any-interlace}
 use Rattle.he_plan.proofs.Bools.{and_both, and_left, and_right, clash, le_from, le_test, or_left, or_one, or_right}
@@ -77,7 +77,7 @@ it_received race done next is =
     let sorted : list_any (is_it done next.ip) (order race (received race t)) ≡ true =
     sym (list_any-interlace (is_it done next.ip) (order race (received race t)) race.settings.count) ∙ listed
     in
-    order_any (is_it done next.ip) (selection_input race.policy race.host) (received race t) sorted
+    order_any (is_it done next.ip) (race_input race) (received race t) sorted
 
 any_weaker : (p r : Ip → Bool) → ((x : Ip) → r x ≡ true → p x ≡ true) → (xs : List Ip) → list_any r xs ≡ true → list_any p xs ≡ true
 any_weaker p r weaker [] h = cc
@@ -163,38 +163,33 @@ received_by : (race : Race) (done : List Attempt) (m : ℕ) (family : Family) �
 received_by race done m families.V6 h = list_any-append (is_untried done) (received_of race m race.aaaa) (received_of race m race.a) ∙ or_left _ _ h
 received_by race done m families.V4 h = list_any-append (is_untried done) (received_of race m race.aaaa) (received_of race m race.a) ∙ or_right _ _ h
 
-some_at : {X : Type 0} (o : Option X) (x : X) (P : X → Type 0) → o ≡ Some x → P x → IsSomeAnd o P
+pub some_at : {X : Type 0} (o : Option X) (x : X) (P : X → Type 0) → o ≡ Some x → P x → IsSomeAnd o P
 some_at o x P e h = subst (λ o. IsSomeAnd o P) (sym e) h
 
--- the answer that brings an address after the delay is seen at the attempt's tick
-pub later_seen : (race : Race) → IsRace race → (done : List Attempt) (last : Attempt) (t : ℕ) (family : Family)
-    → seen race (last.tick + race.settings.attempt) < t → ((s : ℕ) → s < t → ¬ MayFollow race done s last) → CameFrom race done t (reply_of race family)
+-- the answer that brings an address after the wait, which was over at d, is seen at the attempt's tick
+pub later_seen : (race : Race) → IsRace race → (done : List Attempt) (last : Attempt) (t : ℕ) (family : Family) (d : ℕ)
+    → IsFree race d → d < t → ((m : ℕ) → d ≤ m → HasWaited race done m last)
+    → ((s : ℕ) → s < t → ¬ MayFollow race done s last) → CameFrom race done t (reply_of race family)
     → IsSomeAnd (reply_of race family) (λ r. seen race r.tick ≡ t)
-later_seen race r done last t family over none from =
+later_seen race r done last t family d free over waited none from =
     some_at (reply_of race family) from.come (λ r. seen race r.tick ≡ t) from.is
     (elim (cases_lt (seen race from.come.tick) t) [
       | inr late ↦ omega (arith, late, from.early)
       | inl less ↦ absurd (early less)
     ])
   where
-    d : ℕ
-    d = seen race (last.tick + race.settings.attempt)
-
-    is-d : IsSeen race (last.tick + race.settings.attempt) d
-    is-d = IsSeen-seen race r (last.tick + race.settings.attempt)
-
     is-s : IsSeen race from.come.tick (seen race from.come.tick)
     is-s = IsSeen-seen race r from.come.tick
 
     follows : (m : ℕ) → IsFree race m → d ≤ m → seen race from.come.tick ≤ m → MayFollow race done m last
     follows m free after come = record {
       free = free;
-      delay = omega (arith, after, is-d.holds.0);
+      waited = waited m after;
       some = received_by race done m family (still_waits race done m (reply_of race family) from.come from.is come from.waits);
     }
 
     early : seen race from.come.tick < t → ⊥
     early less = elim (cases_lt (seen race from.come.tick) d) [
-      | inl before ↦ none d over (follows d is-d.holds.1 (omega arith) (omega (arith, before)))
+      | inl before ↦ none d over (follows d free (omega arith) (omega (arith, before)))
       | inr after ↦ none (seen race from.come.tick) less (follows (seen race from.come.tick) is-s.holds.1 after (omega arith))
     ]

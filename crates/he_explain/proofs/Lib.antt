@@ -1,6 +1,7 @@
 mod CauseLaws
 mod CourseLaws
 mod EventLaws
+mod FloorLaws
 mod InterlacedLaws
 mod LaterLaws
 mod LineLaws

@@ -88,7 +88,7 @@ same_name input a b = rw (unchanged (is_eq (nat_cmp a.place b.place))) refl
 
 not_all : (input : SelectionInput) (a b : Member) → AllTie a b (destination_rules input) → a.place ≡ b.place
 unfolding destination_rules
-not_all input a b tied = tied_numbers a.place b.place tied.1.1.1.1.1.1.1.1.0
+not_all input a b tied = tied_numbers a.place b.place tied.1.1.1.1.1.1.1.1.1.1.0
 
 rules_counted : (input : SelectionInput) → length rules_in_order ≡ length (destination_rules input)
 unfolding destination_rules

@@ -37,6 +37,9 @@ cause_text causes.AaaaAnswer = codes ", on the AAAA answer"
 cause_text causes.BothAnswers = codes ", on both answers"
 cause_text causes.ResolutionDelay = codes ", at the end of the Resolution Delay"
 cause_text (causes.AttemptDelay place delay) = (codes ", " ++ decimal delay) ++ (codes " after attempt " ++ decimal place)
+cause_text (causes.Floor place floor) =
+    ((codes ", " ++ decimal floor) ++ (codes " after attempt " ++ decimal place)) ++ codes " as all have failed"
+cause_text (causes.LastFailure tick) = codes ", as all have failed"
 cause_text (causes.LaterAnswer families.V6) = codes ", on the later AAAA answer"
 cause_text (causes.LaterAnswer families.V4) = codes ", on the later A answer"
 

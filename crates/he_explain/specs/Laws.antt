@@ -5,7 +5,7 @@ use Rattle.std.specs.List.Sorted.{IsNonDecreasingBy, IsPermutation}
 use Rattle.he_addr.specs.declared.ip.Ip.{Ip}
 use Rattle.he_addr.specs.Ip.{family_of, is_usable}
 use Rattle.he_plan.specs.declared.attempts.Attempt.{Attempt}
-use Rattle.he_plan.specs.Attempts.{IsAnswered, IsFree, IsNext, is_tried, is_untried, last_of, order_at, received, seen}
+use Rattle.he_plan.specs.Attempts.{HasWaited, HaveFailed, IsAnswered, IsFree, IsLeast, IsNext, is_tried, is_untried, last_of, order_at, received, seen}
 use Rattle.he_plan.specs.Race.{Race, reply_of}
 use Rattle.he_plan.specs.Timeline.{IsRace}
 use Rattle.he_plan.specs.Transcript.{IsTranscript, Report}
@@ -14,8 +14,8 @@ use Rattle.he_select.specs.Preference.{Member}
 use Rattle.he_select.specs.Selection.{SelectionInput}
 use Rattle.he_explain.specs.declared.cause.Cause.{Cause}
 use Rattle.he_explain.specs.declared.events.Event.{Event}
-use Rattle.he_explain.specs.declared.cause.Cause.TheVariants.{AaaaAnswer, BothAnswers, ResolutionDelay, AttemptDelay, LaterAnswer}
-use Rattle.he_explain.specs.Causes.{cause_of, due_of}
+use Rattle.he_explain.specs.declared.cause.Cause.TheVariants.{AaaaAnswer, BothAnswers, ResolutionDelay, AttemptDelay, Floor, LastFailure, LaterAnswer}
+use Rattle.he_explain.specs.Causes.{cause_of, due_of, last_failure}
 use Rattle.he_explain.specs.Course.{course}
 use Rattle.he_explain.specs.Events.{events_by_kind, start_event, start_events}
 use Rattle.he_explain.specs.Listing.{listed_at}
@@ -42,21 +42,35 @@ IsFirstBy race t ResolutionDelay =
     ¬ IsAnswered race t race.aaaa
     × IsSomeAnd race.a (λ r. IsTrue (list_any is_usable r.addresses) × (seen race (r.tick + race.settings.resolution) ≡ t))
 IsFirstBy race t (AttemptDelay place delay) = ⊥
+IsFirstBy race t (Floor place floor) = ⊥
+IsFirstBy race t (LastFailure tick) = ⊥
 IsFirstBy race t (LaterAnswer family) = ⊥
 
--- and of a later attempt: the Connection Attempt Delay after the last one is over at its tick; or it was over before,
--- the answer of the address's family is seen at the attempt's tick, and at no earlier one at which the client could
--- act, from the delay's end on, a received address was untried
+-- at t every attempt so far has failed, and the floor has passed since the last start, but not the Connection Attempt
+-- Delay
+abbrev pub IsByFloor : Race → List Attempt → ℕ → Attempt → ℕ → Type 0
+IsByFloor race done t last floor =
+    (race.settings.floor ≡ Some floor) × HaveFailed race done t × (last.tick + floor ≤ t) × (t < last.tick + race.settings.attempt)
+
+-- and of a later attempt: the Connection Attempt Delay after the last one is over at its tick; or it is not, but every
+-- attempt so far has failed, and the floor after the last one is over at that tick; or they have failed by that tick
+-- and by no earlier one; or the last one was waited for before, the answer of the address's family is seen at the
+-- attempt's tick, and at no earlier one at which the client could act, and had waited, a received address was untried
 abbrev pub IsLaterBy : Race → List Attempt → Attempt → Attempt → Cause → Type 0
 IsLaterBy race done last next AaaaAnswer = ⊥
 IsLaterBy race done last next BothAnswers = ⊥
 IsLaterBy race done last next ResolutionDelay = ⊥
 IsLaterBy race done last next (AttemptDelay place delay) =
     (place ≡ last.place) × (delay ≡ race.settings.attempt) × (seen race (last.tick + delay) ≡ next.tick)
+IsLaterBy race done last next (Floor place floor) =
+    (place ≡ last.place) × IsByFloor race done next.tick last floor × (seen race (last.tick + floor) ≡ next.tick)
+IsLaterBy race done last next (LastFailure tick) =
+    IsSomeAnd race.settings.floor (IsByFloor race done next.tick last)
+    × IsLeast (HaveFailed race done) next.tick × (seen race tick ≡ next.tick)
 IsLaterBy race done last next (LaterAnswer family) =
-    (family ≡ family_of next.ip) × (seen race (last.tick + race.settings.attempt) < next.tick)
-    × IsSomeAnd (reply_of race family) (λ r. seen race r.tick ≡ next.tick)
-    × ((t : ℕ) → IsFree race t → last.tick + race.settings.attempt ≤ t → t < next.tick → IsFalse (list_any (is_untried done) (received race t)))
+    (family ≡ family_of next.ip) × IsSomeAnd (reply_of race family) (λ r. seen race r.tick ≡ next.tick)
+    × ((t : ℕ) × IsFree race t × HasWaited race done t last × (t < next.tick))
+    × ((t : ℕ) → IsFree race t → HasWaited race done t last → t < next.tick → IsFalse (list_any (is_untried done) (received race t)))
 
 abbrev pub IsCausedBy : Race → List Attempt → Option Attempt → Attempt → Cause → Type 0
 IsCausedBy race done None next cause = IsFirstBy race next.tick cause
@@ -66,13 +80,13 @@ IsCausedBy race done (Some last) next cause = IsLaterBy race done last next caus
 abbrev pub CausesStand : Type 0
 CausesStand =
     (race : Race) → IsRace race → (done : List Attempt) (next : Attempt) → IsNext race done next
-    → IsCausedBy race done (last_of done) next (cause_of race (last_of done) next)
+    → IsCausedBy race done (last_of done) next (cause_of race (last_of done) (last_failure race done) next)
 
 -- and what it waited for, at whatever tick it came, is seen at the attempt's
 abbrev pub DuesStand : Type 0
 DuesStand =
     (race : Race) → IsRace race → (done : List Attempt) (next : Attempt) → IsNext race done next
-    → seen race (due_of race (last_of done) (cause_of race (last_of done) next)) ≡ next.tick
+    → seen race (due_of race (last_of done) (cause_of race (last_of done) (last_failure race done) next)) ≡ next.tick
 
 -- the address stands at this place of the list, and those before it were tried
 abbrev pub IsFirstUntried : List Attempt → List Ip → ℕ → Ip → Type 0
@@ -94,8 +108,8 @@ CourseStands =
 abbrev pub AreStarts : Race → List Attempt → List Event → Type 0
 AreStarts race done [] = Unit {0}
 AreStarts race done (event ∷ more) =
-    (next : Attempt) × IsNext race done next × (event ≡ start_event race (last_of done) next) × AreStarts race (done ++ next ∷ []) more
+    (next : Attempt) × IsNext race done next × (event ≡ start_event race (last_of done) (last_failure race done) next) × AreStarts race (done ++ next ∷ []) more
 
 -- so are the starts of a course
 abbrev pub StartsStand : Type 0
-StartsStand = (race : Race) (report : Report) → IsTranscript race report → AreStarts race [] (start_events race None report.lines)
+StartsStand = (race : Race) (report : Report) → IsTranscript race report → AreStarts race [] (start_events race None 0 report.lines)

@@ -12,7 +12,7 @@ use Rattle.he_select.specs.Deciding.{deciding_rule}
 use Rattle.he_select.specs.Standing.{standing_of}
 use Rattle.he_text.specs.Ranges.{line_end}
 
--- the number and the name of a rule in RFC 6724 section 6
+-- the number and the name of a rule in RFC 6724 section 6; 8a and 8b are those of RFC 8305 section 4
 abbrev pub rule_text : DestinationRule → List ℕ
 rule_text rules.AvoidUnusable = codes "1, avoid unusable destinations"
 rule_text rules.MatchingScope = codes "2, prefer matching scope"
@@ -21,6 +21,8 @@ rule_text rules.MatchingLabel = codes "5, prefer matching label"
 rule_text rules.HigherPrecedence = codes "6, prefer higher precedence"
 rule_text rules.NativeTransport = codes "7, prefer native transport"
 rule_text rules.SmallerScope = codes "8, prefer smaller scope"
+rule_text rules.LowerRoundTripTime = codes "8a, prefer lower round trip time"
+rule_text rules.UsedBefore = codes "8b, prefer an address used before"
 rule_text rules.LongestPrefix = codes "9, use longest matching prefix"
 rule_text rules.Unchanged = codes "10, otherwise leave the order unchanged"
 
@@ -32,12 +34,17 @@ values_text label m between n = (label ++ decimal m) ++ (between ++ decimal n)
 abbrev pub after_text : ℕ → ℕ → List ℕ
 after_text later earlier = values_text (codes ": ") later (codes " after ") earlier
 
+-- a round trip time in milliseconds, if it is known
+abbrev pub rtt_text : Option ℕ → List ℕ
+rtt_text None = codes "unknown"
+rtt_text (Some rtt) = decimal rtt
+
 -- a number of the source that an address has, 0 where it has none
 abbrev pub of_source : (LabelledSource → ℕ) → Standing → ℕ
 of_source number standing = option_map_or number standing.source 0
 
 -- the values that a rule compares. Rules 2 and 5 compare those of the later address with those of its source; rules
--- 1, 3, 7 and 10 compare none
+-- 1, 3, 7, 8b and 10 compare none
 abbrev pub compared_text : DestinationRule → Standing → Standing → List ℕ
 compared_text rules.AvoidUnusable earlier later = []
 compared_text rules.MatchingScope earlier later =
@@ -48,6 +55,8 @@ compared_text rules.MatchingLabel earlier later =
 compared_text rules.HigherPrecedence earlier later = after_text later.precedence earlier.precedence
 compared_text rules.NativeTransport earlier later = []
 compared_text rules.SmallerScope earlier later = after_text later.scope earlier.scope
+compared_text rules.LowerRoundTripTime earlier later = (codes ": " ++ rtt_text later.rtt) ++ (codes " after " ++ rtt_text earlier.rtt)
+compared_text rules.UsedBefore earlier later = []
 compared_text rules.LongestPrefix earlier later = after_text later.common earlier.common
 compared_text rules.Unchanged earlier later = []
 

@@ -5,10 +5,10 @@ ghost use Rattle.std.specs.List.{list_any};
 ghost use Rattle.he_addr.specs.Ip.{is_usable};
 ghost use Rattle.he_plan.specs.Attempts.{seen};
 ghost use Rattle.he_plan.specs.Race.{reply_of};
-ghost use Rattle.he_explain.specs.Causes.{cause_of, first_cause_by, is_held, later_cause, start_of, tick_of};
+ghost use Rattle.he_explain.specs.Causes.{cause_of, delay_cause, failure_of, first_cause_by, floor_cause, is_held, later_cause, start_of, tick_of};
 
 use he_addr::{Family, Ip};
-use he_plan::{Attempt, Timeline};
+use he_plan::{Attempt, Outcome, Timeline};
 use std::alloc::Allocator;
 
 /// What an attempt waited for before it started.
@@ -26,17 +26,30 @@ pub enum Cause {
     /// The Connection Attempt Delay after the attempt of this place was over: so many milliseconds (section 5).
     AttemptDelay(usize, u64),
 
-    /// That delay was over before, and the answer of this family came with an address (sections 3 and 5).
+    /// Every attempt so far had failed, and the floor after the attempt of this place was over, so many milliseconds
+    /// (own), before that delay.
+    Floor(usize, u64),
+
+    /// The last of all attempts so far failed, at this tick by itself, when the floor was over and that delay wasn't.
+    LastFailure(u64),
+
+    /// That delay was over before, or the floor after failures was, and the answer of this family came with an address
+    /// (sections 3 and 5).
     LaterAnswer(Family),
 }
 
-/// The cause of an attempt's start, where `last` is the attempt before it, or none where it is the race's first. Both
-/// are attempts of the race.
-pub fn cause_of<A: Allocator>(timeline: &Timeline<A>, last: Option<Attempt>, next: Attempt) -> Cause
-    ensures { result ≡ cause_of timeline.now last next }
+/// The cause of an attempt's start, where `last` is the attempt before it, or none where it is the race's first, and
+/// `failed` the greatest [`failure_of`] of all attempts before it, or 0. All are attempts of the race.
+pub fn cause_of<A: Allocator>(
+    timeline: &Timeline<A>,
+    last: Option<Attempt>,
+    failed: u64,
+    next: Attempt,
+) -> Cause
+    ensures { result ≡ cause_of timeline.now last failed next }
 {
     match last {
-        Some(last) => later_cause(timeline, last, next),
+        Some(last) => later_cause(timeline, last, failed, next),
         None => first_cause(timeline, next.tick),
     }
 }
@@ -59,12 +72,62 @@ pub fn is_held<A: Allocator>(
             is_before(answer_tick(timeline, Family::V4), resolution, tick)
         }
         Cause::AttemptDelay(_, delay) => is_before(start(last), delay, tick),
+        Cause::Floor(_, floor) => is_before(start(last), floor, tick),
+        Cause::LastFailure(failed) => failed < tick,
         Cause::LaterAnswer(family) => answer_tick(timeline, family) < tick,
     }
 }
 
-fn later_cause<A: Allocator>(timeline: &Timeline<A>, last: Attempt, next: Attempt) -> Cause
-    ensures { result ≡ later_cause timeline.now last next }
+/// The tick at which the attempt fails, but at most the race's limit, pauses not looked at; 0 where it doesn't fail.
+pub fn failure_of<A: Allocator>(timeline: &Timeline<A>, attempt: Attempt) -> u64
+    ensures { result ≡ failure_of timeline.now attempt }
+{
+    match timeline.outcome(attempt.ip) {
+        Some(Outcome::Fail(duration)) => {
+            let limit = timeline.settings().limit();
+            attempt.tick.saturating_add(duration).min(limit)
+        }
+        Some(Outcome::Ok(_)) | None => 0,
+    }
+}
+
+fn later_cause<A: Allocator>(
+    timeline: &Timeline<A>,
+    last: Attempt,
+    failed: u64,
+    next: Attempt,
+) -> Cause
+    ensures { result ≡ later_cause timeline.now last failed next }
+{
+    if is_after(last.tick, timeline.settings().attempt(), next.tick) {
+        floor_cause(timeline, last, failed, next)
+    } else {
+        delay_cause(timeline, last, next)
+    }
+}
+
+fn floor_cause<A: Allocator>(
+    timeline: &Timeline<A>,
+    last: Attempt,
+    failed: u64,
+    next: Attempt,
+) -> Cause
+    ensures { result ≡ floor_cause timeline.now last failed next timeline.now.settings.floor }
+{
+    let Some(floor) = timeline.settings().floor() else {
+        return Cause::AttemptDelay(last.place, timeline.settings().attempt());
+    };
+    if is_seen_before(timeline, last.tick, floor, next.tick) && timeline.seen(failed) < next.tick {
+        Cause::LaterAnswer(next.ip.family())
+    } else if is_before(last.tick, floor, failed) {
+        Cause::LastFailure(failed)
+    } else {
+        Cause::Floor(last.place, floor)
+    }
+}
+
+fn delay_cause<A: Allocator>(timeline: &Timeline<A>, last: Attempt, next: Attempt) -> Cause
+    ensures { result ≡ delay_cause timeline.now last next }
 {
     let delay = timeline.settings().attempt();
     if is_seen_before(timeline, last.tick, delay, next.tick) {
@@ -112,6 +175,16 @@ fn is_before(from: u64, delay: u64, tick: u64) -> bool
     match from.checked_add(delay) {
         Some(end) => end < tick,
         None => false,
+    }
+}
+
+// Whether a delay after a tick is over after another tick.
+fn is_after(from: u64, delay: u64, tick: u64) -> bool
+    ensures { result ≡ nat_lt tick (from + delay) }
+{
+    match from.checked_add(delay) {
+        Some(end) => tick < end,
+        None => true,
     }
 }
 

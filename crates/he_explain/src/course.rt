@@ -5,7 +5,7 @@ ghost use Rattle.std.specs.List.{flat_map};
 ghost use Rattle.he_addr.specs.Printing.{printed};
 ghost use Rattle.he_text.specs.Writing.{AppendsText};
 ghost use Rattle.he_explain.specs.Course.{cause_text, course_text, event_text, held_text, kind_text, listed_text, put_events, start_text, turn_text};
-ghost use Rattle.he_explain.specs.Reasons.{standings_of};
+ghost use Rattle.he_explain.specs.Reasons.{standings_of, values_text};
 
 use crate::cause::Cause;
 use crate::collecting::{collect_events, end_tick};
@@ -50,6 +50,18 @@ fn sort_by_tick<'a, A: Allocator>(events: &mut Vec<&'a Event, A>) -> Result<(), 
     events.sort_by_key(|event| event.tick)
 }
 
+// FLOOR after attempt PLACE, behind a comma, and that all have failed
+fn write_floor<A: Allocator + Copy>(
+    place: u64,
+    floor: u64,
+    out: &mut Vec<u8, A>,
+) -> Result<(), Memory>
+    ensures { AppendsText result out.old.items out.new.items (values_text (codes ", ") floor (codes " after attempt ") place ++ codes " as all have failed") }
+{
+    write_values(b", ", floor, b" after attempt ", place, out)?;
+    write_bytes(b" as all have failed", out)
+}
+
 fn write_cause<A: Allocator + Copy>(cause: Cause, out: &mut Vec<u8, A>) -> Result<(), Memory>
     ensures { AppendsText result out.old.items out.new.items (cause_text cause) }
 {
@@ -60,6 +72,8 @@ fn write_cause<A: Allocator + Copy>(cause: Cause, out: &mut Vec<u8, A>) -> Resul
         Cause::AttemptDelay(place, delay) => {
             write_values(b", ", delay, b" after attempt ", place as u64, out)
         }
+        Cause::Floor(place, floor) => write_floor(place as u64, floor, out),
+        Cause::LastFailure(_) => write_bytes(b", as all have failed", out),
         Cause::LaterAnswer(Family::V6) => write_bytes(b", on the later AAAA answer", out),
         Cause::LaterAnswer(Family::V4) => write_bytes(b", on the later A answer", out),
     }
@@ -224,11 +238,13 @@ fn write_sorted<A: Allocator + Copy, B: Allocator, C: Allocator>(
 /// - `failed attempt PLACE`;
 /// - `attempt PLACE ADDRESS, CAUSE`, with `, after a pause` where it was due earlier and a pause held it back. The
 ///   cause is `on the AAAA answer`, `on both answers` or `at the end of the Resolution Delay` for the first attempt;
-///   for a later one `N after attempt PLACE`, where N is the Connection Attempt Delay, or `on the later AAAA answer`,
-///   `on the later A answer` where that delay had been over and no address was left. Then follows `, listed at K of
-///   N`, the place in the interlaced list of all that had been received, counted from 0, with `, its family leads` for
-///   the first addresses of the leading family, `, its family's turn` behind an address of the other family, or `, the
-///   other family has run out` (section 4);
+///   for a later one `N after attempt PLACE`, where N is the Connection Attempt Delay; `N after attempt PLACE as all
+///   have failed`, where N is the floor, and `as all have failed` where the last of them did so after the floor, each
+///   before that delay was over; or `on the later AAAA answer`, `on the later A answer` where the attempt had waited
+///   for long enough and no address was left. Then follows `, listed at K of N`, the place in the interlaced list of
+///   all that had been received, counted from 0, with `, its family leads` for the first addresses of the leading
+///   family, `, its family's turn` behind an address of the other family, or `, the other family has run out`
+///   (section 4);
 /// - `won attempt PLACE`, `exhausted` or `limit`, the race's end, and for each attempt that it cancelled, by place,
 ///   `cancelled attempt PLACE`.
 ///

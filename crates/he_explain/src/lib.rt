@@ -2,10 +2,10 @@
 //!
 //! [`write_explanation`] writes the order of a race's addresses with its reasons, then the race's course, and `end`.
 //! Each of both is there by itself. [`write_order_reasons`] writes the usable addresses in the order of RFC 6724
-//! section 6, each with its source, and from the second on the first rule of that section which puts it behind the one
-//! before, by its number and its name there. [`write_course`] writes what happened at which tick (RFC 8305 sections 3
-//! to 5): the answers, the wait for the AAAA answer, each attempt with its cause and the place of its address in the
-//! interlaced list, failures, pauses, and how the race ended.
+//! section 6, with the rules 8a and 8b of RFC 8305 section 4, each with its source, and from the second on the first
+//! of these rules which puts it behind the one before, by its number and its name. [`write_course`] writes what
+//! happened at which tick (RFC 8305 sections 3 to 5): the answers, the wait for the AAAA answer, each attempt with its
+//! cause and the place of its address in the interlaced list, failures, pauses, and how the race ended.
 //!
 //! Proved, for every race: what is appended is the text of `specs/Reasons`, whose rules are those of he_select (its
 //! `specs/Deciding`), and that of `specs/Course`, by the race's one transcript; and the vector is as it was where

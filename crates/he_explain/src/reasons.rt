@@ -5,10 +5,10 @@ ghost use Rattle.he_addr.specs.Printing.{printed};
 ghost use Rattle.he_plan.specs.Race.{Race};
 ghost use Rattle.he_select.specs.Standing.{rule_between};
 ghost use Rattle.he_text.specs.Writing.{AppendsText};
-ghost use Rattle.he_explain.specs.Reasons.{after_text, behind_text, compared_text, of_source, order_reasons_text, place_text, reason_line, reason_lines, reason_text, rule_text, standings_of, with_source_text};
+ghost use Rattle.he_explain.specs.Reasons.{after_text, behind_text, compared_text, of_source, order_reasons_text, place_text, reason_line, reason_lines, reason_text, rtt_text, rule_text, standings_of, with_source_text};
 
 use crate::writing::{write_bytes, write_labelled, write_labelled_ip, write_values};
-use he_addr::{Ip, Memory};
+use he_addr::{Ip, Memory, write_number};
 use he_plan::{Timeline, sorted_standings};
 use he_select::{DestinationRule, LabelledSource, Standing};
 use std::alloc::Allocator;
@@ -25,6 +25,8 @@ fn rule_text(rule: DestinationRule) -> &'static [u8]
         DestinationRule::HigherPrecedence => b"6, prefer higher precedence",
         DestinationRule::NativeTransport => b"7, prefer native transport",
         DestinationRule::SmallerScope => b"8, prefer smaller scope",
+        DestinationRule::LowerRoundTripTime => b"8a, prefer lower round trip time",
+        DestinationRule::UsedBefore => b"8b, prefer an address used before",
         DestinationRule::LongestPrefix => b"9, use longest matching prefix",
         DestinationRule::Unchanged => b"10, otherwise leave the order unchanged",
     }
@@ -39,6 +41,33 @@ fn write_after<A: Allocator + Copy>(
     ensures { AppendsText result out.old.items out.new.items (after_text later earlier) }
 {
     write_values(b": ", later, b" after ", earlier, out)
+}
+
+// A label, and a round trip time behind it, or `unknown`.
+fn write_rtt<A: Allocator + Copy>(
+    label: &[u8],
+    rtt: Option<u64>,
+    out: &mut Vec<u8, A>,
+) -> Result<(), Memory>
+    ensures { AppendsText result out.old.items out.new.items (label.now ++ rtt_text rtt) }
+{
+    write_bytes(label, out)?;
+    match rtt {
+        Some(rtt) => write_number(rtt, out),
+        None => write_bytes(b"unknown", out),
+    }
+}
+
+// Two round trip times, the later address's first.
+fn write_rtts<A: Allocator + Copy>(
+    later: Option<u64>,
+    earlier: Option<u64>,
+    out: &mut Vec<u8, A>,
+) -> Result<(), Memory>
+    ensures { AppendsText result out.old.items out.new.items ((codes ": " ++ rtt_text later) ++ (codes " after " ++ rtt_text earlier)) }
+{
+    write_rtt(b": ", later, out)?;
+    write_rtt(b" after ", earlier, out)
 }
 
 fn source_scope(standing: &Standing) -> u8
@@ -87,12 +116,14 @@ fn write_compared<A: Allocator + Copy>(
             write_after(later.precedence as u64, earlier.precedence as u64, out)
         }
         DestinationRule::SmallerScope => write_after(later.scope as u64, earlier.scope as u64, out),
+        DestinationRule::LowerRoundTripTime => write_rtts(later.rtt, earlier.rtt, out),
         DestinationRule::LongestPrefix => {
             write_after(later.common as u64, earlier.common as u64, out)
         }
         DestinationRule::AvoidUnusable
         | DestinationRule::AvoidDeprecated
         | DestinationRule::NativeTransport
+        | DestinationRule::UsedBefore
         | DestinationRule::Unchanged => Ok(()),
     }
 }
@@ -247,10 +278,11 @@ fn write_whole<A: Allocator + Copy, B: Allocator>(
 /// 6724 section 6): the usable addresses of both answers, whatever their ticks, sorted and not interlaced. Each has
 /// the line `order N ADDRESS source SOURCE` with N from 0, or `order N ADDRESS without source` where the host can't
 /// reach it, and from the second on this line ends with `, behind M by rule NUMBER, NAME`: M is the place before, and
-/// the rule the first one of that section that tells the two addresses apart. Where the rule compares values, they
-/// follow: `: 35 after 40`, that of the later address first, for precedences (rule 6), scopes (8) and common prefix
-/// lengths in bits (9); `: scope 14 but source scope 2` and `: label 1 but source label 5` of the later address for
-/// rules 2 and 5. After `Memory` the vector holds what it held.
+/// the rule the first one of that section that tells the two addresses apart, or of the two that RFC 8305 section 4
+/// puts before its rule 9, 8a and 8b. Where the rule compares values, they follow: `: 35 after 40`, that of the later
+/// address first, for precedences (rule 6), scopes (8), round trip times in milliseconds (8a), of which the first may
+/// be `unknown`, and common prefix lengths in bits (9); `: scope 14 but source scope 2` and `: label 1 but source label
+/// 5` of the later address for rules 2 and 5. After `Memory` the vector holds what it held.
 pub fn write_order_reasons<A: Allocator + Copy, B: Allocator>(
     alloc: A,
     timeline: &Timeline<B>,

@@ -203,11 +203,84 @@ end
 ",
 );
 
-pub static RACES: [(&str, &str); 6] = [
+// What is known of earlier connections, and starts by the floor: at its end, at a failure after it, and in a pause.
+const KNOWN_AND_FAILING: (&str, &str) = (
+    "race 2
+set floor 10
+source 2001:db8::2/64 1
+source 192.0.2.2/24 1
+route ::/0 1
+route 0.0.0.0/0 1
+aaaa 20 2001:db8:1::1 2001:db8:1::2 2001:db8:1::3 2001:db8:1::4
+a 20 none
+rtt 2001:db8:1::2 80
+rtt 2001:db8:1::3 30
+used 2001:db8:1::4
+connect 2001:db8:1::1 ok 30
+connect 2001:db8:1::2 fail 60
+connect 2001:db8:1::3 fail 5
+connect 2001:db8:1::4 fail 5
+pause 92 120
+end
+",
+    "order 0 2001:db8:1::3 source 2001:db8::2
+order 1 2001:db8:1::2 source 2001:db8::2, behind 0 by rule 8a, prefer lower round trip time: 80 after 30
+order 2 2001:db8:1::4 source 2001:db8::2, behind 1 by rule 8a, prefer lower round trip time: unknown after 80
+order 3 2001:db8:1::1 source 2001:db8::2, behind 2 by rule 8b, prefer an address used before
+20 answer aaaa usable 4
+20 answer a usable 0
+20 attempt 0 2001:db8:1::3, on the AAAA answer, listed at 0 of 4, its family leads
+25 failed attempt 0
+30 attempt 1 2001:db8:1::2, 10 after attempt 0 as all have failed, listed at 1 of 4, the other family has run out
+90 failed attempt 1
+90 attempt 2 2001:db8:1::4, as all have failed, listed at 2 of 4, the other family has run out
+92 pause until 120
+120 failed attempt 2
+120 attempt 3 2001:db8:1::1, 10 after attempt 2 as all have failed, after a pause, listed at 3 of 4, the other family has run out
+150 won attempt 3
+end
+",
+);
+
+// A floor that is over before an answer comes with an address, and then before an attempt fails.
+const FLOOR_WAITS: (&str, &str) = (
+    "race 2
+set floor 10
+source 2001:db8::2/64 1
+source 192.0.2.2/24 1
+route ::/0 1
+route 0.0.0.0/0 1
+aaaa 280 2001:db8:1::1 2001:db8:1::2
+a 10 198.51.100.1
+connect 2001:db8:1::1 fail 300
+connect 2001:db8:1::2 ok 30
+connect 198.51.100.1 fail 200
+end
+",
+    "order 0 2001:db8:1::1 source 2001:db8::2
+order 1 2001:db8:1::2 source 2001:db8::2, behind 0 by rule 10, otherwise leave the order unchanged
+order 2 198.51.100.1 source 192.0.2.2, behind 1 by rule 6, prefer higher precedence: 35 after 40
+10 answer a usable 1
+10 wait for aaaa until 60
+60 resolution delay over
+60 attempt 0 198.51.100.1, at the end of the Resolution Delay, listed at 0 of 1, its family leads
+260 failed attempt 0
+280 answer aaaa usable 2
+280 attempt 1 2001:db8:1::1, on the later AAAA answer, listed at 0 of 3, its family leads
+530 attempt 2 2001:db8:1::2, 250 after attempt 1, listed at 2 of 3, its family's turn
+560 won attempt 2
+560 cancelled attempt 1
+end
+",
+);
+
+pub static RACES: [(&str, &str); 8] = [
     LATE_AAAA,
     NEGATIVE_AAAA,
     BOTH_FAMILIES_FAIL,
     UNREACHABLE_LAST,
     TWO_LEAD,
     LATER_ATTEMPTS_FAIL_FIRST,
+    KNOWN_AND_FAILING,
+    FLOOR_WAITS,
 ];

@@ -7,5 +7,5 @@ use Rattle.he_explain.proofs.collecting.push_starts.Given as goal
 abbrev pub invariant-loop-line : goal.invariant-loop-line
 invariant-loop-line g l =
     (l.list.ips.items ≡ interlaced_list l.timeline l.list.v6 l.list.v4)
-    × (l.events.items ++ start_events l.timeline l.last (drop l.line-index l.lines)
-    ≡ l.initial.events.items ++ start_events l.timeline None l.lines)
+    × (l.events.items ++ start_events l.timeline l.last l.failed (drop l.line-index l.lines)
+    ≡ l.initial.events.items ++ start_events l.timeline None 0 l.lines)
