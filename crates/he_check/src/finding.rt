@@ -7,13 +7,15 @@ use crate::place::{Place, first_word, token, token_count};
 use crate::repeats::find_repeat;
 use crate::sentence::{Sentence, SharedPrecedence, WrongPart};
 use he_addr::read_number;
-use he_plan::limits::MAX_ADDRESSES;
+use he_plan::limits::{DEFAULT_ATTEMPT, MAX_ADDRESSES};
 use he_select::PolicyFault;
 use he_text::limits::{MAX_LINE, MOST_RACES};
-use he_text::{LINE_END, TOKEN_END, TextKind, Word};
+use he_text::{LINE_END, Name, TOKEN_END, TextKind, Word};
 
 // The tokens of an answer before its addresses: the word and the tick.
 const ANSWER_HEAD: usize = 2;
+
+const NO_HEADER: &str = "a race begins with the line `race 1` or `race 2`";
 
 type Found = (WrongPart, Sentence);
 
@@ -32,7 +34,7 @@ fn kind_sentence(place: Place<'_>, kind: TextKind) -> Option<Found> {
         TextKind::Header => header_sentence(place.line),
         TextKind::Word => word_sentence(place),
         TextKind::Number | TextKind::Address | TextKind::Prefix => flaw_sentence(place),
-        TextKind::Range => flaw_sentence(place).or(pause_sentence(place)),
+        TextKind::Range => flaw_sentence(place).or(later_range_sentence(place)),
         TextKind::Repeated => repeat_sentence(place),
         TextKind::TooMany => many_sentence(place),
         TextKind::Unfinished => unfinished_sentence(place.line),
@@ -43,7 +45,7 @@ fn kind_sentence(place: Place<'_>, kind: TextKind) -> Option<Found> {
 
 fn general_sentence(kind: TextKind) -> &'static str {
     match kind {
-        TextKind::Header => "a race begins with the line `race 1`",
+        TextKind::Header => NO_HEADER,
         TextKind::Word =>
             "a word or a keyword of this line is none, or too few or too many tokens stand on it",
         TextKind::Number => "a number is one to ten digits without leading zeros",
@@ -102,15 +104,18 @@ fn header_sentence(line: &[u8]) -> Option<Found> {
     let sentence = if line.starts_with(b"\xef\xbb\xbf".as_slice()) {
         "a text begins with its first line, without a byte order mark"
     } else {
-        "a race begins with the line `race 1`"
+        NO_HEADER
     };
     Some((WrongPart::Line, Sentence::Plain(sentence)))
 }
 
 fn word_sentence(place: Place<'_>) -> Option<Found> {
     let Some(word) = first_word(place.line) else {
-        return Some((WrongPart::Token(0), Sentence::Plain(no_word(place.line))));
+        return Some((WrongPart::Token(0), Sentence::Plain(no_word(place))));
     };
+    if word.is_newer() && !place.is_newer() {
+        return Some((WrongPart::Token(0), Sentence::Newer(word.spelling())));
+    }
     if let Some(last) = last_word(place)
         && word.group() < last.group()
     {
@@ -122,9 +127,11 @@ fn word_sentence(place: Place<'_>) -> Option<Found> {
     form_sentence(place.line, word).or(flaw_sentence(place))
 }
 
-fn no_word(line: &[u8]) -> &'static str {
-    if token(line, 0) == b"race".as_slice() {
+fn no_word(place: Place<'_>) -> &'static str {
+    if token(place.line, 0) == b"race".as_slice() {
         "the race above has no line `end`"
+    } else if place.is_newer() {
+        "no such word: lines begin with set, policy, source, route, aaaa, a, rtt, used, connect, pause or end"
     } else {
         "no such word: lines begin with set, policy, source, route, aaaa, a, connect, pause or end"
     }
@@ -158,6 +165,50 @@ fn form_sentence(line: &[u8], word: Word) -> Option<Found> {
 fn flaw_sentence(place: Place<'_>) -> Option<Found> {
     let (at, sentence) = find_flaw(place, first_word(place.line)?)?;
     Some((WrongPart::Token(at), sentence))
+}
+
+// Numbers that are in their ranges, and not in order.
+fn later_range_sentence(place: Place<'_>) -> Option<Found> {
+    match first_word(place.line)? {
+        Word::Set => floor_sentence(place),
+        Word::Pause => pause_sentence(place),
+        _ => None,
+    }
+}
+
+// A floor above the attempt delay, where the line is the last setting of its race.
+fn floor_sentence(place: Place<'_>) -> Option<Found> {
+    let (floor, line) = setting(place, Name::Floor)?;
+    let attempt = match setting(place, Name::Attempt) {
+        Some((attempt, _)) => attempt,
+        None => DEFAULT_ATTEMPT,
+    };
+    let mark = match Name::read(token(place.line, 1)) {
+        Some(Name::Floor | Name::Attempt) => WrongPart::Token(2),
+        _ => WrongPart::Line,
+    };
+    let sentence = Sentence::HighFloor {
+        floor,
+        line,
+        attempt,
+    };
+    Some((mark, sentence))
+}
+
+// The number that the race's lines up to this one give the setting, and the number of the line that does.
+fn setting(place: Place<'_>, name: Name) -> Option<(u64, u64)> {
+    for (at, earlier) in place.before.split(|byte| *byte == LINE_END).enumerate() {
+        // behind the last line end stands the line itself
+        let line = if earlier.is_empty() {
+            place.line
+        } else {
+            earlier
+        };
+        if first_word(line) == Some(Word::Set) && Name::read(token(line, 1)) == Some(name) {
+            return Some((read_number(token(line, 2))?, place.number(at)));
+        }
+    }
+    None
 }
 
 // A pause that does not end after it begins, or begins before the end of the one above.

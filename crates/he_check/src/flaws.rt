@@ -44,6 +44,13 @@ const DURATION: Numbers = Numbers {
     unit: MILLISECONDS,
 };
 
+const ROUND_TRIP_TIME: Numbers = Numbers {
+    what: "a round trip time",
+    least: MIN_DURATION,
+    most: MAX_DURATION,
+    unit: MILLISECONDS,
+};
+
 const PAUSE_FROM: Numbers = Numbers {
     what: "the first tick of a pause",
     least: 0,
@@ -72,7 +79,7 @@ pub(crate) fn find_flaw(place: Place<'_>, word: Word) -> Option<(usize, Sentence
 fn token_flaw(place: Place<'_>, word: Word, at: usize, text: &[u8]) -> Option<Sentence> {
     match (word, at) {
         (_, 0) | (Word::End, _) => None,
-        (Word::Set, 1) => name_flaw(text),
+        (Word::Set, 1) => name_flaw(place, text),
         (Word::Set, _) => number_flaw(setting_of(place.line)?, text),
         (Word::Policy | Word::Route, 1) => prefix_flaw(text),
         (Word::Policy, 2) => number_flaw(PRECEDENCE, text),
@@ -84,7 +91,8 @@ fn token_flaw(place: Place<'_>, word: Word, at: usize, text: &[u8]) -> Option<Se
         (Word::Aaaa | Word::A, 1) => number_flaw(TICK, text),
         (Word::Aaaa, _) => address_flaw(Family::V6, place.line, text),
         (Word::A, _) => address_flaw(Family::V4, place.line, text),
-        (Word::Connect, 1) => known_flaw(place, text),
+        (Word::Rtt | Word::Used | Word::Connect, 1) => known_flaw(place, text),
+        (Word::Rtt | Word::Used, _) => number_flaw(ROUND_TRIP_TIME, text),
         (Word::Connect, 2) => outcome_flaw(text),
         (Word::Connect, _) => number_flaw(DURATION, text),
         (Word::Pause, 1) => number_flaw(PAUSE_FROM, text),
@@ -100,6 +108,7 @@ fn setting_of(line: &[u8]) -> Option<Numbers> {
         Name::Attempt => ("the attempt delay", MILLISECONDS),
         Name::Count => ("the count of the leading family", " addresses"),
         Name::Limit => ("the limit of a race", MILLISECONDS),
+        Name::Floor => ("the floor after failures", MILLISECONDS),
     };
     Some(Numbers {
         what,
@@ -109,9 +118,13 @@ fn setting_of(line: &[u8]) -> Option<Numbers> {
     })
 }
 
-fn name_flaw(text: &[u8]) -> Option<Sentence> {
+fn name_flaw(place: Place<'_>, text: &[u8]) -> Option<Sentence> {
     match Name::read(text) {
+        Some(name) if name.is_newer() && !place.is_newer() => Some(Sentence::Newer(name.spelling())),
         Some(_) => None,
+        None if place.is_newer() => Some(Sentence::Plain(
+            "no such setting: known are resolution, attempt, count, limit and floor",
+        )),
         None => Some(Sentence::Plain(
             "no such setting: known are resolution, attempt, count and limit",
         )),
@@ -187,7 +200,7 @@ fn address_flaw(family: Family, line: &[u8], text: &[u8]) -> Option<Sentence> {
     }))
 }
 
-// An address of a connection: one of an answer.
+// An address of which something is told: one of an answer.
 fn known_flaw(place: Place<'_>, text: &[u8]) -> Option<Sentence> {
     let Some(ip) = read_ip(text) else {
         return Some(Sentence::Plain("this is no address"));

@@ -13,6 +13,8 @@ pub(crate) fn form(word: Word) -> &'static str {
         Word::Route => "a route is `route PREFIX INTERFACE`, then `tunnel` where it is one",
         Word::Aaaa => "the IPv6 answer is `aaaa TICK ADDRESS ..` or `aaaa TICK none`",
         Word::A => "the IPv4 answer is `a TICK ADDRESS ..` or `a TICK none`",
+        Word::Rtt => "a known round trip time is `rtt ADDRESS MILLISECONDS`",
+        Word::Used => "an address that was used before is `used ADDRESS`",
         Word::Connect => "an outcome is `connect ADDRESS ok TICKS` or `connect ADDRESS fail TICKS`",
         Word::Pause => "a pause is `pause FROM TO`",
         Word::End => "nothing stands behind `end` on its line",
@@ -22,11 +24,12 @@ pub(crate) fn form(word: Word) -> &'static str {
 // The most tokens of its lines, the word included.
 pub(crate) fn most_tokens(word: Word) -> Option<usize> {
     match word {
-        Word::Set | Word::Pause => Some(3),
+        Word::Set | Word::Rtt | Word::Pause => Some(3),
         Word::Policy | Word::Connect => Some(4),
         Word::Source => Some(3 + SOURCE_MARKS),
         Word::Route => Some(3 + ROUTE_MARKS),
         Word::Aaaa | Word::A => None,
+        Word::Used => Some(2),
         Word::End => Some(1),
     }
 }
@@ -35,6 +38,7 @@ pub(crate) fn most_tokens(word: Word) -> Option<usize> {
 pub(crate) fn least_tokens(word: Word) -> usize {
     match word {
         Word::Policy | Word::Connect => 4,
+        Word::Used => 2,
         Word::End => 1,
         _ => 3,
     }

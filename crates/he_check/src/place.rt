@@ -1,6 +1,6 @@
 // Where a fault stands: a line, and the lines of its race before it.
 
-use he_text::{LINE_END, TOKEN_END, Word};
+use he_text::{LINE_END, NEWER_HEADER, TOKEN_END, Word};
 use memchr::memchr;
 
 // The line with which a race ends.
@@ -58,6 +58,11 @@ impl Place<'_> {
     // The number of the line that stands so many lines behind the race's first one.
     pub(crate) fn number(self, at: usize) -> u64 {
         self.first.saturating_add(at as u64)
+    }
+
+    // Whether the race begins as one of version 2.
+    pub(crate) fn is_newer(self) -> bool {
+        cut_line(self.before).0 == NEWER_HEADER
     }
 }
 

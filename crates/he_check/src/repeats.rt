@@ -22,6 +22,8 @@ fn given_above(word: Word) -> &'static str {
         Word::Policy => "the table has a row of this prefix above",
         Word::Source => "the host has a source with this address above",
         Word::Route => "the host has a route of this prefix above",
+        Word::Rtt => "the round trip time of this address stands above",
+        Word::Used => "this address is said to be used above",
         _ => "the outcome for this address stands above",
     }
 }
@@ -44,7 +46,7 @@ fn is_same(word: Word, one: &[u8], other: &[u8]) -> bool {
             (Some((ip, _)), Some((other_ip, _))) => ip == other_ip,
             _ => false,
         },
-        Word::Connect => read_ip(one) == read_ip(other),
+        Word::Rtt | Word::Used | Word::Connect => read_ip(one) == read_ip(other),
         _ => one == other,
     }
 }

@@ -58,6 +58,14 @@ pub(crate) enum Sentence {
     Order(&'static str, &'static str),
     // The pause before this one ends only at this tick.
     PauseAbove(u64),
+    // A word or a setting of version 2 stands in a race of version 1.
+    Newer(&'static str),
+    // The floor after failures, on the line with this number, is above the attempt delay.
+    HighFloor {
+        floor: u64,
+        line: u64,
+        attempt: u64,
+    },
     // Two rows of a policy table share a precedence.
     Shared(SharedPrecedence),
 }
@@ -99,6 +107,19 @@ impl fmt::Display for Sentence {
                 write!(
                     f,
                     "the pause above lasts until tick {end}, and this one begins before"
+                )
+            }
+            Sentence::Newer(word) => {
+                write!(f, "{word} stands in races that begin with the line `race 2`")
+            }
+            Sentence::HighFloor {
+                floor,
+                line,
+                attempt,
+            } => {
+                write!(
+                    f,
+                    "the floor after failures, {floor} milliseconds on line {line}, is above the attempt delay, {attempt}"
                 )
             }
             Sentence::Shared(shared) => fmt::Display::fmt(shared, f),

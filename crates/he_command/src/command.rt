@@ -49,7 +49,8 @@ const REPLAY_EXAMPLE: &str = "\
 Standard input is a timeline text: for each race the host's addresses and routes, the
 tick (millisecond) at which each DNS answer comes, and how long each connect takes.
 Standard output has, for each race, its attempts with start, address and end, and
-the result.
+the result. A race that begins with `race 2` may also say what is known of addresses
+from earlier (`rtt`, `used`), and how soon after failures the next is tried (`set floor`).
 
 Example input:
 
@@ -98,9 +99,9 @@ Exit status: 0 when all is done; 1 after a fault, with one line on standard erro
 const EXPLAIN_EXAMPLE: &str = "\
 Standard input is a timeline text, as for `he replay`. Standard output has, for each
 race, its usable addresses in the order of preference, from the second on with the rule
-of RFC 6724 section 6 that puts it behind the one before; then what happened at which
-tick (millisecond), each attempt with what started it (RFC 8305 sections 3 to 5), and
-with the place of its address in the interlaced list.
+(RFC 6724 section 6, RFC 8305 section 4) that puts it behind the one before; then what
+happened at which tick (millisecond), each attempt with what started it (RFC 8305
+sections 3 to 5), and with the place of its address in the interlaced list.
 
 Example input:
 
@@ -182,7 +183,7 @@ Output of `he live --port 8080` begins so (ticks differ from run to run):
 
 To keep the record, and to replay it:
 
-  he live --port 8080 < race.txt | sed -n '/^race 1$/,$p' > record.txt
+  he live --port 8080 < race.txt | sed -n '/^race /,$p' > record.txt
   he replay < record.txt
 
 Exit status: 0 when all is done, whether a connection was made or not; 3 in place of

@@ -17,7 +17,7 @@ abbrev pub IsRunFault : LiveFault → Type 0
 IsRunFault fault = (fault ≡ faults.Runtime) ⊎ (fault ≡ faults.Memory)
 
 -- the text of a race that was run, and how it ended: a transcript and then a record, which has the race's settings, policy,
--- host and answers and replays to this transcript
+-- host, answers and what is known from earlier, and replays to this transcript
 pub record IsLiveText (race : Race) (text : List ℕ) (result : Outcome3) : Type 0 where
   pub recorded : Race
   pub report : Report

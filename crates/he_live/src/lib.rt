@@ -28,8 +28,9 @@
 //! # What is proved
 //!
 //! - What [`live_race`] gives replays, whatever the sockets and the clock did: its transcript is the one that the rules
-//!   of a race make of its record; the record has the given settings, policy, host and answers; and there is a winner's
-//!   stream exactly where the race was won (`Replays` of `he_race`). Its faults are `Runtime` and `Memory` alone.
+//!   of a race make of its record; the record has the given settings, policy, host, answers and what is known of
+//!   addresses from earlier; and there is a winner's stream exactly where the race was won (`Replays` of `he_race`).
+//!   Its faults are `Runtime` and `Memory` alone.
 //! - [`live`] writes the transcript's text and then the record's, of the input's one race; it makes all of it before
 //!   it writes the first byte, and after any fault but `Write` nothing was written. `Text`, `Read` and `OneRace` come
 //!   only where the input has this fault (`specs/Live`).

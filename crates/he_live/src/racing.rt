@@ -20,8 +20,9 @@ use tokio::runtime::LocalRuntime;
 /// (RFC 8305 sections 4 and 5), and answers the first connection, the transcript and the record.
 ///
 /// A tick is a millisecond since the call. An answer counts as come at its tick; one that is there already has tick 0.
-/// Of the timeline its settings, policy, host and answers are looked at alone: what each address does, and where the
-/// client was late, is what the record says. Replayed, the record gives the transcript.
+/// Of the timeline its settings, policy, host, answers and what is known of addresses from earlier are looked at alone:
+/// what each address does, and where the client was late, is what the record says. Replayed, the record gives the
+/// transcript.
 ///
 /// The losers are closed before the call returns. The winner's stream belongs to an event loop that has ended: it is
 /// non-blocking, and its calls of `try_read`, `try_write`, `peer_addr` and such serve. A program that wants to wait

@@ -23,9 +23,9 @@ use tokio::net::TcpStream;
 /// Reads one race to the end of the input, runs it on real sockets at the port ([`live_race`]), and writes its
 /// transcript and then its record, a timeline that replays to this transcript. Answers how the race ended.
 ///
-/// Of the input's race the settings, policy, host and answers are looked at alone. The whole output is made before the
-/// first byte of it is written: after `Write` a first part was written, after any other fault nothing. It is flushed
-/// at the end.
+/// Of the input's race the settings, policy, host, answers and what is known of addresses from earlier are looked at
+/// alone. The whole output is made before the first byte of it is written: after `Write` a first part was written,
+/// after any other fault nothing. It is flushed at the end.
 ///
 /// # Errors
 ///
