@@ -1,14 +1,18 @@
 //! The races of an example, each run turn by turn as a future.
 
 use he_addr::Memory;
-use he_plan::{Timeline, plan};
+use he_plan::{Fate, Mark, Timeline, Transcript, plan};
 use he_race::{race_one, run_attempt};
 use he_replay::limits::MOST_RACES;
 use he_text::{TextKind, read_race, write_transcript};
 use std::alloc::{AllocError, Global};
 use std::mem::drop;
 
-/// The transcripts of the text's races up to its first fault, each by `race_one`.
+// What stands in place of a transcript's end where an attempt that is run alone does not come to what its line tells.
+const DIFFERS: &[u8] = b"an attempt differs\n";
+
+/// The transcripts of the text's races up to its first fault, each by `race_one`. Where an attempt that is run alone
+/// comes to something else than its line tells, a line behind the transcript says so.
 ///
 /// # Errors
 ///
@@ -33,14 +37,9 @@ fn run_first<'a>(
 ) -> Result<Option<&'a [u8]>, AllocError> {
     match read_race(alloc, text, 0) {
         Ok(Some((timeline, end))) => {
-            let attempts = run_attempts(alloc, &timeline);
-            let ran = race_one(alloc, &timeline);
+            let ran = run_race(alloc, &timeline, written);
             drop(timeline);
-            attempts.map_err(|_| AllocError)?;
-            let transcript = ran.map_err(|_| AllocError)?;
-            let appended = write_transcript(&transcript, written);
-            drop(transcript);
-            appended.map_err(|_| AllocError)?;
+            ran.map_err(|_| AllocError)?;
             Ok(Some(&text[end..]))
         }
         Ok(None) => Ok(None),
@@ -51,11 +50,37 @@ fn run_first<'a>(
     }
 }
 
-// Runs each attempt of the race's plan alone. What it comes to is proved to be its fate, if memory is granted.
-fn run_attempts(alloc: Global, timeline: &Timeline) -> Result<(), Memory> {
-    let plan = plan(alloc, timeline)?;
-    for place in 0..plan.attempts().len() {
-        run_attempt(alloc, timeline, &plan, place)?;
+fn run_race(alloc: Global, timeline: &Timeline, written: &mut Vec<u8>) -> Result<(), Memory> {
+    let transcript = race_one(alloc, timeline)?;
+    write_transcript(&transcript, written)?;
+    if !are_told(alloc, timeline, &transcript)? {
+        written.extend_from_slice(DIFFERS)?;
     }
     Ok(())
+}
+
+// Runs each attempt of the race's plan alone, and answers whether each comes to what the transcript tells of it.
+fn are_told(alloc: Global, timeline: &Timeline, transcript: &Transcript) -> Result<bool, Memory> {
+    let plan = plan(alloc, timeline)?;
+    for place in 0..plan.attempts().len() {
+        let fate = run_attempt(alloc, timeline, &plan, place)?;
+        if let Some(line) = transcript.attempts().get(place)
+            && !is_told(fate, line.mark)
+        {
+            return Ok(false);
+        }
+    }
+    Ok(true)
+}
+
+// Whether a transcript has this mark for an attempt that comes to this when it is run alone.
+fn is_told(fate: Fate, mark: Mark) -> bool {
+    match (fate, mark) {
+        (Fate::Succeeded(finish), Mark::Won(tick)) => finish == tick,
+        (Fate::Failed(finish), Mark::Failed(tick)) => finish == tick,
+        (Fate::Succeeded(finish), Mark::Cancelled(stop)) => stop <= finish,
+        (Fate::Failed(finish), Mark::Cancelled(stop)) => stop < finish,
+        (Fate::Running, Mark::Cancelled(_)) => true,
+        _ => false,
+    }
 }
