@@ -27,12 +27,12 @@ pub key_there : {V : Type 0} (eq : Ip → Ip → Bool) → IsSame eq → (ip : I
 key_there {V} eq same ip keys told is = found_is eq same ip keys ∙ ap (has_ip ip) is ∙ has_key ip told
 
 -- the next address is new
-pub place_next : {V : Type 0} (eq : Ip → Ip → Bool) → IsSame eq → (told : List (Ip × V)) (keys new : List Ip) (i : ℕ) (d : Ip × V) → are_told_once told ≡ true → i < length told → keys ≡ take i (keys_of told) → new ≡ cond (list_any (eq (get_or told i d).0) keys) keys (keys ++ (get_or told i d).0 ∷ []) → new ≡ take (i + 1) (keys_of told)
-place_next {V} eq same told keys new i d once below is grown =
+pub place_next : {V : Type 0} (eq : Ip → Ip → Bool) → IsSame eq → (told : List (Ip × V)) (keys new : List Ip) (i : ℕ) (p : Ip × V) → are_told_once told ≡ true → i < length told → p ≡ get_or told i p → keys ≡ take i (keys_of told) → new ≡ cond (list_any (eq p.0) keys) keys (keys ++ p.0 ∷ []) → new ≡ take (i + 1) (keys_of told)
+place_next {V} eq same told keys new i p once below at is grown =
     let ips : List Ip = keys_of told in
-    let own : get_or ips i d.0 ≡ (get_or told i d).0 = get_or-map (λ (p : Ip × V). p.0) told i d d.0 below in
+    let own : get_or ips i p.0 ≡ p.0 = get_or-map (λ (q : Ip × V). q.0) told i p p.0 below ∙ ap (λ (q : Ip × V). q.0) (sym at) in
     let within : i < length ips = subst (λ n. i < n) (sym (length-map told _)) below in
-    set_grows eq same keys new ips i d.0 (distinct_keys told ∙ once) within is
+    set_grows eq same keys new ips i p.0 (distinct_keys told ∙ once) within is
     (grown ∙ ap (λ (x : Ip). cond (list_any (eq x) keys) keys (keys ++ x ∷ [])) (sym own))
 
 -- what is told at the place of its address

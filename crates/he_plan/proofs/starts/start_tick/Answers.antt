@@ -1,4 +1,4 @@
-use Rattle.std.proofs.Common.{◌≡◌, ◌+◌, ◌≤◌, length, drop, Some, refl, sym, ◌∙◌, ap, subst, arith}
+use Rattle.std.proofs.Common.{◌≡◌, ◌≤◌, length, drop, Some, refl, sym, ◌∙◌, ap, subst, arith}
 use Rattle.he_plan.specs.Planning.{wait_end}
 use Rattle.he_plan.specs.Underway.{IsQueue, Untried}
 use Rattle.he_plan.proofs.Following.{follows_delay, follows_late}

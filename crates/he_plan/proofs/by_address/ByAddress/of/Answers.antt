@@ -11,11 +11,11 @@ returns-in-Some g c =
     let told = c.self.inside in
     let is = are_some told.places.keys told.told.items c.self.invariant c.is_empty.result c.if-is_empty.false c.is_empty.ensures.1 in
     let at = value_at eq-value.it same_as c.args.ip told.places.keys told.told.items is c.in-Some.place c.index.result.now (sym c.get_index_of.ensures.index ∙ c.in-Some.is) in
-    ap (λ (p : Ip × g.V). Some p.1) c.index.ensures ∙ at.1 ∙ ap (λ (l : List (Ip × g.V)). told_of l c.args.ip) c.self.view_is
+    ap (λ (p : Ip × g.row.V.Denot). Some p.1) c.index.ensures ∙ at.1 ∙ ap (λ (l : List (Ip × g.row.V.Denot)). told_of l c.args.ip) c.self.view_is
 
 pub returns-in-None : goal.returns-in-None
 returns-in-None g c =
     let told = c.self.inside in
     let is = are_some told.places.keys told.told.items c.self.invariant c.is_empty.result c.if-is_empty.false c.is_empty.ensures.1 in
     value_nowhere eq-value.it same_as c.args.ip told.places.keys told.told.items is (sym c.get_index_of.ensures.index ∙ c.in-None.is)
-    ∙ ap (λ (l : List (Ip × g.V)). told_of l c.args.ip) c.self.view_is
+    ∙ ap (λ (l : List (Ip × g.row.V.Denot)). told_of l c.args.ip) c.self.view_is

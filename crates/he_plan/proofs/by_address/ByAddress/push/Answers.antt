@@ -13,8 +13,8 @@ make_places-requires-clause-once g c =
 
 pub invariant_of-self-in_default : goal.invariant_of-self-in_default
 invariant_of-self-in_default g c =
-    let told : List (Ip × g.V) = c.self.inside.told.items in
-    let once = ap (λ (l : List (Ip × g.V)). are_told_once (l ++ (c.args.ip, c.args.value) ∷ [])) c.self.view_is ∙ c.requires in
+    let told : List (Ip × g.row.V.Denot) = c.self.inside.told.items in
+    let once = ap (λ (l : List (Ip × g.row.V.Denot)). are_told_once (l ++ (c.args.ip, c.args.value) ∷ [])) c.self.view_is ∙ c.requires in
     inr (
     place_last eq-value.it same_as told c.make_places.new.places.keys c.insert.new.self.keys c.args.ip c.args.value once
     (c.in_ok-make_places.ensures.ok ∙ ap keys_of c.deref.ensures.value) c.in_default.ensures.keys

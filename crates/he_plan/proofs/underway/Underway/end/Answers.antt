@@ -10,7 +10,8 @@ index_mut-requires g c =
     let old : Progress = record { attempts = c.self.inside.attempts.items; fates = c.self.inside.fates.items; failed = c.self.inside.failed; latest = c.self.inside.latest; queue = c.self.inside.queue } in
     let under : IsUnderway c.requires.ends.0 old = subst (λ (u : Progress). IsUnderway c.requires.ends.0 u) (sym c.self.view_is) c.requires.ends.2 in
     let ends : EndsOne c.requires.ends.0 c.args.timeline.now old.attempts c.args.attempt = subst (λ (u : Progress). EndsOne c.requires.ends.0 c.args.timeline.now u.attempts c.args.attempt) (sym c.self.view_is) c.requires.ends.3 in
-    get_below old.fates c.args.attempt.place Running (underway-ran c.requires.ends.0 c.args.timeline.now old c.args.attempt under ends)
+    let lt : c.args.attempt.place < length c.self.inside.fates.items = get_below old.fates c.args.attempt.place Running (underway-ran c.requires.ends.0 c.args.timeline.now old c.args.attempt under ends) in
+    omega arith
 
 pub count-requires : goal.count-requires
 count-requires g c =

@@ -1,4 +1,4 @@
-use Rattle.std.proofs.Common.{◌+◌, ◌<◌, ◌++◌, [], ◌∷◌, List, length, length-append, sym, ◌∙◌, ap, arith, subst}
+use Rattle.std.proofs.Common.{[], ◌∷◌, List, length, length-append, sym, ◌∙◌, ap, arith, subst}
 use Rattle.he_plan.specs.declared.attempts.Attempt.{Attempt}
 use Rattle.he_plan.specs.Attempts.{IsLeast, MayStart}
 use Rattle.he_plan.specs.Underway.{IsAtNext, IsQueue, IsUnderway, Progress}
