@@ -2,14 +2,13 @@
 use Rattle.std.proofs.Common.{◌≡◌, ℕ, suc, ◌+◌, ◌<◌, ◌||◌, ◌&&◌, ◌++◌, Bool, true, false, cond, not, List, [], ◌∷◌, length, take, drop, get_or, Option, Some, None, IsTrue, refl, sym, ◌∙◌, ap, drop-cons}
 use Rattle.std.specs.List.{list_any}
 use Rattle.std.proofs.lemmas.List.{take_more, take-append-drop}
-use Rattle.std.proofs.lemmas.List.Folds.{list_any-append}
 use Rattle.he_addr.specs.Ip.{family_of, same_ip}
 use Rattle.he_addr.specs.declared.ip.Family.TheVariants as families
 use Rattle.he_addr.specs.declared.ip.Ip.{Ip}
 use Rattle.he_addr.specs.declared.ip.Ip.TheVariants.{V4, V6}
 use Rattle.he_plan.specs.Race.{Reply, addresses_of, has_ip}
 use Rattle.he_plan.specs.Timeline.{are_distinct, are_of, is_answer}
-use Rattle.he_plan.proofs.Bools.{and_both, and_left, and_right}
+use Rattle.he_plan.proofs.Bools.{and_left, and_right}
 use Rattle.he_plan.proofs.ByAddress.{IsSame}
 use Rattle.he_plan.proofs.Ranges.{distinct_more, same_ip-sym}
 
