@@ -2,16 +2,15 @@
 use Rattle.std.proofs.Common.{◌≡◌, ℕ, suc, ◌+◌, ◌<◌, ◌||◌, ◌&&◌, ◌++◌, Bool, true, false, cond, not, List, [], ◌∷◌, length, take, drop, get_or, Option, Some, None, IsTrue, refl, sym, ◌∙◌, ap, drop-cons}
 use Rattle.std.specs.List.{list_any}
 use Rattle.std.proofs.lemmas.List.{take_more, take-append-drop}
-use Rattle.std.proofs.lemmas.List.Folds.{list_any-append}
 use Rattle.he_addr.specs.Ip.{family_of, same_ip}
 use Rattle.he_addr.specs.declared.ip.Family.TheVariants as families
 use Rattle.he_addr.specs.declared.ip.Ip.{Ip}
 use Rattle.he_addr.specs.declared.ip.Ip.TheVariants.{V4, V6}
 use Rattle.he_plan.specs.Race.{Reply, addresses_of, has_ip}
 use Rattle.he_plan.specs.Timeline.{are_distinct, are_of, is_answer}
-use Rattle.he_plan.proofs.Bools.{and_both, and_left, and_right}
+use Rattle.he_plan.proofs.Bools.{and_left, and_right}
 use Rattle.he_plan.proofs.ByAddress.{IsSame}
-use Rattle.he_plan.proofs.Ranges.{same_ip-sym}
+use Rattle.he_plan.proofs.Ranges.{distinct_more, same_ip-sym}
 
 -- an equality of addresses finds what the definition does
 pub found_is : (eq : Ip → Ip → Bool) → IsSame eq → (ip : Ip) (ips : List Ip) → list_any (eq ip) ips ≡ has_ip ip ips
@@ -25,26 +24,6 @@ not_by false e = refl
 pub no_by : (b : Bool) → not b ≡ true → b ≡ false
 no_by true e = cc
 no_by false e = refl
-
-or_left : (b c : Bool) → (b || c) ≡ false → b ≡ false
-or_left true c e = e
-or_left false c e = refl
-
-or_right : (b c : Bool) → (b || c) ≡ false → c ≡ false
-or_right true c e = cc
-or_right false c e = e
-
-or_none : (b c : Bool) → b ≡ false → c ≡ false → (b || c) ≡ false
-or_none true c e f = e
-or_none false c e f = f
-
--- a new address stands twice nowhere
-pub distinct_more : (xs : List Ip) (x : Ip) → are_distinct xs ≡ true → has_ip x xs ≡ false → are_distinct (xs ++ x ∷ []) ≡ true
-distinct_more [] x distinct new = refl
-distinct_more (z ∷ xs) x distinct new =
-    let apart : same_ip x z ≡ false = same_ip-sym x z ∙ or_left (same_ip z x) (has_ip x xs) new in
-    let none : has_ip z (xs ++ x ∷ []) ≡ false = list_any-append (λ (other : Ip). same_ip other z) xs (x ∷ []) ∙ or_none _ _ (no_by _ (and_left _ _ distinct)) (or_none _ _ apart refl) in
-    and_both _ _ (not_by _ none) (distinct_more xs x (and_right _ _ distinct) (or_right (same_ip z x) (has_ip x xs) new))
 
 or_true : (b : Bool) → (b || true) ≡ true
 or_true true = refl
@@ -117,6 +96,16 @@ distinct_never ips i d below there =
 pub set_next : (eq : Ip → Ip → Bool) → IsSame eq → (keys new ips : List Ip) (i : ℕ) (d : Ip) → i < length ips → keys ≡ take i ips → list_any (eq (get_or ips i d)) keys ≡ false → new ≡ cond (list_any (eq (get_or ips i d)) keys) keys (keys ++ get_or ips i d ∷ []) → new ≡ take (i + 1) ips
 set_next eq same keys new ips i d below is absent grown =
     grown ∙ ap (λ (b : Bool). cond b keys (keys ++ get_or ips i d ∷ [])) absent ∙ ap (λ rest. rest ++ get_or ips i d ∷ []) is ∙ sym (take_more ips i d below)
+
+-- and of distinct addresses it has none before its place
+pub set_grows : (eq : Ip → Ip → Bool) → IsSame eq → (keys new ips : List Ip) (i : ℕ) (d : Ip) → are_distinct ips ≡ true → i < length ips → keys ≡ take i ips → new ≡ cond (list_any (eq (get_or ips i d)) keys) keys (keys ++ get_or ips i d ∷ []) → new ≡ take (i + 1) ips
+set_grows eq same keys new ips i d distinct below is grown =
+    let absent : has_ip (get_or ips i d) (take i ips) ≡ false = unless (has_ip (get_or ips i d) (take i ips)) (λ there. sym (distinct_never ips i d below there) ∙ distinct) in
+    set_next eq same keys new ips i d below is (found_is eq same (get_or ips i d) keys ∙ ap (has_ip (get_or ips i d)) is ∙ absent) grown
+  where
+    unless : (b : Bool) → (b ≡ true → false ≡ true) → b ≡ false
+    unless true against = sym (against refl)
+    unless false against = refl
 
 -- an insertion that adds nothing found the address there
 pub there_by : (b k : Bool) → b ≡ not k → b ≡ false → k ≡ true

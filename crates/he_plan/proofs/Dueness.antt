@@ -51,7 +51,7 @@ abbrev awake : Race → Race
 awake race = record race { pauses = [] }
 
 awake-is : (race : Race) → IsRace race → IsRace (awake race)
-awake-is race r = record { settings = r.settings; policy = r.policy; host = r.host; aaaa = r.aaaa; a = r.a; outcomes = r.outcomes; once = r.once; pauses = refl; few = omega arith }
+awake-is race r = record { settings = r.settings; policy = r.policy; host = r.host; aaaa = r.aaaa; a = r.a; rtts = r.rtts; rtts_once = r.rtts_once; used = r.used; used_once = r.used_once; outcomes = r.outcomes; once = r.once; pauses = refl; few = omega arith }
 
 pub starts-own : (race : Race) → IsRace race → (done : List Attempt) (t : ℕ) → IsFree race t → MayStart race done t ↔ MayStart (awake race) done t
 starts-own race r done t free =

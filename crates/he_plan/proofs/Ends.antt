@@ -1,9 +1,7 @@
 -- An attempt that was made ends: no other one is of its address, so what became of the others stays.
-use Rattle.std.proofs.Common.{◌≡◌, ℕ, zero, suc, ◌+◌, ◌≤◌, ◌<◌, ◌&&◌, ◌||◌, ◌++◌, Bool, true, false, List, [], ◌∷◌, find, if◌then◌else◌, length, map, max, set, take, get_or, Option, Some, None, IfSome, nat_eq, nat_le, nat_lt, refl, sym, ◌∙◌, ap, subst, arith, length-append, length-take}
+use Rattle.std.proofs.Common.{◌≡◌, ℕ, zero, suc, ◌+◌, ◌≤◌, ◌<◌, ◌||◌, ◌++◌, Bool, true, false, not, List, [], ◌∷◌, find, if◌then◌else◌, length, map, max, set, take, get_or, Some, None, IfSome, refl, sym, ◌∙◌, ap, subst, arith, length-take}
 use Rattle.std.specs.List.{Contains, list_all, list_any, slice_get}
 use Rattle.std.specs.Option.{option_map}
-use Rattle.std.proofs.lemmas.Bool.{cases_lt}
-use Rattle.std.proofs.lemmas.List.{length-map}
 use Rattle.std.proofs.lemmas.List.Folds.{list_any-append}
 use Rattle.he_addr.specs.Ip.{same_ip}
 use Rattle.he_addr.specs.declared.ip.Ip.{Ip}
@@ -24,7 +22,7 @@ use Rattle.he_plan.specs.Timeline.{IsRace, duration_of}
 use Rattle.he_plan.specs.Transcript.{failures, greatest, is_failed}
 use Rattle.he_plan.specs.Underway.{AreFates, EndsOne, IsQueue, IsUnderway, Progress, Untried, counted}
 use Rattle.he_plan.proofs.Agreeing.{in_turn-below}
-use Rattle.he_plan.proofs.Bools.{and_left, and_right, clash, le_from, not_le, or_left, or_left_none, or_none, or_right_none}
+use Rattle.he_plan.proofs.Bools.{clash, not_le, or_left, or_left_none, or_none, or_right_none}
 use Rattle.he_plan.proofs.Distinct.{same_ip-is, same_ip-self}
 use Rattle.he_plan.proofs.Few.{found_passes}
 use Rattle.he_plan.proofs.Growing.{outcome-below, outcome-others, outcome-own}
@@ -35,7 +33,7 @@ use Rattle.he_plan.proofs.Starting.{IsSeen-seen}
 not_tried : (race : Race) (done : List Attempt) (next : Attempt) → IsNext race done next → is_tried done next.ip ≡ false
 not_tried race done next is = by_test (is_tried done next.ip) (found_passes (is_untried done) (order_at race next.tick) next.ip is.ip)
   where
-    by_test : (b : Bool) → (if b then false else true) ≡ true → b ≡ false
+    by_test : (b : Bool) → not b ≡ true → b ≡ false
     by_test true h = cc
     by_test false h = refl
 
@@ -117,8 +115,8 @@ alike_at : (race : Race) → IsRace race → (x : Attempt) (outcome : Outcome) �
 alike_at race r x outcome silent [] k a = absurd a
 alike_at race r x outcome silent (y ∷ xs) zero a = (
   λ t below. subst (λ (z : Attempt). has_failed race t z ≡ has_failed (with_outcome race x.ip outcome) t z) (sym a.0)
-  (ap (has_failed_by race t x.tick) (silent_is race.outcomes x.ip silent)
-  ∙ sym (ap (has_failed_by race t x.tick) (outcome-own race x.ip outcome silent) ∙ late_fails race r t x.tick outcome below)),
+      (ap (has_failed_by race t x.tick) (silent_is race.outcomes x.ip silent)
+      ∙ sym (ap (has_failed_by race t x.tick) (outcome-own race x.ip outcome silent) ∙ late_fails race r t x.tick outcome below)),
   rest_alike race x.ip outcome (x.tick + duration_of outcome) xs a.1,
 )
 alike_at race r x outcome silent (y ∷ xs) (suc k) a =

@@ -1,5 +1,5 @@
 -- Whether every attempt so far has failed, and up to which tick the last one is waited for.
-use Rattle.std.proofs.Common.{◌≡◌, ℕ, ◌+◌, ◌≤◌, ◌<◌, ◌⊎◌, ◌&&◌, Bool, true, false, List, [], ◌∷◌, if◌then◌else◌, length, map, min, max, Option, Some, None, IfSome, IsSomeAnd, nat_le, refl, sym, ◌∙◌, ap, subst, arith, inl, inr}
+use Rattle.std.proofs.Common.{◌≡◌, ℕ, ◌+◌, ◌≤◌, ◌<◌, Bool, true, false, List, [], ◌∷◌, if◌then◌else◌, map, Option, Some, None, IfSome, IsSomeAnd, nat_le, refl, sym, ◌∙◌, arith, inl, inr}
 use Rattle.std.specs.List.{list_all}
 use Rattle.std.proofs.lemmas.Bool.{cases_lt}
 use Rattle.he_plan.specs.declared.attempts.Attempt.{Attempt}

@@ -1,6 +1,6 @@
 -- The tick from which the next attempt may start, by the queue alone: where an address is left, the end of the delay; where
 -- none is, what an answer that was not seen by the last start allows.
-use Rattle.std.proofs.Common.{◌≡◌, ℕ, ◌+◌, ◌≤◌, ◌<◌, ◌&&◌, ◌||◌, Bool, true, false, List, [], ◌∷◌, length, Option, Some, None, MatchOption, option_map, if◌then◌else◌, max, refl, sym, ◌∙◌, ap, arith, inl, inr}
+use Rattle.std.proofs.Common.{◌≡◌, ℕ, ◌≤◌, ◌<◌, ◌&&◌, ◌||◌, Bool, true, false, List, [], ◌∷◌, length, Option, Some, None, MatchOption, option_map, if◌then◌else◌, max, refl, sym, ◌∙◌, ap, arith, inl, inr}
 use Rattle.std.specs.List.{list_any}
 use Rattle.std.proofs.lemmas.List.Folds.{list_any-append}
 use Rattle.he_addr.specs.Ip.{same_ip, is_usable}

@@ -1,4 +1,4 @@
--- What stays when a race gains an answer, an outcome or a pause.
+-- What stays when a race gains an answer, something known of an address, an outcome or a pause.
 use Rattle.std.proofs.Common.{◌≡◌, ℕ, ◌≤◌, ◌<◌, ◌++◌, ◌||◌, ◌&&◌, Bool, true, false, not, List, [], ◌∷◌, if◌then◌else◌, length, find, Some, Result, Ok, Err, nat_le, nat_lt, refl, sym, ◌∙◌, subst, arith}
 use Rattle.std.specs.Option.{option_map}
 use Rattle.std.proofs.lemmas.Bool.Decides.{Decides-eqb}
@@ -11,7 +11,7 @@ use Rattle.he_plan.specs.declared.limits.TheConstants.{MAX_PAUSES, MAX_PAUSE_END
 use Rattle.he_plan.specs.declared.outcome.Outcome.{Outcome}
 use Rattle.he_plan.specs.Agreement.{AgreeBelow}
 use Rattle.he_plan.specs.Attempts.{IsFree, is_paused}
-use Rattle.he_plan.specs.Building.{add_answer, add_outcome, add_pause, empty_race, last_end, with_answer, with_outcome, with_pause}
+use Rattle.he_plan.specs.Building.{add_answer, add_outcome, add_pause, add_rtt, add_used, empty_race, last_end, with_answer, with_outcome, with_pause, with_rtt, with_used}
 use Rattle.he_plan.specs.Finish.{outcome_in, outcome_of}
 use Rattle.he_plan.specs.Race.{Race, has_outcome}
 use Rattle.he_plan.specs.Settings.{IsSettings, SettingValues}
@@ -19,7 +19,7 @@ use Rattle.he_plan.specs.Timeline.{IsRace, are_pauses}
 use Rattle.he_plan.proofs.Bools.{above, and_left, and_right, before, le_from, le_test, lt_from, lt_test, or_left_none, or_none, or_right, or_right_none, outside}
 use Rattle.he_plan.proofs.Lawful.{is_paused-more}
 use Rattle.he_plan.proofs.Seen.{IsFirst, first}
-use Rattle.he_plan.proofs.Ranges.{IsRace-with_answer, IsRace-with_outcome, IsRace-with_pause, end_from, end_from-is}
+use Rattle.he_plan.proofs.Ranges.{IsRace-with_answer, IsRace-with_outcome, IsRace-with_pause, IsRace-with_rtt, IsRace-with_used, end_from, end_from-is}
 use Rattle.he_select.specs.declared.policy.Row.{Row}
 use Rattle.he_select.specs.Hosts.{HostLists, IsHost}
 use Rattle.he_select.specs.Tables.{IsAdmitted}
@@ -89,7 +89,7 @@ pub outcome-others : (race : Race) (ip other : Ip) (outcome : Outcome) → same_
 outcome-others race ip other outcome apart = others_in race.outcomes ip other outcome apart
 
 pub empty-grows : (settings : SettingValues) (policy : List Row) (host : HostLists) → IsSettings settings → IsAdmitted policy → IsHost host → IsRace (empty_race settings policy host)
-empty-grows settings policy host s p h = record { settings = s; policy = p; host = h; aaaa = refl; a = refl; outcomes = refl; once = refl; pauses = refl; few = omega arith }
+empty-grows settings policy host s p h = record { settings = s; policy = p; host = h; aaaa = refl; a = refl; rtts = refl; rtts_once = refl; used = refl; used_once = refl; outcomes = refl; once = refl; pauses = refl; few = omega arith }
 
 -- a choice that answers Ok was not the fault
 no_fault : (b : Bool) (fault : BuildFault) (rest : Result Race BuildFault) (new : Race) → (if b then Err fault else rest) ≡ Ok new → (b ≡ false) × (rest ≡ Ok new)
@@ -105,6 +105,19 @@ ok_is x y h = cc
 not_none : (b : Bool) → not b ≡ false → b ≡ true
 not_none true h = refl
 not_none false h = cc
+
+pub rtt-grows : (race new : Race) (ip : Ip) (rtt : ℕ) → IsRace race → add_rtt ip rtt race ≡ Ok new → IsRace new
+rtt-grows race new ip rtt r h =
+    let first = no_fault _ _ _ new h in
+    let second = no_fault _ _ _ new first.1 in
+    let third = no_fault _ _ _ new second.1 in
+    subst IsRace (ok_is (with_rtt race ip rtt) new third.1) (IsRace-with_rtt race ip rtt r (not_none _ first.0) (not_none _ second.0) third.0)
+
+pub used-grows : (race new : Race) (ip : Ip) → IsRace race → add_used ip race ≡ Ok new → IsRace new
+used-grows race new ip r h =
+    let first = no_fault _ _ _ new h in
+    let second = no_fault _ _ _ new first.1 in
+    subst IsRace (ok_is (with_used race ip) new second.1) (IsRace-with_used race ip r (not_none _ first.0) second.0)
 
 pub outcome-grows : (race new : Race) (ip : Ip) (outcome : Outcome) → IsRace race → add_outcome ip outcome race ≡ Ok new → IsRace new
 outcome-grows race new ip outcome r h =

@@ -11,13 +11,16 @@ use Rattle.he_plan.specs.declared.limits.TheConstants.{MAX_TICK, MAX_ADDRESSES, 
 use Rattle.he_plan.specs.Settings.{SettingValues}
 use Rattle.he_select.specs.declared.policy.Row.{Row}
 use Rattle.he_select.specs.Hosts.{HostLists}
-use Rattle.he_plan.specs.Race.{Race, Reply, reply_of, has_outcome, is_in_answer}
+use Rattle.he_plan.specs.Race.{History, Race, Reply, reply_of, has_ip, has_outcome, is_in_answer, is_told}
 use Rattle.he_plan.specs.Timeline.{are_of, are_distinct, is_duration, duration_of}
+
+abbrev pub empty_history : History
+empty_history = record { rtts = []; used = [] }
 
 -- a race with these settings, this policy and this host, in which nothing happens
 abbrev pub empty_race : SettingValues → List Row → HostLists → Race
 empty_race settings policy host =
-    record { settings = settings; policy = policy; host = host; aaaa = None; a = None; outcomes = []; pauses = [] }
+    record { settings = settings; policy = policy; host = host; aaaa = None; a = None; history = empty_history; outcomes = []; pauses = [] }
 
 abbrev pub with_answer : Race → Family → Reply → Race
 with_answer race families.V6 reply = record race { aaaa = Some reply }
@@ -31,6 +34,27 @@ add_answer family tick addresses race =
     else if not (are_of family addresses) then Err faults.Stranger
     else if not (are_distinct addresses) then Err faults.Repeated
     else Ok (with_answer race family (record { tick = tick; addresses = addresses }))
+
+abbrev pub with_rtt : Race → Ip → ℕ → Race
+with_rtt race ip rtt =
+    record race { history = record { rtts = race.history.rtts ++ (ip, rtt) ∷ []; used = race.history.used } }
+
+abbrev pub add_rtt : Ip → ℕ → Race → Result Race BuildFault
+add_rtt ip rtt race =
+    if not (is_duration rtt) then Err faults.Range
+    else if not (is_in_answer race ip) then Err faults.Stranger
+    else if is_told ip race.history.rtts then Err faults.Repeated
+    else Ok (with_rtt race ip rtt)
+
+abbrev pub with_used : Race → Ip → Race
+with_used race ip =
+    record race { history = record { rtts = race.history.rtts; used = race.history.used ++ ip ∷ [] } }
+
+abbrev pub add_used : Ip → Race → Result Race BuildFault
+add_used ip race =
+    if not (is_in_answer race ip) then Err faults.Stranger
+    else if has_ip ip race.history.used then Err faults.Repeated
+    else Ok (with_used race ip)
 
 abbrev pub with_outcome : Race → Ip → Outcome → Race
 with_outcome race ip outcome = record race { outcomes = race.outcomes ++ (ip, outcome) ∷ [] }

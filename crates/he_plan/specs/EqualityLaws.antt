@@ -11,8 +11,8 @@ use Rattle.he_addr.specs.declared.ip.Ip.{Ip}
 use Rattle.he_addr.specs.declared.ip.Ip.TheVariants.{V4, V6}
 use Rattle.he_plan.specs.declared.outcome.Outcome.{Outcome}
 use Rattle.he_plan.specs.declared.outcome.Outcome.TheVariants as outcomes
-use Rattle.he_plan.specs.Equality.{same_outcome, same_told, same_floor, same_pause, same_reply, same_settings, same_race}
-use Rattle.he_plan.specs.Race.{Race, Reply}
+use Rattle.he_plan.specs.Equality.{same_floor, same_history, same_outcome, same_rtt, same_told, same_pause, same_reply, same_settings, same_race}
+use Rattle.he_plan.specs.Race.{History, Race, Reply}
 use Rattle.he_plan.specs.Settings.{SettingValues}
 use Rattle.he_select.specs.declared.policy.Row.{Row}
 use Rattle.he_select.specs.Hosts.{HostLists}
@@ -80,6 +80,9 @@ ips_decide xs ys = slice_eq-Decides (λ x y. decides_by same_ip x y (ip_from x y
 told_decide : (xs ys : List (Ip × Outcome)) → Decides (pointwise same_told xs ys) (xs ≡ ys)
 told_decide xs ys = slice_eq-Decides (λ x y. decides_by same_told x y (λ h. pair_is x y (ip_from x.0 y.0 (and_left _ _ h)) (outcome_from x.1 y.1 (and_right _ _ h))) (and_both _ _ (ip_self x.0) (outcome_self x.1))) xs ys (pointwise same_told xs ys) refl
 
+rtts_decide : (xs ys : List (Ip × ℕ)) → Decides (pointwise same_rtt xs ys) (xs ≡ ys)
+rtts_decide xs ys = slice_eq-Decides (λ x y. decides_by same_rtt x y (λ h. pair_is x y (ip_from x.0 y.0 (and_left _ _ h)) (eq_from x.1 y.1 (and_right _ _ h))) (and_both _ _ (ip_self x.0) (eq_self x.1))) xs ys (pointwise same_rtt xs ys) refl
+
 pauses_decide : (xs ys : List (ℕ × ℕ)) → Decides (pointwise same_pause xs ys) (xs ≡ ys)
 pauses_decide xs ys = slice_eq-Decides (λ x y. decides_by same_pause x y (λ h. pair_is x y (eq_from x.0 y.0 (and_left _ _ h)) (eq_from x.1 y.1 (and_right _ _ h))) (and_both _ _ (eq_self x.0) (eq_self x.1))) xs ys (pointwise same_pause xs ys) refl
 
@@ -106,6 +109,15 @@ floor_self : (x : Option ℕ) → same_floor x x ≡ true
 floor_self None = refl
 floor_self (Some m) = eq_self m
 
+history_from : (x y : History) → same_history x y ≡ true → x ≡ y
+history_from x y h =
+    let f : List (Ip × ℕ) → History = λ v. record { rtts = v; used = x.used } in
+    let g : List Ip → History = λ v. record { rtts = y.rtts; used = v } in
+    ap f ((rtts_decide x.rtts y.rtts).0 (and_left _ _ h)) ∙ ap g ((ips_decide x.used y.used).0 (and_right _ _ h))
+
+history_self : (x : History) → same_history x x ≡ true
+history_self x = and_both _ _ ((rtts_decide x.rtts x.rtts).1 refl) ((ips_decide x.used x.used).1 refl)
+
 settings_from : (x y : SettingValues) → same_settings x y ≡ true → x ≡ y
 settings_from x y h =
     let f : ℕ → SettingValues = λ v. record { resolution = v; attempt = x.attempt; count = x.count; limit = x.limit; floor = x.floor } in
@@ -127,26 +139,29 @@ pub race_from : (x y : Race) → same_race x y ≡ true → x ≡ y
 race_from x y h =
     let but_pauses = and_left _ _ h in
     let but_outcomes = and_left _ _ but_pauses in
-    let but_a = and_left _ _ but_outcomes in
+    let but_history = and_left _ _ but_outcomes in
+    let but_a = and_left _ _ but_history in
     let but_aaaa = and_left _ _ but_a in
     let but_host = and_left _ _ but_aaaa in
     let e : SettingValues → Race = λ v. record x { settings = v } in
     let f : List Row → Race = λ v. record x { settings = y.settings; policy = v } in
     let g : HostLists → Race = λ v. record x { settings = y.settings; policy = y.policy; host = v } in
-    let k : Option Reply → Race = λ v. record y { aaaa = v; a = x.a; outcomes = x.outcomes; pauses = x.pauses } in
-    let l : Option Reply → Race = λ v. record y { a = v; outcomes = x.outcomes; pauses = x.pauses } in
+    let k : Option Reply → Race = λ v. record y { aaaa = v; a = x.a; history = x.history; outcomes = x.outcomes; pauses = x.pauses } in
+    let l : Option Reply → Race = λ v. record y { a = v; history = x.history; outcomes = x.outcomes; pauses = x.pauses } in
+    let o : History → Race = λ v. record y { history = v; outcomes = x.outcomes; pauses = x.pauses } in
     let m : List (Ip × Outcome) → Race = λ v. record y { outcomes = v; pauses = x.pauses } in
     let n : List (ℕ × ℕ) → Race = λ v. record y { pauses = v } in
     ap e (settings_from x.settings y.settings (and_left _ _ but_host))
     ∙ ap f ((tables_decide x.policy y.policy).0 (and_right _ _ but_host))
     ∙ ap g ((hosts_decide x.host y.host).0 (and_right _ _ but_aaaa))
     ∙ ap k (reply_from x.aaaa y.aaaa (and_right _ _ but_a))
-    ∙ ap l (reply_from x.a y.a (and_right _ _ but_outcomes))
+    ∙ ap l (reply_from x.a y.a (and_right _ _ but_history))
+    ∙ ap o (history_from x.history y.history (and_right _ _ but_outcomes))
     ∙ ap m ((told_decide x.outcomes y.outcomes).0 (and_right _ _ but_pauses))
     ∙ ap n ((pauses_decide x.pauses y.pauses).0 (and_right _ _ h))
 
 pub race_self : (x : Race) → same_race x x ≡ true
-race_self x = and_both _ _ (and_both _ _ (and_both _ _ (and_both _ _ (and_both _ _ (and_both _ _ (settings_self x.settings) ((tables_decide x.policy x.policy).1 refl)) ((hosts_decide x.host x.host).1 refl)) (reply_self x.aaaa)) (reply_self x.a)) ((told_decide x.outcomes x.outcomes).1 refl)) ((pauses_decide x.pauses x.pauses).1 refl)
+race_self x = and_both _ _ (and_both _ _ (and_both _ _ (and_both _ _ (and_both _ _ (and_both _ _ (and_both _ _ (settings_self x.settings) ((tables_decide x.policy x.policy).1 refl)) ((hosts_decide x.host x.host).1 refl)) (reply_self x.aaaa)) (reply_self x.a)) (history_self x.history)) ((told_decide x.outcomes x.outcomes).1 refl)) ((pauses_decide x.pauses x.pauses).1 refl)
 
 pub race_is : (x y : Race) → x ≡ y → same_race x y ≡ true
 race_is x y e = subst (λ (z : Race). same_race x z ≡ true) e (race_self x)

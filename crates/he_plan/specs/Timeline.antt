@@ -9,7 +9,7 @@ use Rattle.he_plan.specs.declared.outcome.Outcome.{Outcome}
 use Rattle.he_plan.specs.declared.outcome.Outcome.TheVariants as outcomes
 use Rattle.he_plan.specs.declared.limits.TheConstants.{MAX_TICK, MAX_ADDRESSES, MIN_DURATION, MAX_DURATION, MAX_PAUSES, MAX_PAUSE_END}
 use Rattle.he_plan.specs.Settings.{IsSettings}
-use Rattle.he_plan.specs.Race.{Race, Reply, has_ip, has_outcome, is_in_answer}
+use Rattle.he_plan.specs.Race.{Race, Reply, has_ip, is_in_answer, is_told}
 use Rattle.he_select.specs.Hosts.{IsHost}
 use Rattle.he_select.specs.Tables.{IsAdmitted}
 
@@ -42,10 +42,14 @@ is_duration duration = nat_le MIN_DURATION duration && nat_le duration MAX_DURAT
 abbrev pub is_outcome : Race → Ip × Outcome → Bool
 is_outcome race p = is_duration (duration_of p.1) && is_in_answer race p.0
 
--- no address has two outcomes
-abbrev pub are_told_once : List (Ip × Outcome) → Bool
+-- of no address something is told twice
+abbrev pub are_told_once : {V : Type 0} → List (Ip × V) → Bool
 are_told_once [] = true
-are_told_once (p ∷ told) = not (has_outcome p.0 told) && are_told_once told
+are_told_once (p ∷ told) = not (is_told p.0 told) && are_told_once told
+
+-- a round trip time is in the range of a duration, and its address stands in an answer
+abbrev pub is_rtt : Race → Ip × ℕ → Bool
+is_rtt race p = is_duration p.1 && is_in_answer race p.0
 
 -- each pause ends after it begins, and begins at `low` or after the end of the one before it
 abbrev pub are_pauses : ℕ → List (ℕ × ℕ) → Bool
@@ -58,6 +62,10 @@ pub record IsRace (race : Race) : Type 0 where
   pub host : IsHost race.host
   pub aaaa : IsTrue (is_answer families.V6 race.aaaa)
   pub a : IsTrue (is_answer families.V4 race.a)
+  pub rtts : IsTrue (list_all (is_rtt race) race.history.rtts)
+  pub rtts_once : IsTrue (are_told_once race.history.rtts)
+  pub used : IsTrue (list_all (is_in_answer race) race.history.used)
+  pub used_once : IsTrue (are_distinct race.history.used)
   pub outcomes : IsTrue (list_all (is_outcome race) race.outcomes)
   pub once : IsTrue (are_told_once race.outcomes)
   pub pauses : IsTrue (are_pauses 0 race.pauses)

@@ -1,7 +1,7 @@
 // Laws of what two races have in common and of what stays when a race grows, each the contract of a function that does
 // nothing.
 
-ghost use Rattle.std.specs.Prelude.{All, ◌≡◌, ℕ, ◌<◌, ◌≤◌, ◌↔◌, ◌++◌, List, [], ◌∷◌, false, Some, Ok, IsTrue, nat_lt};
+ghost use Rattle.std.specs.Prelude.{All, ◌≡◌, ℕ, ◌+◌, ◌<◌, ◌≤◌, ◌↔◌, ◌++◌, List, [], ◌∷◌, false, Some, Ok, IsTrue, nat_lt};
 ghost use Rattle.std.specs.List.{list_all};
 ghost use Rattle.he_addr.specs.declared.ip.Family.{Family};
 ghost use Rattle.he_addr.specs.declared.ip.Ip.{Ip};
@@ -10,7 +10,7 @@ ghost use Rattle.he_plan.specs.declared.attempts.Attempt.{Attempt};
 ghost use Rattle.he_plan.specs.declared.outcome.Outcome.{Outcome};
 ghost use Rattle.he_plan.specs.Agreement.{AgreeBelow, AreAlike, FailAlike};
 ghost use Rattle.he_plan.specs.Attempts.{AreNextInTurn, HaveFailed, IsFree, MayStart, is_paused, order_at, seen};
-ghost use Rattle.he_plan.specs.Building.{add_answer, add_outcome, add_pause, empty_race, last_end, with_outcome, with_pause};
+ghost use Rattle.he_plan.specs.Building.{add_answer, add_outcome, add_pause, add_rtt, add_used, empty_race, last_end, with_outcome, with_pause};
 ghost use Rattle.he_plan.specs.Finish.{known_at, outcome_of};
 ghost use Rattle.he_plan.specs.Race.{Race, has_outcome};
 ghost use Rattle.he_plan.specs.Settings.{IsSettings, SettingValues};
@@ -59,10 +59,13 @@ pub fn one_more_end()
     ensures failed { (old new : Race) → IsRace old → (attempts : List Attempt) (x : Attempt) → (is : EndsOne old new attempts x) → AreNextInTurn old attempts → FailAlike (x.tick + duration_of is.outcome) old new attempts }
 {}
 
-/// An answer, an outcome or a pause that the builder takes leaves a race within its ranges.
+/// An answer, what is known of an address, an outcome or a pause that the builder takes leaves a race within its
+/// ranges.
 pub fn races_grow()
     ensures empty { (settings : SettingValues) (policy : List Row) (host : HostLists) → IsSettings settings → IsAdmitted policy → IsHost host → IsRace (empty_race settings policy host) }
     ensures answer { (race new : Race) (family : Family) (tick : ℕ) (addresses : List Ip) → IsRace race → add_answer family tick addresses race ≡ Ok new → IsRace new }
+    ensures rtt { (race new : Race) (ip : Ip) (rtt : ℕ) → IsRace race → add_rtt ip rtt race ≡ Ok new → IsRace new }
+    ensures used { (race new : Race) (ip : Ip) → IsRace race → add_used ip race ≡ Ok new → IsRace new }
     ensures outcome { (race new : Race) (ip : Ip) (outcome : Outcome) → IsRace race → add_outcome ip outcome race ≡ Ok new → IsRace new }
     ensures pause { (race new : Race) (from to : ℕ) → IsRace race → add_pause from to race ≡ Ok new → IsRace new }
 {}

@@ -1,7 +1,7 @@
 // Making a timeline.
 
 ghost use Rattle.std.specs.Prelude.{◌≡◌, ◌⊎◌, true, [], IfOk, IfErr};
-ghost use Rattle.he_plan.specs.Building.{IsRefused, empty_race, add_answer, add_outcome, add_pause, last_end, Becomes};
+ghost use Rattle.he_plan.specs.Building.{IsRefused, empty_race, add_answer, add_outcome, add_pause, add_rtt, add_used, last_end, Becomes};
 ghost use Rattle.he_plan.specs.Race.{has_ip, is_in_answer};
 ghost use Rattle.he_plan.specs.Timeline.{are_of, are_distinct, is_duration, IsRace};
 
@@ -25,17 +25,18 @@ pub enum BuildFault {
     /// The family has an answer already.
     #[error("the family has an answer")]
     Answered,
-    /// An answer's tick above 3,600,000, a duration out of 1 to 3,600,000, or a pause that ends where it begins or
-    /// before, that ends after 3,600,001 or that begins before the end of the last one.
+    /// An answer's tick above 3,600,000, a duration or a round trip time out of 1 to 3,600,000, or a pause that ends
+    /// where it begins or before, that ends after 3,600,001 or that begins before the end of the last one.
     #[error("out of range")]
     Range,
     /// More than 64 addresses, or a pause after 136.
     #[error("too many")]
     TooMany,
-    /// An address of the other family, or an outcome for an address that stands in no answer.
+    /// An address of the other family; or an outcome, a round trip time or an earlier use of an address that stands in
+    /// no answer.
     #[error("a strange address")]
     Stranger,
-    /// An address twice in an answer, or a second outcome for one.
+    /// An address twice in an answer; or a second outcome, round trip time or earlier use of one.
     #[error("a repeated address")]
     Repeated,
     /// An allocation was refused.
@@ -78,7 +79,7 @@ impl<A: Allocator + Copy> TimelineBuilder<A> {
         }
     }
 
-    /// Whether the address stands in one of the answers, usable or not, so that it may have an outcome.
+    /// Whether the address stands in one of the answers, usable or not, so that it may have an outcome and a history.
     pub fn stands(&self, ip: Ip) -> bool
         ensures value { result ≡ is_in_answer self.now ip }
         ensures race { IsRace self.now }
@@ -114,6 +115,58 @@ impl<A: Allocator + Copy> TimelineBuilder<A> {
             Family::V4 => put(&mut self.four, set),
         }
         Ok(())
+    }
+
+    /// The last round trip time that the client knows of the address, in milliseconds, 1 to 3,600,000 (RFC 8305
+    /// section 4). The faults are `Range`, `Stranger`, `Repeated` and `Memory`, in this order.
+    pub fn rtt(&mut self, ip: Ip, rtt: u64) -> Result<(), BuildFault>
+        ensures { Becomes result self.old self.new (add_rtt ip rtt self.old) }
+    {
+        if !is_duration(rtt) {
+            return Err(BuildFault::Range);
+        }
+        if !self.stands(ip) {
+            return Err(BuildFault::Stranger);
+        }
+        self.rtt_of_known(ip, rtt)
+    }
+
+    /// The same for an address that stands in one of the answers, as [`TimelineBuilder::stands`] tells.
+    pub fn rtt_of_known(&mut self, ip: Ip, rtt: u64) -> Result<(), BuildFault>
+        requires { is_in_answer self.old ip ≡ true }
+        ensures { Becomes result self.old self.new (add_rtt ip rtt self.old) }
+    {
+        if !is_duration(rtt) {
+            return Err(BuildFault::Range);
+        }
+        if self.timeline.has_rtt(ip) {
+            return Err(BuildFault::Repeated);
+        }
+        self.timeline
+            .push_rtt(ip, rtt)
+            .map_err(|_| BuildFault::Memory)
+    }
+
+    /// The client used the address before (RFC 8305 section 4). The faults are `Stranger`, `Repeated` and `Memory`, in
+    /// this order.
+    pub fn used(&mut self, ip: Ip) -> Result<(), BuildFault>
+        ensures { Becomes result self.old self.new (add_used ip self.old) }
+    {
+        if !self.stands(ip) {
+            return Err(BuildFault::Stranger);
+        }
+        self.used_of_known(ip)
+    }
+
+    /// The same for an address that stands in one of the answers, as [`TimelineBuilder::stands`] tells.
+    pub fn used_of_known(&mut self, ip: Ip) -> Result<(), BuildFault>
+        requires { is_in_answer self.old ip ≡ true }
+        ensures { Becomes result self.old self.new (add_used ip self.old) }
+    {
+        if self.timeline.used(ip) {
+            return Err(BuildFault::Repeated);
+        }
+        self.timeline.push_used(ip).map_err(|_| BuildFault::Memory)
     }
 
     /// What the address does when it is tried.

@@ -1,7 +1,8 @@
 //! The rules of a race (RFC 8305 sections 3 to 5 and 8), and the crate that computes them.
 //!
 //! A `TimelineBuilder` collects a race's input: settings, the policy table and the host by which addresses are
-//! ordered, the answers of both families, what each address does when it is tried, and the pauses of the client.
+//! ordered, the answers of both families, what the client knows of addresses from earlier, what each address does when
+//! it is tried, and the pauses of the client.
 //! `plan` answers the attempts that the race makes while no success stops it, `Timeline::fate` what becomes of each,
 //! `winner` which one wins, and `transcript_of_fates` the transcript; `transcript_of` is all of these in one call,
 //! and looks at no outcome of an attempt that starts at or after an earlier one's success. A tick is a millisecond.
@@ -23,7 +24,7 @@
 //! where no more is known of the attempts than what became of them by the race's end. `laws` has what follows from
 //! the definitions alone, as that a race has one transcript; `due` what a race that is being run may start, and when;
 //! `agreement` what stays when a race grows. Addresses are tried in the order of RFC 6724 section 6, which
-//! `he_select` defines and computes, interlaced.
+//! `he_select` defines and computes by what is known of them (RFC 8305 section 4), interlaced.
 //!
 //! Tested only: that a call succeeds where memory is granted.
 #![tactic(auto)]
@@ -32,14 +33,15 @@ mod addresses;
 pub mod agreement;
 pub mod attempts;
 pub mod builder;
+mod by_address;
 pub mod due;
 pub mod finish;
+mod history;
 pub mod interlacing;
 pub mod laws;
 pub mod limits;
 pub mod listing;
 pub mod outcome;
-mod outcomes;
 pub mod planning;
 mod queue;
 pub mod settings;

@@ -7,7 +7,7 @@ ghost use Rattle.he_plan.specs.declared.limits.TheConstants.{MAX_ADDRESSES};
 ghost use Rattle.he_plan.specs.Alternating.{interlace};
 ghost use Rattle.he_plan.specs.Attempts.{order};
 ghost use Rattle.he_plan.specs.Planning.{interlaced_list, is_of_included, part_of, parts_of};
-ghost use Rattle.he_plan.specs.Race.{race_input, reply_of, usable_addresses};
+ghost use Rattle.he_plan.specs.Race.{known_of, race_input, reply_of, usable_addresses};
 ghost use Rattle.he_plan.specs.Timeline.{IsRace};
 ghost use Rattle.he_plan.specs.Underway.{AreSorted};
 ghost use Rattle.he_select.specs.Standing.{standing_of};
@@ -15,7 +15,7 @@ ghost use Rattle.he_select.specs.Standing.{standing_of};
 use crate::interlacing::{interlace, members};
 use crate::timeline::{Timeline, are_addresses_in_range};
 use he_addr::{Family, Ip, Memory};
-use he_select::{Standing, order, order_with_standings};
+use he_select::{Known, Standing, order_known, order_known_with_standings};
 use std::alloc::{AllocError, Allocator};
 
 // The interlaced list of the included answers. The addresses of both answers are sorted at the first list that needs
@@ -80,8 +80,8 @@ fn sorted_addresses<A: Allocator + Copy, B: Allocator>(
 ) -> Result<Vec<Ip, A>, Memory>
     ensures { IfOk result (λ v. v.items ≡ order timeline.now (usable_addresses timeline.now)) }
 {
-    let ips = usable_addresses(alloc, timeline)?;
-    order(alloc, timeline.policy(), timeline.host(), &ips)
+    let known = known_addresses(alloc, timeline)?;
+    order_known(alloc, timeline.policy(), timeline.host(), &known)
 }
 
 /// The usable addresses of both answers, whatever their ticks, in the order of RFC 6724 section 6, each with what its
@@ -92,17 +92,36 @@ pub fn sorted_standings<A: Allocator + Copy, B: Allocator>(
 ) -> Result<Vec<Standing, A>, Memory>
     ensures { IfOk result (λ sorted. sorted.items ≡ map (standing_of (race_input timeline.now)) (order timeline.now (usable_addresses timeline.now))) }
 {
-    let ips = usable_addresses(alloc, timeline)?;
-    order_with_standings(alloc, timeline.policy(), timeline.host(), &ips)
+    let known = known_addresses(alloc, timeline)?;
+    order_known_with_standings(alloc, timeline.policy(), timeline.host(), &known)
 }
 
-fn usable_addresses<A: Allocator + Copy, B: Allocator>(
+// The usable addresses of both answers, as received, each with what the client knows of it.
+fn known_addresses<A: Allocator + Copy, B: Allocator>(
     alloc: A,
     timeline: &Timeline<B>,
-) -> Result<Vec<Ip, A>, AllocError>
-    ensures { IfOk result (λ v. v.items ≡ usable_addresses timeline.now) }
+) -> Result<Vec<Known, A>, AllocError>
+    ensures { IfOk result (λ v. v.items ≡ map (known_of timeline.now.history) (usable_addresses timeline.now)) }
 {
-    included_addresses(alloc, timeline, true, true)
+    let mut known = Vec::with_capacity(alloc, timeline.address_count())?;
+    push_known(&mut known, timeline, timeline.answered(Family::V6))?;
+    push_known(&mut known, timeline, timeline.answered(Family::V4))?;
+    Ok(known)
+}
+
+fn push_known<A: Allocator, B: Allocator>(
+    known: &mut Vec<Known, A>,
+    timeline: &Timeline<B>,
+    addresses: &[Ip],
+) -> Result<(), AllocError>
+    ensures { OnOk result (known.new.items ≡ known.old.items ++ map (known_of timeline.now.history) (filter is_usable addresses.now)) }
+{
+    for ip in addresses {
+        if ip.is_usable() {
+            known.push(timeline.known(*ip))?;
+        }
+    }
+    Ok(())
 }
 
 // The usable addresses of the included answers, as received.

@@ -4,8 +4,7 @@ ghost use Rattle.std.specs.Prelude.{◌≡◌, ◌≤◌};
 ghost use Rattle.he_plan.specs.Settings.{settings_of, with_floor, IsSettings};
 
 use crate::limits::{
-    MAX_ATTEMPT, MAX_COUNT, MAX_LIMIT, MAX_RESOLUTION, MIN_ATTEMPT, MIN_COUNT, MIN_FLOOR,
-    MIN_LIMIT,
+    MAX_ATTEMPT, MAX_COUNT, MAX_LIMIT, MAX_RESOLUTION, MIN_ATTEMPT, MIN_COUNT, MIN_FLOOR, MIN_LIMIT,
 };
 use std::marker::Model;
 use thiserror::Error;

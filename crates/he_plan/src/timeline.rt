@@ -1,23 +1,24 @@
-// A race's whole input: settings, policy, host, answers, outcomes and pauses.
+// A race's whole input: settings, policy, host, answers, history, outcomes and pauses.
 
-ghost use Rattle.std.specs.Prelude.{All, ◌≡◌, ◌≤◌, drop, length, option_map, max, IfOk, IfSome, IsTrue, OnOk, OnErr};
+ghost use Rattle.std.specs.Prelude.{false, All, ◌≡◌, ◌≤◌, drop, length, option_map, max, IfOk, IfSome, IsTrue, OnOk, OnErr};
 ghost use Rattle.std.specs.Cmp.Lexicographic.{pointwise};
 ghost use Rattle.he_addr.specs.Ip.{same_ip, InRange};
-ghost use Rattle.he_plan.specs.Race.{Race, Reply, reply_of, addresses_of, has_outcome};
-ghost use Rattle.he_plan.specs.Equality.{same_pause, same_reply, same_race};
+ghost use Rattle.he_plan.specs.Race.{Race, Reply, reply_of, addresses_of, has_ip, has_outcome, is_told, known_of, rtt_in};
+ghost use Rattle.he_plan.specs.Equality.{same_pause, same_reply, same_race, same_told};
 ghost use Rattle.he_select.specs.Equality.{equal_hosts, equal_tables};
 ghost use Rattle.he_plan.specs.Timeline.{IsRace, are_pauses, duration_of};
 ghost use Rattle.he_plan.specs.Attempts.{IsSeen, seen, seen_past};
 ghost use Rattle.he_plan.specs.Finish.{outcome_of, outcome_in};
 ghost use Rattle.he_plan.specs.Planning.{are_ahead};
-ghost use Rattle.he_plan.specs.Building.{empty_race, with_answer, with_outcome, with_pause};
+ghost use Rattle.he_plan.specs.Building.{empty_race, with_answer, with_outcome, with_pause, with_rtt, with_used};
 
+use crate::by_address::ByAddress;
+use crate::history::History;
 use crate::limits::{MAX_DURATION, MAX_PAUSE_END, MIN_DURATION};
 use crate::outcome::Outcome;
-use crate::outcomes::Outcomes;
 use crate::settings::Settings;
 use he_addr::{Family, Ip, Memory};
-use he_select::{Host, Policy};
+use he_select::{Host, Known, Policy};
 use std::alloc::{AllocError, Allocator, Global};
 use std::marker::Model;
 
@@ -37,8 +38,8 @@ impl<A: Allocator> Model for Answer<A> {
 }
 
 /// A race's whole input: its settings, the policy table and the host by which addresses are ordered, the answers of
-/// both families, what each address does when it is tried, and the pauses of the client. A `TimelineBuilder` makes
-/// it.
+/// both families, what the client knows of addresses from earlier, what each address does when it is tried, and the
+/// pauses of the client. A `TimelineBuilder` makes it.
 #[derive(Drop)]
 pub struct Timeline<A: Allocator = Global> {
     settings: Settings,
@@ -46,7 +47,8 @@ pub struct Timeline<A: Allocator = Global> {
     host: Host<A>,
     aaaa: Option<Answer<A>>,
     a: Option<Answer<A>>,
-    outcomes: Outcomes<A>,
+    history: History<A>,
+    outcomes: ByAddress<Outcome, A>,
     pauses: Vec<(u64, u64), A>,
 }
 
@@ -56,9 +58,9 @@ impl<A: Allocator> Model for Timeline<A> {
 
     ghost Value = { Race };
 
-    ghost view = { λ t. record { settings = t.settings; policy = t.policy; host = t.host; aaaa = t.aaaa; a = t.a; outcomes = t.outcomes; pauses = t.pauses.items } };
+    ghost view = { λ t. record { settings = t.settings; policy = t.policy; host = t.host; aaaa = t.aaaa; a = t.a; history = t.history; outcomes = t.outcomes; pauses = t.pauses.items } };
 
-    ghost invariant = { λ t. IsRace (record { settings = t.settings; policy = t.policy; host = t.host; aaaa = t.aaaa; a = t.a; outcomes = t.outcomes; pauses = t.pauses.items }) };
+    ghost invariant = { λ t. IsRace (record { settings = t.settings; policy = t.policy; host = t.host; aaaa = t.aaaa; a = t.a; history = t.history; outcomes = t.outcomes; pauses = t.pauses.items }) };
 }
 
 impl<A: Allocator + Copy> Timeline<A> {
@@ -76,7 +78,8 @@ impl<A: Allocator + Copy> Timeline<A> {
             host,
             aaaa: None,
             a: None,
-            outcomes: Outcomes::none(alloc),
+            history: History::none(alloc),
+            outcomes: ByAddress::none(alloc),
             pauses: Vec::new(alloc),
         }
     }
@@ -89,6 +92,24 @@ impl<A: Allocator + Copy> Timeline<A> {
             Family::V6 => put(&mut self.aaaa, Some(answer)),
             Family::V4 => put(&mut self.a, Some(answer)),
         }
+    }
+
+    pub(crate) fn push_rtt(&mut self, ip: Ip, rtt: u64) -> Result<(), AllocError>
+        requires { IsRace (with_rtt self.old ip rtt) }
+        ensures ok { OnOk result (self.new ≡ with_rtt self.old ip rtt) }
+        ensures err { OnErr result (self.new ≡ self.old) }
+    {
+        let most = self.address_count();
+        self.history.push_rtt(ip, rtt, most)
+    }
+
+    pub(crate) fn push_used(&mut self, ip: Ip) -> Result<(), AllocError>
+        requires new { has_ip ip self.old.history.used ≡ false }
+        requires race { IsRace (with_used self.old ip) }
+        ensures ok { OnOk result (self.new ≡ with_used self.old ip) }
+        ensures err { OnErr result (self.new ≡ self.old) }
+    {
+        self.history.push_used(ip)
     }
 
     pub(crate) fn push_outcome(&mut self, ip: Ip, outcome: Outcome) -> Result<(), AllocError>
@@ -157,6 +178,7 @@ impl<A: Allocator> Timeline<A> {
     {
         let aaaa = copy_answer(alloc, &self.aaaa)?;
         let a = copy_answer(alloc, &self.a)?;
+        let history = self.history.copy(alloc)?;
         let outcomes = self.outcomes.copy(alloc)?;
         let pauses = Vec::from_slice(alloc, &self.pauses)?;
         Ok(Timeline {
@@ -165,6 +187,7 @@ impl<A: Allocator> Timeline<A> {
             host,
             aaaa,
             a,
+            history,
             outcomes,
             pauses,
         })
@@ -178,7 +201,8 @@ impl<A: Allocator> Timeline<A> {
             && same_host(&self.host, &other.host)
             && same_answer(&self.aaaa, &other.aaaa)
             && same_answer(&self.a, &other.a)
-            && self.outcomes.is_same(&other.outcomes)
+            && self.history.is_same(&other.history)
+            && same_outcomes(self.outcomes.as_slice(), other.outcomes.as_slice())
             && same_pauses(&self.pauses, &other.pauses)
     }
 
@@ -219,6 +243,53 @@ impl<A: Allocator> Timeline<A> {
             Some(answer) => Some((answer.tick, answer.addresses.as_slice())),
             None => None,
         }
+    }
+
+    /// The last round trip times that the client knows of addresses, in milliseconds, 1 to 3,600,000, in the order in
+    /// which they were given (RFC 8305 section 4).
+    pub fn rtts(&self) -> &[(Ip, u64)]
+        ensures value { result.now ≡ self.now.history.rtts }
+        ensures race { IsRace self.now }
+    {
+        self.history.rtts()
+    }
+
+    /// The last round trip time that the client knows of the address, in milliseconds, or none if it knows none.
+    pub fn rtt(&self, ip: Ip) -> Option<u64>
+        ensures value { result ≡ rtt_in self.now.history.rtts ip }
+        ensures race { IsRace self.now }
+    {
+        self.history.rtt(ip)
+    }
+
+    pub(crate) fn has_rtt(&self, ip: Ip) -> bool
+        ensures value { result ≡ is_told ip self.now.history.rtts }
+        ensures race { IsRace self.now }
+    {
+        self.history.has_rtt(ip)
+    }
+
+    /// The addresses that the client used before, in the order in which they were given (RFC 8305 section 4).
+    pub fn used_addresses(&self) -> &[Ip]
+        ensures value { result.now ≡ self.now.history.used }
+        ensures race { IsRace self.now }
+    {
+        self.history.used_addresses()
+    }
+
+    /// Whether the client used the address before.
+    pub fn used(&self, ip: Ip) -> bool
+        ensures value { result ≡ has_ip ip self.now.history.used }
+        ensures race { IsRace self.now }
+    {
+        self.history.is_used(ip)
+    }
+
+    // What the client knows of the address.
+    pub(crate) fn known(&self, ip: Ip) -> Known
+        ensures { result ≡ known_of self.now.history ip }
+    {
+        self.history.known(ip)
     }
 
     /// The addresses that have an outcome, in the order in which they were given; every other one is silent.
@@ -312,7 +383,7 @@ impl<A: Allocator> PartialEq for Timeline<A> {
 
     ghost laws = { same_race-per };
 
-    /// Whether settings, policy, host, answers, outcomes and pauses are equal, each list in its order.
+    /// Whether settings, policy, host, answers, history, outcomes and pauses are equal, each list in its order.
     fn eq(&self, other: &Timeline<A>) -> bool
         ensures value { result ≡ same_race self.now other.now }
         ensures lists { IsTrue result ↔ (self.now ≡ other.now) }
@@ -352,6 +423,12 @@ fn same_answer<A: Allocator>(x: &Option<Answer<A>>, y: &Option<Answer<A>>) -> bo
 
 fn same_ips(x: &[Ip], y: &[Ip]) -> bool
     ensures { result ≡ pointwise same_ip x.now y.now }
+{
+    x == y
+}
+
+fn same_outcomes(x: &[(Ip, Outcome)], y: &[(Ip, Outcome)]) -> bool
+    ensures { result ≡ pointwise same_told x.now y.now }
 {
     x == y
 }

@@ -42,6 +42,7 @@ fn new_settings_have_no_floor(rt: HostRuntime) {
 }
 
 // A race of both answers at tick 20: its IPv6 addresses, what its addresses do, and a pause.
+#[derive(Drop)]
 struct Race<'c> {
     settings: Result<Settings, Range>,
     aaaa: &'c [Ip],
@@ -62,7 +63,7 @@ fn fill(builder: &mut TimelineBuilder<&Refusing>, race: &Race) -> Result<(), Bui
 }
 
 // Whether the race's transcript has these lines and this result.
-fn has_transcript(heap: &Refusing, race: &Race, lines: &[Line], result: Outcome3) -> Option<bool> {
+fn has_transcript(heap: &Refusing, race: &Race, lines: &[Line], ending: Outcome3) -> Option<bool> {
     let settings = race.settings.ok()?;
     let mut builder = builder(heap, settings, HostKind::Usual)?;
     if fill(&mut builder, race).is_err() {
@@ -73,7 +74,7 @@ fn has_transcript(heap: &Refusing, race: &Race, lines: &[Line], result: Outcome3
     let transcript = transcript_of(heap, &timeline);
     drop(timeline);
     let transcript = transcript.ok()?;
-    Some(transcript.attempts() == lines && transcript.result() == result)
+    Some(transcript.attempts() == lines && transcript.result() == ending)
 }
 
 fn line(place: usize, tick: u64, ip: Ip, mark: Mark) -> Line {

@@ -8,6 +8,8 @@ mod floor;
 #[cfg(test)]
 mod hosts;
 #[cfg(test)]
+mod known;
+#[cfg(test)]
 mod memory;
 #[cfg(test)]
 mod plain;

@@ -17,14 +17,16 @@ const V6_B: Ip = Ip::V6(0x2001_0db8_0001_0000_0000_0000_0000_0002);
 // 198.51.100.1
 const V4_A: Ip = Ip::V4(0xc633_6401);
 
-const CALLS: usize = 4;
+const CALLS: usize = 6;
 
 // The call of this number.
 fn make(builder: &mut TimelineBuilder<&Refusing>, number: usize) -> Result<(), BuildFault> {
     match number {
         0 => builder.answer(Family::V6, 20, &[V6_A, V6_B]),
         1 => builder.answer(Family::V4, 200, &[V4_A]),
-        2 => builder.outcome(V4_A, Outcome::Ok(30)),
+        2 => builder.rtt(V6_B, 30),
+        3 => builder.used(V4_A),
+        4 => builder.outcome(V4_A, Outcome::Ok(30)),
         _ => builder.pause(100, 110),
     }
 }

@@ -5,24 +5,21 @@ use Rattle.std.specs.List.{list_all}
 use Rattle.he_addr.specs.declared.ip.Ip.{Ip}
 use Rattle.he_select.specs.declared.host.Source.{Source}
 use Rattle.he_select.specs.declared.host.Route.{Route}
+use Rattle.he_select.specs.declared.known.Known.{Known}
 use Rattle.he_select.specs.declared.policy.Row.{Row}
 use Rattle.he_select.specs.declared.ranking.Key.{Key}
 use Rattle.he_select.specs.declared.selection.LabelledSource.{LabelledSource}
-use Rattle.he_select.specs.declared.sorting.Sourced.{Sourced}
 use Rattle.he_select.specs.declared.standing.Standing.{Standing}
 use Rattle.he_select.specs.DestinationKeys.{destination_key, keys_of}
 use Rattle.he_select.specs.HostFaults.{is_sound_source}
 use Rattle.he_select.specs.LabelledRules.{admits, is_better_labelled, labelled_of}
-use Rattle.he_select.specs.Preference.{members_from, sourced_by}
+use Rattle.he_select.specs.Preference.{members_from}
 use Rattle.he_select.specs.Selection.{SelectionInput, route_of, source_of}
-use Rattle.he_select.specs.Standing.{chosen_over, sourced_from, standing_from, standing_of, standing_with}
+use Rattle.he_select.specs.Standing.{chosen_over, standing_from, standing_of, standing_with, told_of}
 use Rattle.he_select.specs.Tables.{label_of}
 use Rattle.he_select.specs.Walking.{walk_fitting}
-use Rattle.he_select.proofs.Sources.{destined, labelled_ip, no_source, source_walked}
-
-map-same : {X Y : Type 0} (f g : X → Y) → ((x : X) → f x ≡ g x) → (xs : List X) → map f xs ≡ map g xs
-map-same f g e [] = refl
-map-same f g e (x ∷ xs) = ap (λ y. y ∷ map f xs) (e x) ∙ ap (λ ys. g x ∷ ys) (map-same f g e xs)
+use Rattle.he_select.proofs.Told.{standing_told}
+use Rattle.he_select.proofs.Sources.{destined, no_source, source_walked}
 
 -- the source that the code chooses is the source, with what the rules look at of it
 chosen_is : (input : SelectionInput) (ip : Ip)
@@ -37,20 +34,28 @@ chosen_is input ip = by_route (route_of input ip) refl
     by_route None e = ap (option_and_then find) e ∙ ap (option_map (labelled_of input.rows)) (sym (no_source input ip e))
     by_route (Some route) e = ap (option_and_then find) e ∙ source_walked input ip route e
 
-standing_is : (input : SelectionInput) (ip : Ip) → standing_from input.rows input.routes (map (labelled_of input.rows) input.sources) ip ≡ standing_of input ip
-standing_is input ip = ap (λ source. standing_with input.rows (route_of input ip) source ip) (chosen_is input ip)
+standing_is : (input : SelectionInput) (ip : Ip) → standing_from input.rows input.routes (map (labelled_of input.rows) input.sources) (told_of input.known) ip ≡ standing_of input ip
+standing_is input ip =
+    ap (λ source. standing_with input.rows (route_of input ip) source (told_of input.known) ip) (chosen_is input ip)
+    ∙ standing_told input.rows (route_of input ip) (option_map (labelled_of input.rows) (source_of input ip)) input.known ip
 
 pub labelled_sound : (rows : List Row) (sources : List Source) → list_all is_sound_source sources ≡ list_all (λ labelled. is_sound_source labelled.source) (map (labelled_of rows) sources)
 labelled_sound rows [] = refl
 labelled_sound rows (source ∷ sources) = ap (λ t. is_sound_source source && t) (labelled_sound rows sources)
 
 -- the standings that the code makes of a list, by the labels that it took before
-pub all_standings : (input : SelectionInput) (ips : List Ip) (labelled : List LabelledSource) (standings : List Standing)
-    → labelled ≡ map (labelled_of input.rows) input.sources → standings ≡ map (standing_from input.rows input.routes labelled) ips
-    → standings ≡ map (standing_of input) ips
-all_standings input ips labelled standings by_label is =
-    is ∙ ap (λ l. map (standing_from input.rows input.routes l) ips) by_label
-    ∙ map-same (standing_from input.rows input.routes (map (labelled_of input.rows) input.sources)) (standing_of input) (standing_is input) ips
+pub all_standings : (input : SelectionInput) (labelled : List LabelledSource) (told : List Known) (standings : List Standing)
+    → labelled ≡ map (labelled_of input.rows) input.sources → told ≡ told_of input.known → standings ≡ map (λ one. standing_from input.rows input.routes labelled told one.ip) input.known
+    → standings ≡ map (standing_of input) (map (λ one. one.ip) input.known)
+all_standings input labelled told standings by_label by_told is =
+    is ∙ ap (λ t. map (λ (one : Known). standing_from input.rows input.routes labelled t one.ip) input.known) by_told
+    ∙ ap (λ l. map (λ (one : Known). standing_from input.rows input.routes l (told_of input.known) one.ip) input.known) by_label ∙ each_made input.known
+  where
+    each_made : (ones : List Known) → map (λ one. standing_from input.rows input.routes (map (labelled_of input.rows) input.sources) (told_of input.known) one.ip) ones ≡ map (standing_of input) (map (λ one. one.ip) ones)
+    each_made [] = refl
+    each_made (one ∷ more) =
+        ap (λ s. s ∷ map (λ (one : Known). standing_from input.rows input.routes (map (labelled_of input.rows) input.sources) (told_of input.known) one.ip) more) (standing_is input one.ip)
+        ∙ ap (λ l. standing_of input one.ip ∷ l) (each_made more)
 
 keys_counted : (input : SelectionInput) (place : ℕ) (ips : List Ip) → keys_of place (map (standing_of input) ips) ≡ map (destination_key input) (members_from place ips)
 unfolding destination_key
@@ -65,9 +70,3 @@ all_keys input ips standings keys made is = is ∙ ap (keys_of 0) made ∙ keys_
 pub ips_again : (input : SelectionInput) (ips : List Ip) → map (λ (s : Standing). s.ip) (map (standing_of input) ips) ≡ ips
 ips_again input [] = refl
 ips_again input (ip ∷ ips) = ap (λ l. ip ∷ l) (ips_again input ips)
-
-pub sourced_again : (input : SelectionInput) (ips : List Ip) → map sourced_from (map (standing_of input) ips) ≡ map (sourced_by input) ips
-sourced_again input [] = refl
-sourced_again input (ip ∷ ips) =
-    let made : Option Ip → Sourced = λ o. record { ip = ip; source = o } in
-    ap (λ o. made o ∷ map sourced_from (map (standing_of input) ips)) (labelled_ip input (source_of input ip)) ∙ ap (λ l. sourced_by input ip ∷ l) (sourced_again input ips)

@@ -140,7 +140,9 @@ module _ (input : SelectionInput) where
       (then_last (nat_cmp y.precedence.0 x.precedence.0) _ _
       (then_last (bool_cmp x.tunnel y.tunnel) _ _
       (then_last (nat_cmp x.scope y.scope) _ _
-      (then_last (nat_cmp y.common.0 x.common.0) Equal (nat_cmp m n) refl)))))))
+      (then_last (nat_cmp x.rtt y.rtt) _ _
+      (then_last (bool_cmp x.unused y.unused) _ _
+      (then_last (nat_cmp y.common.0 x.common.0) Equal (nat_cmp m n) refl)))))))))
 
   less : (m n : ℕ) → m < n → nat_cmp m n ≡ Less
   less m n lt = grind (arith, nat_tests)

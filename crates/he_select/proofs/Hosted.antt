@@ -11,6 +11,7 @@ use Rattle.he_select.specs.declared.limits.TheConstants.{SOURCES, ROUTES}
 use Rattle.he_select.specs.declared.host.HostFault.{HostFault}
 use Rattle.he_select.specs.declared.host.HostFault.TheVariants as faults
 use Rattle.he_select.specs.declared.host.Route.{Route}
+use Rattle.he_select.specs.declared.known.Known.{Known}
 use Rattle.he_select.specs.declared.host.Source.{Source}
 use Rattle.he_select.specs.Faults.{IsHostFault}
 use Rattle.he_select.specs.HostFaults.{host_causes, host_fault, is_sound_route, is_sound_source}
@@ -18,7 +19,7 @@ use Rattle.he_select.specs.Hosts.{AddressesDiffer, HasHostSize, HostLists, IsHos
 use Rattle.he_select.specs.Ranges.{least_interface, most_routes, most_sources}
 use Rattle.he_select.specs.declared.policy.Row.{Row}
 use Rattle.he_select.specs.Refusals.{cause_if, first_repeat}
-use Rattle.he_select.specs.Selection.{SelectionInput, selection_input}
+use Rattle.he_select.specs.Selection.{SelectionInput, known_input}
 use Rattle.he_select.specs.Tables.{same_prefix}
 use Rattle.he_select.proofs.Apart.{all_pass, apart, first_failing, never_repeats, none_failing}
 use Rattle.he_select.proofs.Causes.{all_from_none, cause_none, cause_some, first_of_five, map_none, map_some, none_is, none_of_five, none_stands}
@@ -160,9 +161,9 @@ pub host_by : (host : HostLists) (answer : Option HostFault) → answer ≡ host
 host_by host answer is none = host_from host (ap is_none (sym is ∙ none))
 
 -- what the loops are given of a table and a host
-pub given_is : (policy rows : List Row) (host : HostLists) (sources : List Source) (routes : List Route) → rows ≡ policy → sources ≡ host.sources → routes ≡ host.routes
-    → ◌≡◌ {A = SelectionInput} (record { rows = rows; sources = sources; routes = routes }) (selection_input policy host)
-given_is policy rows host sources routes by_rows by_sources by_routes =
-    ap (λ (r : List Row). record { rows = r; sources = sources; routes = routes }) by_rows
-    ∙ ap (λ (s : List Source). record { rows = policy; sources = s; routes = routes }) by_sources
-    ∙ ap (λ (t : List Route). record { rows = policy; sources = host.sources; routes = t }) by_routes
+pub given_is : (policy rows : List Row) (host : HostLists) (sources : List Source) (routes : List Route) (known : List Known) → rows ≡ policy → sources ≡ host.sources → routes ≡ host.routes
+    → ◌≡◌ {A = SelectionInput} (record { rows = rows; sources = sources; routes = routes; known = known }) (known_input policy host known)
+given_is policy rows host sources routes known by_rows by_sources by_routes =
+    ap (λ (r : List Row). record { rows = r; sources = sources; routes = routes; known = known }) by_rows
+    ∙ ap (λ (s : List Source). record { rows = policy; sources = s; routes = routes; known = known }) by_sources
+    ∙ ap (λ (t : List Route). record { rows = policy; sources = host.sources; routes = t; known = known }) by_routes

@@ -19,9 +19,9 @@ use Rattle.he_select.specs.KeyOrder.{key_order_total}
 use Rattle.he_select.specs.LabelledRules.{labelled_of}
 use Rattle.he_select.specs.Preference.{Member, destination_rules}
 use Rattle.he_select.specs.Rules.{first_of}
-use Rattle.he_select.specs.Selection.{SelectionInput, route_of, source_of}
+use Rattle.he_select.specs.Selection.{SelectionInput, known_rtt, known_used, route_of, rtt_or_unknown, source_of}
 use Rattle.he_select.specs.Tables.{label_of, precedence_of}
-use Rattle.he_select.proofs.Orders.{step, then_equal, tied_numbers}
+use Rattle.he_select.proofs.Orders.{step, then_equal, tied_numbers, yes_as_less}
 use Rattle.he_select.proofs.Standings.{avoided, closer, matching, native, reached}
 
 pub keys_total : IsTotalOrder key_cmp
@@ -39,13 +39,15 @@ unfolding key_cmp
 same_place a b e =
     tied_numbers a.place b.place
     (last (nat_cmp b.common.0 a.common.0) _
+    (last (bool_cmp a.unused b.unused) _
+    (last (nat_cmp a.rtt b.rtt) _
     (last (nat_cmp a.scope b.scope) _
     (last (bool_cmp a.tunnel b.tunnel) _
     (last (nat_cmp b.precedence.0 a.precedence.0) _
     (last (bool_cmp a.other_label b.other_label) _
     (last (bool_cmp a.deprecated b.deprecated) _
     (last (bool_cmp a.other_scope b.other_scope) _
-    (last (bool_cmp a.unreachable b.unreachable) _ e))))))))
+    (last (bool_cmp a.unreachable b.unreachable) _ e))))))))))
 
 -- addresses that may be tried have one precedence only within one family
 abbrev pub PartsFamilies : List Row → Type 0
@@ -71,9 +73,11 @@ by_keys input parts a b ua ub =
     step {o = nat_cmp (precedence_of input.rows b.ip) (precedence_of input.rows a.ip)} refl (λ even.
     step (native (route_of input a.ip) (route_of input b.ip)) (λ _.
     step {o = nat_cmp (scope_of a.ip) (scope_of b.ip)} refl (λ _.
+    step {o = nat_cmp (rtt_or_unknown (known_rtt input.known a.ip)) (rtt_or_unknown (known_rtt input.known b.ip))} refl (λ _.
+    step (yes_as_less (known_used input.known a.ip) (known_used input.known b.ip)) (λ _.
     let near : LabelledSource → ℕ = λ l. common_of l.source.ip l.source.plen a.ip in
     let far : LabelledSource → ℕ = λ l. common_of l.source.ip l.source.plen b.ip in
     step (closer x y f (beq (is_v6 a.ip) (is_v6 b.ip)) near far tied
     ∙ ap (λ family. cond family (nat_cmp (option_map_or far (option_map f y) 0) (option_map_or near (option_map f x) 0)) Equal)
     (same_family (is_v6 a.ip) (is_v6 b.ip) (parts a.ip b.ip ua ub (sym (tied_numbers _ _ even))))) (λ _.
-    then_equal (nat_cmp a.place b.place)))))))))
+    then_equal (nat_cmp a.place b.place)))))))))))

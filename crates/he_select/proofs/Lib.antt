@@ -1,4 +1,5 @@
 pub mod Admitted
+pub mod Alike
 pub mod Apart
 pub mod Arranged
 pub mod Causes
@@ -22,4 +23,5 @@ pub mod Sources
 pub mod Standards
 pub mod Standings
 pub mod Stepping
+pub mod Told
 pub mod Walks

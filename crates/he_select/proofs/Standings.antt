@@ -17,7 +17,7 @@ use Rattle.he_select.specs.declared.selection.LabelledSource.{LabelledSource}
 use Rattle.he_select.specs.Deciding.{deciding_rule}
 use Rattle.he_select.specs.LabelledRules.{labelled_of}
 use Rattle.he_select.specs.Preference.{destination_rules}
-use Rattle.he_select.specs.Selection.{SelectionInput, route_of, source_of}
+use Rattle.he_select.specs.Selection.{SelectionInput, known_rtt, known_used, route_of, rtt_or_unknown, source_of}
 use Rattle.he_select.specs.Standing.{rule_between, standing_of}
 use Rattle.he_select.specs.Tables.{label_of, precedence_of}
 use Rattle.he_select.proofs.Orders.{no_as_less, yes_as_less}
@@ -84,4 +84,6 @@ deciding_is input a b =
     decided rules.HigherPrecedence {o = nat_cmp (precedence_of input.rows b) (precedence_of input.rows a)} refl (λ _.
     decided rules.NativeTransport (native (route_of input a) (route_of input b)) (λ _.
     decided rules.SmallerScope {o = nat_cmp (scope_of a) (scope_of b)} refl (λ _.
-    decided rules.LongestPrefix (closer x y f (beq (is_v6 a) (is_v6 b)) (λ l. common_of l.source.ip l.source.plen a) (λ l. common_of l.source.ip l.source.plen b) tied) (λ _. refl))))))))
+    decided rules.LowerRoundTripTime {o = nat_cmp (rtt_or_unknown (known_rtt input.known a)) (rtt_or_unknown (known_rtt input.known b))} refl (λ _.
+    decided rules.UsedBefore {o = bool_cmp (known_used input.known b) (known_used input.known a)} refl (λ _.
+    decided rules.LongestPrefix (closer x y f (beq (is_v6 a) (is_v6 b)) (λ l. common_of l.source.ip l.source.plen a) (λ l. common_of l.source.ip l.source.plen b) tied) (λ _. refl))))))))))

@@ -8,7 +8,7 @@ ghost use Rattle.he_select.specs.HostFaults.{is_sound_source};
 ghost use Rattle.he_select.specs.LabelledRules.{labelled_of};
 ghost use Rattle.he_select.specs.Preference.{IsOrder, order_of};
 ghost use Rattle.he_select.specs.Selection.{known_input, nothing_known, selection_input};
-ghost use Rattle.he_select.specs.Standing.{standing_from, standing_of, told_of};
+ghost use Rattle.he_select.specs.Standing.{standing_from, standing_of};
 ghost use Rattle.he_select.specs.Tables.{IsAdmitted};
 
 use crate::host::{Host, Route, Source};
@@ -110,7 +110,7 @@ fn sort_standings<A: Allocator + Copy>(
     ensures value { IfOk result (λ sorted. sorted.items ≡ map (standing_of (record { rows = rows.now; sources = sources.now; routes = routes.now; known = known.now })) (order_of (record { rows = rows.now; sources = sources.now; routes = routes.now; known = known.now }) (map (λ one. one.ip) known.now))) }
 {
     let labelled = label_sources(alloc, rows, sources)?;
-    let standings = standings_of(alloc, rows, routes, &labelled, known)?;
+    let standings = standings_of(alloc, rows, routes, &labelled, told(known), known)?;
     let mut keys = keys_of(alloc, &standings)?;
     sort(&mut keys);
     pick(alloc, &standings, &keys)
@@ -129,18 +129,19 @@ fn label_sources<A: Allocator + Copy>(
         .collect(alloc)
 }
 
+/// What the rules look at of each destination, with what is told of them.
 fn standings_of<A: Allocator + Copy>(
     alloc: A,
     rows: &[Row],
     routes: &[Route],
     sources: &[LabelledSource],
+    told: &[Known],
     known: &[Known],
 ) -> Result<Vec<Standing, A>, AllocError>
     requires { IsTrue (list_all (λ labelled. is_sound_source labelled.source) sources.now) }
-    ensures standings { IfOk result (λ standings. standings.items ≡ map (λ one. standing_from rows.now routes.now sources.now (told_of known.now) one.ip) known.now) }
+    ensures standings { IfOk result (λ standings. standings.items ≡ map (λ one. standing_from rows.now routes.now sources.now told.now one.ip) known.now) }
     ensures range { OnOk result (All (λ one. InRange one.ip) known.now) }
 {
-    let told = told(known);
     let mut standings = Vec::with_capacity(alloc, known.len())?;
     for one in known {
         standings.push(Standing::new(rows, routes, sources, told, one.ip))?;

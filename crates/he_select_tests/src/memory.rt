@@ -5,10 +5,9 @@ ghost use Rattle.std.specs.List.{list_all};
 ghost use Rattle.he_addr.specs.Ip.{is_usable};
 
 use crate::hosts::{V4, V6, route, source};
+use crate::known::all_usable as all_known_usable;
 use he_addr::Ip;
-use he_select::{
-    Host, Policy, Route, Source, Sourced, order, order_with_sources, order_with_standings,
-};
+use he_select::{Host, Known, Policy, Route, Source, order, order_known_with_standings};
 use refusing::{MOST_RUNS, Refusing};
 use std::mem::drop;
 
@@ -60,55 +59,29 @@ fn is_sorted<'h>(
     Some(sorted.as_slice() == [V6, V6, V6, FAR, FAR, FAR, V4, V4, V4].as_slice())
 }
 
-// The destination with the host's own address of that family as its source, which is the same address here.
-fn sourced(ip: Ip) -> Sourced {
-    Sourced {
-        ip,
-        source: Some(ip),
-    }
-}
-
-// The same with the sources: the one of the other IPv6 address is that on the interface of its route.
-fn is_sorted_with_sources<'h>(
-    heap: &'h Refusing,
-    policy: &Policy<&'h Refusing>,
-    host: &Host<&'h Refusing>,
-) -> Option<bool> {
-    let given = [V4, FAR, V6, V4, FAR, V6, V4, FAR, V6];
-    if !all_usable(&given) {
-        return Some(false);
-    }
-    let sorted = order_with_sources(heap, policy, host, &given).ok()?;
-    let far = Sourced {
-        ip: FAR,
-        source: Some(V6),
-    };
-    let (v6, v4) = (sourced(V6), sourced(V4));
-    Some(sorted.as_slice() == [v6, v6, v6, far, far, far, v4, v4, v4].as_slice())
-}
-
-// The same with what the rules look at: precedence and label of the standard table, and the sources' scope.
+// The same with what the rules look at: precedence and label of the standard table, and the source. That of the
+// address that is none of the host's own is the one on the interface of its route.
 fn is_sorted_with_standings<'h>(
     heap: &'h Refusing,
     policy: &Policy<&'h Refusing>,
     host: &Host<&'h Refusing>,
 ) -> Option<bool> {
-    let given = [V4, FAR, V6];
-    if !all_usable(&given) {
+    let given = [Known::nothing(V4), Known::nothing(FAR), Known::nothing(V6)];
+    if !all_known_usable(&given) {
         return Some(false);
     }
-    let sorted = order_with_standings(heap, policy, host, &given).ok()?;
+    let sorted = order_known_with_standings(heap, policy, host, &given).ok()?;
     let mut is_right = sorted.len() == given.len();
-    for (standing, (ip, precedence, label)) in sorted
+    for (standing, (ip, precedence, label, from)) in sorted
         .iter()
-        .zip([(V6, 40, 1), (FAR, 40, 1), (V4, 35, 4)])
+        .zip([(V6, 40, 1, V6), (FAR, 40, 1, V6), (V4, 35, 4, V4)])
     {
         is_right &= standing.ip == ip
             && standing.precedence == precedence
             && standing.label == label
-            && standing
-                .source
-                .map_or(false, |source| source.label == label);
+            && standing.source.map_or(false, |source| {
+                source.label == label && source.source.ip == from
+            });
     }
     Some(is_right)
 }
@@ -121,7 +94,6 @@ fn is_host_well<'h>(
     Some(
         is_host_copied(heap, host)?
             && is_sorted(heap, policy, host)?
-            && is_sorted_with_sources(heap, policy, host)?
             && is_sorted_with_standings(heap, policy, host)?,
     )
 }

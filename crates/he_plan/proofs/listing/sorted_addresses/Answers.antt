@@ -1,7 +1,11 @@
-use Rattle.std.proofs.Common.{true, sym, ◌∙◌}
-use Rattle.he_plan.proofs.Listed.{all_parts}
-use Rattle.he_plan.proofs.Queued.{parts-usable}
+use Rattle.std.proofs.Common.{◌∙◌}
+use Rattle.he_plan.specs.Race.{usable_addresses}
+use Rattle.he_plan.proofs.Known.{known_ips, known_usable}
 use Rattle.he_plan.proofs.listing.sorted_addresses.Goals as goal
 
-pub order-requires : goal.order-requires
-order-requires g c = rw (c.deref.ensures.value ∙ c.in_ok-ips.ensures ∙ sym (all_parts c.args.timeline.now)) (parts-usable c.args.timeline.now true true)
+pub order_known-requires : goal.order_known-requires
+order_known-requires g c = known_usable c.args.timeline.now _ (c.deref.ensures.value ∙ c.in_ok-known.ensures)
+
+pub returns : goal.returns
+returns g c =
+    rw (c.policy.ensures.value, c.host.ensures.value, c.deref.ensures.value ∙ c.in_ok-known.ensures, known_ips c.args.timeline.now.history (usable_addresses c.args.timeline.now)) at c.order_known.ensures.value

@@ -1,15 +1,11 @@
-// The outcomes of a race's addresses, found by address.
+// What is told of a race's addresses, each of which it is found by.
 
 ghost use Rattle.std.specs.Prelude.{◌≡◌, ◌⊎◌, ◌++◌, [], ◌∷◌, true, find, option_copied, IfOk, OnOk, OnErr};
-ghost use Rattle.std.specs.Cmp.Lexicographic.{pointwise};
 ghost use Rattle.std.specs.Map.{keys_of};
 ghost use Rattle.he_addr.specs.Ip.{same_ip};
-ghost use Rattle.he_plan.specs.Finish.{outcome_in};
-ghost use Rattle.he_plan.specs.Equality.{same_told};
-ghost use Rattle.he_plan.specs.Race.{has_outcome};
+ghost use Rattle.he_plan.specs.Race.{is_told, told_of};
 ghost use Rattle.he_plan.specs.Timeline.{are_told_once};
 
-use crate::outcome::Outcome;
 use crate::timeline::put;
 use he_addr::Ip;
 use indexmap::IndexSet;
@@ -17,38 +13,37 @@ use std::alloc::{AllocError, Allocator};
 use std::hash::{BuildHasherDefault, FoldHasher};
 use std::marker::Model;
 
-// To look through so many outcomes takes less than to hash an address and to keep an index of them.
+// To look through so many addresses takes less than to hash an address and to keep an index of them.
 const FEW: usize = 8;
 
-// Addresses by their place among outcomes.
+// Addresses by their place among those of which something is told.
 type Places<A> = IndexSet<Ip, BuildHasherDefault<FoldHasher>, A>;
 
-// What each address does when it is tried, in the order in which it was given, no address twice.
+// What is told of addresses, in the order in which it was given, of no address twice.
 #[derive(Drop)]
-pub(crate) struct Outcomes<A: Allocator> {
-    told: Vec<(Ip, Outcome), A>,
+pub(crate) struct ByAddress<V: Copy, A: Allocator> {
+    told: Vec<(Ip, V), A>,
     // the addresses of `told` in its order, or none while they are few: then they are looked for one by one
     places: Places<A>,
 }
 
-impl<A: Allocator> Model for Outcomes<A> {
+impl<V: Copy, A: Allocator> Model for ByAddress<V, A> {
     ghost use Rattle.std.specs.Prelude.{List, ◌≡◌, ◌⊎◌, []};
     ghost use Rattle.std.specs.Map.{keys_of};
     ghost use Rattle.he_addr.specs.declared.ip.Ip.{Ip};
-    ghost use Rattle.he_plan.specs.declared.outcome.Outcome.{Outcome};
 
-    ghost Value = { List (Ip × Outcome) };
+    ghost Value = { List (Ip × V) };
 
-    ghost view = { λ outcomes. outcomes.told.items };
+    ghost view = { λ t. t.told.items };
 
-    ghost invariant = { λ outcomes. (outcomes.places.keys ≡ []) ⊎ (outcomes.places.keys ≡ keys_of outcomes.told.items) };
+    ghost invariant = { λ t. (t.places.keys ≡ []) ⊎ (t.places.keys ≡ keys_of t.told.items) };
 }
 
-impl<A: Allocator + Copy> Outcomes<A> {
-    pub(crate) fn none(alloc: A) -> Outcomes<A>
+impl<V: Copy, A: Allocator + Copy> ByAddress<V, A> {
+    pub(crate) fn none(alloc: A) -> ByAddress<V, A>
         ensures { result ≡ [] }
     {
-        Outcomes {
+        ByAddress {
             told: Vec::new(alloc),
             places: IndexSet::new(alloc),
         }
@@ -65,18 +60,18 @@ impl<A: Allocator + Copy> Outcomes<A> {
         }
     }
 
-    pub(crate) fn push(&mut self, ip: Ip, outcome: Outcome) -> Result<(), AllocError>
-        requires { are_told_once (self.old ++ (ip, outcome) ∷ []) ≡ true }
-        ensures ok { OnOk result (self.new ≡ self.old ++ (ip, outcome) ∷ []) }
+    pub(crate) fn push(&mut self, ip: Ip, value: V) -> Result<(), AllocError>
+        requires { are_told_once (self.old ++ (ip, value) ∷ []) ≡ true }
+        ensures ok { OnOk result (self.new ≡ self.old ++ (ip, value) ∷ []) }
         ensures err { OnErr result (self.new ≡ self.old) }
     {
         if self.told.len() < FEW && self.places.is_empty() {
-            self.told.push((ip, outcome))?;
+            self.told.push((ip, value))?;
             return Ok(());
         }
         let room = self.told.capacity();
         make_places(&mut self.places, &self.told, room)?;
-        self.told.push((ip, outcome))?;
+        self.told.push((ip, value))?;
         if let Err(refused) = self.places.insert(ip) {
             self.told.pop();
             return Err(refused.into());
@@ -85,22 +80,22 @@ impl<A: Allocator + Copy> Outcomes<A> {
     }
 }
 
-impl<A: Allocator> Outcomes<A> {
+impl<V: Copy, A: Allocator> ByAddress<V, A> {
     pub(crate) fn has(&self, ip: Ip) -> bool
-        ensures { result ≡ has_outcome ip self.now }
+        ensures { result ≡ is_told ip self.now }
     {
         if self.places.is_empty() {
-            has_told(&self.told, ip)
+            is_told(&self.told, ip)
         } else {
             self.places.contains(&ip)
         }
     }
 
-    pub(crate) fn of(&self, ip: Ip) -> Option<Outcome>
-        ensures { result ≡ outcome_in self.now ip }
+    pub(crate) fn of(&self, ip: Ip) -> Option<V>
+        ensures { result ≡ told_of self.now ip }
     {
         if self.places.is_empty() {
-            return outcome_of_few(&self.told, ip);
+            return told_of_few(&self.told, ip);
         }
         match self.places.get_index_of(&ip) {
             Some(place) => Some(self.told[place].1),
@@ -108,7 +103,7 @@ impl<A: Allocator> Outcomes<A> {
         }
     }
 
-    pub(crate) fn copy<B: Allocator + Copy>(&self, alloc: B) -> Result<Outcomes<B>, AllocError>
+    pub(crate) fn copy<B: Allocator + Copy>(&self, alloc: B) -> Result<ByAddress<V, B>, AllocError>
         requires { are_told_once self.now ≡ true }
         ensures { IfOk result (λ copy. copy ≡ self.now) }
     {
@@ -118,30 +113,24 @@ impl<A: Allocator> Outcomes<A> {
         } else {
             places_of(alloc, &told, told.len())?
         };
-        Ok(Outcomes { told, places })
+        Ok(ByAddress { told, places })
     }
 
-    pub(crate) fn is_same(&self, other: &Outcomes<A>) -> bool
-        ensures { result ≡ pointwise same_told self.now other.now }
-    {
-        self.told.as_slice() == other.told.as_slice()
-    }
-
-    pub(crate) fn as_slice(&self) -> &[(Ip, Outcome)]
+    pub(crate) fn as_slice(&self) -> &[(Ip, V)]
         ensures { result.now ≡ self.now }
     {
         self.told.as_slice()
     }
 }
 
-fn has_told(told: &[(Ip, Outcome)], ip: Ip) -> bool
-    ensures { result ≡ has_outcome ip told.now }
+fn is_told<V: Copy>(told: &[(Ip, V)], ip: Ip) -> bool
+    ensures { result ≡ is_told ip told.now }
 {
     told.iter().any(|one| one.0 == ip)
 }
 
-fn outcome_of_few(told: &[(Ip, Outcome)], ip: Ip) -> Option<Outcome>
-    ensures { result ≡ outcome_in told.now ip }
+fn told_of_few<V: Copy>(told: &[(Ip, V)], ip: Ip) -> Option<V>
+    ensures { result ≡ told_of told.now ip }
 {
     match find_told(told, ip) {
         Some(found) => Some(found.1),
@@ -149,16 +138,16 @@ fn outcome_of_few(told: &[(Ip, Outcome)], ip: Ip) -> Option<Outcome>
     }
 }
 
-fn find_told(told: &[(Ip, Outcome)], ip: Ip) -> Option<&(Ip, Outcome)>
+fn find_told<V: Copy>(told: &[(Ip, V)], ip: Ip) -> Option<&(Ip, V)>
     ensures { option_copied result ≡ find (λ p. same_ip p.0 ip) told.now }
 {
     told.iter().find(|one| one.0 == ip)
 }
 
-// Makes the places of the outcomes, with room for so many, if there are none yet.
-fn make_places<A: Allocator + Copy>(
+// Makes the places of the addresses, with room for so many, if there are none yet.
+fn make_places<V: Copy, A: Allocator + Copy>(
     places: &mut Places<A>,
-    told: &[(Ip, Outcome)],
+    told: &[(Ip, V)],
     room: usize,
 ) -> Result<(), AllocError>
     requires places { (places.old.keys ≡ []) ⊎ (places.old.keys ≡ keys_of told.now) }
@@ -174,9 +163,9 @@ fn make_places<A: Allocator + Copy>(
 }
 
 // The addresses in their order, with room for so many.
-fn places_of<A: Allocator + Copy>(
+fn places_of<V: Copy, A: Allocator + Copy>(
     alloc: A,
-    told: &[(Ip, Outcome)],
+    told: &[(Ip, V)],
     room: usize,
 ) -> Result<Places<A>, AllocError>
     requires { are_told_once told.now ≡ true }
