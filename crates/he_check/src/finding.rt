@@ -113,7 +113,7 @@ fn word_sentence(place: Place<'_>) -> Option<Found> {
     let Some(word) = first_word(place.line) else {
         return Some((WrongPart::Token(0), Sentence::Plain(no_word(place))));
     };
-    if word.is_newer() && !place.is_newer() {
+    if matches!(word, Word::Rtt | Word::Used) && !place.is_newer() {
         return Some((WrongPart::Token(0), Sentence::Newer(word.spelling())));
     }
     if let Some(last) = last_word(place)

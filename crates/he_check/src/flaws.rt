@@ -120,7 +120,7 @@ fn setting_of(line: &[u8]) -> Option<Numbers> {
 
 fn name_flaw(place: Place<'_>, text: &[u8]) -> Option<Sentence> {
     match Name::read(text) {
-        Some(name) if name.is_newer() && !place.is_newer() => Some(Sentence::Newer(name.spelling())),
+        Some(Name::Floor) if !place.is_newer() => Some(Sentence::Newer("floor")),
         Some(_) => None,
         None if place.is_newer() => Some(Sentence::Plain(
             "no such setting: known are resolution, attempt, count, limit and floor",

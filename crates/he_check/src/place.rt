@@ -1,6 +1,6 @@
 // Where a fault stands: a line, and the lines of its race before it.
 
-use he_text::{LINE_END, NEWER_HEADER, TOKEN_END, Word};
+use he_text::{LINE_END, TOKEN_END, Version, Word};
 use memchr::memchr;
 
 // The line with which a race ends.
@@ -62,7 +62,7 @@ impl Place<'_> {
 
     // Whether the race begins as one of version 2.
     pub(crate) fn is_newer(self) -> bool {
-        cut_line(self.before).0 == NEWER_HEADER
+        cut_line(self.before).0 == Version::Two.header()
     }
 }
 
