@@ -4,7 +4,7 @@ ghost use Rattle.std.specs.Prelude.{false, All, ◌≡◌, ◌≤◌, drop, leng
 ghost use Rattle.std.specs.Cmp.Lexicographic.{pointwise};
 ghost use Rattle.he_addr.specs.Ip.{same_ip, InRange};
 ghost use Rattle.he_plan.specs.Race.{Race, Reply, reply_of, addresses_of, has_ip, has_outcome, is_told, known_of, rtt_in};
-ghost use Rattle.he_plan.specs.Equality.{same_pause, same_reply, same_race, same_told};
+ghost use Rattle.he_plan.specs.Equality.{same_pause, same_reply, same_race, same_settings, same_told};
 ghost use Rattle.he_select.specs.Equality.{equal_hosts, equal_tables};
 ghost use Rattle.he_plan.specs.Timeline.{IsRace, are_pauses, duration_of};
 ghost use Rattle.he_plan.specs.Attempts.{IsSeen, seen, seen_past};
@@ -196,7 +196,7 @@ impl<A: Allocator> Timeline<A> {
     fn is_same(&self, other: &Timeline<A>) -> bool
         ensures { result ≡ same_race self.now other.now }
     {
-        self.settings == other.settings
+        same_settings(self.settings, other.settings)
             && same_policy(&self.policy, &other.policy)
             && same_host(&self.host, &other.host)
             && same_answer(&self.aaaa, &other.aaaa)
@@ -396,6 +396,12 @@ impl<A: Allocator> Eq for Timeline<A> {
     ghost use Rattle.he_plan.specs.EqualityLaws.{same_race-equivalence};
 
     ghost laws = { same_race-equivalence };
+}
+
+fn same_settings(x: Settings, y: Settings) -> bool
+    ensures { result ≡ same_settings x y }
+{
+    x == y
 }
 
 fn same_policy<A: Allocator>(x: &Policy<A>, y: &Policy<A>) -> bool
