@@ -22,6 +22,10 @@ abbrev pub empty_race : SettingValues → List Row → HostLists → Race
 empty_race settings policy host =
     record { settings = settings; policy = policy; host = host; aaaa = None; a = None; history = empty_history; outcomes = []; pauses = [] }
 
+-- the race's settings, policy, host, answers and history, before anything is recorded
+abbrev pub unrecorded : Race → Race
+unrecorded race = record race { outcomes = []; pauses = [] }
+
 abbrev pub with_answer : Race → Family → Reply → Race
 with_answer race families.V6 reply = record race { aaaa = Some reply }
 with_answer race families.V4 reply = record race { a = Some reply }

@@ -1,7 +1,7 @@
 // Making a timeline.
 
 ghost use Rattle.std.specs.Prelude.{◌≡◌, ◌⊎◌, true, [], IfOk, IfErr};
-ghost use Rattle.he_plan.specs.Building.{IsRefused, empty_race, add_answer, add_outcome, add_pause, add_rtt, add_used, last_end, Becomes};
+ghost use Rattle.he_plan.specs.Building.{IsRefused, empty_race, unrecorded, add_answer, add_outcome, add_pause, add_rtt, add_used, last_end, Becomes};
 ghost use Rattle.he_plan.specs.Race.{has_ip, is_in_answer};
 ghost use Rattle.he_plan.specs.Timeline.{are_of, are_distinct, is_duration, IsRace};
 
@@ -12,7 +12,7 @@ use crate::limits::{
 use crate::outcome::Outcome;
 use crate::settings::Settings;
 use crate::timeline::{Answer, Timeline, put};
-use he_addr::{Family, Ip};
+use he_addr::{Family, Ip, Memory};
 use he_select::{Host, Policy};
 use std::alloc::{Allocator, Global};
 use std::marker::Model;
@@ -77,6 +77,24 @@ impl<A: Allocator + Copy> TimelineBuilder<A> {
             six: AddressSet::none(alloc),
             four: AddressSet::none(alloc),
         }
+    }
+
+    /// The timeline's settings, policy, host, answers and history, in another allocator: its race before anything is
+    /// recorded.
+    pub fn without_record<B: Allocator>(
+        alloc: A,
+        timeline: &Timeline<B>,
+    ) -> Result<TimelineBuilder<A>, Memory>
+        ensures value { IfOk result (λ new. new ≡ unrecorded timeline.now) }
+        ensures race { IfOk result IsRace }
+    {
+        let timeline = timeline.without_record(alloc)?;
+        Ok(TimelineBuilder {
+            alloc,
+            timeline,
+            six: AddressSet::none(alloc),
+            four: AddressSet::none(alloc),
+        })
     }
 
     /// Whether the address stands in one of the answers, usable or not, so that it may have an outcome and a history.

@@ -2,15 +2,17 @@
 
 ghost use Rattle.std.specs.Prelude.{false, All, ◌≡◌, ◌≤◌, drop, length, option_map, max, IfOk, IfSome, IsTrue, OnOk, OnErr};
 ghost use Rattle.std.specs.Cmp.Lexicographic.{pointwise};
+ghost use Rattle.std.specs.List.{list_all};
 ghost use Rattle.he_addr.specs.Ip.{same_ip, InRange};
+ghost use Rattle.he_plan.specs.declared.limits.TheConstants.{MAX_PAUSES};
 ghost use Rattle.he_plan.specs.Race.{Race, Reply, reply_of, addresses_of, has_ip, has_outcome, is_told, known_of, rtt_in};
 ghost use Rattle.he_plan.specs.Equality.{same_pause, same_reply, same_race, same_settings, same_told};
 ghost use Rattle.he_select.specs.Equality.{equal_hosts, equal_tables};
-ghost use Rattle.he_plan.specs.Timeline.{IsRace, are_pauses, duration_of};
+ghost use Rattle.he_plan.specs.Timeline.{IsRace, are_pauses, are_told_once, duration_of, is_outcome};
 ghost use Rattle.he_plan.specs.Attempts.{IsSeen, seen, seen_past};
 ghost use Rattle.he_plan.specs.Finish.{outcome_of, outcome_in};
 ghost use Rattle.he_plan.specs.Planning.{are_ahead};
-ghost use Rattle.he_plan.specs.Building.{empty_race, with_answer, with_outcome, with_pause, with_rtt, with_used};
+ghost use Rattle.he_plan.specs.Building.{empty_race, unrecorded, with_answer, with_outcome, with_pause, with_rtt, with_used};
 
 use crate::by_address::ByAddress;
 use crate::history::History;
@@ -160,27 +162,39 @@ impl<A: Allocator> Timeline<A> {
     pub fn copy<B: Allocator + Copy>(&self, alloc: B) -> Result<Timeline<B>, Memory>
         ensures { IfOk result (λ copy. copy ≡ self.now) }
     {
-        let policy = self.policy.copy(alloc)?;
-        let host = self.host.copy(alloc)?;
-        Ok(self.copy_with(alloc, policy, host)?)
+        let outcomes = self.outcomes.copy(alloc)?;
+        let pauses = Vec::from_slice(alloc, &self.pauses)?;
+        self.copy_with(alloc, outcomes, pauses)
     }
 
-    // The same timeline in another allocator, around these copies of its policy and host.
+    // The same timeline in another allocator, without its outcomes and pauses.
+    pub(crate) fn without_record<B: Allocator + Copy>(
+        &self,
+        alloc: B,
+    ) -> Result<Timeline<B>, Memory>
+        ensures { IfOk result (λ copy. copy ≡ unrecorded self.now) }
+    {
+        self.copy_with(alloc, ByAddress::none(alloc), Vec::new(alloc))
+    }
+
+    // The same timeline in another allocator, with these outcomes and pauses.
     fn copy_with<B: Allocator + Copy>(
         &self,
         alloc: B,
-        policy: Policy<B>,
-        host: Host<B>,
-    ) -> Result<Timeline<B>, AllocError>
-        requires policy { policy ≡ self.now.policy }
-        requires host { host ≡ self.now.host }
-        ensures { IfOk result (λ copy. copy ≡ self.now) }
+        outcomes: ByAddress<Outcome, B>,
+        pauses: Vec<(u64, u64), B>,
+    ) -> Result<Timeline<B>, Memory>
+        requires outcomes { IsTrue (list_all (is_outcome self.now) outcomes) }
+        requires once { IsTrue (are_told_once outcomes) }
+        requires pauses { IsTrue (are_pauses 0 pauses.items) }
+        requires few { length pauses.items ≤ MAX_PAUSES }
+        ensures { IfOk result (λ copy. copy ≡ record self.now { outcomes = outcomes; pauses = pauses.items }) }
     {
+        let policy = self.policy.copy(alloc)?;
+        let host = self.host.copy(alloc)?;
         let aaaa = copy_answer(alloc, &self.aaaa)?;
         let a = copy_answer(alloc, &self.a)?;
         let history = self.history.copy(alloc)?;
-        let outcomes = self.outcomes.copy(alloc)?;
-        let pauses = Vec::from_slice(alloc, &self.pauses)?;
         Ok(Timeline {
             settings: self.settings,
             policy,
