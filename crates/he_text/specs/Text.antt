@@ -1,5 +1,5 @@
 -- The texts of races: which lines stand in them, what they say, and the race that they make.
-use Rattle.std.specs.Prelude.{ℕ, ◌≡◌, ◌⊎◌, ◌<◌, ◌≤◌, ◌&&◌, Bool, true, IsTrue, List, [], ◌∷◌, ◌++◌, length, Option, Some, nat_le, if◌then◌else◌, codes, MatchOption}
+use Rattle.std.specs.Prelude.{false, ℕ, ◌≡◌, ◌⊎◌, ◌<◌, ◌≤◌, ◌&&◌, Bool, true, IsTrue, List, [], ◌∷◌, ◌++◌, length, Option, Some, nat_le, if◌then◌else◌, codes, MatchOption}
 use Rattle.std.specs.List.{AllByRecursion, AllZip, filter_map, list_all}
 use Rattle.he_addr.specs.declared.ip.Family.{Family}
 use Rattle.he_addr.specs.declared.ip.Family.TheVariants as families
