@@ -1,12 +1,12 @@
--- A fault of the text is the input's own, stands whatever follows, or is that of a policy table at a break.
-use Rattle.std.proofs.Common.{ℕ, ◌≡◌, ◌+◌, ◌++◌, ◌⊎◌, ◌==◌, List, [], ◌∷◌, length, Bool, true, false, Option, Some, None, ap, sym, ◌∙◌, refl, arith, inl, inr, append_assoc}
+-- A fault of the text is the input's own, stands whatever follows, or is that of a group of lines at a break.
+use Rattle.std.proofs.Common.{ℕ, ◌≡◌, ◌+◌, ◌++◌, ◌⊎◌, ◌==◌, List, [], ◌∷◌, length, Bool, true, false, Option, Some, None, ap, subst, sym, ◌∙◌, refl, arith, inl, inr, append_assoc}
 use Rattle.std.proofs.lemmas.List.{length-append}
 use Rattle.std.proofs.lemmas.List.Splits.{length-slice_split}
 use Rattle.he_plan.specs.Race.{Race}
 use Rattle.he_text.specs.declared.fault.TextFault.{TextFault}
 use Rattle.he_text.specs.declared.fault.TextKind.{TextKind}
 use Rattle.he_text.specs.declared.fault.TextKind.TheVariants as kinds
-use Rattle.he_text.specs.Beginnings.{FaultStands, IsPolicyFault, MayChange}
+use Rattle.he_text.specs.Beginnings.{FaultStands, IsGroupFaultAtEnd, MayChange}
 use Rattle.he_text.specs.FaultSearch.{fault_of}
 use Rattle.he_text.specs.Parts.{lines_of}
 use Rattle.he_text.specs.declared.inputs.InputFault.{InputFault}
@@ -42,30 +42,48 @@ line_in (Some (Text fault)) = fault.line
 line_in (Some Read) = 0
 line_in None = 0
 
--- a fault that what follows may mend is a policy table's, on the last line
-table_behind : (lines : ℕ) (rest : List ℕ) (n : ℕ) (kind : TextKind) (fault : TextFault) → Some (Text fault) ≡ Some (fault_behind true lines (n, kind)) → MayChange rest n kind
-    → IsPolicyFault fault.kind × (fault.line ≡ lines + line_count rest)
+-- what is told of a group's fault on the last line
+abbrev IsTold : ℕ → List ℕ → TextFault → Type 0
+IsTold lines rest fault = IsGroupFaultAtEnd rest (line_count rest) fault.kind × (fault.line ≡ lines + line_count rest)
+
+group_told : (lines : ℕ) (rest : List ℕ) (n : ℕ) (kind : TextKind) (fault : TextFault) → Some (Text fault) ≡ Some (Text (record { line = lines + n; kind = kind })) → IsGroupFaultAtEnd rest n kind → IsTold lines rest fault
 unfolding line_in kind_in
-table_behind lines rest n kind fault told (inl unfinished) =
-    let bad : Some (Text fault) ≡ Some Read = told ∙ ap (λ k. Some (fault_behind true lines (n, k))) unfinished in cc
-table_behind lines rest n kind fault told (inr ((table, is), (open_line, (whole, parts, last), may))) =
-    let same : Some (Text fault) ≡ Some (fault_behind true lines (n, kinds.Policy table)) = told ∙ ap (λ k. Some (fault_behind true lines (n, k))) is in
+group_told lines rest n kind fault same group =
+    let (before, parts, number) = group.ends in
     let line : fault.line ≡ lines + n = ap line_in same in
     let count : length (lines_of rest) ≡ _ = length-slice_split (λ b. b == 10) rest in
-    let one_more : length (lines_of rest) ≡ length whole + 1 = ap length parts ∙ length-append whole (open_line ∷ []) in
-    ((table, ap kind_in same), omega arith)
+    let two_more : length (lines_of rest) ≡ length before + 2 = ap length parts ∙ length-append before (group.line ∷ group.rest ∷ []) in
+    let last : n ≡ line_count rest = omega arith in
+    (subst (λ k. IsGroupFaultAtEnd rest (line_count rest) k) (sym (ap kind_in same)) (subst (λ m. IsGroupFaultAtEnd rest m kind) last group), omega arith)
+
+-- a fault that what follows may mend is that of a group, on the last line
+group_behind : (lines : ℕ) (rest : List ℕ) (n : ℕ) (kind : TextKind) (fault : TextFault) → Some (Text fault) ≡ Some (fault_behind true lines (n, kind)) → MayChange rest n kind → IsTold lines rest fault
+unfolding line_in kind_in
+group_behind lines rest n kind fault told (inl unfinished) =
+    let bad : Some (Text fault) ≡ Some Read = told ∙ ap (λ k. Some (fault_behind true lines (n, k))) unfinished in cc
+group_behind lines rest n kinds.Header fault told (inr group) = group_told lines rest n kinds.Header fault told group
+group_behind lines rest n kinds.Word fault told (inr group) = group_told lines rest n kinds.Word fault told group
+group_behind lines rest n kinds.Number fault told (inr group) = group_told lines rest n kinds.Number fault told group
+group_behind lines rest n kinds.Address fault told (inr group) = group_told lines rest n kinds.Address fault told group
+group_behind lines rest n kinds.Prefix fault told (inr group) = group_told lines rest n kinds.Prefix fault told group
+group_behind lines rest n kinds.Repeated fault told (inr group) = group_told lines rest n kinds.Repeated fault told group
+group_behind lines rest n kinds.Range fault told (inr group) = group_told lines rest n kinds.Range fault told group
+group_behind lines rest n kinds.TooMany fault told (inr group) = group_told lines rest n kinds.TooMany fault told group
+group_behind lines rest n kinds.Unfinished fault told (inr group) = cc
+group_behind lines rest n (kinds.Policy table) fault told (inr group) = group_told lines rest n (kinds.Policy table) fault told group
+group_behind lines rest n kinds.Memory fault told (inr group) = group_told lines rest n kinds.Memory fault told group
 
 module _
     (faults_stand : (text : List ℕ) (line : ℕ) (kind : TextKind) → fault_of text ≡ Some (line, kind) → MayChange text line kind ⊎ FaultStands text line kind)
   where
-    -- a fault of what stands behind whole races of a broken input stands whatever follows, or is a policy table's
+    -- a fault of what stands behind whole races of a broken input stands whatever follows, or is a group's
     known_behind : (count lines : ℕ) (rest : List ℕ) (fault : TextFault) → IsFaultBehind true count lines rest (Some (Text fault))
-        → ((more : List ℕ) (is_broken : Bool) → IsFaultBehind is_broken count lines (rest ++ more) (Some (Text fault))) ⊎ (IsPolicyFault fault.kind × (fault.line ≡ lines + line_count rest))
+        → ((more : List ℕ) (is_broken : Bool) → IsFaultBehind is_broken count lines (rest ++ more) (Some (Text fault))) ⊎ IsTold lines rest fault
     known_behind count lines [] fault is = cc
     known_behind count lines (byte ∷ rest) fault (inl most) = inl (λ more is_broken. inl most)
     known_behind count lines (byte ∷ rest) fault (inr (few, (n, kind), is, told)) =
         elim (faults_stand (byte ∷ rest) n kind is) [
-          | inl may ↦ inr (table_behind lines (byte ∷ rest) n kind fault told may)
+          | inl may ↦ inr (group_behind lines (byte ∷ rest) n kind fault told may)
           | inr stands ↦ inl (λ more is_broken. inr (few, (n, kind), stands more, however_it_ends is_broken lines n kind fault told))
         ]
 
@@ -86,5 +104,12 @@ module _
             };
             told = output.told;
           }))
-          | inr (table, line) ↦ inr (inr (refl, table, line ∙ sym (line_count-append has.before has.rest) ∙ sym (ap line_count has.parts)))
+          | inr (group, line) ↦ inr (inr (record {
+            broken = refl;
+            before = has.before;
+            race = has.rest;
+            parts = has.parts;
+            at_end = group;
+            last = line ∙ sym (line_count-append has.before has.rest) ∙ sym (ap line_count has.parts);
+          }))
         ]

@@ -2,7 +2,7 @@
 use Rattle.std.specs.Prelude.{ℕ, ◌≡◌, ◌⊎◌, ◌++◌, Bool, true, false, List, Some}
 use Rattle.he_plan.specs.Race.{Race}
 use Rattle.he_text.specs.declared.fault.TextFault.{TextFault}
-use Rattle.he_text.specs.Beginnings.{IsPolicyFault}
+use Rattle.he_text.specs.Beginnings.{IsGroupFaultAtEnd}
 use Rattle.he_text.specs.declared.inputs.InputFault.TheVariants.{Text}
 use Rattle.he_text.specs.Inputs.{line_count}
 use Rattle.he_replay.specs.Output.{IsOutput}
@@ -11,11 +11,16 @@ use Rattle.he_replay.specs.Output.{IsOutput}
 abbrev pub Stands : (List ℕ → Race → Type 0) → List ℕ → List ℕ → TextFault → Type 0
 Stands IsText input text fault = (more : List ℕ) (is_broken : Bool) → IsOutput IsText (input ++ more) is_broken text (Some (Text fault))
 
--- the fault of a policy table on the last line that has a line end, where the input broke off: more rows might have
--- followed
-abbrev pub IsTableBroken : List ℕ → Bool → TextFault → Type 0
-IsTableBroken input is_broken fault = (is_broken ≡ true) × IsPolicyFault fault.kind × (fault.line ≡ line_count input)
+-- the input broke off behind the last line of a policy table or of the settings, of which it is the fault: one more line of
+-- the group may mend it
+pub record IsGroupBroken (input : List ℕ) (is_broken : Bool) (fault : TextFault) : Type 0 where
+  pub broken : is_broken ≡ true
+  pub before : List ℕ
+  pub race : List ℕ
+  pub parts : input ≡ before ++ race
+  pub at_end : IsGroupFaultAtEnd race (line_count race) fault.kind
+  pub last : fault.line ≡ line_count input
 
--- the input ended; or what follows changes nothing; or the input broke off in a policy table
+-- the input ended; or what follows changes nothing; or the input broke off in a group of lines
 abbrev pub IsKnown : (List ℕ → Race → Type 0) → List ℕ → Bool → List ℕ → TextFault → Type 0
-IsKnown IsText input is_broken text fault = (is_broken ≡ false) ⊎ (Stands IsText input text fault ⊎ IsTableBroken input is_broken fault)
+IsKnown IsText input is_broken text fault = (is_broken ≡ false) ⊎ (Stands IsText input text fault ⊎ IsGroupBroken input is_broken fault)

@@ -22,7 +22,7 @@ pub fn one_output()
 }
 
 /// A fault of the text is known in one of three ways: the input ended; or each longer input has this output and this
-/// fault too; or the input broke off in a policy table, of which it is the fault.
+/// fault too; or the input broke off in a policy table or the settings, of which it is the fault.
 pub fn faults_are_known()
     ensures { (content : Content) (input : List ℕ) (is_broken : Bool) (text : List ℕ) (fault : TextFault) → IsOutput (IsTextOf content) input is_broken text (Some (Text fault)) → IsKnown (IsTextOf content) input is_broken text fault }
 {
