@@ -164,10 +164,7 @@ fn is_won_by_the_quicker(heap: &Refusing) -> Option<bool> {
         ip: V6_B,
         mark: Mark::Won(30),
     };
-    Some(
-        transcript.attempts() == [line].as_slice()
-            && transcript.result() == Outcome3::Won(0, 30),
-    )
+    Some(transcript.attempts() == [line].as_slice() && transcript.result() == Outcome3::Won(0, 30))
 }
 
 #[test]

@@ -19,6 +19,9 @@ const V4_A: Ip = Ip::V4(0xc633_6401);
 
 const CALLS: usize = 6;
 
+// From this one on the calls record what happened.
+const RECORD: usize = 4;
+
 // The call of this number.
 fn make(builder: &mut TimelineBuilder<&Refusing>, number: usize) -> Result<(), BuildFault> {
     match number {
@@ -31,9 +34,9 @@ fn make(builder: &mut TimelineBuilder<&Refusing>, number: usize) -> Result<(), B
     }
 }
 
-// The calls in turn, each made again where memory was refused; whether each was taken.
-fn make_all(builder: &mut TimelineBuilder<&Refusing>) -> bool {
-    for number in 0..CALLS {
+// The calls from this one on in turn, each made again where memory was refused; whether each was taken.
+fn make_from(builder: &mut TimelineBuilder<&Refusing>, first: usize) -> bool {
+    for number in first..CALLS {
         if make(builder, number) == Err(BuildFault::Memory) && make(builder, number).is_err() {
             return false;
         }
@@ -51,7 +54,7 @@ fn built(heap: &Refusing, nth: u64) -> Option<Timeline<&Refusing>> {
     heap.refuse(0);
     let mut builder = begun(heap)?;
     heap.refuse(nth);
-    if make_all(&mut builder) {
+    if make_from(&mut builder, 0) {
         Some(builder.finish())
     } else {
         drop(builder);
@@ -74,6 +77,19 @@ fn is_copied<'h>(heap: &'h Refusing, wanted: &Timeline<&'h Refusing>) -> Result<
     let copy = wanted.copy(heap)?;
     let is_same = copy == *wanted;
     drop(copy);
+    Ok(is_same)
+}
+
+// Without its record, and recorded again.
+fn is_recorded_again<'h>(
+    heap: &'h Refusing,
+    wanted: &Timeline<&'h Refusing>,
+) -> Result<bool, Memory> {
+    let mut builder = TimelineBuilder::without_record(heap, wanted)?;
+    let is_made = make_from(&mut builder, RECORD);
+    let timeline = builder.finish();
+    let is_same = is_made && timeline == *wanted;
+    drop(timeline);
     Ok(is_same)
 }
 
@@ -111,7 +127,7 @@ fn is_told<'h>(
     Ok(told.attempts() == transcript.attempts() && told.result() == transcript.result())
 }
 
-const QUESTIONS: usize = 4;
+const QUESTIONS: usize = 5;
 
 // Whether the answer to the question of this number is as with ample memory.
 fn ask<'h>(
@@ -122,8 +138,9 @@ fn ask<'h>(
 ) -> Result<bool, Memory> {
     match number {
         0 => is_copied(heap, wanted),
-        1 => is_interlaced(heap),
-        2 => is_planned(heap, wanted, transcript),
+        1 => is_recorded_again(heap, wanted),
+        2 => is_interlaced(heap),
+        3 => is_planned(heap, wanted, transcript),
         _ => is_told(heap, wanted, transcript),
     }
 }

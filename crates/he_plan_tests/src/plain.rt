@@ -47,12 +47,7 @@ fn may_start(timeline: &Timeline<&Refusing>, done: &[Attempt], tick: u64) -> boo
     }
 }
 
-fn has_waited(
-    timeline: &Timeline<&Refusing>,
-    done: &[Attempt],
-    last: &Attempt,
-    tick: u64,
-) -> bool {
+fn has_waited(timeline: &Timeline<&Refusing>, done: &[Attempt], last: &Attempt, tick: u64) -> bool {
     if last.tick.saturating_add(timeline.settings().attempt()) <= tick {
         return true;
     }
