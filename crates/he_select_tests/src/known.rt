@@ -27,7 +27,7 @@ type Case = ([(Ip, Option<u64>, bool); 3], [Ip; 3]);
 
 // `known-times` a to d; a round trip time as long as can be told is known still; and of an address that stands twice
 // what is told first counts.
-static CASES: [Case; 6] = [
+const CASES: [Case; 6] = [
     (
         [
             (SIX_A, None, false),
@@ -123,7 +123,7 @@ fn first_rule<'h>(
 }
 
 // The rules that decide in the cases.
-static RULES: [DestinationRule; 6] = [
+const RULES: [DestinationRule; 6] = [
     DestinationRule::LowerRoundTripTime,
     DestinationRule::LowerRoundTripTime,
     DestinationRule::LowerRoundTripTime,
@@ -138,8 +138,10 @@ fn right_cases<'h>(
     policy: &Policy<&'h Refusing>,
     host: &Host<&'h Refusing>,
 ) -> usize {
+    let cases = CASES;
+    let rules = RULES;
     let mut right: usize = 0;
-    for ((told, wanted), rule) in CASES.iter().zip(RULES.iter()) {
+    for ((told, wanted), rule) in cases.iter().zip(rules.iter()) {
         let list = [known(&told[0]), known(&told[1]), known(&told[2])];
         if !is_ordered(heap, policy, host, &list, wanted)
             || first_rule(heap, policy, host, &list) != Some(*rule)
