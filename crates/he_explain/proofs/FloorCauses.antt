@@ -1,8 +1,8 @@
 -- A cause names failures exactly where the floor starts an attempt.
-use Rattle.std.proofs.Common.{◌≡◌, ℕ, ◌+◌, ◌≤◌, ◌<◌, ◌↔◌, true, false, List, refl, ◌∙◌, subst, arith, inl, inr}
+use Rattle.std.proofs.Common.{◌≡◌, ℕ, ◌+◌, ◌≤◌, ◌<◌, false, List, refl, subst, arith, inl, inr}
 use Rattle.std.specs.Prelude.{Option, None, Some, IsSomeAnd, IsTrue}
 use Rattle.he_plan.specs.declared.attempts.Attempt.{Attempt}
-use Rattle.he_plan.specs.Attempts.{HasWaited, HaveFailed, IsFree, IsNext, IsSeen, last_of, seen}
+use Rattle.he_plan.specs.Attempts.{HasWaited, HaveFailed, IsFree, IsSeen, seen}
 use Rattle.he_plan.specs.Race.{Race}
 use Rattle.he_plan.specs.Timeline.{IsRace}
 use Rattle.he_plan.proofs.Bools.{clash}
