@@ -1,6 +1,7 @@
 mod CauseLaws
 mod CourseLaws
 mod EventLaws
+mod FloorCauses
 mod FloorLaws
 mod InterlacedLaws
 mod LaterLaws

@@ -37,7 +37,7 @@ last_failure race (x ∷ done) = max (failure_of race x) (last_failure race done
 
 -- a later attempt that starts before the Connection Attempt Delay is over, behind failures of which the last is at
 -- `failed`: the floor after the attempt before, or that failure if it comes later, unless both were seen at an earlier
--- tick; then no address was left, and the answer with this one came later
+-- tick; then no address was left, and the answer with this one came later. Without a floor none starts so early
 abbrev pub floor_cause : Race → Attempt → ℕ → Attempt → Option ℕ → Cause
 floor_cause race last failed next None = AttemptDelay last.place race.settings.attempt
 floor_cause race last failed next (Some floor) =

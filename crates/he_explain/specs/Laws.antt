@@ -1,5 +1,5 @@
 -- What follows from the definitions, in words of its own.
-use Rattle.std.specs.Prelude.{ℕ, ◌≡◌, ◌≢◌, ◌+◌, ◌++◌, ◌<◌, ◌≤◌, List, [], ◌∷◌, max, slice_get, take, Option, Some, None, IsSomeAnd, IsTrue, IsFalse}
+use Rattle.std.specs.Prelude.{ℕ, ◌≡◌, ◌≢◌, ◌+◌, ◌++◌, ◌<◌, ◌≤◌, ◌↔◌, Bool, true, false, List, [], ◌∷◌, max, slice_get, take, Option, Some, None, IsSomeAnd, IsTrue, IsFalse}
 use Rattle.std.specs.List.{list_all, list_any}
 use Rattle.std.specs.List.Sorted.{IsNonDecreasingBy, IsPermutation}
 use Rattle.he_addr.specs.declared.ip.Ip.{Ip}
@@ -46,8 +46,8 @@ IsFirstBy race t (Floor place floor) = ⊥
 IsFirstBy race t (LastFailure tick) = ⊥
 IsFirstBy race t (LaterAnswer family) = ⊥
 
--- at t every attempt so far has failed, and the floor has passed since the last start, but not the Connection Attempt
--- Delay
+-- a floor is given, and at t every attempt so far has failed and that floor has passed since the last start, but the
+-- Connection Attempt Delay has not
 abbrev pub IsByFloor : Race → List Attempt → ℕ → Attempt → ℕ → Type 0
 IsByFloor race done t last floor =
     (race.settings.floor ≡ Some floor) × HaveFailed race done t × (last.tick + floor ≤ t) × (t < last.tick + race.settings.attempt)
@@ -87,6 +87,20 @@ abbrev pub DuesStand : Type 0
 DuesStand =
     (race : Race) → IsRace race → (done : List Attempt) (next : Attempt) → IsNext race done next
     → seen race (due_of race (last_of done) (cause_of race (last_of done) (last_failure race done) next)) ≡ next.tick
+
+-- the cause is that all attempts so far have failed
+abbrev pub names_failures : Cause → Bool
+names_failures (Floor place floor) = true
+names_failures (LastFailure tick) = true
+names_failures _ = false
+
+-- so it is exactly where the floor starts an attempt: before the Connection Attempt Delay after the last one is over,
+-- and at the first tick at which the client could act and the last one had been waited for
+abbrev pub FloorsStand : Type 0
+FloorsStand =
+    (race : Race) → IsRace race → (done : List Attempt) (last next : Attempt) → last_of done ≡ Some last → IsNext race done next
+    → IsTrue (names_failures (cause_of race (Some last) (last_failure race done) next))
+    ↔ ((next.tick < last.tick + race.settings.attempt) × ((t : ℕ) → IsFree race t → HasWaited race done t last → next.tick ≤ t))
 
 -- the address stands at this place of the list, and those before it were tried
 abbrev pub IsFirstUntried : List Attempt → List Ip → ℕ → Ip → Type 0
