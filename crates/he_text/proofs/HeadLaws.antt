@@ -85,14 +85,14 @@ unfolding add_source
 source_agrees after source said =
     once_judged (list_any (same_source source) (sources_given said)) (record (head_given said) { sources = sources_given said ++ source ∷ [] }) (head_given (said ++ HostSource source ∷ []))
     (head_same _ _ _ _ _ _ _ _ (sym (given_kept said (HostSource source) (λ name. refl))) (sym (none_more row_said said (HostSource source) refl)) (sym (one_more source_said said (HostSource source) source refl)) (sym (none_more route_said said (HostSource source) refl)))
-    ∙ sym (no_group after said (HostSource source) _ _ _ refl)
+    ∙ sym (no_group after said (HostSource source) (head_given (said ++ HostSource source ∷ [])) None (test (list_any (same_source source) (sources_given said)) kinds.Repeated) refl)
 
 route_agrees : (after : List (List ℕ)) (route : Route) (said : List Said) → add_route route (head_given said) ≡ judged_head after said (HostRoute route)
 unfolding add_route
 route_agrees after route said =
     once_judged (list_any (same_route route) (routes_given said)) (record (head_given said) { routes = routes_given said ++ route ∷ [] }) (head_given (said ++ HostRoute route ∷ []))
     (head_same _ _ _ _ _ _ _ _ (sym (given_kept said (HostRoute route) (λ name. refl))) (sym (none_more row_said said (HostRoute route) refl)) (sym (none_more source_said said (HostRoute route) refl)) (sym (one_more route_said said (HostRoute route) route refl)))
-    ∙ sym (no_group after said (HostRoute route) _ _ _ refl)
+    ∙ sym (no_group after said (HostRoute route) (head_given (said ++ HostRoute route ∷ [])) None (test (list_any (same_route route) (routes_given said)) kinds.Repeated) refl)
 
 by_setting : (after : List (List ℕ)) (said : List Said) (read : Result (Name × ℕ) TextKind)
     → (read >>= λ setting. add_setting (is_next words.Set after) setting.0 setting.1 (head_given said)) ≡ ((read >>= λ setting. Ok (Setting setting.0 setting.1)) >>= judged_head after said)

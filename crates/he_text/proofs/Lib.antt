@@ -18,6 +18,7 @@ mod FormKinds
 mod FormLaws
 mod FormReads
 mod GivenLaws
+mod GroupFaults
 mod HeadLaws
 mod HostLaws
 mod LineLaws

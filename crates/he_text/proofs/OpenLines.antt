@@ -4,7 +4,7 @@ use Rattle.std.specs.Prelude.{◌⊎◌, IsTrue, codes, slice_index}
 use Rattle.std.specs.List.{AllByRecursion, onto_first, join_with_byte, starts_with}
 use Rattle.std.proofs.lemmas.Bool.{le-leb, leb-true, eq-eqb, eqb-true, and_parts}
 use Rattle.std.proofs.lemmas.Bool.Decides.{Decides-eqb}
-use Rattle.std.proofs.lemmas.List.{append-nil, length-append, length-drop, take-append-drop, drop_more, get_or-drop}
+use Rattle.std.proofs.lemmas.List.{append-nil, append_cancel_right, length-append, length-drop, take-append-drop, drop_more, get_or-drop}
 use Rattle.std.proofs.lemmas.List.Splits.{join_with_byte-slice_split, length-slice_split}
 use Rattle.std.proofs.lemmas.Slice.Eq.{starts_is}
 use Rattle.memchr.specs.Find.{Nowhere, Passes, is_byte}
@@ -73,6 +73,11 @@ last_is (part ∷ next ∷ whole) rest = last_is (next ∷ whole) rest
 
 pub one_last : (whole others : List (List ℕ)) (rest other : List ℕ) → whole ++ rest ∷ [] ≡ others ++ other ∷ [] → rest ≡ other
 one_last whole others rest other h = sym (last_is whole rest) ∙ ap last_part h ∙ last_is others other
+
+pub both_last : (whole others : List (List ℕ)) (rest other : List ℕ) → whole ++ rest ∷ [] ≡ others ++ other ∷ [] → (rest ≡ other) × (whole ≡ others)
+both_last whole others rest other h =
+    let last : rest ≡ other = one_last whole others rest other h in
+    (last, append_cancel_right whole others (other ∷ []) (ap (λ l. whole ++ l ∷ []) (sym last) ∙ h))
 
 -- bytes without the mark stand at the front of the first part
 pub front_part : (mark : ℕ) (rest more first : List ℕ) (parts : List (List ℕ)) → Lacks mark rest → pieces_of mark more ≡ first ∷ parts → pieces_of mark (rest ++ more) ≡ (rest ++ first) ∷ parts
@@ -153,7 +158,7 @@ word_line w line h = by_word (word_of (tokens_of line)) refl h
   where
     by_tokens : (tokens : List (List ℕ)) → line ≡ join_with_byte 32 (spelling_of w ∷ tokens) → (line ≡ spelling_of w) ⊎ ((more : List ℕ) × (line ≡ spaced_word w ++ more))
     by_tokens [] e = inl e
-    by_tokens (token ∷ tokens) e = inr (join_with_byte 32 (token ∷ tokens), e)
+    by_tokens (token ∷ tokens) e = inr (join_with_byte 32 (token ∷ tokens), e ∙ sym (append_assoc (spelling_of w) (32 ∷ []) (join_with_byte 32 (token ∷ tokens))))
 
     by_word : (word : _) → word_of (tokens_of line) ≡ word → begins_with w word ≡ true → (line ≡ spelling_of w) ⊎ ((more : List ℕ) × (line ≡ spaced_word w ++ more))
     by_word (Err kind) e b = cc
@@ -219,40 +224,13 @@ open_lacks mark text =
     let A : List (List ℕ) → Type 0 = AllByRecursion (Lacks mark) in
     last_lacks mark ending.whole ending.rest (subst A ending.parts (parts_lack mark text))
 
--- a line of the word may follow the text's last whole line, which is its nth
-abbrev pub WordMayFollow : Word → List ℕ → ℕ → Type 0
-WordMayFollow w text n = (rest : List ℕ) × EndsIn text n rest × MayBecome w rest
-
--- whether one more line may follow
-pub may_follow : (w : Word) → (text : List ℕ) (n : ℕ) → WordMayFollow w text n ⊎ (WordMayFollow w text n → ⊥)
-may_follow w text n = by_count (eqb (length ending.whole) n) refl
+-- whether bytes may become a line of the word
+pub may_become_or_not : (w : Word) (rest : List ℕ) → Lacks 10 rest → MayBecome w rest ⊎ (MayBecome w rest → ⊥)
+may_become_or_not w rest lacks = by_test (test_beginning w rest) refl
   where
-    ending : Open 10 text
-    ending = open_of 10 text
-
-    lacks : Lacks 10 ending.rest
-    lacks = open_lacks 10 text
-
-    same_rest : (rest : List ℕ) → EndsIn text n rest → ending.rest ≡ rest
-    same_rest rest (lines, parts, count) = one_last ending.whole lines ending.rest rest (sym ending.parts ∙ parts)
-
-    by_test : (b : Bool) → test_beginning w ending.rest ≡ b → length ending.whole ≡ n
-        → WordMayFollow w text n ⊎ (WordMayFollow w text n → ⊥)
-    by_test true e count = inl (ending.rest, (ending.whole, ending.parts, count), becomes_line w ending.rest lacks ((beginning_found w ending.rest _ _ _ refl refl refl).0 e))
-    by_test false e count = inr (λ may.
-        let here : MayBecome w ending.rest = subst (MayBecome w) (sym (same_rest may.0 may.1)) may.2 in
-        let wrong : false ≡ true = sym e ∙ (beginning_found w ending.rest _ _ _ refl refl refl).1 (begins_as w ending.rest lacks here) in
-        cc)
-
-    counted : (lines : List (List ℕ)) (rest : List ℕ) → lines_of text ≡ lines ++ rest ∷ [] → length lines + 1 ≡ length (lines_of text)
-    counted lines rest parts = sym (ap length parts ∙ length-append lines (rest ∷ []))
-
-    same_count : (rest : List ℕ) → EndsIn text n rest → length ending.whole ≡ n
-    same_count rest (lines, parts, count) = let all = counted lines rest parts in let ours = counted ending.whole ending.rest ending.parts in omega arith
-
-    by_count : (b : Bool) → eqb (length ending.whole) n ≡ b → WordMayFollow w text n ⊎ (WordMayFollow w text n → ⊥)
-    by_count true e = by_test (test_beginning w ending.rest) refl (eqb-true (length ending.whole) n e)
-    by_count false e = inr (λ may. let wrong : true ≡ false = sym (eq-eqb (length ending.whole) n (same_count may.0 may.1)) ∙ e in cc)
+    by_test : (b : Bool) → test_beginning w rest ≡ b → MayBecome w rest ⊎ (MayBecome w rest → ⊥)
+    by_test true e = inl (becomes_line w rest lacks ((beginning_found w rest _ _ _ refl refl refl).0 e))
+    by_test false e = inr (λ may. let wrong : false ≡ true = sym e ∙ (beginning_found w rest _ _ _ refl refl refl).1 (begins_as w rest lacks may) in cc)
 
 -- what stands behind the last mark is one part
 pieces_behind : (mark byte : ℕ) (front rest : List ℕ) → eqb byte mark ≡ true → pieces_of mark rest ≡ rest ∷ [] → pieces_of mark (front ++ byte ∷ rest) ≡ pieces_of mark front ++ rest ∷ []
