@@ -308,9 +308,9 @@ next_setting (Setting name value ∷ later) (line ∷ []) after last order short
 next_setting (Setting name value ∷ later) (line ∷ other ∷ more) after last order short are = inr (and_from (leb (length line) MAX_LINE) _ (le-leb (length line) MAX_LINE short.0) (ap (begins_with words.Set) are.0.word))
 next_setting (t ∷ later) more after last order short are = inl (no_more_settings t later refl order)
 
-either : (next : Bool) → ◌≡◌ {A = Option TextKind} (cond next None None) None
-either true = refl
-either false = refl
+pub either_way : (next : Bool) → ◌≡◌ {A = Option TextKind} (cond next None None) None
+either_way true = refl
+either_way false = refl
 
 -- the tenth and the eleventh check: what a group gives together
 pub group_fits : (told later : List Said) (s : Said) (more after : List (List ℕ)) (last : List ℕ) → IsWhole (told ++ s ∷ later) → AllByRecursion (λ line. length line ≤ MAX_LINE) more → AllZip IsLine more later
@@ -330,11 +330,11 @@ group_fits told later (Setting name value) more after last whole short are =
     by_next true h = refl
     by_next false (inl none) = not_failing (floor_is_above (settings_given (told ++ Setting name value ∷ []))) kinds.Range (last_settings told later (Setting name value) whole none)
     by_next false (inr next) = cc
-group_fits told later (HostSource source) more after last whole short are = either (is_next words.Source (more ++ last ∷ after))
-group_fits told later (HostRoute route) more after last whole short are = either (is_next words.Route (more ++ last ∷ after))
-group_fits told later (Answer family reply) more after last whole short are = either (is_next (word_said (Answer family reply)) (more ++ last ∷ after))
-group_fits told later (RoundTrip ip rtt) more after last whole short are = either (is_next words.Rtt (more ++ last ∷ after))
-group_fits told later (UsedBefore ip) more after last whole short are = either (is_next words.Used (more ++ last ∷ after))
-group_fits told later (Told ip outcome) more after last whole short are = either (is_next words.Connect (more ++ last ∷ after))
-group_fits told later (Paused from to) more after last whole short are = either (is_next words.Pause (more ++ last ∷ after))
-group_fits told later Ended more after last whole short are = either (is_next words.End (more ++ last ∷ after))
+group_fits told later (HostSource source) more after last whole short are = either_way (is_next words.Source (more ++ last ∷ after))
+group_fits told later (HostRoute route) more after last whole short are = either_way (is_next words.Route (more ++ last ∷ after))
+group_fits told later (Answer family reply) more after last whole short are = either_way (is_next (word_said (Answer family reply)) (more ++ last ∷ after))
+group_fits told later (RoundTrip ip rtt) more after last whole short are = either_way (is_next words.Rtt (more ++ last ∷ after))
+group_fits told later (UsedBefore ip) more after last whole short are = either_way (is_next words.Used (more ++ last ∷ after))
+group_fits told later (Told ip outcome) more after last whole short are = either_way (is_next words.Connect (more ++ last ∷ after))
+group_fits told later (Paused from to) more after last whole short are = either_way (is_next words.Pause (more ++ last ∷ after))
+group_fits told later Ended more after last whole short are = either_way (is_next words.End (more ++ last ∷ after))

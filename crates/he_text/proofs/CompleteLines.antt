@@ -11,14 +11,14 @@ use Rattle.he_text.specs.declared.limits.TheConstants.{MAX_LINE}
 use Rattle.he_text.specs.declared.words.Version.{Version}
 use Rattle.he_text.specs.declared.words.Word.{Word}
 use Rattle.he_text.specs.declared.words.Word.TheVariants as words
-use Rattle.he_text.specs.Faults.{test, first_fault, last_group, known_to, too_long, unfinished, wrong_word, too_often, wrong_bounds, repeated, wrong_group, of_said, line_fault, ends}
+use Rattle.he_text.specs.Faults.{test, first_fault, last_group, known_to, too_long, unfinished, wrong_word, too_often, wrong_bounds, repeated, is_next, wrong_group, of_said, line_fault, ends}
 use Rattle.he_text.specs.FaultSearch.{at_line_number, fault_from}
 use Rattle.he_text.specs.Forms.{◌>>=◌, word_of, version_word, said_by}
 use Rattle.he_text.specs.Parts.{tokens_of}
 use Rattle.he_text.specs.Said.{Said, Setting, PolicyRow, HostSource, HostRoute, Answer, RoundTrip, UsedBefore, Told, Paused, Ended, word_said}
 use Rattle.he_text.specs.Text.{Says, group_said, may_say}
 use Rattle.he_text.specs.Words.{group_of, word_in}
-use Rattle.he_text.proofs.CompleteChecks.{has_room, in_bounds, not_twice, group_fits}
+use Rattle.he_text.proofs.CompleteChecks.{has_room, in_bounds, not_twice, either_way, group_fits}
 use Rattle.he_text.proofs.CompleteForms.{IsLine, is_line, said_are, goes_on, version_line, word_group}
 use Rattle.he_text.proofs.CompleteGroups.{group_last, last_is, order_split}
 use Rattle.he_text.proofs.LineReads.{reads_said}
@@ -56,7 +56,7 @@ comes_next before told later s tokens whole are =
     ap (λ b. test b kinds.Word) (le-ltb (group_of (word_said s)) (last_group 0 before) (omega arith))
 
 -- all checks of a line, by the word, the lines before and what the line says
-abbrev checked : (v : Version) → List (List ℕ) → List ℕ → List (List ℕ) → List Said → Result (Word × List (List ℕ)) TextKind → Option TextKind
+abbrev checked : List (List ℕ) → List ℕ → List (List ℕ) → List Said → Result (Word × List (List ℕ)) TextKind → Option TextKind
 checked before line after told word =
     first_fault (too_long line ∷ unfinished after ∷ wrong_word (last_group 0 before) word ∷ too_often before word
     ∷ result_err (word >>= λ parts. said_by (known_to told) parts.0 parts.1)
@@ -115,7 +115,7 @@ right_end v before after told are some =
     ∙ ap (checked before (codes "end") after told) (kept_word v (tokens_of (codes "end")) (words.End, []) refl end_word)
     ∙ all_none (too_long (codes "end")) (unfinished after) (wrong_word (last_group 0 before) (Ok (words.End, []))) (too_often before (Ok (words.End, [])))
     (Ok Ended) (wrong_bounds told) (repeated told) (wrong_group told after) Ended
-    refl (nothing_after after some) (ap (λ b. test b kinds.Word) (le-ltb 11 (last_group 0 before) (omega arith))) refl refl refl refl refl
+    refl (nothing_after after some) (ap (λ b. test b kinds.Word) (le-ltb 11 (last_group 0 before) (omega arith))) refl refl refl refl (either_way (is_next words.End after))
 
 zip_more : {A B : Type 0} (R : A → B → Type 0) (xs : List A) (ys : List B) (x : A) (y : B) → AllZip R xs ys → R x y → AllZip R (xs ++ x ∷ []) (ys ++ y ∷ [])
 zip_more R [] [] x y all here = (here, tt)
