@@ -42,14 +42,14 @@ ends_cut text rest n (lines, parts, count) shorter = elim (last_whole lines) [
 pub open_shorter : (text rest : List ℕ) (n : ℕ) → EndsIn text n rest → (length rest ≡ length text → ⊥) → 1 + length rest ≤ length text
 open_shorter text rest n ends shorter =
     let cut : IsCut text rest = ends_cut text rest n ends shorter in
-    let size : length text ≡ length cut.0 + (1 + length rest) = ap length cut.1 ∙ length-append cut.0 (10 ∷ rest) in
+    let size : length text ≡ length cut.0 + length (10 ∷ rest) = ap length cut.1 ∙ length-append cut.0 (10 ∷ rest) in
     omega arith
 
 -- the line before what is open
 pub line_before : (text rest line : List ℕ) (n j : ℕ) → EndsIn text n rest → lines_of rest ≡ rest ∷ [] → (length rest ≡ length text → ⊥) → EndsIn (take (length text - length rest - 1) text) j line → EndsBehind text n line rest
 line_before text rest line n j ends alone shorter front =
     let cut : IsCut text rest = ends_cut text rest n ends shorter in
-    let size : length text ≡ length cut.0 + (1 + length rest) = ap length cut.1 ∙ length-append cut.0 (10 ∷ rest) in
+    let size : length text ≡ length cut.0 + length (10 ∷ rest) = ap length cut.1 ∙ length-append cut.0 (10 ∷ rest) in
     let room : length text - length rest - 1 ≡ length cut.0 = omega arith in
     let same : take (length text - length rest - 1) text ≡ cut.0 = ap (λ (k : ℕ). take k text) room ∙ ap (take (length cut.0)) cut.1 ∙ take-append_seam cut.0 (10 ∷ rest) in
     let whole : lines_of cut.0 ≡ front.0 ++ line ∷ [] = ap lines_of (sym same) ∙ front.1 in
@@ -89,6 +89,6 @@ fault_at_end text rest n m kind ends fault =
     let our_count : length ends.0 ≡ m = ends.2 in
     let last = both_last ends.0 (before ++ fault.line ∷ []) rest fault.rest (sym ends.1 ∙ fault.ends.1 ∙ sym (append_assoc before (fault.line ∷ []) (fault.rest ∷ []))) in
     let cut : text ≡ join_with_byte 10 (before ++ fault.line ∷ []) ++ 10 ∷ fault.rest = cut_text text before fault.line fault.rest fault.ends.1 in
-    let size : length text ≡ length (join_with_byte 10 (before ++ fault.line ∷ [])) + (1 + length fault.rest) = ap length cut ∙ length-append (join_with_byte 10 (before ++ fault.line ∷ [])) (10 ∷ fault.rest) in
+    let size : length text ≡ length (join_with_byte 10 (before ++ fault.line ∷ [])) + length (10 ∷ fault.rest) = ap length cut ∙ length-append (join_with_byte 10 (before ++ fault.line ∷ [])) (10 ∷ fault.rest) in
     let open_size : length rest ≡ length fault.rest = ap length last.0 in
     (omega arith, λ whole. absurd (omega (arith, whole)))

@@ -1,6 +1,7 @@
-use Rattle.std.proofs.Common.{rules, ◌≡◌, ◌≤◌, ◌<◌, ◌↔◌, ◌==◌, ◌&&◌, ℕ, Bool, true, false, eqb, leb, ltb, List, length, get_or, IsTrue, refl, sym, ◌∙◌, ap, subst}
+use Rattle.std.proofs.Common.{rules, ◌≡◌, ◌≤◌, ◌<◌, ◌↔◌, ◌==◌, ◌&&◌, ℕ, Bool, true, false, eqb, leb, ltb, List, [], ◌∷◌, length, get_or, IsTrue, refl, sym, ◌∙◌, ap, subst}
 use Rattle.std.specs.List.{starts_with}
-use Rattle.std.proofs.lemmas.Bool.{ltb-false, ltb-true}
+use Rattle.std.proofs.lemmas.Bool.{eq-eqb, ltb-false, ltb-true, ne_eqb}
+use Rattle.he_text.specs.Parts.{lines_of}
 use Rattle.he_text.specs.Beginnings.{MayBecome}
 use Rattle.he_text.specs.Words.{spelling_of}
 use Rattle.he_text.specs.declared.limits.TheConstants.{MAX_LINE}
@@ -30,13 +31,41 @@ returns-in-None c =
     let spelled : c.as_bytes-spelled.result.now ≡ spelling_of c.args.word = c.as_bytes-spelled.ensures.value ∙ c.spelling.ensures in
     short c.args.word c.as_bytes-spelled.result.now c.args.rest.now c.starts_with.result spelled c.requires c.in-None.ensures.lookup.0 c.starts_with.ensures.value
 
+both_true : (value front : Bool) (n : ℕ) → n ≡ 32 → value ≡ front → value ≡ (eqb n 32 && front)
+both_true value front n is same = same ∙ ap (λ (b : Bool). b && front) (sym (eq-eqb n 32 is))
+
+one_false : (value front : Bool) (n : ℕ) → (n ≡ 32 → ⊥) → value ≡ eqb n 32 → value ≡ (eqb n 32 && front)
+one_false value front n other same = same ∙ ne_eqb n 32 other ∙ ap (λ (b : Bool). b && front) (sym (ne_eqb n 32 other))
+
+abbrev Tells : Word → List ℕ → Bool → Type 0
+Tells word rest b = IsTrue (b && leb (length rest) MAX_LINE) ↔ MayBecome word rest
+
 pub returns-then-starts_with : goal.returns-then-starts_with
 returns-then-starts_with c =
-    let spelled : c.as_bytes-spelled.result.now ≡ spelling_of c.args.word = c.as_bytes-spelled.ensures.value ∙ c.spelling.ensures in
-    elim c.if-next-eq-TOKEN_END.branch [
-      | then-next-eq-TOKEN_END w ↦ let h = w.if-next-eq-TOKEN_END in let k = w.starts_with-then-next-eq-TOKEN_END.ensures in let i = w.value-is in ?
-      | else-next-eq-TOKEN_END w ↦ let h = w.if-next-eq-TOKEN_END in let i = w.value-is in ?
-    ]
+    let rest : List ℕ = c.args.rest.now in
+    let word : List ℕ = c.as_bytes-spelled.result.now in
+    let next : ℕ = c.in-Some.next.now in
+    let value : c.if-next-eq-TOKEN_END.value ≡ (eqb next 32 && starts_with (λ a b. a == b) rest word) = elim c.if-next-eq-TOKEN_END.branch [
+      | then-next-eq-TOKEN_END w ↦ both_true c.if-next-eq-TOKEN_END.value (starts_with (λ a b. a == b) rest word) next w.if-next-eq-TOKEN_END.true (w.value-is ∙ w.starts_with-then-next-eq-TOKEN_END.ensures.value)
+      | else-next-eq-TOKEN_END w ↦ one_false c.if-next-eq-TOKEN_END.value (starts_with (λ a b. a == b) rest word) next w.if-next-eq-TOKEN_END.false w.value-is
+    ] in
+    let spelled : word ≡ spelling_of c.args.word = c.as_bytes-spelled.ensures.value ∙ c.spelling.ensures in
+    let byte : next ≡ get_or rest (length word) 0 = c.in-Some.ensures.lookup.3.1 0 in
+    subst (Tells c.args.word rest) (sym value ∙ c.if-starts_with.true)
+    (long c.args.word word rest (eqb next 32) (starts_with (λ a b. a == b) rest word) spelled c.requires c.in-Some.ensures.lookup.0 (ap (λ (b : ℕ). eqb b 32) byte, refl))
 
 pub returns-else-starts_with : goal.returns-else-starts_with
-returns-else-starts_with c = ?
+returns-else-starts_with c =
+    let rest : List ℕ = c.args.rest.now in
+    let word : List ℕ = c.as_bytes-spelled.result.now in
+    let next : ℕ = c.in-Some.next.now in
+    let value : c.if-next-eq-TOKEN_END.value ≡ (eqb next 32 && starts_with (λ a b. a == b) rest word) = elim c.if-next-eq-TOKEN_END.branch [
+      | then-next-eq-TOKEN_END w ↦ both_true c.if-next-eq-TOKEN_END.value (starts_with (λ a b. a == b) rest word) next w.if-next-eq-TOKEN_END.true (w.value-is ∙ w.starts_with-then-next-eq-TOKEN_END.ensures.value)
+      | else-next-eq-TOKEN_END w ↦ one_false c.if-next-eq-TOKEN_END.value (starts_with (λ a b. a == b) rest word) next w.if-next-eq-TOKEN_END.false w.value-is
+    ] in
+    let spelled : word ≡ spelling_of c.args.word = c.as_bytes-spelled.ensures.value ∙ c.spelling.ensures in
+    let byte : next ≡ get_or rest (length word) 0 = c.in-Some.ensures.lookup.3.1 0 in
+    let B : Bool → Type 0 = λ b. IsTrue b ↔ MayBecome c.args.word rest in
+    let none : Tells c.args.word rest false = subst (Tells c.args.word rest) (sym value ∙ c.if-starts_with.false)
+    (long c.args.word word rest (eqb next 32) (starts_with (λ a b. a == b) rest word) spelled c.requires c.in-Some.ensures.lookup.0 (ap (λ (b : ℕ). eqb b 32) byte, refl)) in
+    subst B (sym c.if-starts_with.false) none
