@@ -1,10 +1,11 @@
-use Rattle.he_text.specs.Written.{answers_text, told_text}
+use Rattle.std.proofs.Common.{◌++◌}
+use Rattle.he_text.specs.Written.{answers_text, history_text, told_text}
 use Rattle.he_text.proofs.WritingLaws.{writes_then}
 use Rattle.he_text.proofs.timelines.write_events.Goals as goal
 
 pub returns : goal.returns
 returns g c =
-    writes_then c.args.out.now.items c.write_answers.new.out.items c.write_told.new.out.items
+    writes_then c.args.out.now.items c.write_answers.new.out.items c.write_told_and_known.new.out.items
     (answers_text c.args.timeline.now)
-    (told_text c.args.timeline.now)
-    c.write_told.result c.in_ok-write_answers.ensures c.write_told.ensures
+    (history_text c.args.timeline.now.history ++ told_text c.args.timeline.now)
+    c.write_told_and_known.result c.in_ok-write_answers.ensures c.write_told_and_known.ensures

@@ -1,5 +1,5 @@
 use Rattle.std.proofs.Common.{◌++◌}
-use Rattle.he_text.specs.Written.{selection_text, answers_text, told_text}
+use Rattle.he_text.specs.Written.{selection_text, answers_text, history_text, told_text}
 use Rattle.he_text.proofs.WritingLaws.{writes_then}
 use Rattle.he_text.proofs.timelines.write_rest.Goals as goal
 
@@ -7,5 +7,5 @@ pub returns : goal.returns
 returns g c =
     writes_then c.args.out.now.items c.write_selection.new.out.items c.write_events.new.out.items
     (selection_text c.args.timeline.now)
-    (answers_text c.args.timeline.now ++ told_text c.args.timeline.now)
+    (answers_text c.args.timeline.now ++ (history_text c.args.timeline.now.history ++ told_text c.args.timeline.now))
     c.write_events.result c.in_ok-write_selection.ensures c.write_events.ensures

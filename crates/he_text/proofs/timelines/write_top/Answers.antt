@@ -1,12 +1,17 @@
-use Rattle.std.proofs.Common.{◌++◌, ◌∷◌, []}
-use Rattle.std.specs.Prelude.{codes}
-use Rattle.he_text.specs.Written.{written_line, delays_text, bounds_text}
+use Rattle.std.proofs.Common.{List, ℕ, ◌++◌, ◌∷◌, [], ◌∙◌, ap, subst}
+use Rattle.he_plan.specs.Settings.{SettingValues}
+use Rattle.he_text.specs.Words.{header_of}
+use Rattle.he_text.specs.Writing.{AppendsText}
+use Rattle.he_text.specs.Written.{written_line, settings_text, version_of}
 use Rattle.he_text.proofs.WritingLaws.{writes_then}
 use Rattle.he_text.proofs.timelines.write_top.Goals as goal
 
 pub returns : goal.returns
 returns g c =
+    let P : SettingValues → Type 0 = λ settings. AppendsText c.write_settings.result c.write_line.new.out.items c.write_settings.new.out.items (settings_text settings) in
     writes_then c.args.out.now.items c.write_line.new.out.items c.write_settings.new.out.items
-    (written_line (codes "race 1" ∷ []))
-    (delays_text c.args.settings ++ bounds_text c.args.settings)
-    c.write_settings.result c.in_ok-write_line.ensures c.write_settings.ensures
+    (written_line (header_of (version_of c.args.timeline.now) ∷ []))
+    (settings_text c.args.timeline.now.settings)
+    c.write_settings.result
+    (c.in_ok-write_line.ensures ∙ ap (λ (header : List ℕ). c.args.out.now.items ++ written_line (header ∷ [])) (c.header.ensures ∙ ap header_of c.version.ensures))
+    (subst P c.settings.ensures.value c.write_settings.ensures)
