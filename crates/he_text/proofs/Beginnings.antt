@@ -417,7 +417,7 @@ changes text more n kind (inr follows) =
     })
 
 -- the last of the whole lines, if there is one
-last_whole : (whole : List (List ℕ)) → (whole ≡ []) ⊎ ((before : List (List ℕ)) × (line : List ℕ) × (whole ≡ before ++ line ∷ []))
+pub last_whole : (whole : List (List ℕ)) → (whole ≡ []) ⊎ ((before : List (List ℕ)) × (line : List ℕ) × (whole ≡ before ++ line ∷ []))
 last_whole [] = inl refl
 last_whole (line ∷ whole) = elim (last_whole whole) [
   | inl none ↦ inr ([], line, ap (λ w. line ∷ w) none)
@@ -428,7 +428,7 @@ last_whole (line ∷ whole) = elim (last_whole whole) [
 abbrev AreLast : List ℕ → List (List ℕ) → List ℕ → List ℕ → Type 0
 AreLast text before line rest = lines_of text ≡ before ++ line ∷ rest ∷ []
 
-same_last : (text : List ℕ) (before others : List (List ℕ)) (line other rest behind : List ℕ) → AreLast text before line rest → AreLast text others other behind → (before ≡ others) × (line ≡ other) × (rest ≡ behind)
+pub same_last : (text : List ℕ) (before others : List (List ℕ)) (line other rest behind : List ℕ) → AreLast text before line rest → AreLast text others other behind → (before ≡ others) × (line ≡ other) × (rest ≡ behind)
 same_last text before others line other rest behind parts other_parts =
     let outer = both_last (before ++ line ∷ []) (others ++ other ∷ []) rest behind (append_assoc before (line ∷ []) (rest ∷ []) ∙ sym parts ∙ other_parts ∙ sym (append_assoc others (other ∷ []) (behind ∷ []))) in
     let inner = both_last before others line other outer.1 in

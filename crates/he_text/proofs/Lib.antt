@@ -11,6 +11,7 @@ mod CompleteLists
 mod CompletePlaces
 mod CompleteRaces
 mod CompleteTexts
+mod EndLines
 mod FaultTexts
 mod FirstFaults
 mod FormFacts

@@ -6,6 +6,7 @@ use Rattle.std.proofs.lemmas.Bool.{le-leb, leb-true, eq-eqb, eqb-true, and_parts
 use Rattle.std.proofs.lemmas.Bool.Decides.{Decides-eqb}
 use Rattle.std.proofs.lemmas.List.{append-nil, append_cancel_right, length-append, length-drop, take-append-drop, drop_more, get_or-drop}
 use Rattle.std.proofs.lemmas.List.Splits.{join_with_byte-slice_split, length-slice_split}
+use Rattle.std.proofs.Math.Seq.{get_or-append_seam}
 use Rattle.std.proofs.lemmas.Slice.Eq.{starts_is}
 use Rattle.memchr.specs.Find.{Nowhere, Passes, is_byte}
 use Rattle.he_text.specs.declared.words.Word.{Word}
@@ -233,7 +234,7 @@ may_become_or_not w rest lacks = by_test (test_beginning w rest) refl
     by_test false e = inr (λ may. let wrong : false ≡ true = sym e ∙ (beginning_found w rest _ _ _ refl refl refl).1 (begins_as w rest lacks may) in cc)
 
 -- what stands behind the last mark is one part
-pieces_behind : (mark byte : ℕ) (front rest : List ℕ) → eqb byte mark ≡ true → pieces_of mark rest ≡ rest ∷ [] → pieces_of mark (front ++ byte ∷ rest) ≡ pieces_of mark front ++ rest ∷ []
+pub pieces_behind : (mark byte : ℕ) (front rest : List ℕ) → eqb byte mark ≡ true → pieces_of mark rest ≡ rest ∷ [] → pieces_of mark (front ++ byte ∷ rest) ≡ pieces_of mark front ++ rest ∷ []
 pieces_behind mark byte [] rest is alone = ap (λ b. cond b ([] ∷ pieces_of mark rest) (onto_first byte (pieces_of mark rest))) is ∙ ap (λ ps. [] ∷ ps) alone
 pieces_behind mark byte (x ∷ front) rest is alone =
     let first = some_part mark front in
@@ -268,11 +269,92 @@ ends_whole text never =
     let one : length (lines_of text) ≡ 1 = ap length alone in
     (([], alone, omega arith), alone)
 
--- what the two tests tell of bytes that are one line
-pub becomes : (w : Word) (rest : List ℕ) (front behind : Bool) → lines_of rest ≡ rest ∷ [] → front ≡ starts_with (λ a b. a == b) (spaced_word w) rest → behind ≡ starts_with (λ a b. a == b) rest (spaced_word w)
-    → IsTrue (front || behind && leb (length rest) MAX_LINE) ↔ MayBecome w rest
-becomes w rest front behind alone f b =
-    let A : List (List ℕ) → Type 0 = AllByRecursion (Lacks 10) in
-    let lacks : Lacks 10 rest = (subst A alone (parts_lack 10 rest)).0 in
-    let tested = beginning_found w rest front behind _ f b refl in
-    (λ h. becomes_line w rest lacks (tested.0 h), λ may. tested.1 (begins_as w rest lacks may))
+one_line : (rest : List ℕ) → lines_of rest ≡ rest ∷ [] → Lacks 10 rest
+one_line rest alone = let A : List (List ℕ) → Type 0 = AllByRecursion (Lacks 10) in (subst A alone (parts_lack 10 rest)).0
+
+spaced_size : (w : Word) → length (spaced_word w) ≡ length (spelling_of w) + 1
+spaced_size w = length-append (spelling_of w) (32 ∷ [])
+
+none_left : (more : List ℕ) → length more ≡ 0 → more ≡ []
+none_left [] e = refl
+none_left (x ∷ more) e = absurd (omega arith)
+
+-- bytes that are no longer than the word
+pub short_becomes : (w : Word) (rest : List ℕ) (front : Bool) → lines_of rest ≡ rest ∷ [] → length rest ≤ length (spelling_of w) → front ≡ starts_with (λ a b. a == b) (spelling_of w) rest → IsTrue front ↔ MayBecome w rest
+short_becomes w rest front alone short is = (becoming, λ may. begun (begins_as w rest (one_line rest alone) may))
+  where
+    becoming : IsTrue front → MayBecome w rest
+    becoming h =
+        let tail : List ℕ = drop (length rest) (spelling_of w) in
+        let spelled : spelling_of w ≡ rest ++ tail = (starts_is Decides-eqb (spelling_of w) rest _ refl).0 (sym is ∙ h) in
+        becomes_line w rest (one_line rest alone) (inl (tail ++ 32 ∷ [], ap (λ (l : List ℕ). l ++ 32 ∷ []) spelled ∙ append_assoc rest tail (32 ∷ [])))
+
+    begun : BeginsAs w rest → IsTrue front
+    begun (inl (more, e)) = elim (one_in_front rest (spelling_of w) more (32 ∷ []) (sym e)) [
+      | inl longer ↦ is ∙ (starts_is Decides-eqb (spelling_of w) rest _ refl).1 longer.0 longer.1
+      | inr longer ↦
+          let size : length rest ≡ length (spelling_of w) + length longer.0 = ap length longer.1 ∙ length-append (spelling_of w) longer.0 in
+          let none : longer.0 ≡ [] = none_left longer.0 (omega arith) in
+          let same : rest ≡ spelling_of w = longer.1 ∙ ap (λ (m : List ℕ). spelling_of w ++ m) none ∙ append-nil (spelling_of w) in
+          is ∙ (starts_is Decides-eqb (spelling_of w) rest _ refl).1 [] (sym same ∙ sym (append-nil rest))
+    ]
+    begun (inr (more, e, le)) =
+        let size : length rest ≡ length (spaced_word w) + length more = ap length e ∙ length-append (spaced_word w) more in
+        let spaced = spaced_size w in
+        absurd (omega arith)
+
+word_short : (w : Word) → length (spaced_word w) ≤ MAX_LINE
+word_short words.Set = omega arith
+word_short words.Policy = omega arith
+word_short words.Source = omega arith
+word_short words.Route = omega arith
+word_short words.Aaaa = omega arith
+word_short words.A = omega arith
+word_short words.Rtt = omega arith
+word_short words.Used = omega arith
+word_short words.Connect = omega arith
+word_short words.Pause = omega arith
+word_short words.End = omega arith
+
+-- longer ones begin with the word and a space, and are no longer than a line may be
+long_begins : (w : Word) (rest : List ℕ) → length (spelling_of w) < length rest → BeginsAs w rest → (more : List ℕ) × (rest ≡ spaced_word w ++ more) × (length rest ≤ MAX_LINE)
+long_begins w rest long (inr whole) = whole
+long_begins w rest long (inl (more, e)) =
+    let spaced = spaced_size w in
+    let size : length (spaced_word w) ≡ length rest + length more = ap length e ∙ length-append rest more in
+    let none : more ≡ [] = none_left more (omega arith) in
+    let same : spaced_word w ≡ rest = e ∙ ap (λ (m : List ℕ). rest ++ m) none ∙ append-nil rest in
+    let room = word_short w in
+    ([], sym same ∙ sym (append-nil (spaced_word w)), omega arith)
+
+-- which the byte behind the word tells, and that the word stands there
+spaced_front : (w : Word) (rest : List ℕ) → length (spelling_of w) < length rest → get_or rest (length (spelling_of w)) 0 ≡ 32 → starts_with (λ a b. a == b) rest (spelling_of w) ≡ true → (more : List ℕ) × (rest ≡ spaced_word w ++ more)
+spaced_front w rest long byte starts =
+    let word : List ℕ = spelling_of w in
+    let tail : List ℕ = drop (length word) rest in
+    let parts : rest ≡ word ++ tail = (starts_is Decides-eqb rest word _ refl).0 starts in
+    let more : List ℕ = drop (length word + 1) rest in
+    let first : tail ≡ get_or rest (length word) 0 ∷ more = drop_more rest (length word) 0 long in (
+      more,
+      parts ∙ ap (λ (t : List ℕ). word ++ t) first ∙ ap (λ (b : ℕ). word ++ b ∷ more) byte ∙ sym (append_assoc word (32 ∷ []) more),
+    )
+
+pub long_becomes : (w : Word) (rest : List ℕ) (mark front : Bool) → lines_of rest ≡ rest ∷ [] → length (spelling_of w) < length rest → mark ≡ eqb (get_or rest (length (spelling_of w)) 0) 32 → front ≡ starts_with (λ a b. a == b) rest (spelling_of w)
+    → IsTrue (mark && front && leb (length rest) MAX_LINE) ↔ MayBecome w rest
+long_becomes w rest mark front alone long m f = (becoming mark front m f, λ may. begun (long_begins w rest long (begins_as w rest (one_line rest alone) may)))
+  where
+    becoming : (mark front : Bool) → mark ≡ eqb (get_or rest (length (spelling_of w)) 0) 32 → front ≡ starts_with (λ a b. a == b) rest (spelling_of w) → IsTrue (mark && front && leb (length rest) MAX_LINE) → MayBecome w rest
+    becoming false front m f h = cc
+    becoming true false m f h = cc
+    becoming true true m f h =
+        let begins = spaced_front w rest long (eqb-true (get_or rest (length (spelling_of w)) 0) 32 (sym m)) (sym f) in
+        becomes_line w rest (one_line rest alone) (inr (begins.0, begins.1, leb-true (length rest) MAX_LINE h))
+
+    begun : (more : List ℕ) × (rest ≡ spaced_word w ++ more) × (length rest ≤ MAX_LINE) → IsTrue (mark && front && leb (length rest) MAX_LINE)
+    begun (more, e, short) =
+        let word : List ℕ = spelling_of w in
+        let parts : rest ≡ word ++ 32 ∷ more = e ∙ append_assoc word (32 ∷ []) more in
+        let starts : front ≡ true = f ∙ (starts_is Decides-eqb rest word _ refl).1 (32 ∷ more) parts in
+        let byte : get_or rest (length word) 0 ≡ 32 = ap (λ (r : List ℕ). get_or r (length word) 0) parts ∙ get_or-append_seam word 32 more 0 in
+        let marks : mark ≡ true = m ∙ ap (λ (b : ℕ). eqb b 32) byte in
+        ap (λ (b : Bool). b && front && leb (length rest) MAX_LINE) marks ∙ ap (λ (b : Bool). b && leb (length rest) MAX_LINE) starts ∙ le-leb (length rest) MAX_LINE short

@@ -1,4 +1,12 @@
+use Rattle.std.proofs.Common.{inl, inr}
+use Rattle.std.specs.Prelude.{◌⊎◌}
 use Rattle.he_text.proofs.changes.may_change.Goals as goal
 
 pub returns-in_default : goal.returns-in_default
-returns-in_default c = ?
+returns-in_default c = (
+  λ t. inr (c.may_be_mended.ensures.0 t),
+  λ may. elim may [
+    | inl unfinished ↦ absurd (c.in_default.not-Unfinished unfinished)
+    | inr fault ↦ c.may_be_mended.ensures.1 fault
+  ],
+)
