@@ -1,9 +1,8 @@
 -- The readers answer what the checks say: the race of the lines up to `end` where every one is right, else the first fault of the
 -- least faulty line.
-use Rattle.std.proofs.Common.{◌≡◌, ℕ, ◌+◌, ◌≤◌, ◌&&◌, Bool, true, false, cond, ltb, not, List, [], ◌∷◌, ◌++◌, length, Option, Some, None, Result, Ok, Err, refl, sym, ◌∙◌, ap, subst, inl, inr, arith}
+use Rattle.std.proofs.Common.{◌≡◌, ℕ, ◌+◌, ◌≤◌, Bool, true, false, cond, ltb, not, List, [], ◌∷◌, ◌++◌, length, Option, Some, None, Result, Ok, Err, refl, sym, ◌∙◌, ap, subst, inl, inr, arith}
 use Rattle.std.specs.Prelude.{◌⊎◌, ◌||◌}
 use Rattle.std.proofs.lemmas.Slice.Eq.{bytes_eq-Decides}
-use Rattle.std.specs.Option.{ok_or}
 use Rattle.std.specs.Str.{bytes_eq}
 use Rattle.std.proofs.lemmas.Bool.{ltb-false, leb-false, lt-leb}
 use Rattle.he_plan.specs.Building.{empty_race}
@@ -18,11 +17,11 @@ use Rattle.he_text.specs.declared.words.Word.{Word}
 use Rattle.he_text.specs.declared.words.Word.TheVariants as words
 use Rattle.he_text.specs.Faults.{first_fault, test, group_on, last_group, known_to, said_before, too_long, unfinished, wrong_header, version_on, wrong_word, too_often, wrong_bounds, repeated, is_next, wrong_group, line_fault, ends_by, ends}
 use Rattle.he_text.specs.FaultSearch.{at_line_number, fault_from, fault_in}
-use Rattle.he_text.specs.Forms.{◌>>=◌, of_version, is_added, version_word, word_of, said_by}
+use Rattle.he_text.specs.Forms.{◌>>=◌, version_word, said_by}
 use Rattle.he_text.specs.Parts.{tokens_of}
 use Rattle.he_text.specs.Reading.{at_line, ended_by, wholeness, admit, take_told, take_line, read_body, HeadGiven, head_part, head_of, take_given, take_head, policy_from, read_head, header_in, read_lines, group_at_start, no_head, is_head_word}
 use Rattle.he_text.specs.Said.{Said, rows_given, settings_given, table_of_rows, host_given, race_of}
-use Rattle.he_text.specs.Words.{word_in, group_of, header_of, is_end}
+use Rattle.he_text.specs.Words.{group_of, header_of, is_end}
 use Rattle.he_text.proofs.Checks.{taken_in_order, line_checks, line_fault_is, in_order, checks_passed}
 use Rattle.he_text.proofs.GivenLaws.{AllFit, none_fits, is_head}
 use Rattle.he_text.proofs.HeadLaws.{head_given, given_agrees}

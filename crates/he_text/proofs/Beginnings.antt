@@ -1,31 +1,28 @@
 -- What is wrong with a text is wrong with each longer one, unless what follows may mend it.
 use Rattle.std.proofs.Common.{◌≡◌, ℕ, ◌+◌, ◌<◌, ◌≤◌, Bool, true, false, cond, ltb, eqb, List, [], ◌∷◌, ◌++◌, length, Option, Some, None, Result, Ok, Err, refl, sym, ◌∙◌, ap, subst, inl, inr, arith, append_assoc}
-use Rattle.std.specs.Prelude.{◌⊎◌, MatchOption, option_map}
+use Rattle.std.specs.Prelude.{◌⊎◌, MatchOption}
 use Rattle.std.specs.List.{onto_first}
 use Rattle.std.specs.Option.{option_map_or}
 use Rattle.std.proofs.lemmas.Bool.{eq-eqb, eqb-true, lt-ltb, ltb-true}
 use Rattle.std.proofs.lemmas.List.{append-nil, append_cancel_left, length-append}
 use Rattle.std.proofs.lemmas.List.Splits.{length-slice_split}
 use Rattle.he_plan.specs.Race.{Race}
-use Rattle.he_select.specs.declared.policy.PolicyFault.{PolicyFault}
-use Rattle.he_select.specs.TableFaults.{table_fault}
 use Rattle.std.specs.Result.{result_err}
 use Rattle.he_text.specs.declared.fault.TextKind.{TextKind}
 use Rattle.he_text.specs.declared.fault.TextKind.TheVariants as kinds
 use Rattle.he_text.specs.declared.limits.TheConstants.{MAX_LINE}
 use Rattle.he_text.specs.declared.words.Version.{Version}
 use Rattle.he_text.specs.declared.words.Word.{Word}
-use Rattle.he_text.specs.Beginnings.{EndsBehind, FaultStands, IsGroupFaultAtEnd, MayBecome, MayChange, awaited}
+use Rattle.he_text.specs.Beginnings.{FaultStands, IsGroupFaultAtEnd, MayBecome, MayChange, awaited}
 use Rattle.he_text.specs.Faults.{test, first_fault, last_group, known_to, said_before, too_long, unfinished, wrong_header, wrong_word, too_often, wrong_bounds, repeated, is_next, group_fault, wrong_group, of_said, header_fault, version_on, line_fault, ends}
 use Rattle.he_text.specs.FaultSearch.{at_line_number, fault_from, fault_in, fault_of}
 use Rattle.he_text.specs.Forms.{version_word, said_from}
 use Rattle.he_text.specs.Parts.{pieces_of, lines_of, tokens_of}
-use Rattle.he_text.specs.Said.{Said, word_said, Setting, PolicyRow, HostSource, HostRoute, Answer, RoundTrip, UsedBefore, Told, Paused, Ended, rows_given}
+use Rattle.he_text.specs.Said.{Said, word_said}
 use Rattle.he_text.specs.Text.{IsRaceText}
 use Rattle.he_text.proofs.CompleteTexts.{no_longer}
 use Rattle.he_text.proofs.GroupFaults.{IsGroupFault, is_group_fault}
 use Rattle.he_text.proofs.OpenLines.{Open, both_last, may_become_or_not, one_in_front, open_lacks, open_of}
-use Rattle.he_text.proofs.PartLaws.{Lacks}
 
 -- the lines of a longer text: the last one goes on, and others may follow
 abbrev pub GoOn : List (List ℕ) → List (List ℕ) → Type 0

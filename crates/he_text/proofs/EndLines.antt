@@ -1,6 +1,5 @@
 -- The last whole line of a text, and what stands open behind it: where the fault of a group may still be mended.
-use Rattle.std.proofs.Common.{◌≡◌, ◌↔◌, ℕ, ◌+◌, ◌-◌, ◌≤◌, Bool, eqb, List, [], ◌∷◌, ◌++◌, length, take, Option, Some, None, IsTrue, refl, sym, ◌∙◌, ap, subst, inl, inr, arith, append_assoc}
-use Rattle.std.specs.Prelude.{◌⊎◌}
+use Rattle.std.proofs.Common.{◌≡◌, ◌↔◌, ℕ, ◌+◌, ◌-◌, ◌≤◌, Bool, List, [], ◌∷◌, ◌++◌, length, take, Some, None, IsTrue, refl, sym, ◌∙◌, ap, subst, inl, inr, arith, append_assoc}
 use Rattle.std.specs.List.{join_with_byte}
 use Rattle.std.proofs.lemmas.List.{length-append}
 use Rattle.std.proofs.lemmas.List.Splits.{join_with_byte-slice_split}
@@ -8,11 +7,9 @@ use Rattle.std.proofs.Math.Seq.{take-append_seam}
 use Rattle.he_text.specs.declared.fault.TextKind.{TextKind}
 use Rattle.he_text.specs.declared.words.Word.{Word}
 use Rattle.he_text.specs.Beginnings.{EndsBehind, EndsIn, IsGroupFaultAtEnd, MayBecome, awaited}
-use Rattle.he_text.specs.Inputs.{line_count}
 use Rattle.he_text.specs.Parts.{lines_of}
 use Rattle.he_text.proofs.Beginnings.{last_whole, same_last}
 use Rattle.he_text.proofs.OpenLines.{both_last, pieces_behind}
-use Rattle.he_text.proofs.PartLaws.{parts_counted}
 
 joined_last : (mark : ℕ) (before : List (List ℕ)) (line rest : List ℕ) → join_with_byte mark (before ++ line ∷ rest ∷ []) ≡ join_with_byte mark (before ++ line ∷ []) ++ mark ∷ rest
 joined_last mark [] line rest = refl

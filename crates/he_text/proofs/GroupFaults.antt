@@ -11,7 +11,7 @@ use Rattle.he_text.specs.declared.words.Word.{Word}
 use Rattle.he_text.specs.declared.words.Word.TheVariants as words
 use Rattle.he_text.specs.Beginnings.{awaited, word_of_setting}
 use Rattle.he_text.specs.Faults.{anyone, test, floor_is_above, is_next, group_fault, wrong_group, of_said}
-use Rattle.he_text.specs.Forms.{◌>>=◌, version_word, word_of, round_trip_in, used_in, connect_in, said_by, said_from, said_in}
+use Rattle.he_text.specs.Forms.{◌>>=◌, version_word, round_trip_in, used_in, connect_in, said_by, said_from, said_in}
 use Rattle.he_text.specs.Parts.{tokens_of}
 use Rattle.he_text.specs.Said.{Said, Setting, PolicyRow, HostSource, HostRoute, Answer, RoundTrip, UsedBefore, Told, Paused, Ended, word_said, rows_given, settings_given}
 use Rattle.he_text.proofs.FormKinds.{IsOwn, FailsOwn, own_error, said_own}

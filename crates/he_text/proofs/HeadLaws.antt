@@ -1,5 +1,5 @@
 -- A line of the first groups is taken as its checks say, and what these lines give makes a race.
-use Rattle.std.proofs.Common.{◌≡◌, ℕ, ◌&&◌, Bool, true, false, cond, List, [], ◌∷◌, ◌++◌, Option, Some, None, Result, Ok, Err, refl, sym, ◌∙◌, ap}
+use Rattle.std.proofs.Common.{◌≡◌, ℕ, Bool, true, false, cond, List, [], ◌∷◌, ◌++◌, Option, Some, None, Result, Ok, Err, refl, sym, ◌∙◌, ap}
 use Rattle.std.specs.Prelude.{option_map}
 use Rattle.std.specs.List.{list_any}
 use Rattle.std.specs.Option.{option_map_or}
@@ -17,10 +17,10 @@ use Rattle.he_text.specs.declared.fault.TextKind.TheVariants as kinds
 use Rattle.he_text.specs.declared.words.Name.{Name}
 use Rattle.he_text.specs.declared.words.Word.{Word}
 use Rattle.he_text.specs.declared.words.Word.TheVariants as words
-use Rattle.he_text.specs.Faults.{first_fault, test, wrong_bounds, repeated, floor_is_above, is_next, wrong_group}
+use Rattle.he_text.specs.Faults.{first_fault, test, wrong_bounds, repeated, is_next, wrong_group}
 use Rattle.he_text.specs.Forms.{◌>>=◌, setting_in, row_in, host_source_in, host_route_in, said_by}
 use Rattle.he_text.specs.Reading.{HeadGiven, given_is_above, settled, add_setting, with_row, add_row, add_source, add_route, take_given, is_head_word}
-use Rattle.he_text.specs.Said.{Said, Setting, PolicyRow, HostSource, HostRoute, row_said, source_said, route_said, rows_given, sources_given, routes_given, settings_given}
+use Rattle.he_text.specs.Said.{Said, Setting, PolicyRow, HostSource, HostRoute, row_said, source_said, route_said, rows_given, sources_given, routes_given}
 use Rattle.he_text.proofs.GivenLaws.{given_of, given_kept, put_agrees}
 use Rattle.he_text.proofs.SaidLaws.{none_more, one_more}
 use Rattle.he_text.proofs.ToldLaws.{no_group, outcome}

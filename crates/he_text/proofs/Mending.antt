@@ -13,14 +13,14 @@ use Rattle.he_text.specs.declared.limits.TheConstants.{MAX_LINE}
 use Rattle.he_text.specs.declared.words.Version.{Version}
 use Rattle.he_text.specs.declared.words.Word.{Word}
 use Rattle.he_text.specs.declared.words.Word.TheVariants as words
-use Rattle.he_text.specs.Beginnings.{EndsBehind, EndsIn, FaultChanges, IsGroupFaultAtEnd, MayBecome, MayChange, awaited}
-use Rattle.he_text.specs.Faults.{test, first_fault, last_group, known_to, lines_with, excess, said_before, too_long, unfinished, wrong_header, version_on, wrong_word, too_often, wrong_bounds, repeated, is_next, wrong_group, of_said, header_fault, line_fault, ends}
+use Rattle.he_text.specs.Beginnings.{FaultChanges, IsGroupFaultAtEnd, MayChange, awaited}
+use Rattle.he_text.specs.Faults.{test, first_fault, last_group, known_to, lines_with, excess, said_before, too_long, unfinished, wrong_header, version_on, wrong_word, too_often, wrong_bounds, repeated, is_next, wrong_group, of_said, line_fault, ends}
 use Rattle.he_text.specs.FaultSearch.{at_line_number, fault_from, fault_in, fault_of}
 use Rattle.he_text.specs.Forms.{version_word, said_from}
 use Rattle.he_text.specs.Parts.{lines_of, tokens_of}
 use Rattle.he_text.specs.Said.{Said, word_said, Setting, PolicyRow, HostSource, HostRoute, Answer, RoundTrip, UsedBefore, Told, Paused, Ended}
 use Rattle.he_text.specs.Words.{group_of, most_lines}
-use Rattle.he_text.proofs.Beginnings.{GoOn, NotBefore, early, from_here, group_of_line, here_or_behind, later_checks, line_mends, line_passes, number_is, unless_ended, weaker}
+use Rattle.he_text.proofs.Beginnings.{GoOn, NotBefore, early, from_here, group_of_line, later_checks, line_mends, line_passes, number_is, unless_ended, weaker}
 use Rattle.he_text.proofs.FormKinds.{IsOwn}
 use Rattle.he_text.proofs.GroupFaults.{IsGroupFault, error_waits, is_group_fault, line_waits, says_own}
 use Rattle.he_text.proofs.OpenLines.{Open, both_last, front_part, open_lacks, open_of, some_part}

@@ -19,7 +19,7 @@ use Rattle.he_text.specs.declared.words.Version.TheVariants.{One, Two}
 use Rattle.he_text.specs.Said.{Said, PolicyRow, HostSource, HostRoute, Answer, UsedBefore}
 use Rattle.he_text.specs.Text.{Says, answer_word, IsRaceText}
 use Rattle.he_text.specs.Words.{header_of, spelling_of}
-use Rattle.he_text.specs.Written.{setting_text, delays_text, bounds_text, floor_text, settings_text, version_of, rtt_text, used_text, row_text, host_source_text, host_route_text, reply_text, answer_text, outcome_text, pause_text, timeline_text}
+use Rattle.he_text.specs.Written.{setting_text, floor_text, settings_text, version_of, rtt_text, used_text, row_text, host_source_text, host_route_text, reply_text, answer_text, outcome_text, pause_text, timeline_text}
 use Rattle.he_text.proofs.LineReads.{says_read}
 use Rattle.he_text.proofs.CompleteLines.{AreShort}
 use Rattle.he_text.proofs.PartLaws.{Lacks}

@@ -1,5 +1,4 @@
-use Rattle.std.proofs.Common.{◌≡◌, ◌≤◌, ◌+◌, ℕ, List, length, inl, inr, arith, sym, ◌∙◌}
-use Rattle.std.specs.Prelude.{◌⊎◌}
+use Rattle.std.proofs.Common.{◌≡◌, ◌≤◌, ◌+◌, length, inl, inr, arith, sym, ◌∙◌}
 use Rattle.he_text.specs.Beginnings.{EndsBehind}
 use Rattle.he_text.specs.Inputs.{line_count}
 use Rattle.he_text.proofs.EndLines.{fault_at_end, line_before, mended_at_end, none_awaited, open_shorter}

@@ -1,5 +1,4 @@
 use Rattle.std.proofs.Common.{inl, inr}
-use Rattle.std.specs.Prelude.{◌⊎◌}
 use Rattle.he_text.proofs.changes.may_change.Goals as goal
 
 pub returns-in_default : goal.returns-in_default

@@ -1,5 +1,4 @@
-use Rattle.std.proofs.Common.{rules, ◌≡◌, ◌+◌, ℕ, List, Result, Ok, Err, Bor, sym, ◌∙◌, ap}
-use Rattle.he_text.specs.declared.fault.TextKind.{TextKind}
+use Rattle.std.proofs.Common.{rules, ◌≡◌, ◌+◌, ℕ, List, Ok, Err, Bor, sym, ◌∙◌, ap}
 use Rattle.he_text.specs.declared.words.Version.{Version}
 use Rattle.he_text.specs.Left.{line_bytes, lines_left}
 use Rattle.he_text.specs.Parts.{lines_of}
