@@ -1,9 +1,8 @@
 -- The readers answer what the checks say: the race of the lines up to `end` where every one is right, else the first fault of the
 -- least faulty line.
-use Rattle.std.proofs.Common.{◌≡◌, ℕ, ◌+◌, ◌≤◌, ◌&&◌, Bool, true, false, cond, ltb, not, List, [], ◌∷◌, ◌++◌, length, Option, Some, None, Result, Ok, Err, refl, sym, ◌∙◌, ap, subst, inl, inr, arith}
+use Rattle.std.proofs.Common.{◌≡◌, ℕ, ◌+◌, ◌≤◌, Bool, true, false, cond, ltb, not, List, [], ◌∷◌, ◌++◌, length, Option, Some, None, Result, Ok, Err, refl, sym, ◌∙◌, ap, subst, inl, inr, arith}
 use Rattle.std.specs.Prelude.{◌⊎◌, ◌||◌}
 use Rattle.std.proofs.lemmas.Slice.Eq.{bytes_eq-Decides}
-use Rattle.std.specs.Option.{ok_or}
 use Rattle.std.specs.Str.{bytes_eq}
 use Rattle.std.proofs.lemmas.Bool.{ltb-false, leb-false, lt-leb}
 use Rattle.he_plan.specs.Building.{empty_race}
@@ -18,11 +17,11 @@ use Rattle.he_text.specs.declared.words.Word.{Word}
 use Rattle.he_text.specs.declared.words.Word.TheVariants as words
 use Rattle.he_text.specs.Faults.{first_fault, test, group_on, last_group, known_to, said_before, too_long, unfinished, wrong_header, version_on, wrong_word, too_often, wrong_bounds, repeated, is_next, wrong_group, line_fault, ends_by, ends}
 use Rattle.he_text.specs.FaultSearch.{at_line_number, fault_from, fault_in}
-use Rattle.he_text.specs.Forms.{◌>>=◌, of_version, is_added, version_word, word_of, said_by}
+use Rattle.he_text.specs.Forms.{◌>>=◌, version_word, said_by}
 use Rattle.he_text.specs.Parts.{tokens_of}
 use Rattle.he_text.specs.Reading.{at_line, ended_by, wholeness, admit, take_told, take_line, read_body, HeadGiven, head_part, head_of, take_given, take_head, policy_from, read_head, header_in, read_lines, group_at_start, no_head, is_head_word}
 use Rattle.he_text.specs.Said.{Said, rows_given, settings_given, table_of_rows, host_given, race_of}
-use Rattle.he_text.specs.Words.{word_in, group_of, header_of, is_end}
+use Rattle.he_text.specs.Words.{group_of, header_of, is_end}
 use Rattle.he_text.proofs.Checks.{taken_in_order, line_checks, line_fault_is, in_order, checks_passed}
 use Rattle.he_text.proofs.GivenLaws.{AllFit, none_fits, is_head}
 use Rattle.he_text.proofs.HeadLaws.{head_given, given_agrees}
@@ -32,7 +31,7 @@ use Rattle.he_text.proofs.PlaceLaws.{has_place, said_more}
 use Rattle.he_text.proofs.ReadingLaws.{settle_reads, body_unwhole, head_after}
 use Rattle.he_text.proofs.SaidLaws.{IsQuiet, quiet_race}
 use Rattle.he_text.proofs.ToldLaws.{outcome, told_agrees}
-use Rattle.he_text.proofs.Versions.{plain_word}
+use Rattle.he_text.proofs.Versions.{plain_word, word_fault}
 
 not_earlier : (b : Bool) → test b kinds.Word ≡ None → b ≡ false
 not_earlier true h = cc
@@ -149,31 +148,6 @@ body_known v n after None word so_far race walked lines same later = by_end (is_
 pub ends_known : (v : Version) → (line : List ℕ) (word : Word) (tokens : List (List ℕ)) → version_word v (tokens_of line) ≡ Ok (word, tokens) → ends line ≡ is_end word
 unfolding ends
 ends_known v line word tokens is = ap ends_by (plain_word v (tokens_of line) (word, tokens) is)
-
-abbrev with_tokens : List (List ℕ) → Word → Result (Word × List (List ℕ)) TextKind
-with_tokens tokens word = Ok (word, tokens)
-
-plain_fault : (tokens : List (List ℕ)) (kind : TextKind) → word_of tokens ≡ Err kind → kind ≡ kinds.Word
-unfolding word_of
-plain_fault [] kind h = cc
-plain_fault (token ∷ tokens) kind h = by_word (word_in token) h
-  where
-    by_word : (word : Option Word) → (ok_or word kinds.Word >>= with_tokens tokens) ≡ Err kind → kind ≡ kinds.Word
-    by_word None e = cc
-    by_word (Some word) e = cc
-
-word_fault : (v : Version) (tokens : List (List ℕ)) (kind : TextKind) → version_word v tokens ≡ Err kind → kind ≡ kinds.Word
-unfolding version_word
-word_fault v tokens kind h = by_word v (word_of tokens) refl h
-  where
-    by_added : (b : Bool) (parts : Word × List (List ℕ)) → cond b (Err kinds.Word) (Ok parts) ≡ Err kind → kind ≡ kinds.Word
-    by_added true parts e = cc
-    by_added false parts e = cc
-
-    by_word : (v : Version) (word : Result (Word × List (List ℕ)) TextKind) → word_of tokens ≡ word → (word >>= of_version v) ≡ Err kind → kind ≡ kinds.Word
-    by_word v (Err k) e found = let same : k ≡ kind = cc (found) in sym same ∙ plain_fault tokens k e
-    by_word One (Ok parts) e found = by_added (is_added parts) parts found
-    by_word Two (Ok parts) e found = cc
 
 -- a whole line and what follows it, by its word
 body_later : (v : Version) → (n : ℕ) (before : List (List ℕ)) (line : List ℕ) (after : List (List ℕ)) (word : Result (Word × List (List ℕ)) TextKind) → version_word v (tokens_of line) ≡ word → Under (last_group 0 before) before → IsLate v before line

@@ -1,28 +1,28 @@
 -- What is wrong with a text is wrong with each longer one, unless what follows may mend it.
-use Rattle.std.proofs.Common.{◌≡◌, ℕ, ◌+◌, ◌<◌, ◌≤◌, Bool, true, false, cond, ltb, eqb, List, [], ◌∷◌, ◌++◌, length, Option, Some, None, Result, Ok, Err, refl, sym, ◌∙◌, ap, subst, inl, inr, arith}
-use Rattle.std.specs.Prelude.{◌⊎◌, MatchOption, option_map}
+use Rattle.std.proofs.Common.{◌≡◌, ℕ, ◌+◌, ◌<◌, ◌≤◌, Bool, true, false, cond, ltb, eqb, List, [], ◌∷◌, ◌++◌, length, Option, Some, None, Result, Ok, Err, refl, sym, ◌∙◌, ap, subst, inl, inr, arith, append_assoc}
+use Rattle.std.specs.Prelude.{◌⊎◌, MatchOption}
 use Rattle.std.specs.List.{onto_first}
 use Rattle.std.specs.Option.{option_map_or}
-use Rattle.std.proofs.lemmas.Bool.{lt-ltb, ltb-true}
-use Rattle.std.proofs.lemmas.List.{append-nil}
+use Rattle.std.proofs.lemmas.Bool.{eq-eqb, eqb-true, lt-ltb, ltb-true}
+use Rattle.std.proofs.lemmas.List.{append-nil, append_cancel_left, length-append}
 use Rattle.std.proofs.lemmas.List.Splits.{length-slice_split}
 use Rattle.he_plan.specs.Race.{Race}
-use Rattle.he_select.specs.declared.policy.PolicyFault.{PolicyFault}
-use Rattle.he_select.specs.TableFaults.{table_fault}
 use Rattle.std.specs.Result.{result_err}
 use Rattle.he_text.specs.declared.fault.TextKind.{TextKind}
 use Rattle.he_text.specs.declared.fault.TextKind.TheVariants as kinds
 use Rattle.he_text.specs.declared.limits.TheConstants.{MAX_LINE}
 use Rattle.he_text.specs.declared.words.Version.{Version}
-use Rattle.he_text.specs.Beginnings.{FaultStands, IsPolicyFault, MayChange}
-use Rattle.he_text.specs.Faults.{test, first_fault, last_group, known_to, said_before, too_long, unfinished, wrong_header, wrong_word, too_often, wrong_bounds, repeated, is_next, group_fault, wrong_group, of_said, header_fault, line_fault, ends}
+use Rattle.he_text.specs.declared.words.Word.{Word}
+use Rattle.he_text.specs.Beginnings.{FaultStands, IsGroupFaultAtEnd, MayBecome, MayChange, awaited}
+use Rattle.he_text.specs.Faults.{test, first_fault, last_group, known_to, said_before, too_long, unfinished, wrong_header, wrong_word, too_often, wrong_bounds, repeated, is_next, group_fault, wrong_group, of_said, header_fault, version_on, line_fault, ends}
 use Rattle.he_text.specs.FaultSearch.{at_line_number, fault_from, fault_in, fault_of}
 use Rattle.he_text.specs.Forms.{version_word, said_from}
 use Rattle.he_text.specs.Parts.{pieces_of, lines_of, tokens_of}
-use Rattle.he_text.specs.Said.{Said, word_said, Setting, PolicyRow, HostSource, HostRoute, Answer, RoundTrip, UsedBefore, Told, Paused, Ended, rows_given}
+use Rattle.he_text.specs.Said.{Said, word_said}
 use Rattle.he_text.specs.Text.{IsRaceText}
 use Rattle.he_text.proofs.CompleteTexts.{no_longer}
-use Rattle.he_text.proofs.OpenLines.{open_of, one_in_front, policy_may_follow}
+use Rattle.he_text.proofs.GroupFaults.{IsGroupFault, is_group_fault}
+use Rattle.he_text.proofs.OpenLines.{Open, both_last, may_become_or_not, one_in_front, open_lacks, open_of}
 
 -- the lines of a longer text: the last one goes on, and others may follow
 abbrev pub GoOn : List (List ℕ) → List (List ℕ) → Type 0
@@ -73,38 +73,38 @@ last_passes (Some k ∷ checks) one other same h = cc
 abbrev group_check : Bool → Option TextKind → Option TextKind
 group_check more fault = cond more None fault
 
-same_group : (told : List Said) (after longer : List (List ℕ)) (said : Result Said TextKind) → ((word : Word) → is_next word after ≡ is_next word longer) → of_said (wrong_group told after) said ≡ of_said (wrong_group told longer) said
-same_group told after longer (Err k) same = refl
-same_group told after longer (Ok s) same = ap (λ b. group_check b (group_fault told s)) (same (word_said s))
-
-group_passes : (told : List Said) (last : List ℕ) (longer : List (List ℕ)) (said : Result Said TextKind) → of_said (wrong_group told (last ∷ [])) said ≡ None → of_said (wrong_group told longer) said ≡ None
-group_passes told last longer (Err k) h = refl
-group_passes told last longer (Ok s) h = by_next (is_next (word_said s) longer) h
-  where
-    by_next : (b : Bool) → group_fault told s ≡ None → group_check b (group_fault told s) ≡ None
-    by_next true e = refl
-    by_next false e = e
-
 -- no group is checked on a line that one more of it follows
 pub line_mends : (told : List Said) (longer : List (List ℕ)) (s : Said) → is_next (word_said s) longer ≡ true → wrong_group told longer s ≡ None
 line_mends told longer s is = ap (λ b. group_check b (group_fault told s)) is
 
--- what stands behind a line is no whole line yet, and a row in the longer text
-abbrev BecomesRow : List (List ℕ) → List (List ℕ) → Type 0
-BecomesRow after longer = (last : List ℕ) × (after ≡ last ∷ []) × (is_policy_next longer ≡ true)
+-- what stands behind a line is no whole line yet, and one of the word in the longer text
+abbrev Becomes : Word → List (List ℕ) → List (List ℕ) → Type 0
+Becomes word after longer = (last : List ℕ) × (after ≡ last ∷ []) × (is_next word longer ≡ true)
 
--- whether a row follows is known once the next line is whole
-row_known : (after longer : List (List ℕ)) → GoOn after longer → (is_policy_next after ≡ is_policy_next longer) ⊎ BecomesRow after longer
-row_known [] longer h = absurd h
-row_known (last ∷ []) longer h = by_next (is_policy_next longer) refl
+-- whether a line of the word follows is known once the next line is whole
+next_known : (word : Word) (after longer : List (List ℕ)) → GoOn after longer → (is_next word after ≡ is_next word longer) ⊎ Becomes word after longer
+next_known word [] longer h = absurd h
+next_known word (last ∷ []) longer h = by_next (is_next word longer) refl
   where
-    by_next : (b : Bool) → is_policy_next longer ≡ b → (false ≡ is_policy_next longer) ⊎ BecomesRow (last ∷ []) longer
+    by_next : (b : Bool) → is_next word longer ≡ b → (false ≡ is_next word longer) ⊎ Becomes word (last ∷ []) longer
     by_next false e = inl (sym e)
     by_next true e = inr (last, refl, e)
-row_known (line ∷ next ∷ lines) [] h = absurd h
-row_known (line ∷ next ∷ []) (other ∷ []) h = absurd h.1
-row_known (line ∷ next ∷ third ∷ lines) (other ∷ []) h = absurd h.1
-row_known (line ∷ next ∷ lines) (other ∷ more ∷ others) h = inl (ap (λ l. is_policy_next (l ∷ next ∷ lines)) h.0)
+next_known word (line ∷ next ∷ lines) [] h = absurd h
+next_known word (line ∷ next ∷ []) (other ∷ []) h = absurd h.1
+next_known word (line ∷ next ∷ third ∷ lines) (other ∷ []) h = absurd h.1
+next_known word (line ∷ next ∷ lines) (other ∷ more ∷ others) h = inl (ap (λ l. is_next word (l ∷ next ∷ lines)) h.0)
+
+same_group : (told : List Said) (after longer : List (List ℕ)) (said : Result Said TextKind) (s : Said) → said ≡ Ok s → is_next (word_said s) after ≡ is_next (word_said s) longer
+    → of_said (wrong_group told after) said ≡ of_said (wrong_group told longer) said
+same_group told after longer said s is same =
+    ap (of_said (wrong_group told after)) is ∙ ap (λ b. group_check b (group_fault told s)) same ∙ sym (ap (of_said (wrong_group told longer)) is)
+
+group_passes : (told : List Said) (after longer : List (List ℕ)) (said : Result Said TextKind) → GoOn after longer → of_said (wrong_group told after) said ≡ None → of_said (wrong_group told longer) said ≡ None
+group_passes told after longer (Err k) on h = refl
+group_passes told after longer (Ok s) on h = elim (next_known (word_said s) after longer on) [
+  | inl same ↦ sym (same_group told after longer (Ok s) s refl same) ∙ h
+  | inr last ↦ line_mends told longer s last.2
+]
 
 -- all checks but the last
 abbrev pub early : (v : Version) → List (List ℕ) → List ℕ → List (List ℕ) → List (Option TextKind)
@@ -113,8 +113,8 @@ early v before line after =
     ∷ result_err (said_from (known_to (said_before before)) (version_word v (tokens_of line))) ∷ of_said (wrong_bounds (said_before before)) (said_from (known_to (said_before before)) (version_word v (tokens_of line)))
     ∷ of_said (repeated (said_before before)) (said_from (known_to (said_before before)) (version_word v (tokens_of line))) ∷ []
 
-abbrev pub table_of_line : (v : Version) → List (List ℕ) → List ℕ → List (List ℕ) → Option TextKind
-table_of_line v before line after = of_said (wrong_group (said_before before) after) (said_from (known_to (said_before before)) (version_word v (tokens_of line)))
+abbrev pub group_of_line : (v : Version) → List (List ℕ) → List ℕ → List (List ℕ) → Option TextKind
+group_of_line v before line after = of_said (wrong_group (said_before before) after) (said_from (known_to (said_before before)) (version_word v (tokens_of line)))
 
 pub same_early : (v : Version) → (before : List (List ℕ)) (line : List ℕ) (after longer : List (List ℕ)) → GoOn after longer → early v before line after ≡ early v before line longer
 same_early v before line [] longer h = absurd h
@@ -122,41 +122,44 @@ same_early v before line (last ∷ []) [] h = absurd h
 same_early v before line (next ∷ other ∷ lines) [] h = absurd h
 same_early v before line (next ∷ lines) (other ∷ more) h = refl
 
+-- the line's fault may be mended: what stands behind the line is none yet, and becomes one of the word that the fault waits for
+abbrev MayMend : List ℕ → List (List ℕ) → List (List ℕ) → TextKind → Type 0
+MayMend line after longer kind = (word : Word) × (awaited line kind ≡ Some word) × Becomes word after longer
+
 line_stands : (v : Version) → (before : List (List ℕ)) (line : List ℕ) (after longer : List (List ℕ)) (kind : TextKind) → GoOn after longer → line_fault v before line after ≡ Some kind
-    → (line_fault v before line longer ≡ Some kind) ⊎ (IsPolicyFault kind × BecomesRow after longer)
+    → (line_fault v before line longer ≡ Some kind) ⊎ MayMend line after longer kind
 unfolding line_fault
 line_stands v before line after longer kind on h =
+    let told : List Said = said_before before in
+    let said : Result Said TextKind = said_from (known_to told) (version_word v (tokens_of line)) in
     let early_is : early v before line after ≡ early v before line longer = same_early v before line after longer on in
-    let P : List (Option TextKind) → Type 0 = λ checks. first_fault (checks ++ table_of_line v before line after ∷ []) ≡ Some kind in
-    let here : first_fault (early v before line longer ++ table_of_line v before line after ∷ []) ≡ Some kind = subst P early_is h in
-    elim (row_known after longer on) [
-      | inl same ↦ inl (ap (λ t. first_fault (early v before line longer ++ t ∷ [])) (sym (same_table (said_before before) after longer (said_from (known_to (said_before before)) (version_word v (tokens_of line))) same)) ∙ here)
-      | inr last ↦ elim (last_check (early v before line longer) (table_of_line v before line after) (table_of_line v before line longer) kind here) [
-        | inl stands ↦ inl stands
-        | inr table ↦ inr (table_fault_is (said_before before) after (said_from (known_to (said_before before)) (version_word v (tokens_of line))) kind table, last)
-      ]
+    let P : List (Option TextKind) → Type 0 = λ checks. first_fault (checks ++ group_of_line v before line after ∷ []) ≡ Some kind in
+    let here : first_fault (early v before line longer ++ group_of_line v before line after ∷ []) ≡ Some kind = subst P early_is h in
+    elim (last_check (early v before line longer) (group_of_line v before line after) (group_of_line v before line longer) kind here) [
+      | inl stands ↦ inl stands
+      | inr group ↦
+          let fault : IsGroupFault v (known_to told) line kind = is_group_fault v (known_to told) line told after kind group in
+          elim (next_known (word_said fault.s) after longer on) [
+            | inl same ↦ inl (ap (λ t. first_fault (early v before line longer ++ t ∷ [])) (sym (same_group told after longer said fault.s fault.said_is same)) ∙ here)
+            | inr last ↦ inr (word_said fault.s, fault.waits_is, last)
+          ]
     ]
 
 pub line_passes : (v : Version) → (before : List (List ℕ)) (line : List ℕ) (after longer : List (List ℕ)) → GoOn after longer → line_fault v before line after ≡ None → line_fault v before line longer ≡ None
 unfolding line_fault
 line_passes v before line after longer on h =
-    let P : List (Option TextKind) → Type 0 = λ checks. first_fault (checks ++ table_of_line v before line after ∷ []) ≡ None in
-    let here : first_fault (early v before line longer ++ table_of_line v before line after ∷ []) ≡ None = subst P (same_early v before line after longer on) h in
-    let said : Result Said TextKind = said_from (known_to (said_before before)) (version_word v (tokens_of line)) in
-    last_passes (early v before line longer) (table_of_line v before line after) (table_of_line v before line longer)
-    (elim (row_known after longer on) [
-      | inl same ↦ λ none. sym (same_table (said_before before) after longer said same) ∙ none
-      | inr last ↦ λ none. let Q : List (List ℕ) → Type 0 = λ a. of_said (wrong_group (said_before before) a) said ≡ None in
-          table_passes (said_before before) last.0 longer said (subst Q last.1 none)
-    ])
-    here
+    let told : List Said = said_before before in
+    let P : List (Option TextKind) → Type 0 = λ checks. first_fault (checks ++ group_of_line v before line after ∷ []) ≡ None in
+    let here : first_fault (early v before line longer ++ group_of_line v before line after ∷ []) ≡ None = subst P (same_early v before line after longer on) h in
+    last_passes (early v before line longer) (group_of_line v before line after) (group_of_line v before line longer)
+    (group_passes told after longer (said_from (known_to told) (version_word v (tokens_of line))) on) here
 
 -- all checks but the first two
 abbrev pub later_checks : (v : Version) → List (List ℕ) → List ℕ → List (List ℕ) → List (Option TextKind)
 later_checks v before line after =
     wrong_word (last_group 0 before) (version_word v (tokens_of line)) ∷ too_often before (version_word v (tokens_of line))
     ∷ result_err (said_from (known_to (said_before before)) (version_word v (tokens_of line))) ∷ of_said (wrong_bounds (said_before before)) (said_from (known_to (said_before before)) (version_word v (tokens_of line)))
-    ∷ of_said (repeated (said_before before)) (said_from (known_to (said_before before)) (version_word v (tokens_of line))) ∷ table_of_line v before line after ∷ []
+    ∷ of_said (repeated (said_before before)) (said_from (known_to (said_before before)) (version_word v (tokens_of line))) ∷ group_of_line v before line after ∷ []
 
 -- the line that the text ends in
 long_or_open : (long : Bool) (others : List (Option TextKind)) → ((long ≡ true) × (first_fault (test long kinds.TooMany ∷ unfinished [] ∷ others) ≡ Some kinds.TooMany))
@@ -177,16 +180,53 @@ last_line v before last line more longer = elim (long_or_open (ltb MAX_LINE (len
   | inr rest ↦ inr rest
 ]
 
--- line m is the last of the whole lines from line n on, and what stands behind it is a row in the longer text
-abbrev RowFollows : ℕ → List (List ℕ) → List (List ℕ) → ℕ → Type 0
-RowFollows n [] longer m = ⊥
-RowFollows n (last ∷ []) longer m = (n ≡ m + 1) × (is_policy_next longer ≡ true)
-RowFollows n (line ∷ next ∷ lines) [] m = ⊥
-RowFollows n (line ∷ next ∷ lines) (other ∷ more) m = RowFollows (n + 1) (next ∷ lines) more m
+-- line m is the last of the whole lines from line n on, and what stands behind it becomes one of the word that its fault waits for
+pub record LineFollows (n : ℕ) (lines longer : List (List ℕ)) (m : ℕ) (kind : TextKind) : Type 0 where
+  pub front : List (List ℕ)
+  pub line : List ℕ
+  pub last : List ℕ
+  pub more : List (List ℕ)
+  pub word : Word
+  pub parts : lines ≡ front ++ line ∷ last ∷ []
+  pub longer_parts : longer ≡ front ++ line ∷ more
+  pub number : n + length front ≡ m
+  pub waits : awaited line kind ≡ Some word
+  pub next : is_next word more ≡ true
 
 -- a fault on a line that the longer text mends, among the lines from line n on
 abbrev MayBeMended : ℕ → List (List ℕ) → List (List ℕ) → ℕ → TextKind → Type 0
-MayBeMended n lines longer m kind = (kind ≡ kinds.Unfinished) ⊎ (IsPolicyFault kind × RowFollows n lines longer m)
+MayBeMended n lines longer m kind = (kind ≡ kinds.Unfinished) ⊎ LineFollows n lines longer m kind
+
+mended_behind : (n : ℕ) (line : List ℕ) (lines longer : List (List ℕ)) (m : ℕ) (kind : TextKind) → MayBeMended (n + 1) lines longer m kind → MayBeMended n (line ∷ lines) (line ∷ longer) m kind
+mended_behind n line lines longer m kind (inl rest) = inl rest
+mended_behind n line lines longer m kind (inr follows) =
+    let number : (n + 1) + length follows.front ≡ m = follows.number in
+    inr (record {
+      front = line ∷ follows.front;
+      line = follows.line;
+      last = follows.last;
+      more = follows.more;
+      word = follows.word;
+      parts = ap (λ l. line ∷ l) follows.parts;
+      longer_parts = ap (λ l. line ∷ l) follows.longer_parts;
+      number = omega arith;
+      waits = follows.waits;
+      next = follows.next;
+    })
+
+mended_here : (n : ℕ) (line : List ℕ) (after longer : List (List ℕ)) (m : ℕ) (k kind : TextKind) → MayMend line after longer k → n ≡ m → k ≡ kind → MayBeMended n (line ∷ after) (line ∷ longer) m kind
+mended_here n line after longer m k kind (word, waits, (last, behind, next)) here same = inr (record {
+  front = [];
+  line = line;
+  last = last;
+  more = longer;
+  word = word;
+  parts = ap (λ l. line ∷ l) behind;
+  longer_parts = refl;
+  number = omega arith;
+  waits = ap (awaited line) (sym same) ∙ waits;
+  next = next;
+})
 
 pub number_is : (n m : ℕ) (k kind : TextKind) → ◌≡◌ {A = Option (ℕ × TextKind)} (Some (n, k)) (Some (m, kind)) → (n ≡ m) × (k ≡ kind)
 number_is n m k kind h =
@@ -209,18 +249,13 @@ from_stands v n before (line ∷ next ∷ lines) (other ∷ more) m kind on h =
     let P : List ℕ → Type 0 = λ l. MayBeMended n (line ∷ next ∷ lines) (l ∷ more) m kind ⊎ (fault_from v n before (l ∷ more) ≡ Some (m, kind)) in
     subst P on.0 (by_fault (λ e. from_stands v (n + 1) (before ++ line ∷ []) (next ∷ lines) more m kind on.1 e) (line_fault v before line (next ∷ lines)) refl h)
   where
-    follows : (last : List ℕ) → next ∷ lines ≡ last ∷ [] → is_policy_next more ≡ true → n ≡ m → RowFollows (n + 1) (next ∷ lines) more m
-    follows last e row is =
-        let F : List (List ℕ) → Type 0 = λ after. RowFollows (n + 1) after more m in
-        subst F (sym e) (omega arith, row)
-
     by_end : (fault_from v (n + 1) (before ++ line ∷ []) (next ∷ lines) ≡ Some (m, kind) → MayBeMended (n + 1) (next ∷ lines) more m kind ⊎ (fault_from v (n + 1) (before ++ line ∷ []) more ≡ Some (m, kind)))
         → (b : Bool) → cond b None (fault_from v (n + 1) (before ++ line ∷ []) (next ∷ lines)) ≡ Some (m, kind)
         → MayBeMended n (line ∷ next ∷ lines) (line ∷ more) m kind ⊎ (cond b None (fault_from v (n + 1) (before ++ line ∷ []) more) ≡ Some (m, kind))
     by_end later true e = cc
     by_end later false e = elim (later e) [
       | inr stands ↦ inr stands
-      | inl may ↦ inl may
+      | inl may ↦ inl (mended_behind n line (next ∷ lines) more m kind may)
     ]
 
     by_fault : (fault_from v (n + 1) (before ++ line ∷ []) (next ∷ lines) ≡ Some (m, kind) → MayBeMended (n + 1) (next ∷ lines) more m kind ⊎ (fault_from v (n + 1) (before ++ line ∷ []) more ≡ Some (m, kind)))
@@ -232,10 +267,7 @@ from_stands v n before (line ∷ next ∷ lines) (other ∷ more) m kind on h =
     ]
     by_fault later (Some k) e found = elim (line_stands v before line (next ∷ lines) more k on.1 e) [
       | inl stands ↦ inr (ap (λ o. at_line_number n o (cond (ends line) None (fault_from v (n + 1) (before ++ line ∷ []) more))) stands ∙ found)
-      | inr table ↦
-          let is = number_is n m k kind found in
-          let T : TextKind → Type 0 = IsPolicyFault in
-          inl (inr (subst T is.1 table.0, follows table.1.0 table.1.1 table.1.2 is.0))
+      | inr mends ↦ let is = number_is n m k kind found in inl (mended_here n line (next ∷ lines) more m k kind mends is.0 is.1)
     ]
 
 -- no fault comes on an earlier line
@@ -322,7 +354,7 @@ in_stands (line ∷ next ∷ lines) (other ∷ more) m kind on h =
     by_fault (Some k) found = inr found
     by_fault None found = elim (from_stands (version_on line) 2 [] (next ∷ lines) more m kind on.1 found) [
       | inr stands ↦ inr stands
-      | inl may ↦ inl may
+      | inl may ↦ inl (mended_behind 1 line (next ∷ lines) more m kind may)
     ]
 
 in_later : (lines longer : List (List ℕ)) (m : ℕ) (kind : TextKind) → GoOn lines longer → fault_in lines ≡ Some (m, kind) → NotBefore m (fault_in longer)
@@ -347,44 +379,99 @@ in_later (line ∷ next ∷ lines) (other ∷ more) m kind on h =
     by_fault None found = from_later (version_on line) 2 [] (next ∷ lines) more m kind on.1 found
 
 -- whether what follows may mend the fault
-by_kind : (kind : TextKind) → ((kind ≡ kinds.Unfinished) ⊎ IsPolicyFault kind) ⊎ ((kind ≡ kinds.Unfinished → ⊥) × (IsPolicyFault kind → ⊥))
-by_kind kinds.Header = inr (λ e. cc, λ t. let e = t.1 in cc)
-by_kind kinds.Word = inr (λ e. cc, λ t. let e = t.1 in cc)
-by_kind kinds.Number = inr (λ e. cc, λ t. let e = t.1 in cc)
-by_kind kinds.Address = inr (λ e. cc, λ t. let e = t.1 in cc)
-by_kind kinds.Prefix = inr (λ e. cc, λ t. let e = t.1 in cc)
-by_kind kinds.Repeated = inr (λ e. cc, λ t. let e = t.1 in cc)
-by_kind kinds.Range = inr (λ e. cc, λ t. let e = t.1 in cc)
-by_kind kinds.TooMany = inr (λ e. cc, λ t. let e = t.1 in cc)
-by_kind kinds.Unfinished = inl (inl refl)
-by_kind (kinds.Policy fault) = inl (inr (fault, refl))
-by_kind kinds.Memory = inr (λ e. cc, λ t. let e = t.1 in cc)
-
--- where the text is so many whole lines and one open, it tells which line the row follows
-row_follows : (n : ℕ) (whole : List (List ℕ)) (last : List ℕ) (longer : List (List ℕ)) (m : ℕ) → RowFollows n (whole ++ last ∷ []) (whole ++ longer) m → (n + length whole ≡ m + 1) × (is_policy_next longer ≡ true)
-row_follows n [] last longer m h = (omega (arith, h.0), h.1)
-row_follows n (line ∷ []) last longer m h = let behind = row_follows (n + 1) [] last longer m h in (omega (arith, behind.0), behind.1)
-row_follows n (line ∷ next ∷ whole) last longer m h = let behind = row_follows (n + 1) (next ∷ whole) last longer m h in (omega (arith, behind.0), behind.1)
+by_kind : (kind : TextKind) → (kind ≡ kinds.Unfinished) ⊎ (kind ≡ kinds.Unfinished → ⊥)
+by_kind kinds.Header = inr (λ e. cc)
+by_kind kinds.Word = inr (λ e. cc)
+by_kind kinds.Number = inr (λ e. cc)
+by_kind kinds.Address = inr (λ e. cc)
+by_kind kinds.Prefix = inr (λ e. cc)
+by_kind kinds.Repeated = inr (λ e. cc)
+by_kind kinds.Range = inr (λ e. cc)
+by_kind kinds.TooMany = inr (λ e. cc)
+by_kind kinds.Unfinished = inl refl
+by_kind (kinds.Policy fault) = inr (λ e. cc)
+by_kind kinds.Memory = inr (λ e. cc)
 
 changes : (text more : List ℕ) (n : ℕ) (kind : TextKind) → MayBeMended 1 (lines_of text) (lines_of (text ++ more)) n kind → MayChange text n kind
 changes text more n kind (inl rest) = inl rest
-changes text more n kind (inr (table, follows)) =
-    let ending = open_of 10 text in
-    let F : List (List ℕ) → List (List ℕ) → Type 0 = λ lines longer. RowFollows 1 lines longer n in
-    let G : List (List ℕ) → Type 0 = F (lines_of text) in
-    let H : List (List ℕ) → Type 0 = λ lines. F lines (ending.whole ++ lines_of (ending.rest ++ more)) in
-    let row = row_follows 1 ending.whole ending.rest (lines_of (ending.rest ++ more)) n (subst H ending.parts (subst G (ending.grows more) follows)) in
-    inr (table, (ending.rest, (ending.whole, ending.parts, omega (arith, row.0)), (more, row.1)))
+changes text more n kind (inr follows) =
+    let ending : Open 10 text = open_of 10 text in
+    let front : List (List ℕ) = follows.front ++ follows.line ∷ [] in
+    let parts : lines_of text ≡ front ++ follows.last ∷ [] = follows.parts ∙ sym (append_assoc follows.front (follows.line ∷ []) (follows.last ∷ [])) in
+    let same = both_last ending.whole front ending.rest follows.last (sym ending.parts ∙ parts) in
+    let ours : lines_of (text ++ more) ≡ front ++ lines_of (follows.last ++ more) =
+    ending.grows more ∙ ap (λ w. w ++ lines_of (ending.rest ++ more)) same.1 ∙ ap (λ r. front ++ lines_of (r ++ more)) same.0 in
+    let theirs : lines_of (text ++ more) ≡ front ++ follows.more = follows.longer_parts ∙ sym (append_assoc follows.front (follows.line ∷ []) follows.more) in
+    let behind : lines_of (follows.last ++ more) ≡ follows.more = append_cancel_left front (lines_of (follows.last ++ more)) follows.more (sym ours ∙ theirs) in
+    let number : 1 + length follows.front ≡ n = follows.number in
+    inr (record {
+      line = follows.line;
+      rest = follows.last;
+      word = follows.word;
+      ends = (follows.front, follows.parts, omega arith);
+      waits = follows.waits;
+      may = (more, ap (is_next follows.word) behind ∙ follows.next);
+    })
+
+-- the last of the whole lines, if there is one
+pub last_whole : (whole : List (List ℕ)) → (whole ≡ []) ⊎ ((before : List (List ℕ)) × (line : List ℕ) × (whole ≡ before ++ line ∷ []))
+last_whole [] = inl refl
+last_whole (line ∷ whole) = elim (last_whole whole) [
+  | inl none ↦ inr ([], line, ap (λ w. line ∷ w) none)
+  | inr last ↦ inr (line ∷ last.0, last.1, ap (λ w. line ∷ w) last.2)
+]
+
+-- the text's last line and what is open behind it are these alone
+abbrev AreLast : List ℕ → List (List ℕ) → List ℕ → List ℕ → Type 0
+AreLast text before line rest = lines_of text ≡ before ++ line ∷ rest ∷ []
+
+pub same_last : (text : List ℕ) (before others : List (List ℕ)) (line other rest behind : List ℕ) → AreLast text before line rest → AreLast text others other behind → (before ≡ others) × (line ≡ other) × (rest ≡ behind)
+same_last text before others line other rest behind parts other_parts =
+    let outer = both_last (before ++ line ∷ []) (others ++ other ∷ []) rest behind (append_assoc before (line ∷ []) (rest ∷ []) ∙ sym parts ∙ other_parts ∙ sym (append_assoc others (other ∷ []) (behind ∷ []))) in
+    let inner = both_last before others line other outer.1 in
+    (inner.1, inner.0, outer.0)
+
+group_fault_or_not : (text : List ℕ) (n : ℕ) (kind : TextKind) → IsGroupFaultAtEnd text n kind ⊎ (IsGroupFaultAtEnd text n kind → ⊥)
+group_fault_or_not text n kind = by_last (last_whole ending.whole)
+  where
+    ending : Open 10 text
+    ending = open_of 10 text
+
+    by_word : (before : List (List ℕ)) (line : List ℕ) → AreLast text before line ending.rest → length before + 1 ≡ n → (word : Option Word) → awaited line kind ≡ word
+        → IsGroupFaultAtEnd text n kind ⊎ (IsGroupFaultAtEnd text n kind → ⊥)
+    by_word before line parts count None none = inr (λ fault.
+        let same = same_last text before fault.ends.0 line fault.line ending.rest fault.rest parts fault.ends.1 in
+        let wrong : None ≡ Some fault.word = sym none ∙ ap (λ l. awaited l kind) same.1 ∙ fault.waits in cc)
+    by_word before line parts count (Some word) waits = elim (may_become_or_not word ending.rest (open_lacks 10 text)) [
+      | inl may ↦ inl (record { line = line; rest = ending.rest; word = word; ends = (before, parts, count); waits = waits; may = may })
+      | inr never ↦ inr (λ fault.
+          let same = same_last text before fault.ends.0 line fault.line ending.rest fault.rest parts fault.ends.1 in
+          let words : Some word ≡ Some fault.word = sym waits ∙ ap (λ l. awaited l kind) same.1 ∙ fault.waits in
+          let one : word ≡ fault.word = cc (words) in
+          let W : Word → Type 0 = λ w. MayBecome w ending.rest in
+          never (subst W (sym one) (subst (MayBecome fault.word) (sym same.2) fault.may)))
+    ]
+
+    by_count : (before : List (List ℕ)) (line : List ℕ) → AreLast text before line ending.rest → (b : Bool) → eqb (length before + 1) n ≡ b → IsGroupFaultAtEnd text n kind ⊎ (IsGroupFaultAtEnd text n kind → ⊥)
+    by_count before line parts true e = by_word before line parts (eqb-true (length before + 1) n e) (awaited line kind) refl
+    by_count before line parts false e = inr (λ fault.
+        let same = same_last text before fault.ends.0 line fault.line ending.rest fault.rest parts fault.ends.1 in
+        let count : length before + 1 ≡ n = ap (λ (ls : List (List ℕ)). length ls + 1) same.0 ∙ fault.ends.2 in
+        let wrong : true ≡ false = sym (eq-eqb (length before + 1) n count) ∙ e in cc)
+
+    by_last : (ending.whole ≡ []) ⊎ ((before : List (List ℕ)) × (line : List ℕ) × (ending.whole ≡ before ++ line ∷ [])) → IsGroupFaultAtEnd text n kind ⊎ (IsGroupFaultAtEnd text n kind → ⊥)
+    by_last (inl none) = inr (λ fault.
+        let one : length (lines_of text) ≡ 1 = ap length (ending.parts ∙ ap (λ w. w ++ ending.rest ∷ []) none) in
+        let more : length (lines_of text) ≡ length fault.ends.0 + 2 = ap length fault.ends.1 ∙ length-append fault.ends.0 (fault.line ∷ fault.rest ∷ []) in
+        absurd (omega arith))
+    by_last (inr (before, line, is)) = by_count before line (ending.parts ∙ ap (λ w. w ++ ending.rest ∷ []) is ∙ append_assoc before (line ∷ []) (ending.rest ∷ [])) (eqb (length before + 1) n) refl
 
 may_or_not : (text : List ℕ) (n : ℕ) (kind : TextKind) → MayChange text n kind ⊎ (MayChange text n kind → ⊥)
 may_or_not text n kind = elim (by_kind kind) [
-  | inr other ↦ inr (λ may. elim may [ inl e ↦ other.0 e | inr t ↦ other.1 t.0 ])
-  | inl known ↦ elim known [
-    | inl e ↦ inl (inl e)
-    | inr table ↦ elim (policy_may_follow text n) [
-      | inl follows ↦ inl (inr (table, follows))
-      | inr never ↦ inr (λ may. elim may [ inl e ↦ let wrong : kinds.Policy table.0 ≡ kinds.Unfinished = sym table.1 ∙ e in cc | inr t ↦ never t.1 ])
-    ]
+  | inl unfinished ↦ inl (inl unfinished)
+  | inr other ↦ elim (group_fault_or_not text n kind) [
+    | inl group ↦ inl (inr group)
+    | inr never ↦ inr (λ may. elim may [ inl e ↦ other e | inr group ↦ never group ])
   ]
 ]
 

@@ -1,12 +1,13 @@
 -- The checks of a line within a race find nothing wrong with it.
 use Rattle.std.proofs.Common.{◌≡◌, ℕ, ◌≤◌, ◌<◌, ◌&&◌, Bool, true, false, not, cond, leb, ltb, List, [], ◌∷◌, ◌++◌, length, Option, Some, None, is_some, Ok, refl, sym, ◌∙◌, ap, subst, inl, inr, arith}
-use Rattle.std.specs.Prelude.{◌⊎◌, option_map}
-use Rattle.std.specs.List.{AllZip, AllByRecursion, filter_map, list_any}
-use Rattle.std.proofs.lemmas.Bool.{lt-leb, le-leb, leb-true, and_from, and_parts}
+use Rattle.std.specs.Prelude.{◌⊎◌, option_map, unwrap_or, IfSome}
+use Rattle.std.specs.List.{AllZip, AllByRecursion, filter_map, cons_option, list_any}
+use Rattle.std.proofs.lemmas.Bool.{lt-leb, le-leb, le-ltb, leb-true, and_from, and_parts}
+use Rattle.std.proofs.lemmas.List.Elements.{filter_map-append}
 use Rattle.he_addr.specs.declared.ip.Family.TheVariants as families
-use Rattle.he_plan.specs.declared.limits.TheConstants.{MAX_PAUSES}
+use Rattle.he_plan.specs.declared.limits.TheConstants.{MAX_PAUSES, MIN_FLOOR, DEFAULT_ATTEMPT}
 use Rattle.he_plan.specs.Building.{last_end}
-use Rattle.he_plan.specs.Race.{has_outcome}
+use Rattle.he_plan.specs.Race.{has_ip, has_outcome, is_told}
 use Rattle.he_plan.specs.Timeline.{are_distinct, are_pauses, are_told_once}
 use Rattle.he_select.proofs.Admitted.{no_fault_from}
 use Rattle.he_select.specs.declared.limits.TheConstants.{ROWS, SOURCES, ROUTES}
@@ -19,17 +20,17 @@ use Rattle.he_text.specs.declared.fault.TextKind.{TextKind}
 use Rattle.he_text.specs.declared.fault.TextKind.TheVariants as kinds
 use Rattle.he_text.specs.declared.limits.TheConstants.{MAX_ANSWERS, MAX_LINE}
 use Rattle.he_text.specs.declared.words.Name.{Name}
-use Rattle.he_text.specs.declared.words.Name.TheVariants.{Resolution, Attempt, Count, Limit}
-use Rattle.he_text.specs.Faults.{test, excess, too_often, wrong_bounds, repeated, wrong_group, begins_with, is_next, lines_with}
-use Rattle.he_text.specs.Said.{Said, Setting, PolicyRow, HostSource, HostRoute, Answer, RoundTrip, UsedBefore, Told, Paused, Ended, setting_said, row_said, source_said, route_said, answer_said, outcome_said, pause_said, at_front, setting_given, rows_given, sources_given, routes_given, outcomes_given, pauses_given, table_of_rows, race_of}
+use Rattle.he_text.specs.declared.words.Word.TheVariants as words
+use Rattle.he_text.specs.declared.words.Name.TheVariants.{Resolution, Attempt, Count, Limit, Floor}
+use Rattle.he_text.specs.Faults.{test, excess, too_often, wrong_bounds, repeated, wrong_group, begins_with, is_next, is_above, floor_is_above, lines_with}
+use Rattle.he_text.specs.Said.{Said, Setting, PolicyRow, HostSource, HostRoute, Answer, RoundTrip, UsedBefore, Told, Paused, Ended, setting_said, row_said, source_said, route_said, answer_said, rtt_said, used_said, outcome_said, pause_said, at_front, setting_given, rows_given, sources_given, routes_given, rtts_given, used_given, outcomes_given, pauses_given, settings_given, table_of_rows, race_of, word_said}
 use Rattle.he_text.specs.Text.{group_said, are_in_order}
-use Rattle.he_text.proofs.CompleteForms.{IsLine, word_said}
+use Rattle.he_text.proofs.CompleteForms.{IsLine}
 use Rattle.he_text.proofs.CompleteGroups.{order_split, none_later, few_lines}
-use Rattle.he_text.proofs.CompleteLists.{given_split, none_before, shorter_before, told_before, pause_before, none_repeats}
+use Rattle.he_text.proofs.CompleteLists.{given_split, none_before, shorter_before, told_before, address_before, pause_before, none_repeats}
 use Rattle.he_text.proofs.CompleteRaces.{IsWhole, rows_are, hosts_are, answer_is, answer_parts}
 
 -- the fifth check: there is room for one more line of the word
-
 gives_row : (s : Said) → group_said s ≡ 2 → is_some (row_said s) ≡ true
 gives_row (PolicyRow row) h = refl
 gives_row (Answer families.V6 reply) h = absurd (omega (arith, h))
@@ -103,9 +104,9 @@ has_room before told later (RoundTrip ip rtt) tokens whole are = refl
 has_room before told later (UsedBefore ip) tokens whole are = refl
 has_room before told later (Told ip outcome) tokens whole are = refl
 has_room before told later (Paused from to) tokens whole are =
-    let lines : lines_with 8 before ≤ length (pauses_given told) = few_lines pause_said 8 gives_pause before told are in
+    let lines : lines_with 10 before ≤ length (pauses_given told) = few_lines pause_said 10 gives_pause before told are in
     let less : length (pauses_given told) < MAX_PAUSES = fewer pause_said told later (Paused from to) (from, to) MAX_PAUSES refl (pauses_few (told ++ Paused from to ∷ later) whole) in
-    within_most (MAX_PAUSES, kinds.TooMany) (lines_with 8 before) (omega arith)
+    within_most (MAX_PAUSES, kinds.TooMany) (lines_with 10 before) (omega arith)
 has_room before told later Ended tokens whole are = refl
 
 -- the eighth check: pauses follow each other
@@ -137,6 +138,14 @@ outcomes_once : (said : List Said) → IsWhole said → are_told_once (outcomes_
 unfolding race_of
 outcomes_once said whole = whole.fits.once
 
+rtts_once : (said : List Said) → IsWhole said → are_told_once (rtts_given said) ≡ true
+unfolding race_of
+rtts_once said whole = whole.fits.rtts_once
+
+used_once : (said : List Said) → IsWhole said → are_distinct (used_given said) ≡ true
+unfolding race_of
+used_once said whole = whole.fits.used_once
+
 not_failing : (b : Bool) (kind : TextKind) → b ≡ false → test b kind ≡ None
 not_failing false kind h = refl
 not_failing true kind h = cc
@@ -146,6 +155,7 @@ setting_gives Resolution value = refl
 setting_gives Attempt value = refl
 setting_gives Count value = refl
 setting_gives Limit value = refl
+setting_gives Floor value = refl
 
 no_setting : (name : Name) (value : ℕ) (told later : List Said) → IsWhole (told ++ Setting name value ∷ later) → setting_given name told ≡ None
 no_setting name value told later whole =
@@ -169,6 +179,14 @@ not_twice told later (HostRoute route) whole =
     (none_repeats same_route (routes_given told) (routes_given later) route (ap (first_repeat same_route) (sym split) ∙ (hosts_are (told ++ HostRoute route ∷ later) whole).routes_once))
 not_twice told later (Answer family reply) whole =
     not_failing (not (are_distinct reply.addresses)) kinds.Repeated (ap not (answer_parts family reply (answer_is family told later reply whole)).1)
+not_twice told later (RoundTrip ip rtt) whole =
+    let split = given_split rtt_said told later (RoundTrip ip rtt) (ip, rtt) refl in
+    not_failing (is_told ip (rtts_given told)) kinds.Repeated
+    (told_before (rtts_given told) (rtts_given later) (ip, rtt) (ap are_told_once (sym split) ∙ rtts_once (told ++ RoundTrip ip rtt ∷ later) whole))
+not_twice told later (UsedBefore ip) whole =
+    let split = given_split used_said told later (UsedBefore ip) ip refl in
+    not_failing (has_ip ip (used_given told)) kinds.Repeated
+    (address_before (used_given told) (used_given later) ip (ap are_distinct (sym split) ∙ used_once (told ++ UsedBefore ip ∷ later) whole))
 not_twice told later (Told ip outcome) whole =
     let split = given_split outcome_said told later (Told ip outcome) (ip, outcome) refl in
     not_failing (has_outcome ip (outcomes_given told)) kinds.Repeated
@@ -176,7 +194,7 @@ not_twice told later (Told ip outcome) whole =
 not_twice told later (Paused from to) whole = refl
 not_twice told later Ended whole = refl
 
--- the tenth check: the rows up to the last one are the table
+-- the rows up to the last one are the table
 rows_fit : (said : List Said) → IsWhole said → IsAdmitted (table_of_rows (rows_given said))
 unfolding race_of
 rows_fit said whole = whole.fits.policy
@@ -225,21 +243,98 @@ next_row (PolicyRow next ∷ later) (line ∷ []) after last order short are = i
 next_row (PolicyRow next ∷ later) (line ∷ other ∷ more) after last order short are = inr (and_from (leb (length line) MAX_LINE) _ (le-leb (length line) MAX_LINE short.0) (ap (begins_with words.Policy) are.0.word))
 next_row (t ∷ later) more after last order short are = inl (no_more_rows t later refl order)
 
-pub table_fits : (told later : List Said) (s : Said) (more after : List (List ℕ)) (last : List ℕ) → IsWhole (told ++ s ∷ later) → AllByRecursion (λ line. length line ≤ MAX_LINE) more → AllZip IsLine more later
+-- the settings up to the last one are all settings
+not_above : (floor : Option ℕ) (delay : ℕ) → IfSome floor (λ f. (MIN_FLOOR ≤ f) × (f ≤ delay)) → is_above floor delay ≡ false
+not_above None delay h = refl
+not_above (Some floor) delay h = le-ltb delay floor h.1
+
+floor_fits : (said : List Said) → IsWhole said → floor_is_above (settings_given said) ≡ false
+unfolding race_of
+floor_fits said whole = not_above (setting_given Floor said) (settings_given said).attempt whole.fits.settings.floor
+
+-- a setting is given by the lines up to the last one of the settings
+setting_same : (name : Name) (told later : List Said) (s : Said) → filter_map (setting_said name) later ≡ [] → setting_given name (told ++ s ∷ []) ≡ setting_given name (told ++ s ∷ later)
+setting_same name told later s none =
+    ap at_front (filter_map-append (setting_said name) told (s ∷ [])
+    ∙ ap (λ values. filter_map (setting_said name) told ++ cons_option (setting_said name s) values) (sym none)
+    ∙ sym (filter_map-append (setting_said name) told (s ∷ later)))
+
+last_settings : (told later : List Said) (s : Said) → IsWhole (told ++ s ∷ later) → ((name : Name) → filter_map (setting_said name) later ≡ []) → floor_is_above (settings_given (told ++ s ∷ [])) ≡ false
+last_settings told later s whole none =
+    ap (λ floor. is_above floor (settings_given (told ++ s ∷ [])).attempt) (setting_same Floor told later s (none Floor))
+    ∙ ap (λ attempt. is_above (setting_given Floor (told ++ s ∷ later)) (unwrap_or attempt DEFAULT_ATTEMPT)) (setting_same Attempt told later s (none Attempt))
+    ∙ floor_fits (told ++ s ∷ later) whole
+
+abbrev sets : Said → Bool
+sets (Setting name value) = true
+sets _ = false
+
+after_settings : (t : Said) → sets t ≡ false → 2 ≤ group_said t
+after_settings (Setting name value) none = cc
+after_settings (PolicyRow row) none = omega arith
+after_settings (HostSource source) none = omega arith
+after_settings (HostRoute route) none = omega arith
+after_settings (Answer families.V6 reply) none = omega arith
+after_settings (Answer families.V4 reply) none = omega arith
+after_settings (RoundTrip ip rtt) none = omega arith
+after_settings (UsedBefore ip) none = omega arith
+after_settings (Told ip outcome) none = omega arith
+after_settings (Paused from to) none = omega arith
+after_settings Ended none = omega arith
+
+sets_nothing : (name : Name) (t : Said) → 2 ≤ group_said t → setting_said name t ≡ None
+sets_nothing name (Setting other value) h = absurd (omega (arith, h))
+sets_nothing name (PolicyRow row) h = refl
+sets_nothing name (HostSource source) h = refl
+sets_nothing name (HostRoute route) h = refl
+sets_nothing name (Answer family reply) h = refl
+sets_nothing name (RoundTrip ip rtt) h = refl
+sets_nothing name (UsedBefore ip) h = refl
+sets_nothing name (Told ip outcome) h = refl
+sets_nothing name (Paused from to) h = refl
+sets_nothing name Ended h = refl
+
+no_more_settings : (t : Said) (later : List Said) → sets t ≡ false → are_in_order 1 (t ∷ later) ≡ true → (name : Name) → filter_map (setting_said name) (t ∷ later) ≡ []
+no_more_settings t later none order name =
+    let parts = and_parts (leb 1 (group_said t)) (are_in_order (group_said t) later) order in
+    none_later (setting_said name) 2 (sets_nothing name) (t ∷ later) (and_from (leb 2 (group_said t)) (are_in_order (group_said t) later) (le-leb 2 (group_said t) (after_settings t none)) parts.1)
+
+-- the next line is a setting, or no setting follows
+next_setting : (later : List Said) (more after : List (List ℕ)) (last : List ℕ) → are_in_order 1 later ≡ true → AllByRecursion (λ line. length line ≤ MAX_LINE) more → AllZip IsLine more later
+    → ((name : Name) → filter_map (setting_said name) later ≡ []) ⊎ (is_next words.Set (more ++ last ∷ after) ≡ true)
+next_setting [] more after last order short are = inl (λ name. refl)
+next_setting (Setting name value ∷ later) [] after last order short are = absurd are
+next_setting (Setting name value ∷ later) (line ∷ []) after last order short are = inr (and_from (leb (length line) MAX_LINE) _ (le-leb (length line) MAX_LINE short.0) (ap (begins_with words.Set) are.0.word))
+next_setting (Setting name value ∷ later) (line ∷ other ∷ more) after last order short are = inr (and_from (leb (length line) MAX_LINE) _ (le-leb (length line) MAX_LINE short.0) (ap (begins_with words.Set) are.0.word))
+next_setting (t ∷ later) more after last order short are = inl (no_more_settings t later refl order)
+
+pub either_way : (next : Bool) → ◌≡◌ {A = Option TextKind} (cond next None None) None
+either_way true = refl
+either_way false = refl
+
+-- the tenth and the eleventh check: what a group gives together
+pub group_fits : (told later : List Said) (s : Said) (more after : List (List ℕ)) (last : List ℕ) → IsWhole (told ++ s ∷ later) → AllByRecursion (λ line. length line ≤ MAX_LINE) more → AllZip IsLine more later
     → wrong_group told (more ++ last ∷ after) s ≡ None
-table_fits told later (PolicyRow row) more after last whole short are =
+group_fits told later (PolicyRow row) more after last whole short are =
     by_next (is_next words.Policy (more ++ last ∷ after)) (next_row later more after last (order_split 0 told later (PolicyRow row) whole.order).1 short are)
   where
     by_next : (next : Bool) → (rows_given later ≡ []) ⊎ (next ≡ true) → cond next None (option_map kinds.Policy (table_fault (rows_given told ++ row ∷ []))) ≡ None
     by_next true h = refl
     by_next false (inl none) = ap (option_map kinds.Policy) (last_table told later row whole none)
     by_next false (inr next) = cc
-table_fits told later (Setting name value) more after last whole short are = refl
-table_fits told later (HostSource source) more after last whole short are = refl
-table_fits told later (HostRoute route) more after last whole short are = refl
-table_fits told later (Answer family reply) more after last whole short are = refl
-table_fits told later (RoundTrip ip rtt) more after last whole short are = refl
-table_fits told later (UsedBefore ip) more after last whole short are = refl
-table_fits told later (Told ip outcome) more after last whole short are = refl
-table_fits told later (Paused from to) more after last whole short are = refl
-table_fits told later Ended more after last whole short are = refl
+group_fits told later (Setting name value) more after last whole short are =
+    by_next (is_next words.Set (more ++ last ∷ after)) (next_setting later more after last (order_split 0 told later (Setting name value) whole.order).1 short are)
+  where
+    by_next : (next : Bool) → ((name : Name) → filter_map (setting_said name) later ≡ []) ⊎ (next ≡ true)
+        → cond next None (test (floor_is_above (settings_given (told ++ Setting name value ∷ []))) kinds.Range) ≡ None
+    by_next true h = refl
+    by_next false (inl none) = not_failing (floor_is_above (settings_given (told ++ Setting name value ∷ []))) kinds.Range (last_settings told later (Setting name value) whole none)
+    by_next false (inr next) = cc
+group_fits told later (HostSource source) more after last whole short are = either_way (is_next words.Source (more ++ last ∷ after))
+group_fits told later (HostRoute route) more after last whole short are = either_way (is_next words.Route (more ++ last ∷ after))
+group_fits told later (Answer family reply) more after last whole short are = either_way (is_next (word_said (Answer family reply)) (more ++ last ∷ after))
+group_fits told later (RoundTrip ip rtt) more after last whole short are = either_way (is_next words.Rtt (more ++ last ∷ after))
+group_fits told later (UsedBefore ip) more after last whole short are = either_way (is_next words.Used (more ++ last ∷ after))
+group_fits told later (Told ip outcome) more after last whole short are = either_way (is_next words.Connect (more ++ last ∷ after))
+group_fits told later (Paused from to) more after last whole short are = either_way (is_next words.Pause (more ++ last ∷ after))
+group_fits told later Ended more after last whole short are = either_way (is_next words.End (more ++ last ∷ after))

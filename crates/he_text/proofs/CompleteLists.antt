@@ -10,9 +10,8 @@ use Rattle.he_addr.specs.declared.ip.Ip.{Ip}
 use Rattle.he_addr.specs.Ip.{same_ip}
 use Rattle.he_plan.specs.Building.{last_end}
 use Rattle.he_plan.specs.declared.limits.TheConstants.{MAX_PAUSE_END}
-use Rattle.he_plan.specs.declared.outcome.Outcome.{Outcome}
-use Rattle.he_plan.specs.Race.{has_outcome}
-use Rattle.he_plan.specs.Timeline.{are_told_once, are_pauses}
+use Rattle.he_plan.specs.Race.{has_ip, is_told}
+use Rattle.he_plan.specs.Timeline.{are_distinct, are_told_once, are_pauses}
 use Rattle.he_plan.proofs.Ranges.{same_ip-sym}
 use Rattle.he_select.specs.Refusals.{repeat_from, first_repeat}
 
@@ -47,7 +46,7 @@ no_repeat same before place (z ∷ xs) ys x h =
 pub none_repeats : {X : Type 0} (same : X → X → Bool) (xs ys : List X) (x : X) → first_repeat same (xs ++ x ∷ ys) ≡ None → list_any (same x) xs ≡ false
 none_repeats same xs ys x h = no_repeat same [] 0 xs ys x h
 
--- addresses with one outcome each
+-- addresses of which one thing each is told
 pub not_or : (a b : Bool) → not (a || b) ≡ true → (a ≡ false) × (b ≡ false)
 not_or true b h = cc
 not_or false true h = cc
@@ -58,18 +57,28 @@ or_false false false h k = refl
 or_false true b h k = cc
 or_false false true h k = cc
 
-pub told_before : (ps qs : List (Ip × Outcome)) (p : Ip × Outcome) → are_told_once (ps ++ p ∷ qs) ≡ true → has_outcome p.0 ps ≡ false
+first_false : (a b : Bool) → (a || b) ≡ false → a ≡ false
+first_false true b h = cc
+first_false false b h = refl
+
+pub told_before : {V : Type 0} (ps qs : List (Ip × V)) (p : Ip × V) → are_told_once (ps ++ p ∷ qs) ≡ true → is_told p.0 ps ≡ false
 told_before [] qs p h = refl
-told_before (q ∷ ps) qs p h =
-    let test : Ip × Outcome → Bool = λ x. same_ip x.0 q.0 in
-    let parts = and_parts (not (has_outcome q.0 (ps ++ p ∷ qs))) (are_told_once (ps ++ p ∷ qs)) h in
+told_before {V = V} (q ∷ ps) qs p h =
+    let test : Ip × V → Bool = λ x. same_ip x.0 q.0 in
+    let parts = and_parts (not (is_told q.0 (ps ++ p ∷ qs))) (are_told_once (ps ++ p ∷ qs)) h in
     let split : not (list_any test ps || list_any test (p ∷ qs)) ≡ true = ap not (sym (list_any-append test ps (p ∷ qs))) ∙ parts.0 in
     let behind = (not_or (list_any test ps) (list_any test (p ∷ qs)) split).1 in
-    or_false (same_ip q.0 p.0) (has_outcome p.0 ps) (same_ip-sym q.0 p.0 ∙ first_false (same_ip p.0 q.0) (list_any test qs) behind) (told_before ps qs p parts.1)
-  where
-    first_false : (a b : Bool) → (a || b) ≡ false → a ≡ false
-    first_false true b h = cc
-    first_false false b h = refl
+    or_false (same_ip q.0 p.0) (is_told p.0 ps) (same_ip-sym q.0 p.0 ∙ first_false (same_ip p.0 q.0) (list_any test qs) behind) (told_before ps qs p parts.1)
+
+-- addresses of which none stands twice
+pub address_before : (ips more : List Ip) (ip : Ip) → are_distinct (ips ++ ip ∷ more) ≡ true → has_ip ip ips ≡ false
+address_before [] more ip h = refl
+address_before (other ∷ ips) more ip h =
+    let test : Ip → Bool = λ x. same_ip x other in
+    let parts = and_parts (not (has_ip other (ips ++ ip ∷ more))) (are_distinct (ips ++ ip ∷ more)) h in
+    let split : not (list_any test ips || list_any test (ip ∷ more)) ≡ true = ap not (sym (list_any-append test ips (ip ∷ more))) ∙ parts.0 in
+    let behind = (not_or (list_any test ips) (list_any test (ip ∷ more)) split).1 in
+    or_false (same_ip other ip) (has_ip ip ips) (same_ip-sym other ip ∙ first_false (same_ip ip other) (list_any test more) behind) (address_before ips more ip parts.1)
 
 -- pauses that follow each other
 abbrev end_from : ℕ → List (ℕ × ℕ) → ℕ

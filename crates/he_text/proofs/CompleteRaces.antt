@@ -10,9 +10,8 @@ use Rattle.he_addr.specs.declared.ip.Ip.{Ip}
 use Rattle.he_addr.specs.Ip.{is_usable}
 use Rattle.he_addr.specs.Prefix.{width_of}
 use Rattle.he_plan.specs.declared.limits.TheConstants.{MAX_TICK, MAX_ADDRESSES}
-use Rattle.he_plan.specs.declared.outcome.Outcome.{Outcome}
 use Rattle.he_plan.specs.Race.{Reply, addresses_of, has_ip, is_in_answer}
-use Rattle.he_plan.specs.Timeline.{IsRace, are_of, are_distinct, is_answer, is_outcome, is_duration, duration_of}
+use Rattle.he_plan.specs.Timeline.{IsRace, are_of, are_distinct, is_answer, is_rtt, is_outcome, is_duration, duration_of}
 use Rattle.he_select.proofs.Admitted.{no_fault as no_table_fault}
 use Rattle.he_select.proofs.Causes.{none_stands, unmapped, not_caused}
 use Rattle.he_select.proofs.Hosted.{all_sound, no_fault as no_host_fault}
@@ -30,7 +29,7 @@ use Rattle.he_select.specs.TableFaults.{table_causes, table_fault}
 use Rattle.he_select.specs.Tables.{IsAdmitted, same_row}
 use Rattle.he_text.specs.declared.words.Name.{Name}
 use Rattle.he_text.specs.Faults.{known_to}
-use Rattle.he_text.specs.Said.{Said, Setting, PolicyRow, HostSource, HostRoute, Answer, Told, Paused, Ended, setting_said, source_said, answer_said, outcome_said, at_front, rows_given, sources_given, routes_given, answer_given, outcomes_given, table_of_rows, race_of}
+use Rattle.he_text.specs.Said.{Said, Setting, PolicyRow, HostSource, HostRoute, Answer, RoundTrip, UsedBefore, Told, Paused, Ended, setting_said, source_said, answer_said, rtt_said, used_said, outcome_said, at_front, rows_given, sources_given, routes_given, answer_given, rtts_given, used_given, outcomes_given, table_of_rows, race_of}
 use Rattle.he_text.specs.Text.{group_said, are_in_order}
 use Rattle.he_text.proofs.CompleteForms.{Knows, Suits}
 use Rattle.he_text.proofs.CompleteGroups.{order_split, none_later}
@@ -135,11 +134,13 @@ suits told later (HostSource source) whole =
     (and_parts (is_usable source.ip) (leb source.plen (width_of source.ip)) parts.0).0
 suits told later (HostRoute route) whole = tt
 suits told later (Answer family reply) whole = (answer_parts family reply (answer_is family told later reply whole)).0
+suits told later (RoundTrip ip rtt) whole = tt
+suits told later (UsedBefore ip) whole = tt
 suits told later (Told ip outcome) whole = tt
 suits told later (Paused from to) whole = tt
 suits told later Ended whole = tt
 
--- an outcome is of an address that stands in an answer before
+-- what is told behind the answers is of an address that stands in one of those before
 no_answer : (family : Family) (t : Said) → 7 ≤ group_said t → answer_said family t ≡ None
 no_answer families.V6 (Answer families.V6 reply) h = absurd (omega (arith, h))
 no_answer families.V4 (Answer families.V4 reply) h = absurd (omega (arith, h))
@@ -148,12 +149,20 @@ no_answer families.V4 (Answer families.V6 reply) h = refl
 no_answer families.V6 _ h = refl
 no_answer families.V4 _ h = refl
 
-answers_before : (family : Family) (told later : List Said) (ip : Ip) (outcome : Outcome) → IsWhole (told ++ Told ip outcome ∷ later) → answer_given family (told ++ Told ip outcome ∷ later) ≡ answer_given family told
-answers_before family told later ip outcome whole =
-    let order = order_split 0 told later (Told ip outcome) whole.order in
-    ap at_front (given_none (answer_said family) told later (Told ip outcome) (no_answer family (Told ip outcome) (omega arith))
-    ∙ ap (λ rs. filter_map (answer_said family) told ++ rs) (none_later (answer_said family) 7 (no_answer family) later order.1)
+answers_before : (family : Family) (told later : List Said) (s : Said) → 7 ≤ group_said s → IsWhole (told ++ s ∷ later) → answer_given family (told ++ s ∷ later) ≡ answer_given family told
+answers_before family told later s high whole =
+    let order = order_split 0 told later s whole.order in
+    ap at_front (given_none (answer_said family) told later s (no_answer family s high)
+    ∙ ap (λ rs. filter_map (answer_said family) told ++ rs) (none_later (answer_said family) (group_said s) (λ t le. no_answer family t (omega (arith, high, le))) later order.1)
     ∙ append-nil (filter_map (answer_said family) told))
+
+rtts_fit : (said : List Said) → IsWhole said → list_all (is_rtt (race_of said)) (rtts_given said) ≡ true
+unfolding race_of
+rtts_fit said whole = whole.fits.rtts
+
+used_fit : (said : List Said) → IsWhole said → list_all (is_in_answer (race_of said)) (used_given said) ≡ true
+unfolding race_of
+used_fit said whole = whole.fits.used
 
 outcomes_fit : (said : List Said) → IsWhole said → list_all (is_outcome (race_of said)) (outcomes_given said) ≡ true
 unfolding race_of
@@ -163,20 +172,35 @@ stands_by : (said : List Said) (ip : Ip) → is_in_answer (race_of said) ip ≡ 
 unfolding race_of
 stands_by said ip = refl
 
+-- behind the answers an address that stands in one of all is known
+is_known : (told later : List Said) (s : Said) (ip : Ip) → 7 ≤ group_said s → IsWhole (told ++ s ∷ later) → is_in_answer (race_of (told ++ s ∷ later)) ip ≡ true → known_to told ip ≡ true
+is_known told later s ip high whole stands =
+    let all : List Said = told ++ s ∷ later in
+    stands_by told ip
+    ∙ ap (λ o. has_ip ip (addresses_of o) || has_ip ip (addresses_of (answer_given families.V4 told))) (sym (answers_before families.V6 told later s high whole))
+    ∙ ap (λ o. has_ip ip (addresses_of (answer_given families.V6 all)) || has_ip ip (addresses_of o)) (sym (answers_before families.V4 told later s high whole))
+    ∙ sym (stands_by all ip) ∙ stands
+
 pub knows : (told later : List Said) (s : Said) → IsWhole (told ++ s ∷ later) → Knows (known_to told) s
 knows told later (Setting name value) whole = tt
 knows told later (PolicyRow row) whole = tt
 knows told later (HostSource source) whole = tt
 knows told later (HostRoute route) whole = tt
 knows told later (Answer family reply) whole = tt
+knows told later (RoundTrip ip rtt) whole =
+    let all : List Said = told ++ RoundTrip ip rtt ∷ later in
+    let split = given_split rtt_said told later (RoundTrip ip rtt) (ip, rtt) refl in
+    let passes = passes_at (is_rtt (race_of all)) (rtts_given told) (rtts_given later) (ip, rtt) (ap (list_all (is_rtt (race_of all))) (sym split) ∙ rtts_fit all whole) in
+    is_known told later (RoundTrip ip rtt) ip (omega arith) whole (and_parts (is_duration rtt) (is_in_answer (race_of all) ip) passes).1
+knows told later (UsedBefore ip) whole =
+    let all : List Said = told ++ UsedBefore ip ∷ later in
+    let split = given_split used_said told later (UsedBefore ip) ip refl in
+    is_known told later (UsedBefore ip) ip (omega arith) whole
+    (passes_at (is_in_answer (race_of all)) (used_given told) (used_given later) ip (ap (list_all (is_in_answer (race_of all))) (sym split) ∙ used_fit all whole))
 knows told later (Told ip outcome) whole =
     let all : List Said = told ++ Told ip outcome ∷ later in
     let split = given_split outcome_said told later (Told ip outcome) (ip, outcome) refl in
     let passes = passes_at (is_outcome (race_of all)) (outcomes_given told) (outcomes_given later) (ip, outcome) (ap (list_all (is_outcome (race_of all))) (sym split) ∙ outcomes_fit all whole) in
-    let parts = and_parts (is_duration (duration_of outcome)) (is_in_answer (race_of all) ip) passes in
-    stands_by told ip
-    ∙ ap (λ o. has_ip ip (addresses_of o) || has_ip ip (addresses_of (answer_given families.V4 told))) (sym (answers_before families.V6 told later ip outcome whole))
-    ∙ ap (λ o. has_ip ip (addresses_of (answer_given families.V6 all)) || has_ip ip (addresses_of o)) (sym (answers_before families.V4 told later ip outcome whole))
-    ∙ sym (stands_by all ip) ∙ parts.1
+    is_known told later (Told ip outcome) ip (omega arith) whole (and_parts (is_duration (duration_of outcome)) (is_in_answer (race_of all) ip) passes).1
 knows told later (Paused from to) whole = tt
 knows told later Ended whole = tt

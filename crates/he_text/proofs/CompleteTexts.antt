@@ -6,11 +6,15 @@ use Rattle.std.proofs.lemmas.List.{append-nil}
 use Rattle.std.proofs.lemmas.List.Splits.{join_with_byte-slice_split, length-slice_split}
 use Rattle.he_plan.specs.Race.{Race}
 use Rattle.he_plan.specs.Timeline.{IsRace}
-use Rattle.he_text.specs.Faults.{ends, first_fault, too_long, unfinished, wrong_header, said_before}
+use Rattle.he_text.specs.declared.fault.TextKind.{TextKind}
+use Rattle.he_text.specs.declared.words.Version.{Version}
+use Rattle.he_text.specs.declared.words.Version.TheVariants.{One, Two}
+use Rattle.he_text.specs.Faults.{ends, first_fault, header_fault, too_long, unfinished, wrong_header, version_on, said_before}
 use Rattle.he_text.specs.FaultSearch.{at_line_number, fault_from, fault_in, fault_of}
 use Rattle.he_text.specs.Parts.{lines_of}
 use Rattle.he_text.specs.Said.{Said, race_of}
 use Rattle.he_text.specs.Text.{IsRaceText}
+use Rattle.he_text.specs.Words.{header_of}
 use Rattle.he_text.proofs.CompleteForms.{IsLine, said_are, goes_on}
 use Rattle.he_text.proofs.CompleteLines.{lines_are, none_from, end_ends, finished}
 use Rattle.he_text.proofs.CompleteRaces.{IsWhole}
@@ -54,23 +58,32 @@ are_lines : (text : List ℕ) (race : Race) → (is : IsRaceText text race) → 
 are_lines text race is = lines_are [] is.lines is.said is.are.say (whole text race is)
 
 -- the lines of a text that begins with a race
-pub begins_with : (text rest : List ℕ) (race : Race) → (is : IsRaceText text race) → lines_of (text ++ rest) ≡ codes "race 1" ∷ is.lines ++ codes "end" ∷ lines_of rest
+pub begins_with : (text rest : List ℕ) (race : Race) → (is : IsRaceText text race) → lines_of (text ++ rest) ≡ header_of is.version ∷ is.lines ++ codes "end" ∷ lines_of rest
 begins_with text rest race is =
-    parts_behind text rest (codes "race 1") (is.lines ++ codes "end" ∷ []) (is.parts ∙ ap (λ ls. codes "race 1" ∷ ls) (sym (append_assoc is.lines (codes "end" ∷ []) ([] ∷ []))))
-    ∙ ap (λ ls. codes "race 1" ∷ ls) (append_assoc is.lines (codes "end" ∷ []) (lines_of rest))
+    parts_behind text rest (header_of is.version) (is.lines ++ codes "end" ∷ []) (is.parts ∙ ap (λ ls. header_of is.version ∷ ls) (sym (append_assoc is.lines (codes "end" ∷ []) ([] ∷ []))))
+    ∙ ap (λ ls. header_of is.version ∷ ls) (append_assoc is.lines (codes "end" ∷ []) (lines_of rest))
 
 -- nothing is wrong with a text that begins with a race
 header_right : (fault : Option _) (later : Option _) → fault ≡ None → later ≡ None → at_line_number 1 fault later ≡ None
 header_right fault later h k = rw (h, k) refl
+
+header_passes : (v : Version) (fin : Option TextKind) → fin ≡ None → first_fault (too_long (header_of v) ∷ fin ∷ wrong_header (header_of v) ∷ []) ≡ None
+header_passes One fin h = rw h refl
+header_passes Two fin h = rw h refl
+
+version_told : (v : Version) → version_on (header_of v) ≡ v
+version_told One = refl
+version_told Two = refl
 
 pub nothing_wrong : (text rest : List ℕ) (race : Race) → IsRaceText text race → fault_of (text ++ rest) ≡ None
 unfolding fault_in
 nothing_wrong text rest race is =
     let after : List (List ℕ) = is.lines ++ codes "end" ∷ lines_of rest in
     ap fault_in (begins_with text rest race is)
-    ∙ header_right (first_fault (too_long (codes "race 1") ∷ unfinished after ∷ wrong_header (codes "race 1") ∷ [])) (fault_from (version_on line) 2 [] after)
-    (ap (λ f. first_fault (too_long (codes "race 1") ∷ f ∷ wrong_header (codes "race 1") ∷ [])) (finished is.lines (codes "end") (lines_of rest)))
-    (none_from (version_on line) 2 [] is.lines (lines_of rest) [] is.said (whole text race is) tt (are_lines text race is) is.are.short (some_lines rest))
+    ∙ header_right (header_fault (header_of is.version) after) (fault_from (version_on (header_of is.version)) 2 [] after)
+    (header_passes is.version (unfinished after) (finished is.lines (codes "end") (lines_of rest)))
+    (ap (λ v. fault_from v 2 [] after) (version_told is.version)
+    ∙ none_from is.version 2 [] is.lines (lines_of rest) [] is.said (whole text race is) tt (are_lines text race is) is.are.words is.are.short (some_lines rest))
 
 -- lines that are not the last one of a race
 abbrev GoOn : List (List ℕ) → Type 0
@@ -101,14 +114,14 @@ pub no_longer : (text more : List ℕ) (race other : Race) → IsRaceText text r
 no_longer text more race other is longer =
     let are = are_lines text race is in
     let others = are_lines (text ++ more) other longer in
-    let both : codes "race 1" ∷ is.lines ++ codes "end" ∷ lines_of more ≡ codes "race 1" ∷ longer.lines ++ codes "end" ∷ [] ∷ [] = sym (begins_with text more race is) ∙ longer.parts in
-    let same = same_front is.lines longer.lines (lines_of more) ([] ∷ []) (go_on is.lines is.said are) (go_on longer.lines longer.said others) (tails _ _ _ both) in (
+    let both : header_of is.version ∷ is.lines ++ codes "end" ∷ lines_of more ≡ header_of longer.version ∷ longer.lines ++ codes "end" ∷ [] ∷ [] = sym (begins_with text more race is) ∙ longer.parts in
+    let same = same_front is.lines longer.lines (lines_of more) ([] ∷ []) (go_on is.lines is.said are) (go_on longer.lines longer.said others) (tails _ _ _ _ both) in (
       is.value ∙ ap race_of (sym (said_are is.lines is.said are) ∙ ap said_before same.0 ∙ said_are longer.lines longer.said others) ∙ sym longer.value,
       sym (join_with_byte-slice_split 10 more) ∙ ap (join_with_byte 10) same.1,
     )
   where
-    tails : (first : List ℕ) (xs ys : List (List ℕ)) → first ∷ xs ≡ first ∷ ys → xs ≡ ys
-    tails first xs ys h = cc
+    tails : (first other : List ℕ) (xs ys : List (List ℕ)) → first ∷ xs ≡ other ∷ ys → xs ≡ ys
+    tails first other xs ys h = cc
 
 -- a text has at most one value
 pub one_value : (text : List ℕ) (race other : Race) → IsRaceText text race → IsRaceText text other → race ≡ other
@@ -118,7 +131,8 @@ one_value text race other is also =
 
 -- an empty text is no race's
 pub not_empty : (race : Race) → IsRaceText [] race → ⊥
-not_empty race is = no_header (is.lines ++ codes "end" ∷ [] ∷ []) is.parts
+not_empty race is = no_header is.version (is.lines ++ codes "end" ∷ [] ∷ []) is.parts
   where
-    no_header : (lines : List (List ℕ)) → [] ∷ [] ≡ codes "race 1" ∷ lines → ⊥
-    no_header lines h = cc
+    no_header : (v : Version) (lines : List (List ℕ)) → [] ∷ [] ≡ header_of v ∷ lines → ⊥
+    no_header One lines h = cc
+    no_header Two lines h = cc

@@ -5,7 +5,7 @@ use Rattle.std.proofs.lemmas.List.{append-nil, length-append}
 use Rattle.std.proofs.lemmas.List.Splits.{length-slice_split}
 use Rattle.he_text.specs.declared.fault.TextKind.{TextKind}
 use Rattle.he_text.specs.declared.words.Version.{Version}
-use Rattle.he_text.specs.Faults.{first_fault, unfinished, header_fault, line_fault, ends}
+use Rattle.he_text.specs.Faults.{first_fault, unfinished, header_fault, version_on, line_fault, ends}
 use Rattle.he_text.specs.FaultSearch.{at_line_number, fault_from, fault_in, fault_of}
 use Rattle.he_text.specs.FirstFault.{fault_on, ends_race, GoOnRight, IsFirstFault, IsFirstFaultOf}
 use Rattle.he_text.specs.Parts.{lines_of}

@@ -1,5 +1,5 @@
 -- A line of the first groups is taken as its checks say, and what these lines give makes a race.
-use Rattle.std.proofs.Common.{◌≡◌, ℕ, ◌&&◌, Bool, true, false, cond, List, [], ◌∷◌, ◌++◌, Option, Some, None, Result, Ok, Err, refl, sym, ◌∙◌, ap}
+use Rattle.std.proofs.Common.{◌≡◌, ℕ, Bool, true, false, cond, List, [], ◌∷◌, ◌++◌, Option, Some, None, Result, Ok, Err, refl, sym, ◌∙◌, ap}
 use Rattle.std.specs.Prelude.{option_map}
 use Rattle.std.specs.List.{list_any}
 use Rattle.std.specs.Option.{option_map_or}
@@ -17,10 +17,10 @@ use Rattle.he_text.specs.declared.fault.TextKind.TheVariants as kinds
 use Rattle.he_text.specs.declared.words.Name.{Name}
 use Rattle.he_text.specs.declared.words.Word.{Word}
 use Rattle.he_text.specs.declared.words.Word.TheVariants as words
-use Rattle.he_text.specs.Faults.{first_fault, test, wrong_bounds, repeated, floor_is_above, is_next, wrong_group}
+use Rattle.he_text.specs.Faults.{first_fault, test, wrong_bounds, repeated, is_next, wrong_group}
 use Rattle.he_text.specs.Forms.{◌>>=◌, setting_in, row_in, host_source_in, host_route_in, said_by}
 use Rattle.he_text.specs.Reading.{HeadGiven, given_is_above, settled, add_setting, with_row, add_row, add_source, add_route, take_given, is_head_word}
-use Rattle.he_text.specs.Said.{Said, Setting, PolicyRow, HostSource, HostRoute, row_said, source_said, route_said, rows_given, sources_given, routes_given, settings_given}
+use Rattle.he_text.specs.Said.{Said, Setting, PolicyRow, HostSource, HostRoute, row_said, source_said, route_said, rows_given, sources_given, routes_given}
 use Rattle.he_text.proofs.GivenLaws.{given_of, given_kept, put_agrees}
 use Rattle.he_text.proofs.SaidLaws.{none_more, one_more}
 use Rattle.he_text.proofs.ToldLaws.{no_group, outcome}
@@ -85,14 +85,14 @@ unfolding add_source
 source_agrees after source said =
     once_judged (list_any (same_source source) (sources_given said)) (record (head_given said) { sources = sources_given said ++ source ∷ [] }) (head_given (said ++ HostSource source ∷ []))
     (head_same _ _ _ _ _ _ _ _ (sym (given_kept said (HostSource source) (λ name. refl))) (sym (none_more row_said said (HostSource source) refl)) (sym (one_more source_said said (HostSource source) source refl)) (sym (none_more route_said said (HostSource source) refl)))
-    ∙ sym (no_group after said (HostSource source) _ _ _ refl)
+    ∙ sym (no_group after said (HostSource source) (head_given (said ++ HostSource source ∷ [])) None (test (list_any (same_source source) (sources_given said)) kinds.Repeated) refl)
 
 route_agrees : (after : List (List ℕ)) (route : Route) (said : List Said) → add_route route (head_given said) ≡ judged_head after said (HostRoute route)
 unfolding add_route
 route_agrees after route said =
     once_judged (list_any (same_route route) (routes_given said)) (record (head_given said) { routes = routes_given said ++ route ∷ [] }) (head_given (said ++ HostRoute route ∷ []))
     (head_same _ _ _ _ _ _ _ _ (sym (given_kept said (HostRoute route) (λ name. refl))) (sym (none_more row_said said (HostRoute route) refl)) (sym (none_more source_said said (HostRoute route) refl)) (sym (one_more route_said said (HostRoute route) route refl)))
-    ∙ sym (no_group after said (HostRoute route) _ _ _ refl)
+    ∙ sym (no_group after said (HostRoute route) (head_given (said ++ HostRoute route ∷ [])) None (test (list_any (same_route route) (routes_given said)) kinds.Repeated) refl)
 
 by_setting : (after : List (List ℕ)) (said : List Said) (read : Result (Name × ℕ) TextKind)
     → (read >>= λ setting. add_setting (is_next words.Set after) setting.0 setting.1 (head_given said)) ≡ ((read >>= λ setting. Ok (Setting setting.0 setting.1)) >>= judged_head after said)

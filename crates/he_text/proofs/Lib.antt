@@ -11,6 +11,7 @@ mod CompleteLists
 mod CompletePlaces
 mod CompleteRaces
 mod CompleteTexts
+mod EndLines
 mod FaultTexts
 mod FirstFaults
 mod FormFacts
@@ -18,6 +19,7 @@ mod FormKinds
 mod FormLaws
 mod FormReads
 mod GivenLaws
+mod GroupFaults
 mod HeadLaws
 mod HostLaws
 mod LineLaws

@@ -24,9 +24,9 @@ unfolding wholeness
 next_begins w lines after line is whole = ap (is_next w) is ∙ by_parts after (sym (ap wholeness is) ∙ whole)
   where
     by_parts : (parts : List (List ℕ)) → wholeness (line ∷ parts) ≡ Ok tt → is_next w (line ∷ parts) ≡ begins_with w (word_of (tokens_of line))
-    by_parts [] w = let ended = (not_stopped (ltb MAX_LINE (length line)) (Err kinds.Unfinished) kinds.TooMany tt w).1 in cc
-    by_parts (next ∷ more) w =
-        let short : length line ≤ MAX_LINE = ltb-false MAX_LINE (length line) (not_stopped (ltb MAX_LINE (length line)) (ended_by (next ∷ more)) kinds.TooMany tt w).0 in
+    by_parts [] h = let ended = (not_stopped (ltb MAX_LINE (length line)) (Err kinds.Unfinished) kinds.TooMany tt h).1 in cc
+    by_parts (next ∷ more) h =
+        let short : length line ≤ MAX_LINE = ltb-false MAX_LINE (length line) (not_stopped (ltb MAX_LINE (length line)) (ended_by (next ∷ more)) kinds.TooMany tt h).0 in
         ap (λ b. b && begins_with w (word_of (tokens_of line))) (le-leb (length line) MAX_LINE short)
 
 longer : (m n : ℕ) → m < n → leb n m ≡ false

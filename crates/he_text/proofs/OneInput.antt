@@ -10,15 +10,16 @@ use Rattle.he_text.specs.Inputs.{AreRaceTexts, HasRaces, IsFaultBehind, fault_be
 use Rattle.he_text.specs.Parts.{lines_of}
 use Rattle.he_text.specs.Ranges.{most_races}
 use Rattle.he_text.specs.Text.{BeginsWithRace, IsRaceText}
+use Rattle.he_text.specs.Words.{header_of}
 
 no_race_in_nothing : BeginsWithRace [] → ⊥
 no_race_in_nothing (front, rest, race, is, text) =
     let none : length front ≡ 0 = let all = ap length is in omega (arith, length-append front rest) in
-    no_lines front none text.lines text.parts
+    no_lines front none (header_of text.version) text.lines text.parts
   where
-    no_lines : (front : List ℕ) → length front ≡ 0 → (lines : List (List ℕ)) → lines_of front ≡ codes "race 1" ∷ lines ++ codes "end" ∷ [] ∷ [] → ⊥
-    no_lines [] none lines parts = let long = ap length parts in omega (arith, length-append lines (codes "end" ∷ [] ∷ []))
-    no_lines (byte ∷ front) none lines parts = omega arith
+    no_lines : (front : List ℕ) → length front ≡ 0 → (header : List ℕ) (lines : List (List ℕ)) → lines_of front ≡ header ∷ lines ++ codes "end" ∷ [] ∷ [] → ⊥
+    no_lines [] none header lines parts = let long = ap length parts in omega (arith, length-append lines (codes "end" ∷ [] ∷ []))
+    no_lines (byte ∷ front) none header lines parts = omega arith
 
 same_fault : (is_broken : Bool) (count lines : ℕ) (rest : List ℕ) (fault other : Option InputFault) → IsFaultBehind is_broken count lines rest fault → IsFaultBehind is_broken count lines rest other → fault ≡ other
 same_fault is_broken count lines [] fault other is other_is = is ∙ sym other_is

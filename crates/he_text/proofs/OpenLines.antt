@@ -1,11 +1,12 @@
 -- What stands behind the last mark of a text, and which bytes may become a line of a word.
 use Rattle.std.proofs.Common.{◌≡◌, ◌↔◌, ℕ, ◌+◌, ◌<◌, ◌≤◌, ◌==◌, ◌&&◌, ◌||◌, Bool, true, false, cond, eqb, leb, List, [], ◌∷◌, ◌++◌, length, take, drop, get_or, None, Ok, Err, refl, sym, ◌∙◌, ap, subst, inl, inr, arith, append_assoc}
-use Rattle.std.specs.Prelude.{◌⊎◌, IsTrue, codes, slice_index}
+use Rattle.std.specs.Prelude.{◌⊎◌, IsTrue, slice_index}
 use Rattle.std.specs.List.{AllByRecursion, onto_first, join_with_byte, starts_with}
-use Rattle.std.proofs.lemmas.Bool.{le-leb, leb-true, eq-eqb, eqb-true, and_parts}
+use Rattle.std.proofs.lemmas.Bool.{le-leb, leb-true, eqb-true, and_parts}
 use Rattle.std.proofs.lemmas.Bool.Decides.{Decides-eqb}
-use Rattle.std.proofs.lemmas.List.{append-nil, length-append, length-drop, take-append-drop, drop_more, get_or-drop}
+use Rattle.std.proofs.lemmas.List.{append-nil, append_cancel_right, length-append, length-drop, take-append-drop, drop_more, get_or-drop}
 use Rattle.std.proofs.lemmas.List.Splits.{join_with_byte-slice_split, length-slice_split}
+use Rattle.std.proofs.Math.Seq.{get_or-append_seam}
 use Rattle.std.proofs.lemmas.Slice.Eq.{starts_is}
 use Rattle.memchr.specs.Find.{Nowhere, Passes, is_byte}
 use Rattle.he_text.specs.declared.words.Word.{Word}
@@ -73,6 +74,11 @@ last_is (part ∷ next ∷ whole) rest = last_is (next ∷ whole) rest
 
 pub one_last : (whole others : List (List ℕ)) (rest other : List ℕ) → whole ++ rest ∷ [] ≡ others ++ other ∷ [] → rest ≡ other
 one_last whole others rest other h = sym (last_is whole rest) ∙ ap last_part h ∙ last_is others other
+
+pub both_last : (whole others : List (List ℕ)) (rest other : List ℕ) → whole ++ rest ∷ [] ≡ others ++ other ∷ [] → (rest ≡ other) × (whole ≡ others)
+both_last whole others rest other h =
+    let last : rest ≡ other = one_last whole others rest other h in
+    (last, append_cancel_right whole others (other ∷ []) (ap (λ l. whole ++ l ∷ []) (sym last) ∙ h))
 
 -- bytes without the mark stand at the front of the first part
 pub front_part : (mark : ℕ) (rest more first : List ℕ) (parts : List (List ℕ)) → Lacks mark rest → pieces_of mark more ≡ first ∷ parts → pieces_of mark (rest ++ more) ≡ (rest ++ first) ∷ parts
@@ -153,7 +159,7 @@ word_line w line h = by_word (word_of (tokens_of line)) refl h
   where
     by_tokens : (tokens : List (List ℕ)) → line ≡ join_with_byte 32 (spelling_of w ∷ tokens) → (line ≡ spelling_of w) ⊎ ((more : List ℕ) × (line ≡ spaced_word w ++ more))
     by_tokens [] e = inl e
-    by_tokens (token ∷ tokens) e = inr (join_with_byte 32 (token ∷ tokens), e)
+    by_tokens (token ∷ tokens) e = inr (join_with_byte 32 (token ∷ tokens), e ∙ sym (append_assoc (spelling_of w) (32 ∷ []) (join_with_byte 32 (token ∷ tokens))))
 
     by_word : (word : _) → word_of (tokens_of line) ≡ word → begins_with w word ≡ true → (line ≡ spelling_of w) ⊎ ((more : List ℕ) × (line ≡ spaced_word w ++ more))
     by_word (Err kind) e b = cc
@@ -219,43 +225,16 @@ open_lacks mark text =
     let A : List (List ℕ) → Type 0 = AllByRecursion (Lacks mark) in
     last_lacks mark ending.whole ending.rest (subst A ending.parts (parts_lack mark text))
 
--- a line of the word may follow the text's last whole line, which is its nth
-abbrev pub WordMayFollow : Word → List ℕ → ℕ → Type 0
-WordMayFollow w text n = (rest : List ℕ) × EndsIn text n rest × MayBecome w rest
-
--- whether one more line may follow
-pub may_follow : (w : Word) → (text : List ℕ) (n : ℕ) → WordMayFollow w text n ⊎ (WordMayFollow w text n → ⊥)
-may_follow w text n = by_count (eqb (length ending.whole) n) refl
+-- whether bytes may become a line of the word
+pub may_become_or_not : (w : Word) (rest : List ℕ) → Lacks 10 rest → MayBecome w rest ⊎ (MayBecome w rest → ⊥)
+may_become_or_not w rest lacks = by_test (test_beginning w rest) refl
   where
-    ending : Open 10 text
-    ending = open_of 10 text
-
-    lacks : Lacks 10 ending.rest
-    lacks = open_lacks 10 text
-
-    same_rest : (rest : List ℕ) → EndsIn text n rest → ending.rest ≡ rest
-    same_rest rest (lines, parts, count) = one_last ending.whole lines ending.rest rest (sym ending.parts ∙ parts)
-
-    by_test : (b : Bool) → test_beginning w ending.rest ≡ b → length ending.whole ≡ n
-        → WordMayFollow w text n ⊎ (WordMayFollow w text n → ⊥)
-    by_test true e count = inl (ending.rest, (ending.whole, ending.parts, count), becomes_line w ending.rest lacks ((beginning_found w ending.rest _ _ _ refl refl refl).0 e))
-    by_test false e count = inr (λ may.
-        let here : MayBecome w ending.rest = subst (MayBecome w) (sym (same_rest may.0 may.1)) may.2 in
-        let wrong : false ≡ true = sym e ∙ (beginning_found w ending.rest _ _ _ refl refl refl).1 (begins_as w ending.rest lacks here) in
-        cc)
-
-    counted : (lines : List (List ℕ)) (rest : List ℕ) → lines_of text ≡ lines ++ rest ∷ [] → length lines + 1 ≡ length (lines_of text)
-    counted lines rest parts = sym (ap length parts ∙ length-append lines (rest ∷ []))
-
-    same_count : (rest : List ℕ) → EndsIn text n rest → length ending.whole ≡ n
-    same_count rest (lines, parts, count) = let all = counted lines rest parts in let ours = counted ending.whole ending.rest ending.parts in omega arith
-
-    by_count : (b : Bool) → eqb (length ending.whole) n ≡ b → WordMayFollow w text n ⊎ (WordMayFollow w text n → ⊥)
-    by_count true e = by_test (test_beginning w ending.rest) refl (eqb-true (length ending.whole) n e)
-    by_count false e = inr (λ may. let wrong : true ≡ false = sym (eq-eqb (length ending.whole) n (same_count may.0 may.1)) ∙ e in cc)
+    by_test : (b : Bool) → test_beginning w rest ≡ b → MayBecome w rest ⊎ (MayBecome w rest → ⊥)
+    by_test true e = inl (becomes_line w rest lacks ((beginning_found w rest _ _ _ refl refl refl).0 e))
+    by_test false e = inr (λ may. let wrong : false ≡ true = sym e ∙ (beginning_found w rest _ _ _ refl refl refl).1 (begins_as w rest lacks may) in cc)
 
 -- what stands behind the last mark is one part
-pieces_behind : (mark byte : ℕ) (front rest : List ℕ) → eqb byte mark ≡ true → pieces_of mark rest ≡ rest ∷ [] → pieces_of mark (front ++ byte ∷ rest) ≡ pieces_of mark front ++ rest ∷ []
+pub pieces_behind : (mark byte : ℕ) (front rest : List ℕ) → eqb byte mark ≡ true → pieces_of mark rest ≡ rest ∷ [] → pieces_of mark (front ++ byte ∷ rest) ≡ pieces_of mark front ++ rest ∷ []
 pieces_behind mark byte [] rest is alone = ap (λ b. cond b ([] ∷ pieces_of mark rest) (onto_first byte (pieces_of mark rest))) is ∙ ap (λ ps. [] ∷ ps) alone
 pieces_behind mark byte (x ∷ front) rest is alone =
     let first = some_part mark front in
@@ -290,11 +269,92 @@ ends_whole text never =
     let one : length (lines_of text) ≡ 1 = ap length alone in
     (([], alone, omega arith), alone)
 
--- what the two tests tell of bytes that are one line
-pub becomes : (w : Word) (rest : List ℕ) (front behind : Bool) → lines_of rest ≡ rest ∷ [] → front ≡ starts_with (λ a b. a == b) (spaced_word w) rest → behind ≡ starts_with (λ a b. a == b) rest (spaced_word w)
-    → IsTrue (front || behind && leb (length rest) MAX_LINE) ↔ MayBecome w rest
-becomes w rest front behind alone f b =
-    let A : List (List ℕ) → Type 0 = AllByRecursion (Lacks 10) in
-    let lacks : Lacks 10 rest = (subst A alone (parts_lack 10 rest)).0 in
-    let tested = beginning_found w rest front behind _ f b refl in
-    (λ h. becomes_line w rest lacks (tested.0 h), λ may. tested.1 (begins_as w rest lacks may))
+one_line : (rest : List ℕ) → lines_of rest ≡ rest ∷ [] → Lacks 10 rest
+one_line rest alone = let A : List (List ℕ) → Type 0 = AllByRecursion (Lacks 10) in (subst A alone (parts_lack 10 rest)).0
+
+spaced_size : (w : Word) → length (spaced_word w) ≡ length (spelling_of w) + 1
+spaced_size w = length-append (spelling_of w) (32 ∷ [])
+
+none_left : (more : List ℕ) → length more ≡ 0 → more ≡ []
+none_left [] e = refl
+none_left (x ∷ more) e = absurd (omega arith)
+
+-- bytes that are no longer than the word
+pub short_becomes : (w : Word) (rest : List ℕ) (front : Bool) → lines_of rest ≡ rest ∷ [] → length rest ≤ length (spelling_of w) → front ≡ starts_with (λ a b. a == b) (spelling_of w) rest → IsTrue front ↔ MayBecome w rest
+short_becomes w rest front alone short is = (becoming, λ may. begun (begins_as w rest (one_line rest alone) may))
+  where
+    becoming : IsTrue front → MayBecome w rest
+    becoming h =
+        let tail : List ℕ = drop (length rest) (spelling_of w) in
+        let spelled : spelling_of w ≡ rest ++ tail = (starts_is Decides-eqb (spelling_of w) rest _ refl).0 (sym is ∙ h) in
+        becomes_line w rest (one_line rest alone) (inl (tail ++ 32 ∷ [], ap (λ (l : List ℕ). l ++ 32 ∷ []) spelled ∙ append_assoc rest tail (32 ∷ [])))
+
+    begun : BeginsAs w rest → IsTrue front
+    begun (inl (more, e)) = elim (one_in_front rest (spelling_of w) more (32 ∷ []) (sym e)) [
+      | inl longer ↦ is ∙ (starts_is Decides-eqb (spelling_of w) rest _ refl).1 longer.0 longer.1
+      | inr longer ↦
+          let size : length rest ≡ length (spelling_of w) + length longer.0 = ap length longer.1 ∙ length-append (spelling_of w) longer.0 in
+          let none : longer.0 ≡ [] = none_left longer.0 (omega arith) in
+          let same : rest ≡ spelling_of w = longer.1 ∙ ap (λ (m : List ℕ). spelling_of w ++ m) none ∙ append-nil (spelling_of w) in
+          is ∙ (starts_is Decides-eqb (spelling_of w) rest _ refl).1 [] (sym same ∙ sym (append-nil rest))
+    ]
+    begun (inr (more, e, le)) =
+        let size : length rest ≡ length (spaced_word w) + length more = ap length e ∙ length-append (spaced_word w) more in
+        let spaced = spaced_size w in
+        absurd (omega arith)
+
+word_short : (w : Word) → length (spaced_word w) ≤ MAX_LINE
+word_short words.Set = omega arith
+word_short words.Policy = omega arith
+word_short words.Source = omega arith
+word_short words.Route = omega arith
+word_short words.Aaaa = omega arith
+word_short words.A = omega arith
+word_short words.Rtt = omega arith
+word_short words.Used = omega arith
+word_short words.Connect = omega arith
+word_short words.Pause = omega arith
+word_short words.End = omega arith
+
+-- longer ones begin with the word and a space, and are no longer than a line may be
+long_begins : (w : Word) (rest : List ℕ) → length (spelling_of w) < length rest → BeginsAs w rest → (more : List ℕ) × (rest ≡ spaced_word w ++ more) × (length rest ≤ MAX_LINE)
+long_begins w rest long (inr whole) = whole
+long_begins w rest long (inl (more, e)) =
+    let spaced = spaced_size w in
+    let size : length (spaced_word w) ≡ length rest + length more = ap length e ∙ length-append rest more in
+    let none : more ≡ [] = none_left more (omega arith) in
+    let same : spaced_word w ≡ rest = e ∙ ap (λ (m : List ℕ). rest ++ m) none ∙ append-nil rest in
+    let room = word_short w in
+    ([], sym same ∙ sym (append-nil (spaced_word w)), omega arith)
+
+-- which the byte behind the word tells, and that the word stands there
+spaced_front : (w : Word) (rest : List ℕ) → length (spelling_of w) < length rest → get_or rest (length (spelling_of w)) 0 ≡ 32 → starts_with (λ a b. a == b) rest (spelling_of w) ≡ true → (more : List ℕ) × (rest ≡ spaced_word w ++ more)
+spaced_front w rest long byte starts =
+    let word : List ℕ = spelling_of w in
+    let tail : List ℕ = drop (length word) rest in
+    let parts : rest ≡ word ++ tail = (starts_is Decides-eqb rest word _ refl).0 starts in
+    let more : List ℕ = drop (length word + 1) rest in
+    let first : tail ≡ get_or rest (length word) 0 ∷ more = drop_more rest (length word) 0 long in (
+      more,
+      parts ∙ ap (λ (t : List ℕ). word ++ t) first ∙ ap (λ (b : ℕ). word ++ b ∷ more) byte ∙ sym (append_assoc word (32 ∷ []) more),
+    )
+
+pub long_becomes : (w : Word) (rest : List ℕ) (mark front : Bool) → lines_of rest ≡ rest ∷ [] → length (spelling_of w) < length rest → mark ≡ eqb (get_or rest (length (spelling_of w)) 0) 32 → front ≡ starts_with (λ a b. a == b) rest (spelling_of w)
+    → IsTrue (mark && front && leb (length rest) MAX_LINE) ↔ MayBecome w rest
+long_becomes w rest mark front alone long m f = (becoming mark front m f, λ may. begun (long_begins w rest long (begins_as w rest (one_line rest alone) may)))
+  where
+    becoming : (mark front : Bool) → mark ≡ eqb (get_or rest (length (spelling_of w)) 0) 32 → front ≡ starts_with (λ a b. a == b) rest (spelling_of w) → IsTrue (mark && front && leb (length rest) MAX_LINE) → MayBecome w rest
+    becoming false front m f h = cc
+    becoming true false m f h = cc
+    becoming true true m f h =
+        let begins = spaced_front w rest long (eqb-true (get_or rest (length (spelling_of w)) 0) 32 (sym m)) (sym f) in
+        becomes_line w rest (one_line rest alone) (inr (begins.0, begins.1, leb-true (length rest) MAX_LINE h))
+
+    begun : (more : List ℕ) × (rest ≡ spaced_word w ++ more) × (length rest ≤ MAX_LINE) → IsTrue (mark && front && leb (length rest) MAX_LINE)
+    begun (more, e, short) =
+        let word : List ℕ = spelling_of w in
+        let parts : rest ≡ word ++ 32 ∷ more = e ∙ append_assoc word (32 ∷ []) more in
+        let starts : front ≡ true = f ∙ (starts_is Decides-eqb rest word _ refl).1 (32 ∷ more) parts in
+        let byte : get_or rest (length word) 0 ≡ 32 = ap (λ (r : List ℕ). get_or r (length word) 0) parts ∙ get_or-append_seam word 32 more 0 in
+        let marks : mark ≡ true = m ∙ ap (λ (b : ℕ). eqb b 32) byte in
+        ap (λ (b : Bool). b && front && leb (length rest) MAX_LINE) marks ∙ ap (λ (b : Bool). b && leb (length rest) MAX_LINE) starts ∙ le-leb (length rest) MAX_LINE short

@@ -1,23 +1,22 @@
 -- A race that is read keeps its ranges, and what stands behind it are lines of the text.
 use Rattle.std.proofs.Common.{◌≡◌, ℕ, ◌+◌, ◌<◌, ◌&&◌, ◌||◌, Bool, true, false, cond, not, leb, ltb, List, [], ◌∷◌, length, Option, Some, None, is_some, Result, Ok, Err, refl, sym, ap, subst, arith}
-use Rattle.std.specs.Prelude.{is_none, unwrap_or, codes}
+use Rattle.std.specs.Prelude.{is_none, unwrap_or}
 use Rattle.std.specs.List.{AllByRecursion}
 use Rattle.std.specs.Option.{option_map_or}
-use Rattle.std.specs.Str.{bytes_eq}
 use Rattle.std.proofs.lemmas.Bool.{leb-true, ltb-true, ltb-false, leb-false, and_parts}
 use Rattle.he_addr.specs.declared.ip.Family.{Family}
 use Rattle.he_addr.specs.declared.ip.Family.TheVariants as families
 use Rattle.he_addr.specs.declared.ip.Ip.{Ip}
 use Rattle.he_plan.specs.declared.builder.BuildFault.{BuildFault}
 use Rattle.he_plan.specs.declared.builder.BuildFault.TheVariants as faults
-use Rattle.he_plan.specs.declared.limits.TheConstants.{MAX_TICK, MAX_ADDRESSES, MAX_PAUSES, MAX_PAUSE_END, MAX_RESOLUTION, MIN_ATTEMPT, MAX_ATTEMPT, MIN_COUNT, MAX_COUNT, MIN_LIMIT, MAX_LIMIT, DEFAULT_RESOLUTION, DEFAULT_ATTEMPT, DEFAULT_COUNT, DEFAULT_LIMIT}
+use Rattle.he_plan.specs.declared.limits.TheConstants.{MAX_TICK, MAX_ADDRESSES, MAX_PAUSES, MAX_PAUSE_END, MAX_RESOLUTION, MIN_ATTEMPT, MAX_ATTEMPT, MIN_COUNT, MAX_COUNT, MIN_LIMIT, MAX_LIMIT, MIN_FLOOR, DEFAULT_RESOLUTION, DEFAULT_ATTEMPT, DEFAULT_COUNT, DEFAULT_LIMIT}
 use Rattle.he_plan.specs.declared.outcome.Outcome.{Outcome}
 use Rattle.he_plan.specs.declared.settings.Range.TheVariants as ranges
-use Rattle.he_plan.specs.Building.{add_answer, add_outcome, add_pause, empty_race, with_answer, with_outcome, with_pause, last_end}
-use Rattle.he_plan.specs.Race.{Race, Reply, reply_of, is_in_answer, has_outcome}
+use Rattle.he_plan.specs.Building.{add_answer, add_rtt, add_used, add_outcome, add_pause, empty_race, with_answer, with_rtt, with_used, with_outcome, with_pause, last_end}
+use Rattle.he_plan.specs.Race.{Race, Reply, reply_of, has_ip, is_in_answer, is_told, has_outcome}
 use Rattle.he_plan.specs.Settings.{SettingValues, IsSettings, settings_of}
 use Rattle.he_plan.specs.Timeline.{IsRace, are_of, are_distinct, is_duration, duration_of}
-use Rattle.he_plan.proofs.Ranges.{IsRace-with_answer, IsRace-with_outcome, IsRace-with_pause}
+use Rattle.he_plan.proofs.Ranges.{IsRace-with_answer, IsRace-with_rtt, IsRace-with_used, IsRace-with_outcome, IsRace-with_pause}
 use Rattle.he_select.specs.declared.host.HostFault.{HostFault}
 use Rattle.he_select.specs.declared.host.Route.{Route}
 use Rattle.he_select.specs.declared.host.Source.{Source}
@@ -39,9 +38,9 @@ use Rattle.he_text.specs.declared.limits.TheConstants.{MAX_LINE}
 use Rattle.he_text.specs.declared.words.Version.{Version}
 use Rattle.he_text.specs.declared.words.Word.{Word}
 use Rattle.he_text.specs.declared.words.Word.TheVariants as words
-use Rattle.he_text.specs.Forms.{◌>>=◌, word_of, answer_in, connect_in, pause_in, end_in}
+use Rattle.he_text.specs.Forms.{◌>>=◌, version_word, answer_in, round_trip_in, used_in, connect_in, pause_in, end_in}
 use Rattle.he_text.specs.Parts.{tokens_of}
-use Rattle.he_text.specs.Reading.{built, admit, HeadGiven, no_head, told_by, table_kind, host_kind, ranged, settings_from, policy_from, host_from, race_begun, take_answer, take_told, take_line, at_line, ended_by, wholeness, read_body, head_of, take_head, settle, read_head, read_lines, group_at_start}
+use Rattle.he_text.specs.Reading.{built, admit, HeadGiven, no_head, told_by, table_kind, host_kind, ranged, floored, settings_from, policy_from, host_from, race_begun, take_answer, take_told, take_line, at_line, ended_by, wholeness, read_body, head_of, take_head, settle, read_head, header_in, read_lines, group_at_start}
 use Rattle.he_text.specs.Words.{is_end}
 use Rattle.he_text.proofs.PartLaws.{Lacks}
 use Rattle.he_text.proofs.Results.{bind_ok, not_stopped}
@@ -79,6 +78,21 @@ outcome_fits ip outcome race new fits h =
     let checks = outcome_checks (is_duration (duration_of outcome)) (is_in_answer race ip) (has_outcome ip race.outcomes) (with_outcome race ip outcome) new h in
     subst IsRace checks.3 (IsRace-with_outcome race ip outcome fits checks.0 checks.1 checks.2)
 
+rtt_fits : (ip : Ip) (rtt : ℕ) (race new : Race) → IsRace race → add_rtt ip rtt race ≡ Ok new → IsRace new
+rtt_fits ip rtt race new fits h =
+    let checks = outcome_checks (is_duration rtt) (is_in_answer race ip) (is_told ip race.history.rtts) (with_rtt race ip rtt) new h in
+    subst IsRace checks.3 (IsRace-with_rtt race ip rtt fits checks.0 checks.1 checks.2)
+
+used_checks : (b1 b2 : Bool) (made race : Race) → cond (not b1) (Err faults.Stranger) (cond b2 (Err faults.Repeated) (Ok made)) ≡ Ok race → (b1 ≡ true) × (b2 ≡ false) × (made ≡ race)
+used_checks false b2 made race h = cc
+used_checks true true made race h = cc
+used_checks true false made race h = (refl, refl, cc)
+
+used_fits : (ip : Ip) (race new : Race) → IsRace race → add_used ip race ≡ Ok new → IsRace new
+used_fits ip race new fits h =
+    let checks = used_checks (is_in_answer race ip) (has_ip ip race.history.used) (with_used race ip) new h in
+    subst IsRace checks.2 (IsRace-with_used race ip fits checks.0 checks.1)
+
 pause_checks : (b few : Bool) (made race : Race) → cond (not b) (Err faults.Range) (cond few (Err faults.TooMany) (Ok made)) ≡ Ok race → (b ≡ true) × (few ≡ false) × (made ≡ race)
 pause_checks false few made race h = cc
 pause_checks true true made race h = cc
@@ -102,6 +116,12 @@ told_fits : (word : Word) (tokens : List (List ℕ)) (race new : Race) → IsRac
 unfolding take_told
 told_fits words.Aaaa tokens race new fits h = reply_fits families.V6 tokens race new fits h
 told_fits words.A tokens race new fits h = reply_fits families.V4 tokens race new fits h
+told_fits words.Rtt tokens race new fits h =
+    let read = bind_ok (round_trip_in (is_in_answer race) tokens) (λ told. built (add_rtt told.0 told.1 race)) new h in
+    rtt_fits read.0.0 read.0.1 race new fits (was_ok (add_rtt read.0.0 read.0.1 race) new read.2)
+told_fits words.Used tokens race new fits h =
+    let read = bind_ok (used_in (is_in_answer race) tokens) (λ ip. built (add_used ip race)) new h in
+    used_fits read.0 race new fits (was_ok (add_used read.0 race) new read.2)
 told_fits words.Connect tokens race new fits h =
     let read = bind_ok (connect_in (is_in_answer race) tokens) (λ told. built (add_outcome told.0 told.1 race)) new h in
     outcome_fits read.0.0 read.0.1 race new fits (was_ok (add_outcome read.0.0 read.0.1 race) new read.2)
@@ -120,7 +140,7 @@ told_fits words.Route tokens race new fits h = cc
 line_fits : (v : Version) → (tokens : List (List ℕ)) (so_far : LastGroup) (race : Race) (next : Word × LastGroup × Race) → IsRace race → take_line v tokens so_far race ≡ Ok next → IsRace next.2
 unfolding take_line
 line_fits v tokens so_far race next fits h =
-    let word = bind_ok (word_of tokens) (λ parts. admit parts.0 so_far >>= λ next. take_told parts.0 parts.1 race >>= λ told. Ok (parts.0, next, told)) next h in
+    let word = bind_ok (version_word v tokens) (λ parts. admit parts.0 so_far >>= λ next. take_told parts.0 parts.1 race >>= λ told. Ok (parts.0, next, told)) next h in
     let placed = bind_ok (admit word.0.0 so_far) (λ next. take_told word.0.0 word.0.1 race >>= λ told. Ok (word.0.0, next, told)) next word.2 in
     let told = bind_ok (take_told word.0.0 word.0.1 race) (λ told. Ok (word.0.0, placed.0, told)) next placed.2 in
     let same : (word.0.0, placed.0, told.0) ≡ next = cc (told.2) in
@@ -142,7 +162,7 @@ setting_checks false false false false false false false made settings h = (refl
 
 settings_fit : (r a c l : ℕ) (settings : SettingValues) → ranged (settings_of r a c l) ≡ Ok settings → IsSettings settings
 settings_fit r a c l settings h =
-    let made : SettingValues = record { resolution = r; attempt = a; count = c; limit = l } in
+    let made : SettingValues = record { resolution = r; attempt = a; count = c; limit = l; floor = None } in
     let checks = setting_checks (ltb MAX_RESOLUTION r) (ltb a MIN_ATTEMPT) (ltb MAX_ATTEMPT a) (ltb c MIN_COUNT) (ltb MAX_COUNT c) (ltb l MIN_LIMIT) (ltb MAX_LIMIT l) made settings h in
     subst IsSettings checks.7 (record {
       resolution = ltb-false MAX_RESOLUTION r checks.0;
@@ -152,12 +172,38 @@ settings_fit r a c l settings h =
       count_most = ltb-false MAX_COUNT c checks.4;
       limit_least = ltb-false l MIN_LIMIT checks.5;
       limit_most = ltb-false MAX_LIMIT l checks.6;
+      floor = tt;
+    })
+
+floor_checks : (b1 b2 : Bool) (made settings : SettingValues) → ranged (cond (b1 || b2) (Err ranges.Floor) (Ok made)) ≡ Ok settings → (b1 ≡ false) × (b2 ≡ false) × (made ≡ settings)
+floor_checks true b2 made settings h = cc
+floor_checks false true made settings h = cc
+floor_checks false false made settings h = (refl, refl, cc)
+
+floor_fits : (floor : Option ℕ) (settings new : SettingValues) → IsSettings settings → floored floor settings ≡ Ok new → IsSettings new
+floor_fits None settings new fits h = let same : settings ≡ new = cc (h) in subst IsSettings same fits
+floor_fits (Some floor) settings new fits h =
+    let checks = floor_checks (ltb floor MIN_FLOOR) (ltb settings.attempt floor) (record settings { floor = Some floor }) new h in
+    subst IsSettings checks.2 (record {
+      resolution = fits.resolution;
+      attempt_least = fits.attempt_least;
+      attempt_most = fits.attempt_most;
+      count_least = fits.count_least;
+      count_most = fits.count_most;
+      limit_least = fits.limit_least;
+      limit_most = fits.limit_most;
+      floor = (ltb-false floor MIN_FLOOR checks.0, ltb-false settings.attempt floor checks.1);
     })
 
 given_fit : (given : GivenSettings) (settings : SettingValues) → settings_from given ≡ Ok settings → IsSettings settings
 unfolding settings_from
 given_fit given settings h =
-    settings_fit (unwrap_or given.resolution DEFAULT_RESOLUTION) (unwrap_or given.attempt DEFAULT_ATTEMPT) (unwrap_or given.count DEFAULT_COUNT) (unwrap_or given.limit DEFAULT_LIMIT) settings h
+    let r : ℕ = unwrap_or given.resolution DEFAULT_RESOLUTION in
+    let a : ℕ = unwrap_or given.attempt DEFAULT_ATTEMPT in
+    let c : ℕ = unwrap_or given.count DEFAULT_COUNT in
+    let l : ℕ = unwrap_or given.limit DEFAULT_LIMIT in
+    let four = bind_ok (ranged (settings_of r a c l)) (floored given.floor) settings h in
+    floor_fits given.floor four.0 settings (settings_fit r a c l four.0 four.1) four.2
 
 policy_fits : (rows policy : List Row) → policy_from rows ≡ Ok policy → IsAdmitted policy
 unfolding policy_from
@@ -197,6 +243,10 @@ start_fits head race h =
       host = host_fits head.sources head.routes host.0 host.1;
       aaaa = refl;
       a = refl;
+      rtts = refl;
+      rtts_once = refl;
+      used = refl;
+      used_once = refl;
       outcomes = refl;
       once = refl;
       pauses = refl;
@@ -265,9 +315,6 @@ pub lines_read : (lines : List (List ℕ)) (x : Race × List (List ℕ)) → rea
 unfolding read_lines
 lines_read [] x h = cc
 lines_read (line ∷ after) x h =
-    let whole = bind_ok (at_line 1 (wholeness (line ∷ after))) (λ _. cond (bytes_eq line (codes "race 1")) (read_head (version_on line) 2 group_at_start no_head after) (Err (1, kinds.Header))) x h in
-    by_header (bytes_eq line (codes "race 1")) whole.2
-  where
-    by_header : (b : Bool) → cond b (read_head (version_on line) 2 group_at_start no_head after) (Err (1, kinds.Header)) ≡ Ok x → IsReading (line ∷ after) x
-    by_header true e = later line after x (head_reads (version_on line) 2 group_at_start no_head after x e)
-    by_header false e = cc
+    let whole = bind_ok (at_line 1 (wholeness (line ∷ after))) (λ _. at_line 1 (header_in line) >>= λ version. read_head version 2 group_at_start no_head after) x h in
+    let version = bind_ok (at_line 1 (header_in line)) (λ version. read_head version 2 group_at_start no_head after) x whole.2 in
+    later line after x (head_reads version.0 2 group_at_start no_head after x version.2)

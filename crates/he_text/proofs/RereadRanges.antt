@@ -1,6 +1,6 @@
 -- What a race is made of can be written, where the race is in range.
 use Rattle.std.proofs.Common.{◌≡◌, ℕ, ◌+◌, ◌≤◌, ◌<◌, ◌==◌, ◌&&◌, ◌||◌, Bool, true, false, not, leb, ltb, List, [], ◌∷◌, ◌++◌, length, map, Option, Some, None, refl, ap, subst, inl, inr, arith}
-use Rattle.std.specs.Prelude.{is_none, IsTrue}
+use Rattle.std.specs.Prelude.{IfSome, is_none, IsTrue}
 use Rattle.std.specs.List.{AllByRecursion, list_all, position_from}
 use Rattle.std.proofs.lemmas.Bool.{leb-true, ltb-true, and_parts, eqb-true, eqb-false, cases_Bool, false≢true}
 use Rattle.std.proofs.lemmas.List.Elements.{recursion_from_All}
@@ -10,11 +10,11 @@ use Rattle.he_addr.specs.declared.ip.Ip.{Ip}
 use Rattle.he_addr.specs.declared.ip.Ip.TheVariants.{V4, V6}
 use Rattle.he_addr.specs.Ip.{InRange, is_usable, same_ip}
 use Rattle.he_addr.specs.Prefix.{width_of}
-use Rattle.he_plan.specs.declared.limits.TheConstants.{MAX_TICK, MAX_ADDRESSES, MAX_PAUSE_END, MIN_DURATION, MAX_DURATION}
+use Rattle.he_plan.specs.declared.limits.TheConstants.{MAX_TICK, MAX_ADDRESSES, MAX_PAUSE_END, MIN_DURATION, MAX_DURATION, MIN_FLOOR, MAX_ATTEMPT}
 use Rattle.he_plan.specs.declared.outcome.Outcome.{Outcome}
 use Rattle.he_plan.specs.Race.{Race, Reply, addresses_of, has_ip, is_in_answer}
 use Rattle.he_plan.specs.Settings.{SettingValues, IsSettings}
-use Rattle.he_plan.specs.Timeline.{IsRace, are_of, are_distinct, is_answer, is_outcome, is_duration, duration_of, are_pauses}
+use Rattle.he_plan.specs.Timeline.{IsRace, are_of, are_distinct, is_answer, is_outcome, is_rtt, is_duration, duration_of, are_pauses}
 use Rattle.he_select.proofs.Causes.{none_stands, unmapped}
 use Rattle.he_select.proofs.Hosted.{no_fault as no_host_fault}
 use Rattle.he_select.specs.Hosts.{IsHost}
@@ -24,9 +24,9 @@ use Rattle.he_select.specs.declared.host.Route.{Route}
 use Rattle.he_select.specs.declared.policy.Row.{Row}
 use Rattle.he_select.specs.HostFaults.{host_causes, host_fault, is_sound_source, is_sound_route}
 use Rattle.he_text.specs.InRange.{RowInRange, SourceInRange, RouteInRange, RaceInRange}
-use Rattle.he_text.specs.Said.{Said, PolicyRow, HostSource, HostRoute}
+use Rattle.he_text.specs.Said.{Said, PolicyRow, HostSource, HostRoute, UsedBefore}
 use Rattle.he_text.proofs.CompleteRaces.{admitted_host}
-use Rattle.he_text.proofs.RereadRaces.{settings_said, answer_as, told_as, paused_as, told_on, a_on, aaaa_on, routes_on, sources_on, rows_on, race_said}
+use Rattle.he_text.proofs.RereadRaces.{floor_as, settings_said, answer_as, rtt_as, told_as, paused_as, told_on, used_on, rtts_on, a_on, aaaa_on, routes_on, sources_on, rows_on, race_said}
 use Rattle.he_text.proofs.RereadSaid.{Spellable}
 
 abbrev pub AllSpellable : List Said → Type 0
@@ -36,8 +36,12 @@ also : (xs ys : List Said) → AllSpellable xs → AllSpellable ys → AllSpella
 also [] ys hx hy = hy
 also (x ∷ xs) ys hx hy = (hx.0, also xs ys hx.1 hy)
 
+floor_can : (attempt : ℕ) (floor : Option ℕ) → attempt ≤ MAX_ATTEMPT → IfSome floor (λ floor. (MIN_FLOOR ≤ floor) × (floor ≤ attempt)) → AllSpellable (floor_as floor)
+floor_can attempt None most h = tt
+floor_can attempt (Some floor) most h = ((h.0, omega (arith, h.1, most)), tt)
+
 settings_can : (settings : SettingValues) → IsSettings settings → AllSpellable (settings_said settings)
-settings_can settings h = ((omega arith, h.resolution), ((h.attempt_least, h.attempt_most), ((h.count_least, h.count_most), ((h.limit_least, h.limit_most), tt))))
+settings_can settings h = ((omega arith, h.resolution), ((h.attempt_least, h.attempt_most), ((h.count_least, h.count_most), ((h.limit_least, h.limit_most), floor_can settings.attempt settings.floor h.attempt_most h.floor))))
 
 rows_can : (rows : List Row) → AllByRecursion RowInRange rows → AllSpellable (map PolicyRow rows)
 rows_can [] h = tt
@@ -85,6 +89,18 @@ answer_can family (Some reply) h small =
     let most = and_parts (leb reply.tick MAX_TICK && leb (length reply.addresses) MAX_ADDRESSES) (are_of family reply.addresses) all.0 in
     let two = and_parts (leb reply.tick MAX_TICK) (leb (length reply.addresses) MAX_ADDRESSES) most.0 in
     ((leb-true reply.tick MAX_TICK two.0, leb-true (length reply.addresses) MAX_ADDRESSES two.1, small), tt)
+
+rtts_can : (race : Race) (rtts : List (Ip × ℕ)) → AllByRecursion (λ (told : Ip × ℕ). InRange told.0) rtts → list_all (is_rtt race) rtts ≡ true → AllSpellable (map rtt_as rtts)
+rtts_can race [] small h = tt
+rtts_can race (p ∷ rtts) small h =
+    let parts = and_parts (is_rtt race p) (list_all (is_rtt race) rtts) h in
+    let one = and_parts (is_duration p.1) (is_in_answer race p.0) parts.0 in
+    let lasts = and_parts (leb MIN_DURATION p.1) (leb p.1 MAX_DURATION) one.0 in
+    ((small.0, leb-true MIN_DURATION p.1 lasts.0, leb-true p.1 MAX_DURATION lasts.1), rtts_can race rtts small.1 parts.1)
+
+used_can : (used : List Ip) → AllByRecursion InRange used → AllSpellable (map UsedBefore used)
+used_can [] small = tt
+used_can (ip ∷ used) small = (small.0, used_can used small.1)
 
 -- an address that stands in an answer is in range
 same_ip_is : (x y : Ip) → same_ip x y ≡ true → x ≡ y
@@ -134,5 +150,7 @@ race_can race fits small =
     (also (map HostSource race.host.sources) (routes_on race) (sources_can race.host.sources host.sound (recursion_from_All SourceInRange race.host.sources small.sources))
     (also (map HostRoute race.host.routes) (aaaa_on race) (routes_can race.host.routes (sound_routes race.host.sources race.host.routes fits.host) (recursion_from_All RouteInRange race.host.routes small.routes))
     (also (answer_as families.V6 race.aaaa) (a_on race) (answer_can families.V6 race.aaaa fits.aaaa (recursion_from_All InRange (addresses_of race.aaaa) small.aaaa))
-    (also (answer_as families.V4 race.a) (told_on race) (answer_can families.V4 race.a fits.a (recursion_from_All InRange (addresses_of race.a) small.a))
-    (also (map told_as race.outcomes) (map paused_as race.pauses) (outcomes_can race race.outcomes small fits.outcomes) (pauses_can 0 race.pauses fits.pauses)))))))
+    (also (answer_as families.V4 race.a) (rtts_on race) (answer_can families.V4 race.a fits.a (recursion_from_All InRange (addresses_of race.a) small.a))
+    (also (map rtt_as race.history.rtts) (used_on race) (rtts_can race race.history.rtts (recursion_from_All (λ (told : Ip × ℕ). InRange told.0) race.history.rtts small.rtts) fits.rtts)
+    (also (map UsedBefore race.history.used) (told_on race) (used_can race.history.used (recursion_from_All InRange race.history.used small.used))
+    (also (map told_as race.outcomes) (map paused_as race.pauses) (outcomes_can race race.outcomes small fits.outcomes) (pauses_can 0 race.pauses fits.pauses)))))))))

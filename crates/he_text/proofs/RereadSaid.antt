@@ -2,6 +2,7 @@
 use Rattle.std.proofs.Common.{◌≡◌, ℕ, suc, ◌+◌, ◌^◌, ◌<◌, ◌≤◌, Bool, true, false, List, [], ◌∷◌, ◌++◌, length, map, Some, refl, ap, inl, inr, arith}
 use Rattle.std.specs.Prelude.{codes, decimal}
 use Rattle.std.specs.List.{AllByRecursion, AllZip, join_with_byte}
+use Rattle.he_addr.specs.declared.ip.Family.TheVariants as families
 use Rattle.he_addr.specs.declared.ip.Ip.{Ip}
 use Rattle.he_addr.specs.Ip.{InRange}
 use Rattle.he_addr.specs.Prefix.{width_of}
@@ -15,17 +16,16 @@ use Rattle.he_plan.specs.declared.outcome.Outcome.TheVariants as outcomes
 use Rattle.he_plan.specs.Timeline.{duration_of}
 use Rattle.he_text.specs.declared.limits.TheConstants.{MAX_LINE, MAX_PRECEDENCE, MAX_LABEL, MIN_INTERFACE, MAX_INTERFACE}
 use Rattle.he_text.specs.declared.words.Name.{Name}
-use Rattle.he_text.specs.declared.words.Name.TheVariants.{Resolution, Attempt, Count, Limit}
+use Rattle.he_text.specs.declared.words.Name.TheVariants.{Resolution, Attempt, Count, Limit, Floor}
 use Rattle.he_text.specs.declared.words.Word.{Word}
 use Rattle.he_text.specs.declared.words.Word.TheVariants as words
 use Rattle.he_text.specs.Forms.{least_value, most_value}
 use Rattle.he_text.specs.Parts.{tokens_of}
 use Rattle.he_text.specs.InRange.{RowInRange, RouteInRange}
-use Rattle.he_text.specs.Said.{Said, Setting, PolicyRow, HostSource, HostRoute, Answer, Told, Paused, Ended}
+use Rattle.he_text.specs.Said.{Said, Setting, PolicyRow, HostSource, HostRoute, Answer, RoundTrip, UsedBefore, Told, Paused, Ended, word_said}
 use Rattle.he_text.specs.Text.{mark_text, marked, source_marks, route_marks}
 use Rattle.he_text.proofs.LineReads.{Reads, ReadsList, ReadsNumber}
 use Rattle.he_text.specs.Words.{spelling_of, name_spelling}
-use Rattle.he_text.proofs.CompleteForms.{word_said}
 use Rattle.he_text.proofs.PartLaws.{Lacks}
 use Rattle.he_text.proofs.RereadLines.{AreTokens, wider, token_from, tokens_back, line_size, one_line}
 
@@ -41,6 +41,8 @@ others_of (PolicyRow row) = prefix_text false row.prefix ∷ decimal row.precede
 others_of (HostSource source) = source_text source.ip source.plen ∷ decimal source.interface ∷ source_marks source
 others_of (HostRoute route) = prefix_text true route.prefix ∷ decimal route.interface ∷ route_marks route
 others_of (Answer family reply) = decimal reply.tick ∷ listed_text reply.addresses
+others_of (RoundTrip ip rtt) = printed ip ∷ decimal rtt ∷ []
+others_of (UsedBefore ip) = printed ip ∷ []
 others_of (Told ip outcome) = printed ip ∷ mark_text outcome ∷ decimal (duration_of outcome) ∷ []
 others_of (Paused from to) = decimal from ∷ decimal to ∷ []
 others_of Ended = []
@@ -55,6 +57,8 @@ Spellable (PolicyRow row) = RowInRange row
 Spellable (HostSource source) = InRange source.ip × (source.plen ≤ width_of source.ip) × (MIN_INTERFACE ≤ source.interface) × (source.interface ≤ MAX_INTERFACE)
 Spellable (HostRoute route) = RouteInRange route × (MIN_INTERFACE ≤ route.interface)
 Spellable (Answer family reply) = (reply.tick ≤ MAX_TICK) × (length reply.addresses ≤ MAX_ADDRESSES) × AllByRecursion InRange reply.addresses
+Spellable (RoundTrip ip rtt) = InRange ip × (MIN_DURATION ≤ rtt) × (rtt ≤ MAX_DURATION)
+Spellable (UsedBefore ip) = InRange ip
 Spellable (Told ip outcome) = InRange ip × (MIN_DURATION ≤ duration_of outcome) × (duration_of outcome ≤ MAX_DURATION)
 Spellable (Paused from to) = (from ≤ MAX_TICK) × (1 ≤ to) × (to ≤ MAX_PAUSE_END)
 Spellable Ended = ⊥
@@ -75,6 +79,8 @@ word_token words.Source = token_from (codes "source") refl
 word_token words.Route = token_from (codes "route") refl
 word_token words.Aaaa = token_from (codes "aaaa") refl
 word_token words.A = token_from (codes "a") refl
+word_token words.Rtt = token_from (codes "rtt") refl
+word_token words.Used = token_from (codes "used") refl
 word_token words.Connect = token_from (codes "connect") refl
 word_token words.Pause = token_from (codes "pause") refl
 word_token words.End = token_from (codes "end") refl
@@ -84,12 +90,14 @@ name_token Resolution = token_from (codes "resolution") refl
 name_token Attempt = token_from (codes "attempt") refl
 name_token Count = token_from (codes "count") refl
 name_token Limit = token_from (codes "limit") refl
+name_token Floor = token_from (codes "floor") refl
 
 name_small : (name : Name) → most_value name < 10 ^ 10
 name_small Resolution = omega arith
 name_small Attempt = omega arith
 name_small Count = omega arith
 name_small Limit = omega arith
+name_small Floor = omega arith
 
 source_mark_tokens : (deprecated temporary : Bool) → AreTokens (marked deprecated (codes "deprecated") ++ marked temporary (codes "temporary"))
 source_mark_tokens false false = tt
@@ -122,6 +130,8 @@ others_tokens (HostSource source) h =
 others_tokens (HostRoute route) h =
     (prefixes_are_tokens true route.prefix h.0.0, (number_token route.interface MAX_INTERFACE h.0.1 (omega arith), route_mark_tokens route.tunnel))
 others_tokens (Answer family reply) h = (number_token reply.tick MAX_TICK h.0 (omega arith), listed_tokens reply.addresses h.2)
+others_tokens (RoundTrip ip rtt) h = (address_token ip h.0, (number_token rtt MAX_DURATION h.2 (omega arith), tt))
+others_tokens (UsedBefore ip) h = (address_token ip h, tt)
 others_tokens (Told ip outcome) h = (address_token ip h.0, (mark_token outcome, (number_token (duration_of outcome) MAX_DURATION h.2 (omega arith), tt)))
 others_tokens (Paused from to) h = (number_token from MAX_TICK h.0 (omega arith), (number_token to MAX_PAUSE_END h.2 (omega arith), tt))
 others_tokens Ended h = absurd h
@@ -160,6 +170,8 @@ others_few (PolicyRow row) h = omega arith
 others_few (HostSource source) h = omega (arith, source_marks_few source.deprecated source.temporary)
 others_few (HostRoute route) h = omega (arith, route_marks_few route.tunnel)
 others_few (Answer family reply) h = omega (arith, listed_count reply.addresses h.1)
+others_few (RoundTrip ip rtt) h = omega arith
+others_few (UsedBefore ip) h = omega arith
 others_few (Told ip outcome) h = omega arith
 others_few (Paused from to) h = omega arith
 others_few Ended h = omega arith
@@ -205,14 +217,30 @@ written_says (HostRoute route) h = (
   (prefixes_read_back true route.prefix h.0.0).1,
   number_is MIN_INTERFACE MAX_INTERFACE route.interface h.1 h.0.1 (omega arith),
 )
-written_says (Answer family reply) h = (
+written_says (Answer families.V6 reply) h = (
   decimal reply.tick,
   listed_text reply.addresses,
-  written_tokens (Answer family reply) h,
+  written_tokens (Answer families.V6 reply) h,
   number_is 0 MAX_TICK reply.tick (omega arith) h.0 (omega arith),
   listed_read reply.addresses h.2,
   listed_count reply.addresses h.1,
 )
+written_says (Answer families.V4 reply) h = (
+  decimal reply.tick,
+  listed_text reply.addresses,
+  written_tokens (Answer families.V4 reply) h,
+  number_is 0 MAX_TICK reply.tick (omega arith) h.0 (omega arith),
+  listed_read reply.addresses h.2,
+  listed_count reply.addresses h.1,
+)
+written_says (RoundTrip ip rtt) h = (
+  printed ip,
+  decimal rtt,
+  written_tokens (RoundTrip ip rtt) h,
+  (addresses_read_back ip h.0).1,
+  number_is MIN_DURATION MAX_DURATION rtt h.1 h.2 (omega arith),
+)
+written_says (UsedBefore ip) h = (printed ip, written_tokens (UsedBefore ip) h, (addresses_read_back ip h).1)
 written_says (Told ip outcome) h = (
   printed ip,
   decimal (duration_of outcome),

@@ -8,7 +8,7 @@ use Rattle.std.proofs.lemmas.List.Elements.{filter_map-append}
 use Rattle.he_addr.specs.declared.ip.Family.{Family}
 use Rattle.he_addr.specs.declared.ip.Family.TheVariants as families
 use Rattle.he_addr.specs.declared.ip.Ip.{Ip}
-use Rattle.he_plan.specs.Building.{empty_history, empty_race, with_answer, with_rtt, with_used, with_outcome, with_pause}
+use Rattle.he_plan.specs.Building.{empty_race, with_answer, with_rtt, with_used, with_outcome, with_pause}
 use Rattle.he_plan.specs.declared.outcome.Outcome.{Outcome}
 use Rattle.he_plan.specs.Race.{History, Race, Reply, reply_of}
 use Rattle.he_plan.specs.Settings.{SettingValues}

@@ -49,6 +49,15 @@ distinct_judged false race other same = refl
 is_none : {A : Type 0} (o : Option A) → o ≡ None → is_some o ≡ false
 is_none o h = ap is_some h
 
+-- a line of the other groups leaves no group open
+pub no_group : {B : Type 0} (after : List (List ℕ)) (said : List Said) (s : Said) (other : B) (first : Option TextKind) (again : Option TextKind) → group_fault said s ≡ None
+    → outcome (first_fault (first ∷ again ∷ wrong_group said after s ∷ [])) other ≡ outcome (first_fault (first ∷ again ∷ None ∷ [])) other
+no_group after said s other first again none = ap (λ o. outcome (first_fault (first ∷ again ∷ o ∷ [])) other) (by_next (is_next (word_said s) after) none)
+  where
+    by_next : (b : Bool) → group_fault said s ≡ None → cond b None (group_fault said s) ≡ None
+    by_next true e = refl
+    by_next false e = e
+
 answer_judged : (after : List (List ℕ)) (family : Family) (tokens : List (List ℕ)) (said : List Said) (reply : Reply) → reply_of (race_of said) family ≡ None → IsAnswer family tokens reply
     → built (add_answer family reply.tick reply.addresses (race_of said)) ≡ judged after said (Answer family reply)
 answer_judged after family tokens said reply none is =
@@ -59,7 +68,7 @@ answer_judged after family tokens said reply none is =
     (cond (not (are_distinct reply.addresses)) (Err faults.Repeated) (Ok (with_answer (race_of said) family reply)))
     (is_none _ none) (le-ltb MAX_TICK reply.tick tick) (le-ltb MAX_ADDRESSES (length reply.addresses) (omega arith)) is.addresses.of_family
     ∙ distinct_judged (are_distinct reply.addresses) (with_answer (race_of said) family reply) (race_of (said ++ Answer family reply ∷ [])) (sym (race_answered family said reply none))
-    ∙ sym (no_group after said (Answer family reply) _ _ _ refl)
+    ∙ sym (no_group after said (Answer family reply) (race_of (said ++ Answer family reply ∷ [])) None (test (not (are_distinct reply.addresses)) kinds.Repeated) refl)
 
 by_answer : (after : List (List ℕ)) (family : Family) (tokens : List (List ℕ)) (said : List Said) (read : Result Reply TextKind) → reply_of (race_of said) family ≡ None → ((reply : Reply) → read ≡ Ok reply → IsAnswer family tokens reply)
     → (read >>= λ reply. built (add_answer family reply.tick reply.addresses (race_of said))) ≡ ((read >>= λ reply. Ok (Answer family reply)) >>= judged after said)
@@ -70,15 +79,6 @@ pub answer_agrees : (after : List (List ℕ)) (family : Family) (tokens : List (
     → take_answer family tokens (race_of said) ≡ ((answer_in family tokens >>= λ reply. Ok (Answer family reply)) >>= judged after said)
 unfolding take_answer
 answer_agrees after family tokens said none = by_answer after family tokens said (answer_in family tokens) none (answer_ok family tokens)
-
--- a line of the other groups leaves no group open
-pub no_group : {B : Type 0} (after : List (List ℕ)) (said : List Said) (s : Said) (other : B) (first : Option TextKind) (again : Option TextKind) → group_fault said s ≡ None
-    → outcome (first_fault (first ∷ again ∷ wrong_group said after s ∷ [])) other ≡ outcome (first_fault (first ∷ again ∷ None ∷ [])) other
-no_group after said s other first again none = ap (λ o. outcome (first_fault (first ∷ again ∷ o ∷ [])) other) (by_next (is_next (word_said s) after) none)
-  where
-    by_next : (b : Bool) → group_fault said s ≡ None → cond b None (group_fault said s) ≡ None
-    by_next true e = refl
-    by_next false e = e
 
 -- outcomes
 told_checked : (b1 b2 b3 : Bool) (race other : Race) → b1 ≡ true → b2 ≡ true → race ≡ other
@@ -104,7 +104,7 @@ told_judged after said tokens ip o is =
     let lasts : is_duration (duration_of o) ≡ true = and_from _ _ (le-leb MIN_DURATION (duration_of o) least) (le-leb (duration_of o) MAX_DURATION most) in
     told_checked (is_duration (duration_of o)) (is_in_answer (race_of said) ip) (has_outcome ip (race_of said).outcomes) _ (race_of (said ++ Told ip o ∷ [])) lasts is.known_is (sym (race_told said ip o))
     ∙ ap (λ os. outcome (first_fault (None ∷ test (has_outcome ip os) kinds.Repeated ∷ None ∷ [])) (race_of (said ++ Told ip o ∷ []))) (outcomes_of said)
-    ∙ sym (no_group after said (Told ip o) _ _ _ refl)
+    ∙ sym (no_group after said (Told ip o) (race_of (said ++ Told ip o ∷ [])) None (test (has_outcome ip (outcomes_given said)) kinds.Repeated) refl)
 
 by_told : (after : List (List ℕ)) (said : List Said) (tokens : List (List ℕ)) (read : Result (Ip × Outcome) TextKind) → ((told : Ip × Outcome) → read ≡ Ok told → IsTold (known_to said) tokens told.0 told.1)
     → (read >>= λ told. built (add_outcome told.0 told.1 (race_of said))) ≡ ((read >>= λ told. Ok (Told told.0 told.1)) >>= judged after said)
@@ -126,7 +126,7 @@ round_trip_judged after said tokens ip rtt is =
     let lasts : is_duration rtt ≡ true = and_from _ _ (le-leb MIN_DURATION rtt is.rtt_is.least) (le-leb rtt MAX_DURATION is.rtt_is.most) in
     told_checked (is_duration rtt) (is_in_answer (race_of said) ip) (is_told ip (race_of said).history.rtts) _ (race_of (said ++ RoundTrip ip rtt ∷ [])) lasts is.known_is (sym (race_timed said ip rtt))
     ∙ ap (λ rs. outcome (first_fault (None ∷ test (is_told ip rs) kinds.Repeated ∷ None ∷ [])) (race_of (said ++ RoundTrip ip rtt ∷ []))) (rtts_of said)
-    ∙ sym (no_group after said (RoundTrip ip rtt) _ _ _ refl)
+    ∙ sym (no_group after said (RoundTrip ip rtt) (race_of (said ++ RoundTrip ip rtt ∷ [])) None (test (is_told ip (rtts_given said)) kinds.Repeated) refl)
 
 by_round_trip : (after : List (List ℕ)) (said : List Said) (tokens : List (List ℕ)) (read : Result (Ip × ℕ) TextKind) → ((told : Ip × ℕ) → read ≡ Ok told → IsRoundTrip (known_to said) tokens told.0 told.1)
     → (read >>= λ told. built (add_rtt told.0 told.1 (race_of said))) ≡ ((read >>= λ told. Ok (RoundTrip told.0 told.1)) >>= judged after said)
@@ -144,7 +144,7 @@ used_judged : (after : List (List ℕ)) (said : List Said) (tokens : List (List 
 used_judged after said tokens ip is =
     used_checked (is_in_answer (race_of said) ip) (has_ip ip (race_of said).history.used) _ (race_of (said ++ UsedBefore ip ∷ [])) is.known_is (sym (race_used said ip))
     ∙ ap (λ us. outcome (first_fault (None ∷ test (has_ip ip us) kinds.Repeated ∷ None ∷ [])) (race_of (said ++ UsedBefore ip ∷ []))) (used_of said)
-    ∙ sym (no_group after said (UsedBefore ip) _ _ _ refl)
+    ∙ sym (no_group after said (UsedBefore ip) (race_of (said ++ UsedBefore ip ∷ [])) None (test (has_ip ip (used_given said)) kinds.Repeated) refl)
 
 by_used : (after : List (List ℕ)) (said : List Said) (tokens : List (List ℕ)) (read : Result Ip TextKind) → ((ip : Ip) → read ≡ Ok ip → IsUsed (known_to said) tokens ip)
     → (read >>= λ ip. built (add_used ip (race_of said))) ≡ ((read >>= λ ip. Ok (UsedBefore ip)) >>= judged after said)
@@ -169,7 +169,7 @@ pause_judged after said tokens from to few is =
     pause_checked (leb (last_end (race_of said).pauses) from) (ltb from to) (leb to MAX_PAUSE_END) (leb MAX_PAUSES (length (race_of said).pauses)) _ (race_of (said ++ Paused from to ∷ []))
     (le-leb to MAX_PAUSE_END ends) (lt-leb MAX_PAUSES (length (race_of said).pauses) count) (sym (race_paused said from to))
     ∙ ap (λ ps. outcome (first_fault (test (not (leb (last_end ps) from && ltb from to)) kinds.Range ∷ None ∷ None ∷ [])) (race_of (said ++ Paused from to ∷ []))) (pauses_of said)
-    ∙ sym (no_group after said (Paused from to) _ _ _ refl)
+    ∙ sym (no_group after said (Paused from to) (race_of (said ++ Paused from to ∷ [])) (test (not (leb (last_end (pauses_given said)) from && ltb from to)) kinds.Range) None refl)
 
 by_pause : (after : List (List ℕ)) (said : List Said) (tokens : List (List ℕ)) (read : Result (ℕ × ℕ) TextKind) → length (pauses_given said) < MAX_PAUSES → ((p : ℕ × ℕ) → read ≡ Ok p → IsPause tokens p.0 p.1)
     → (read >>= λ p. built (add_pause p.0 p.1 (race_of said))) ≡ ((read >>= λ p. Ok (Paused p.0 p.1)) >>= judged after said)
@@ -178,7 +178,7 @@ by_pause after said tokens (Ok p) few facts = pause_judged after said tokens p.0
 
 by_end : (after : List (List ℕ)) (said : List Said) (read : Result (Unit {0}) TextKind) → (read >>= λ _. Ok (race_of said)) ≡ ((read >>= λ _. Ok Ended) >>= judged after said)
 by_end after said (Err kind) = refl
-by_end after said (Ok done) = ap Ok (sym (race_ended said)) ∙ sym (no_group after said Ended _ None None refl)
+by_end after said (Ok done) = ap Ok (sym (race_ended said)) ∙ sym (no_group after said Ended (race_of (said ++ Ended ∷ [])) None None refl)
 
 -- what must hold before a line of the word is taken: its bound on lines
 abbrev pub HasPlace : Word → List Said → Type 0

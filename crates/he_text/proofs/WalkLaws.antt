@@ -7,7 +7,7 @@ use Rattle.std.proofs.lemmas.List.Splits.{length-slice_split}
 use Rattle.std.proofs.lemmas.List.Sums.{count_by-le-length, sum_by-append}
 use Rattle.std.proofs.Math.Seq.{take-add}
 use Rattle.he_plan.specs.Race.{Race}
-use Rattle.he_text.specs.Beginnings.{FaultStands, MayChange, MayGoOn}
+use Rattle.he_text.specs.Beginnings.{FaultStands, MayChange, MayGoOn, awaited}
 use Rattle.he_text.specs.FaultSearch.{fault_of}
 use Rattle.he_plan.specs.Timeline.{IsRace}
 use Rattle.he_text.specs.Inputs.{AreTexts, HasRaces, IsFaultBehind, IsNotOne, fault_at_end, fault_behind, line_count}
@@ -37,7 +37,7 @@ not_memory : (text : List ℕ) (n : ℕ) (kind : TextKind) → MayChange text n 
 not_memory text n kind may memory =
     elim may [
       | inl unfinished ↦ let wrong : kinds.Unfinished ≡ kinds.Memory = sym unfinished ∙ memory in cc
-      | inr table ↦ let wrong : kinds.Policy table.0.0 ≡ kinds.Memory = sym table.0.1 ∙ memory in cc
+      | inr fault ↦ let wrong : None ≡ Some fault.word = sym (ap (awaited fault.line) memory) ∙ fault.waits in cc
     ]
 
 -- what is told of a text and may change depends on what follows
@@ -184,7 +184,7 @@ race_goes_on races rest fault wrong may = elim wrong.cause [
   where
     never : (kind : TextKind) → kind ≡ kinds.TooMany → MayChange rest fault.line kind → ⊥
     never kind is (inl unfinished) = let both : kinds.TooMany ≡ kinds.Unfinished = sym is ∙ unfinished in cc
-    never kind is (inr table) = let both : kinds.TooMany ≡ kinds.Policy table.0.0 = sym is ∙ table.0.1 in cc
+    never kind is (inr group) = let both : None ≡ Some group.word = sym (ap (awaited group.line) is) ∙ group.waits in cc
 
 -- a race that was read from the place on
 pub record PassedHere (bytes : List ℕ) (end next lines : ℕ) (race : Race) : Type 0 where

@@ -20,7 +20,7 @@ use Rattle.he_text.specs.declared.fault.TextKind.TheVariants as kinds
 use Rattle.he_text.specs.declared.words.Name.{Name}
 use Rattle.he_text.specs.declared.words.Name.TheVariants.{Floor}
 use Rattle.he_text.specs.declared.words.Version.{Version}
-use Rattle.he_text.specs.declared.words.Version.TheVariants.{One, Two}
+use Rattle.he_text.specs.declared.words.Version.TheVariants.{One}
 use Rattle.he_text.specs.declared.words.Word.{Word}
 use Rattle.he_text.specs.declared.words.Word.TheVariants as words
 use Rattle.he_text.specs.Forms.{least_value, most_value}

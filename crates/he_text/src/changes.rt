@@ -54,11 +54,18 @@ fn awaited(line: &[u8], kind: TextKind) -> Option<Word>
 }
 
 // The word of a line that is a setting, right by itself.
+#[tactic(auto, unfolding(crate::specs::Forms::said_by))]
 fn word_of_setting(bytes: &[u8]) -> Option<Word>
     ensures { result ≡ word_of_setting (said_in anyone bytes.now) }
 {
-    match first_word(Line::new(bytes, bytes.len())) {
-        Ok((Word::Set, tokens)) if forms::setting(tokens).is_ok() => Some(Word::Set),
+    let Ok((word, tokens)) = first_word(Line::new(bytes, bytes.len())) else {
+        return None;
+    };
+    match word {
+        Word::Set => match forms::setting(tokens) {
+            Ok(_) => Some(Word::Set),
+            Err(_) => None,
+        },
         _ => None,
     }
 }

@@ -1,14 +1,16 @@
-use Rattle.std.proofs.Common.{ℕ, List, Bor, ◌==◌, ◌∙◌, ap, sym}
+use Rattle.std.proofs.Common.{rules, ◌≡◌, ℕ, List, Bor, ◌==◌, ◌∙◌, ap, sym}
 use Rattle.std.specs.List.{starts_with}
 use Rattle.he_text.specs.Faults.{is_next}
 use Rattle.he_text.specs.Left.{line_bytes, lines_left}
 use Rattle.he_text.specs.Parts.{lines_of}
+use Rattle.he_text.specs.Words.{spelling_of}
 use Rattle.he_text.proofs.NextLines.{next_begins, none_begins, none_whole}
 use Rattle.he_text.proofs.first_words.is_next.Goals as goal
 
 pub returns-then-not-starts_with : goal.returns-then-not-starts_with
 returns-then-not-starts_with c =
-    sym (none_begins c.args.word c.args.rest.now (ap (λ (word : List ℕ). starts_with (λ a b. a == b) c.args.rest.now word) (sym c.as_slice.ensures) ∙ sym c.starts_with.ensures.value ∙ c.if-not-starts_with.true))
+    let spelled : c.as_bytes.result.now ≡ spelling_of c.args.word = search rules in
+    sym (none_begins c.args.word c.args.rest.now (ap (λ (word : List ℕ). starts_with (λ a b. a == b) c.args.rest.now word) (sym spelled) ∙ sym c.starts_with.ensures.value ∙ c.if-not-starts_with.true))
 
 pub returns-in-Ok : goal.returns-in-Ok
 returns-in-Ok c =

@@ -12,7 +12,7 @@ pub returns-in_err-scene-clause-read : goal.returns-in_err-scene-clause-read
 returns-in_err-scene-clause-read g c =
     let n = c.read_head.new.lines.number in
     let P : Result (Race × List (List ℕ)) (ℕ × TextKind) → Type 0 = λ read. FailsAt n c.in_err-scene.field-0.0 read in
-    let same = c.in_ok-read_header.ensures.read ∙ c.in_ok-so_far.ensures.read in
+    let same = c.in_ok-version.ensures.read ∙ c.in_ok-so_far.ensures.read in
     let wrong : P (read_lines (lines_left c.args.lines.now)) =
     subst P (sym same) (fails_settle c.in_ok-version.version n c.in_ok-so_far.so_far c.in_ok-so_far.head (lines_left c.read_head.new.lines) c.in_err-scene.field-0.0 c.in_err-scene.ensures) in
     handed_on c.from_residual-in_err-scene.result c.in_err-scene.field-0.0
@@ -23,7 +23,7 @@ returns-in_err-scene-clause-read g c =
 pub returns-in-Ok-clause-read : goal.returns-in-Ok-clause-read
 returns-in-Ok-clause-read g c =
     let scene = empty_race c.in_ok-scene.scene.settings c.in_ok-scene.scene.policy c.in_ok-scene.scene.host in
-    c.in_ok-read_header.ensures.read
+    c.in_ok-version.ensures.read
     ∙ c.in_ok-so_far.ensures.read
     ∙ settle_reads c.in_ok-version.version c.read_head.new.lines.number c.in_ok-so_far.so_far c.in_ok-so_far.head (lines_left c.read_head.new.lines) scene c.in_ok-scene.ensures
     ∙ ap (λ race. read_body c.in_ok-version.version c.read_head.new.lines.number c.in_ok-so_far.so_far race (lines_left c.read_head.new.lines)) (sym c.new-race.ensures.value)
@@ -33,7 +33,7 @@ returns-in-Ok-clause-read g c =
 pub returns-in-Err-clause-read : goal.returns-in-Err-clause-read
 returns-in-Err-clause-read g c =
     let scene = empty_race c.in_ok-scene.scene.settings c.in_ok-scene.scene.policy c.in_ok-scene.scene.host in
-    let same = c.in_ok-read_header.ensures.read
+    let same = c.in_ok-version.ensures.read
     ∙ c.in_ok-so_far.ensures.read
     ∙ settle_reads c.in_ok-version.version c.read_head.new.lines.number c.in_ok-so_far.so_far c.in_ok-so_far.head (lines_left c.read_head.new.lines) scene c.in_ok-scene.ensures
     ∙ ap (λ race. read_body c.in_ok-version.version c.read_head.new.lines.number c.in_ok-so_far.so_far race (lines_left c.read_head.new.lines)) (sym c.new-race.ensures.value) in
