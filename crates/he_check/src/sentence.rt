@@ -61,11 +61,7 @@ pub(crate) enum Sentence {
     // A word or a setting of version 2 stands in a race of version 1.
     Newer(&'static str),
     // The floor after failures, on the line with this number, is above the attempt delay.
-    HighFloor {
-        floor: u64,
-        line: u64,
-        attempt: u64,
-    },
+    HighFloor { floor: u64, line: u64, attempt: u64 },
     // Two rows of a policy table share a precedence.
     Shared(SharedPrecedence),
 }
@@ -110,7 +106,10 @@ impl fmt::Display for Sentence {
                 )
             }
             Sentence::Newer(word) => {
-                write!(f, "{word} stands in races that begin with the line `race 2`")
+                write!(
+                    f,
+                    "{word} stands in races that begin with the line `race 2`"
+                )
             }
             Sentence::HighFloor {
                 floor,
