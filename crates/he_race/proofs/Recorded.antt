@@ -15,7 +15,7 @@ use Rattle.he_plan.specs.declared.outcome.Outcome.TheVariants as outcomes
 use Rattle.he_plan.specs.declared.finish.Fate.{Fate}
 use Rattle.he_plan.specs.Agreement.{AgreeBelow, AreAlike, FailAlike}
 use Rattle.he_plan.specs.Attempts.{AreNextInTurn, HasWaited, HaveFailed, IsFree, IsLeast, IsNext, IsSeen, MayBegin, MayFollow, MayStart, has_failed, has_failed_by, is_tried, is_untried, last_of, seen, seen_past}
-use Rattle.he_plan.specs.Building.{last_end, with_outcome, with_pause}
+use Rattle.he_plan.specs.Building.{last_end, unrecorded, with_outcome, with_pause}
 use Rattle.he_plan.specs.Continuing.{Follow}
 use Rattle.he_plan.specs.Due.{IsAfterTurn, IsDelayDue, IsDue, IsDueTick, IsStartDue, IsTaken}
 use Rattle.he_plan.specs.Finish.{fate_of, outcome_in, outcome_of}
@@ -33,7 +33,7 @@ use Rattle.he_plan.proofs.Planned.{last_of-more}
 use Rattle.he_plan.proofs.Ranges.{same_ip-sym}
 use Rattle.he_plan.proofs.Starting.{IsSeen-seen, SeesOwn-free}
 use Rattle.he_race.specs.Kept.{Begins, FailedBelow, InTurn, Rests, first_after, taken}
-use Rattle.he_race.specs.Recording.{EndedBy, HasSuccess, ended_by, unrecorded}
+use Rattle.he_race.specs.Recording.{EndedBy, HasSuccess, ended_by}
 use Rattle.he_race.proofs.Counted.{all_taken_later, due_taken, turn_by}
 use Rattle.he_race.proofs.DueTicks.{due_starts}
 use Rattle.he_race.proofs.Failing.{all-weaker, at-one, map-same, seen-free}
