@@ -361,6 +361,7 @@ ends-one race new now xs won ok x t at first is = record {
 
 -- an attempt finishes in a turn
 pub finished : (race : Race) (now : ℕ) (xs : List Attempt) (won ok : Bool) (x : Attempt) → InTurn race now xs won → Contains xs x → outcome_of race x.ip ≡ None → has_outcome x.ip race.outcomes ≡ false → IsRace (with_outcome race x.ip (ended_by ok (now - x.tick))) → InTurn (with_outcome race x.ip (ended_by ok (now - x.tick))) now xs (won || ok)
+unfolding ends-one
 finished race now xs won ok x t at silent first r' = record {
   valid = r';
   made = record {

@@ -9,4 +9,4 @@ add_outcome-requires-clause-known c =
 pub end-requires : goal.end-requires
 end-requires c =
     let turn = c.requires.turn.1 in
-    (c.args.self.now.recorded, turn.valid, c.requires.underway, ends-one c.args.self.now.recorded c.add_outcome.new.recorded c.args.now c.args.self.now.underway.attempts c.requires.turn.0 c.args.is_won c.args.attempt turn c.requires.made c.requires.unfinished c.in_ok-add_outcome.ensures.recorded)
+    record { ends = (c.args.self.now.recorded, turn.valid, c.requires.underway, ends-one c.args.self.now.recorded c.add_outcome.new.recorded c.args.now c.args.self.now.underway.attempts c.requires.turn.0 c.args.is_won c.args.attempt turn c.requires.made c.requires.unfinished c.in_ok-add_outcome.ensures.recorded) }
