@@ -91,12 +91,7 @@ impl Recorder {
         ensures valid { OnOk result (IsRace self.new.recorded) }
         ensures underway { OnOk result (IsUnderway self.new.recorded self.new.underway) }
     {
-        let duration = now - attempt.tick;
-        let outcome = if is_won {
-            Outcome::Ok(duration)
-        } else {
-            Outcome::Fail(duration)
-        };
+        let outcome = ended_by(is_won, now - attempt.tick);
         add_outcome(&mut self.recorded, attempt.ip, outcome)?;
         self.underway.end(self.recorded.timeline(), attempt);
         Ok(())
@@ -162,6 +157,17 @@ impl Recorder {
             fates,
             winner(fates),
         )
+    }
+}
+
+// How an attempt ended, after so many ticks.
+fn ended_by(is_won: bool, duration: u64) -> Outcome
+    ensures { result ≡ ended_by is_won duration }
+{
+    if is_won {
+        Outcome::Ok(duration)
+    } else {
+        Outcome::Fail(duration)
     }
 }
 
