@@ -1,22 +1,14 @@
 -- What the calls of the builder leave where their checks are met.
-use Rattle.std.proofs.Common.{◌≡◌, ℕ, ◌≤◌, ◌<◌, ◌&&◌, Bool, true, false, List, [], length, Option, Some, None, is_some, Result, Ok, Err, IfErr, OnOk, nat_le, nat_lt, refl, sym, ap, subst, ◌∙◌}
-use Rattle.he_addr.specs.declared.ip.Family.{Family}
-use Rattle.he_addr.specs.declared.ip.Family.TheVariants as families
+use Rattle.std.proofs.Common.{◌≡◌, ℕ, ◌≤◌, ◌<◌, true, false, length, Result, Ok, Err, IfErr, OnOk, refl, sym, subst}
 use Rattle.he_addr.specs.declared.ip.Ip.{Ip}
 use Rattle.he_plan.specs.declared.builder.BuildFault.{BuildFault}
 use Rattle.he_plan.specs.declared.builder.BuildFault.TheVariants as faults
-use Rattle.he_plan.specs.declared.limits.TheConstants.{MAX_ADDRESSES, MAX_PAUSES, MAX_PAUSE_END, MAX_TICK}
+use Rattle.he_plan.specs.declared.limits.TheConstants.{MAX_PAUSES, MAX_PAUSE_END}
 use Rattle.he_plan.specs.declared.outcome.Outcome.{Outcome}
-use Rattle.he_plan.specs.Building.{Becomes, add_answer, add_outcome, add_pause, empty_race, last_end, with_answer, with_outcome, with_pause}
-use Rattle.he_plan.specs.Settings.{SettingValues}
-use Rattle.he_plan.specs.Race.{Race, Reply, has_outcome, is_in_answer, reply_of}
-use Rattle.he_plan.specs.Timeline.{IsRace, are_distinct, are_of, duration_of, is_answer, is_duration}
-use Rattle.he_plan.proofs.Bools.{and_left, and_right, le_from, le_test, lt_test, not_le, not_lt}
-use Rattle.he_plan.proofs.Ranges.{IsRace-with_answer}
-use Rattle.he_race.specs.Answered.{with_reply}
-use Rattle.he_race.specs.Recording.{unrecorded}
-use Rattle.he_select.specs.declared.policy.Row.{Row}
-use Rattle.he_select.specs.Hosts.{HostLists}
+use Rattle.he_plan.specs.Building.{Becomes, add_outcome, add_pause, last_end, with_outcome, with_pause}
+use Rattle.he_plan.specs.Race.{Race, has_outcome, is_in_answer}
+use Rattle.he_plan.specs.Timeline.{IsRace, duration_of, is_duration}
+use Rattle.he_plan.proofs.Bools.{le_test, lt_test, not_le}
 
 -- what a call of the builder leaves where its checks are met: the race with what was added, and it refuses nothing but
 -- memory
@@ -59,47 +51,3 @@ pub outcome-adds : (answer : Result (Unit {0}) BuildFault) (race new : Race) (ip
 outcome-adds answer race new ip outcome lasts known first b =
     let fits : add_outcome ip outcome race ≡ Ok (with_outcome race ip outcome) = rw (lasts, known, first) refl in
     adds answer race new (with_outcome race ip outcome) (subst (Becomes answer race new) fits b)
-
--- the parts of a choice of answers that is in range
-record Fits (family : Family) (tick : ℕ) (ips : List Ip) : Type 0 where
-  early : nat_lt MAX_TICK tick ≡ false
-  few : nat_lt MAX_ADDRESSES (length ips) ≡ false
-  of : are_of family ips ≡ true
-  distinct : are_distinct ips ≡ true
-
-fits-in : (family : Family) (tick : ℕ) (ips : List Ip) → is_answer family (Some (record { tick = tick; addresses = ips })) ≡ true → Fits family tick ips
-fits-in family tick ips h =
-    let early : Bool = nat_le tick MAX_TICK in
-    let few : Bool = nat_le (length ips) MAX_ADDRESSES in
-    let of : Bool = are_of family ips in
-    let three : (early && few && of) ≡ true = and_left (early && few && of) (are_distinct ips) h in
-    let two : (early && few) ≡ true = and_left (early && few) of three in
-    record {
-      early = not_lt MAX_TICK tick (le_from tick MAX_TICK (and_left early few two));
-      few = not_lt MAX_ADDRESSES (length ips) (le_from (length ips) MAX_ADDRESSES (and_right early few two));
-      of = and_right (early && few) of three;
-      distinct = and_right (early && few && of) (are_distinct ips) h;
-    }
-
-answer_fits : (race : Race) (family : Family) (tick : ℕ) (ips : List Ip) → reply_of race family ≡ None → Fits family tick ips → add_answer family tick ips race ≡ Ok (with_answer race family (record { tick = tick; addresses = ips }))
-answer_fits race family tick ips none f = rw (none, f.early, f.few, f.of, f.distinct) refl
-
-pub answer-adds : (answer : Result (Unit {0}) BuildFault) (race new : Race) (family : Family) (tick : ℕ) (ips : List Ip) → reply_of race family ≡ None → is_answer family (Some (record { tick = tick; addresses = ips })) ≡ true → Becomes answer race new (add_answer family tick ips race) → Adds answer new (with_answer race family (record { tick = tick; addresses = ips }))
-answer-adds answer race new family tick ips none in_range b =
-    adds answer race new (with_answer race family (record { tick = tick; addresses = ips })) (subst (Becomes answer race new) (answer_fits race family tick ips none (fits-in family tick ips in_range)) b)
-
-pub answer-valid : (race : Race) (family : Family) (tick : ℕ) (ips : List Ip) → IsRace race → reply_of race family ≡ None → is_answer family (Some (record { tick = tick; addresses = ips })) ≡ true → IsRace (with_answer race family (record { tick = tick; addresses = ips }))
-answer-valid race family tick ips r none in_range =
-    let f : Fits family tick ips = fits-in family tick ips in_range in
-    IsRace-with_answer race family tick ips r (ap is_some none) f.early f.few f.of f.distinct
-
-copied : (s : SettingValues) (p : List Row) (h : HostLists) (aaaa a : Option Reply) → with_reply (with_reply (empty_race s p h) families.V6 aaaa) families.V4 a ≡ record { settings = s; policy = p; host = h; aaaa = aaaa; a = a; outcomes = []; pauses = [] }
-copied s p h None None = refl
-copied s p h None (Some y) = refl
-copied s p h (Some x) None = refl
-copied s p h (Some x) (Some y) = refl
-
--- an empty race with the answers of a race is that race, of which nothing is recorded
-pub filled : (race empty new : Race) → empty ≡ empty_race race.settings race.policy race.host → new ≡ with_reply (with_reply empty families.V6 race.aaaa) families.V4 race.a → new ≡ unrecorded race
-filled race empty new e h =
-    h ∙ ap (λ (z : Race). with_reply (with_reply z families.V6 race.aaaa) families.V4 race.a) e ∙ copied race.settings race.policy race.host race.aaaa race.a

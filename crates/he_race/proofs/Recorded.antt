@@ -15,7 +15,7 @@ use Rattle.he_plan.specs.declared.outcome.Outcome.TheVariants as outcomes
 use Rattle.he_plan.specs.declared.finish.Fate.{Fate}
 use Rattle.he_plan.specs.Agreement.{AgreeBelow, AreAlike, FailAlike}
 use Rattle.he_plan.specs.Attempts.{AreNextInTurn, HasWaited, HaveFailed, IsFree, IsLeast, IsNext, IsSeen, MayBegin, MayFollow, MayStart, has_failed, has_failed_by, is_tried, is_untried, last_of, seen, seen_past}
-use Rattle.he_plan.specs.Building.{last_end, with_outcome, with_pause}
+use Rattle.he_plan.specs.Building.{last_end, unrecorded, with_outcome, with_pause}
 use Rattle.he_plan.specs.Continuing.{Follow}
 use Rattle.he_plan.specs.Due.{IsAfterTurn, IsDelayDue, IsDue, IsDueTick, IsStartDue, IsTaken}
 use Rattle.he_plan.specs.Finish.{fate_of, outcome_in, outcome_of}
@@ -33,7 +33,7 @@ use Rattle.he_plan.proofs.Planned.{last_of-more}
 use Rattle.he_plan.proofs.Ranges.{same_ip-sym}
 use Rattle.he_plan.proofs.Starting.{IsSeen-seen, SeesOwn-free}
 use Rattle.he_race.specs.Kept.{Begins, FailedBelow, InTurn, Rests, first_after, taken}
-use Rattle.he_race.specs.Recording.{EndedBy, HasSuccess, ended_by, unrecorded}
+use Rattle.he_race.specs.Recording.{EndedBy, HasSuccess, ended_by}
 use Rattle.he_race.proofs.Counted.{all_taken_later, due_taken, turn_by}
 use Rattle.he_race.proofs.DueTicks.{due_starts}
 use Rattle.he_race.proofs.Failing.{all-weaker, at-one, map-same, seen-free}
@@ -361,6 +361,7 @@ ends-one race new now xs won ok x t at first is = record {
 
 -- an attempt finishes in a turn
 pub finished : (race : Race) (now : ℕ) (xs : List Attempt) (won ok : Bool) (x : Attempt) → InTurn race now xs won → Contains xs x → outcome_of race x.ip ≡ None → has_outcome x.ip race.outcomes ≡ false → IsRace (with_outcome race x.ip (ended_by ok (now - x.tick))) → InTurn (with_outcome race x.ip (ended_by ok (now - x.tick))) now xs (won || ok)
+unfolding ends-one
 finished race now xs won ok x t at silent first r' = record {
   valid = r';
   made = record {

@@ -194,7 +194,7 @@ module _ {C Conn Run : Type 0} (connector : ConnectorOf C Conn Run) (trial : Tri
         within = omega (arith, len);
       }
 
--- a race that has slept has the same settings, policy, host and answers
+-- a race that has slept has the same settings, policy, host, answers and history
 pub slept-alike : (race : Race) (due now : ℕ) → AreAlike race (slept race due now)
 slept-alike race due now = by_test (nat_lt due now)
   where

@@ -1,9 +1,7 @@
 -- Mirror: what private functions answer about the answers of a race that is being run.
 use Rattle.std.specs.Prelude.{ℕ, ◌&&◌, Bool, false, not, if◌then◌else◌, List, min, Option, Some, None, nat_le}
-use Rattle.he_addr.specs.declared.ip.Family.{Family}
 use Rattle.he_plan.specs.declared.attempts.Attempt.{Attempt}
-use Rattle.he_plan.specs.Building.{with_answer}
-use Rattle.he_plan.specs.Race.{Race, Reply}
+use Rattle.he_plan.specs.Race.{Reply}
 use Rattle.he_plan.specs.Transcript.{is_tried_out}
 
 abbrev pub is_taken : Option ℕ → ℕ → Bool
@@ -18,10 +16,6 @@ untaken_tick turn (Some reply) = if not (is_taken turn reply.tick) then Some rep
 abbrev pub earliest : ℕ → Option ℕ → ℕ
 earliest due None = due
 earliest due (Some tick) = min due tick
-
-abbrev pub with_reply : Race → Family → Option Reply → Race
-with_reply race family None = race
-with_reply race family (Some reply) = with_answer race family reply
 
 -- the answer has come by the tick, and each of its usable addresses was tried
 abbrev pub is_tried_out_by : ℕ → List Attempt → Option Reply → Bool

@@ -1,5 +1,5 @@
 -- How a race that is being run is recorded, and what holds of its record where it ends.
-use Rattle.std.specs.Prelude.{ℕ, ◌≡◌, ◌+◌, ◌≤◌, Bool, true, false, List, [], Some, if◌then◌else◌, IfSome, nat_lt}
+use Rattle.std.specs.Prelude.{ℕ, ◌≡◌, ◌+◌, ◌≤◌, Bool, true, false, List, Some, if◌then◌else◌, IfSome, nat_lt}
 use Rattle.std.specs.List.{All, Contains}
 use Rattle.he_plan.specs.declared.attempts.Attempt.{Attempt}
 use Rattle.he_plan.specs.declared.outcome.Outcome.{Outcome}
@@ -11,10 +11,6 @@ use Rattle.he_plan.specs.Attempts.{AreNextInTurn, IsFree, MayStart}
 use Rattle.he_plan.specs.Finish.{outcome_of}
 use Rattle.he_plan.specs.declared.outcome.Outcome.TheVariants as outcomes
 use Rattle.he_plan.specs.declared.transcript.Outcome3.TheVariants as results
-
--- the race's settings, policy, host and answers, before anything is recorded
-abbrev pub unrecorded : Race → Race
-unrecorded race = record race { outcomes = []; pauses = [] }
 
 -- how an attempt that started at `start` and finished at `finish` is recorded
 abbrev pub ended_by : Bool → ℕ → Outcome

@@ -4,7 +4,7 @@ use Rattle.futures.specs.declared.task.Poll.{Poll}
 use Rattle.futures.specs.declared.task.Poll.TheVariants.{Ready, Pending}
 use Rattle.he_plan.specs.declared.attempts.Attempt.{Attempt}
 use Rattle.he_plan.specs.Agreement.{AreAlike}
-use Rattle.he_plan.specs.Building.{with_outcome}
+use Rattle.he_plan.specs.Building.{unrecorded, with_outcome}
 use Rattle.he_plan.specs.Race.{Race}
 use Rattle.he_plan.specs.Transcript.{IsTranscript}
 use Rattle.he_race.specs.declared.attempt.AttemptFuture.{AttemptFuture}
@@ -20,7 +20,7 @@ use Rattle.he_race.specs.declared.live.AfterPoll.{AfterPoll}
 use Rattle.he_race.specs.declared.trial.Trial.{Ghosts as TrialOf}
 use Rattle.he_race.specs.Answered.{earliest, is_tried_out_by}
 use Rattle.he_race.specs.Attempt.{AttemptPolls, due_of}
-use Rattle.he_race.specs.Recording.{EndsRace, ended_by, is_won, slept, unrecorded}
+use Rattle.he_race.specs.Recording.{EndsRace, ended_by, is_won, slept}
 use Rattle.he_race.specs.Kept.{IsLive}
 use Rattle.he_race.specs.declared.faults.RaceFault.TheVariants as faults
 use Rattle.he_race.specs.declared.live.AfterPoll.TheVariants as after_polls

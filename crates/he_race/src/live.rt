@@ -8,7 +8,7 @@ ghost use Rattle.he_plan.specs.Underway.{IsUnderway};
 ghost use Rattle.he_race.specs.declared.limits.TheConstants.{MAX_POLL_TICK};
 ghost use Rattle.he_race.specs.Attempt.{CanPoll};
 ghost use Rattle.he_race.specs.Kept.{InTurn, IsEnded, first_after, IsLive, IsUnfinished, are_untold};
-ghost use Rattle.he_race.specs.Recording.{unrecorded};
+ghost use Rattle.he_plan.specs.Building.{unrecorded};
 ghost use Rattle.he_race.specs.Polling.{Answers, AsksInTime, BeginsFrom, EndsWith, GoesOn, Polled, PollsAt, TurnsFrom};
 ghost use Rattle.he_race.specs.Turns.{ArePolled, BeginsAt, IsNew, PolledAt, Turned, asked_tick, first_of, is_connection, is_over, unpolled};
 
@@ -40,7 +40,7 @@ pub(crate) struct Live<C: Connector> {
 pub struct Raced<Conn> {
     /// What the rules of a race make of the record.
     pub transcript: Transcript,
-    /// The given settings, policy, host and answers, with what each attempt did and when the client slept.
+    /// The given settings, policy, host, answers and history, with what each attempt did and when the client slept.
     pub recorded: Timeline,
     /// The winner's connection, where the race was won.
     pub winner: Option<Conn>,

@@ -4,7 +4,7 @@ ghost use Rattle.std.specs.Prelude.{◌≡◌, None, IfOk, IfSome, IsSomeAnd};
 ghost use Rattle.std.specs.Borrow.{Lends, sem};
 ghost use Rattle.futures.specs.Poll.{IfReady, OnPending};
 ghost use Rattle.futures.specs.Task.{Covers, Keeps};
-ghost use Rattle.he_race.specs.Recording.{unrecorded};
+ghost use Rattle.he_plan.specs.Building.{unrecorded};
 ghost use Rattle.he_race.specs.contracts.race.RaceFuture.{the_row};
 ghost use Rattle.he_race.specs.Racing.{RacePolls, fault_of};
 ghost use Rattle.he_race.specs.Kept.{IsLive};
@@ -31,7 +31,7 @@ pub struct RaceFuture<C: Connector, T: Ticker> {
 }
 
 impl<C: Connector, T: Ticker> RaceFuture<C, T> {
-    /// The race of this timeline's settings, policy, host and answers, before its first turn. It looks at nothing
+    /// The race of this timeline's settings, policy, host, answers and history, before its first turn. It looks at nothing
     /// else of the timeline: what attempts do, and when the client sleeps, is the connector's and the ticker's.
     pub fn new<A: Allocator>(
         alloc: Global,

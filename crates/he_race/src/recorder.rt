@@ -4,19 +4,18 @@
 ghost use Rattle.std.specs.Prelude.{◌≡◌, ◌+◌, ◌-◌, ◌<◌, ◌≤◌, ◌&&◌, ◌||◌, not, Bool, [], Ok, Err, Some, None, true, false, length, option_map, IfErr, IfOk, IfSome, OnErr, OnOk};
 ghost use Rattle.std.specs.List.{Contains, list_all};
 ghost use Rattle.he_addr.specs.Ip.{is_usable};
-ghost use Rattle.he_addr.specs.declared.ip.Family.TheVariants as families;
 ghost use Rattle.he_plan.specs.declared.builder.BuildFault.TheVariants as build_faults;
 ghost use Rattle.he_plan.specs.declared.limits.TheConstants.{MAX_LIMIT, MAX_PAUSES, MAX_PAUSE_END};
 ghost use Rattle.he_plan.specs.Attempts.{is_tried};
-ghost use Rattle.he_plan.specs.Building.{empty_race, last_end, with_answer, with_outcome, with_pause};
+ghost use Rattle.he_plan.specs.Building.{last_end, unrecorded, with_outcome, with_pause};
 ghost use Rattle.he_plan.specs.Due.{IsAfterTurn, IsDueTick};
 ghost use Rattle.he_plan.specs.Race.{has_outcome, is_in_answer, reply_of};
-ghost use Rattle.he_plan.specs.Timeline.{IsRace, duration_of, is_answer, is_duration};
+ghost use Rattle.he_plan.specs.Timeline.{IsRace, duration_of, is_duration};
 ghost use Rattle.he_plan.specs.Transcript.{IsTranscript};
 ghost use Rattle.he_plan.specs.Underway.{IsUnderway};
-ghost use Rattle.he_race.specs.Answered.{earliest, is_taken, is_tried_out_by, untaken_tick, with_reply};
+ghost use Rattle.he_race.specs.Answered.{earliest, is_taken, is_tried_out_by, untaken_tick};
 ghost use Rattle.he_race.specs.Kept.{Begins, InTurn, IsRecorder, IsEnded, MakesOne, Rests, first_after};
-ghost use Rattle.he_race.specs.Recording.{ended_by, is_won, slept, unrecorded};
+ghost use Rattle.he_race.specs.Recording.{ended_by, is_won, slept};
 
 use he_addr::{Family, Ip, Memory};
 use he_plan::{
@@ -36,7 +35,7 @@ pub(crate) struct Recorder {
 }
 
 impl Recorder {
-    // The race of the timeline's settings, policy, host and answers, before its first turn.
+    // The race of the timeline's settings, policy, host, answers and history, before its first turn.
     pub(crate) fn new<A: Allocator>(
         alloc: Global,
         timeline: &Timeline<A>,
@@ -46,7 +45,7 @@ impl Recorder {
         ensures turn { IfOk result (λ c. c.turn ≡ None) }
         ensures attempts { IfOk result (λ c. c.underway.attempts ≡ []) }
     {
-        let recorded = without_record(alloc, timeline)?;
+        let recorded = TimelineBuilder::without_record(alloc, timeline)?;
         let underway = Underway::new(alloc);
         let due = due_tick(recorded.timeline(), &underway, None);
         Ok(Recorder {
@@ -92,12 +91,7 @@ impl Recorder {
         ensures valid { OnOk result (IsRace self.new.recorded) }
         ensures underway { OnOk result (IsUnderway self.new.recorded self.new.underway) }
     {
-        let duration = now - attempt.tick;
-        let outcome = if is_won {
-            Outcome::Ok(duration)
-        } else {
-            Outcome::Fail(duration)
-        };
+        let outcome = ended_by(is_won, now - attempt.tick);
         add_outcome(&mut self.recorded, attempt.ip, outcome)?;
         self.underway.end(self.recorded.timeline(), attempt);
         Ok(())
@@ -166,85 +160,15 @@ impl Recorder {
     }
 }
 
-// The race of the timeline's settings, policy, host and answers, of which nothing is recorded.
-fn without_record<A: Allocator>(
-    alloc: Global,
-    timeline: &Timeline<A>,
-) -> Result<TimelineBuilder, Memory>
-    ensures recorded { IfOk result (λ new. new ≡ unrecorded timeline.now) }
-    ensures valid { IfOk result IsRace }
+// How an attempt ended, after so many ticks.
+fn ended_by(is_won: bool, duration: u64) -> Outcome
+    ensures { result ≡ ended_by is_won duration }
 {
-    let mut builder = without_answers(alloc, timeline)?;
-    match copy_answers(&mut builder, timeline) {
-        Ok(()) => Ok(builder),
-        Err(fault) => {
-            drop(builder);
-            Err(fault)
-        }
+    if is_won {
+        Outcome::Ok(duration)
+    } else {
+        Outcome::Fail(duration)
     }
-}
-
-// The race of the timeline's settings, policy and host, without answers.
-fn without_answers<A: Allocator>(
-    alloc: Global,
-    timeline: &Timeline<A>,
-) -> Result<TimelineBuilder, Memory>
-    ensures empty { IfOk result (λ new. new ≡ empty_race timeline.now.settings timeline.now.policy timeline.now.host) }
-    ensures valid { IfOk result IsRace }
-{
-    let policy = timeline.policy().copy(alloc)?;
-    match timeline.host().copy(alloc) {
-        Ok(host) => Ok(TimelineBuilder::new(alloc, timeline.settings(), policy, host)),
-        Err(fault) => {
-            drop(policy);
-            Err(fault)
-        }
-    }
-}
-
-fn copy_answers<A: Allocator>(
-    builder: &mut TimelineBuilder,
-    timeline: &Timeline<A>,
-) -> Result<(), Memory>
-    requires valid { IsRace builder.old }
-    requires aaaa { builder.old.aaaa ≡ None }
-    requires a { builder.old.a ≡ None }
-    ensures answers { OnOk result (builder.new ≡ with_reply (with_reply builder.old families.V6 timeline.now.aaaa) families.V4 timeline.now.a) }
-    ensures valid { OnOk result (IsRace builder.new) }
-{
-    copy_answer(builder, timeline, Family::V6)?;
-    copy_answer(builder, timeline, Family::V4)
-}
-
-fn copy_answer<A: Allocator>(
-    builder: &mut TimelineBuilder,
-    timeline: &Timeline<A>,
-    family: Family,
-) -> Result<(), Memory>
-    requires valid { IsRace builder.old }
-    requires none { reply_of builder.old family ≡ None }
-    ensures answer { OnOk result (builder.new ≡ with_reply builder.old family (reply_of timeline.now family)) }
-    ensures valid { OnOk result (IsRace builder.new) }
-{
-    if let Some((tick, addresses)) = timeline.answer(family) {
-        return add_answer(builder, family, tick, addresses);
-    }
-    Ok(())
-}
-
-fn add_answer(
-    builder: &mut TimelineBuilder,
-    family: Family,
-    tick: u64,
-    addresses: &[Ip],
-) -> Result<(), Memory>
-    requires valid { IsRace builder.old }
-    requires none { reply_of builder.old family ≡ None }
-    requires in_range { is_answer family (Some (record { tick = tick; addresses = addresses.now })) ≡ true }
-    ensures answer { OnOk result (builder.new ≡ with_answer builder.old family (record { tick = tick; addresses = addresses.now })) }
-    ensures valid { OnOk result (IsRace builder.new) }
-{
-    only_memory(builder.answer(family, tick, addresses))
 }
 
 fn add_pause(recorded: &mut TimelineBuilder, from: u64, to: u64) -> Result<(), Memory>

@@ -1,3 +1,8 @@
+use Rattle.std.proofs.Common.{◌≡◌, subst, sym}
+use Rattle.he_plan.specs.declared.outcome.Outcome.{Outcome}
+use Rattle.he_plan.specs.Building.{with_outcome}
+use Rattle.he_plan.specs.Race.{Race}
+use Rattle.he_plan.specs.Underway.{EndsOne}
 use Rattle.he_race.proofs.Recorded.{ends-one}
 use Rattle.he_race.proofs.Standing.{stands-made}
 use Rattle.he_race.proofs.recorder.Recorder.finish.Goals as goal
@@ -9,4 +14,8 @@ add_outcome-requires-clause-known c =
 pub end-requires : goal.end-requires
 end-requires c =
     let turn = c.requires.turn.1 in
-    (c.args.self.now.recorded, turn.valid, c.requires.underway, ends-one c.args.self.now.recorded c.add_outcome.new.recorded c.args.now c.args.self.now.underway.attempts c.requires.turn.0 c.args.is_won c.args.attempt turn c.requires.made c.requires.unfinished c.in_ok-add_outcome.ensures.recorded)
+    let ends : EndsOne c.args.self.now.recorded c.add_outcome.new.recorded c.args.self.now.underway.attempts c.args.attempt =
+    ends-one c.args.self.now.recorded c.add_outcome.new.recorded c.args.now c.args.self.now.underway.attempts c.requires.turn.0 c.args.is_won c.args.attempt turn c.requires.made c.requires.unfinished (subst (λ (o : Outcome). c.add_outcome.new.recorded ≡ with_outcome c.args.self.now.recorded c.args.attempt.ip o) c.ended_by-outcome.ensures c.in_ok-add_outcome.ensures.recorded) in
+    record {
+      ends = (c.args.self.now.recorded, turn.valid, c.requires.underway, subst (λ (race : Race). EndsOne c.args.self.now.recorded race c.args.self.now.underway.attempts c.args.attempt) (sym c.timeline.ensures) ends);
+    }
