@@ -1,5 +1,5 @@
 -- Which route and which source the host uses for a destination (RFC 6724 sections 4 and 5).
-use Rattle.std.specs.Prelude.{ℕ, ◌==◌, ◌&&◌, ◌||◌, ◌^◌, Bool, false, not, cond, nat_lt, List, [], ◌∷◌, filter, find, None, Option, is_some, option_and_then}
+use Rattle.std.specs.Prelude.{ℕ, ◌-◌, min, ◌==◌, ◌&&◌, ◌||◌, ◌^◌, Bool, false, not, cond, nat_lt, List, [], ◌∷◌, filter, find, None, Option, is_some, option_and_then}
 use Rattle.std.specs.Bool.{beq}
 use Rattle.std.specs.Option.{option_map_or}
 use Rattle.std.specs.declared.cmp.Ordering.TheVariants.{Less, Equal, Greater}
@@ -46,9 +46,9 @@ known_rtt known ip = option_and_then (λ one. one.rtt) (known_of known ip)
 abbrev pub known_used : List Known → Ip → Bool
 known_used known ip = option_map_or (λ one. one.used) (known_of known ip) false
 
--- an unknown round trip time counts as greater than every known one, which are below 2 ^ 64
+-- a round trip time counts as at most 2 ^ 64 - 2 milliseconds, and an unknown one as greater than every known one
 abbrev pub rtt_or_unknown : Option ℕ → ℕ
-rtt_or_unknown rtt = option_map_or (λ n. n) rtt (2 ^ 64)
+rtt_or_unknown rtt = option_map_or (λ n. min n (2 ^ 64 - 2)) rtt (2 ^ 64 - 1)
 
 abbrev pub is_longer_route : Route → Route → Bool
 is_longer_route a b = nat_lt b.prefix.len a.prefix.len

@@ -12,14 +12,14 @@ use he_addr::Ip;
 pub struct Known {
     /// The destination.
     pub ip: Ip,
-    /// The last round trip time in milliseconds, if one is known.
+    /// The last round trip time in milliseconds, if one is known. 2^64 - 1 counts as one less.
     pub rtt: Option<u64>,
     /// The address was used before.
     pub used: bool,
 }
 
 /// An unknown round trip time counts as this one, greater than every known one.
-const UNKNOWN_RTT: u128 = 1 << 64;
+const UNKNOWN_RTT: u64 = u64::MAX;
 
 impl Known {
     /// Of the destination nothing is known.
@@ -66,11 +66,11 @@ pub(crate) fn find_known(known: &[Known], ip: Ip) -> Option<Known>
 }
 
 /// The round trip time as a number.
-pub(crate) fn rtt_or_unknown(rtt: Option<u64>) -> u128
+pub(crate) fn rtt_or_unknown(rtt: Option<u64>) -> u64
     ensures { result ≡ rtt_or_unknown rtt }
 {
     match rtt {
-        Some(rtt) => rtt as u128,
+        Some(rtt) => rtt.min(UNKNOWN_RTT - 1),
         None => UNKNOWN_RTT,
     }
 }

@@ -22,7 +22,7 @@ pub(crate) struct Key {
     pub(crate) precedence: Reverse<u16>,
     pub(crate) tunnel: bool,
     pub(crate) scope: u8,
-    pub(crate) rtt: u128,
+    pub(crate) rtt: u64,
     pub(crate) unused: bool,
     pub(crate) common: Reverse<u8>,
     pub(crate) place: usize,

@@ -17,6 +17,8 @@ use he_addr::read_number;
 use he_plan::limits::{MAX_PAUSE_END, MAX_TICK};
 pub(crate) use selection::{route, row, source};
 
+// In line, as `known` of answers.rt.
+#[inline(always)]
 #[tactic(auto, unfolding(crate::specs::Forms::number_from))]
 fn number(low: u64, high: u64, token: &[u8]) -> Result<u64, TextKind>
     ensures value { result ≡ number_from low high token.now }

@@ -103,6 +103,8 @@ pub(crate) fn answer(tokens: Tokens<'_>) -> Result<AnswerLine<'_>, TextKind>
     })
 }
 
+// In line: a call of it takes some thirty instructions more for each outcome.
+#[inline(always)]
 #[tactic(auto, unfolding(crate::specs::Forms::known_in))]
 fn known<A: Allocator + Copy>(token: &[u8], race: &TimelineBuilder<A>) -> Result<Ip, TextKind>
     ensures value { result ≡ known_in (is_in_answer race.now) token.now }
