@@ -62,6 +62,7 @@ pub struct Given {
 
 /// A race of both IPv6 addresses and the IPv4 address, answered at 20, with what the client knows of them, in which one
 /// address succeeds after 10.
+#[derive(Clone, Copy)]
 pub struct Known {
     pub rtts: &'static [(Ip, u64)],
     pub used: &'static [Ip],
@@ -132,7 +133,7 @@ pub fn race(alloc: Global, given: &Given) -> Result<Timeline, Fail> {
 }
 
 pub fn known_race(alloc: Global, known: &Known) -> Result<Timeline, Fail> {
-    let mut builder = empty(alloc, Settings::default(), host(alloc)?)?;
+    let mut builder = empty(alloc, Settings::new(50, 250, 1, 30_000)?, host(alloc)?)?;
     let filled = fill_known(&mut builder, known);
     finished(builder, filled)
 }
