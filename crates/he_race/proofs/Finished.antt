@@ -1,22 +1,22 @@
 -- What a race that follows a script gives at its end: the script's transcript.
-use Rattle.std.proofs.Common.{◌≡◌, ℕ, zero, suc, ◌+◌, ◌≤◌, ◌<◌, ◌==◌, ◌&&◌, ◌||◌, Bool, true, false, List, [], ◌∷◌, if◌then◌else◌, length, get_or, Option, Some, None, IfSome, is_some, min, nat_le, refl, sym, ap, subst, arith, inl, inr}
+use Rattle.std.proofs.Common.{◌≡◌, ℕ, ◌+◌, ◌≤◌, ◌<◌, ◌==◌, ◌&&◌, ◌||◌, Bool, true, false, List, [], ◌∷◌, if◌then◌else◌, length, Option, Some, None, IfSome, is_some, min, nat_le, refl, sym, ap, subst, arith, inl, inr}
 use Rattle.std.specs.List.{All, Contains, list_all, list_any}
 use Rattle.std.proofs.lemmas.Bool.{cases_lt}
 use Rattle.std.proofs.lemmas.Bool.Decides.{Decides-eqb}
 use Rattle.std.proofs.lemmas.List.{append-nil}
-use Rattle.std.proofs.lemmas.List.Elements.{All-contains, All-head, All-nil, All-tail, All-weaker}
+use Rattle.std.proofs.lemmas.List.Elements.{All-nil, All-weaker}
 use Rattle.he_addr.specs.Ip.{same_ip}
 use Rattle.he_addr.specs.declared.ip.Ip.{Ip}
 use Rattle.he_plan.specs.declared.attempts.Attempt.{Attempt}
 use Rattle.he_plan.specs.declared.outcome.Outcome.{Outcome}
 use Rattle.he_plan.specs.Agreement.{AreAlike}
-use Rattle.he_plan.specs.Attempts.{AreNextInTurn, IsFree, seen}
+use Rattle.he_plan.specs.Attempts.{IsFree, seen}
 use Rattle.he_plan.specs.Due.{IsAnswerDue}
 use Rattle.he_plan.specs.Finish.{outcome_of}
 use Rattle.he_plan.specs.Race.{Race, Reply, has_outcome}
 use Rattle.he_plan.specs.Timeline.{duration_of}
 use Rattle.he_plan.specs.Transcript.{IsTranscript, Report}
-use Rattle.he_plan.proofs.Bools.{and_left, and_right, clash, le_from, or_one}
+use Rattle.he_plan.proofs.Bools.{and_left, and_right, le_from, or_one}
 use Rattle.he_race.specs.declared.connector.Connector.{Ghosts as ConnectorOf}
 use Rattle.he_race.specs.declared.live.Live.{Live}
 use Rattle.he_race.specs.declared.live.Raced.{Raced}

@@ -1,5 +1,5 @@
 -- What holds of each unfinished attempt of a race by a script holds of each that has no outcome yet.
-use Rattle.std.proofs.Common.{◌≡◌, ◌||◌, true, List, [], ◌∷◌, None, subst, inl, inr}
+use Rattle.std.proofs.Common.{◌≡◌, true, List, [], ◌∷◌, None, subst, inl, inr}
 use Rattle.std.specs.List.{All, Contains, list_all, list_any}
 use Rattle.std.proofs.lemmas.List.Elements.{All-head, All-tail}
 use Rattle.he_addr.specs.Ip.{same_ip}

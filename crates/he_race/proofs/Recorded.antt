@@ -1,5 +1,5 @@
 -- What is known of a race that is being run when a turn begins, when an attempt finishes in it, and when it ends.
-use Rattle.std.proofs.Common.{◌≡◌, ℕ, zero, suc, ◌+◌, ◌-◌, ◌≤◌, ◌<◌, ◌⊎◌, ◌&&◌, ◌||◌, ◌++◌, Bool, true, false, not, List, [], ◌∷◌, if◌then◌else◌, length, find, get_or, Option, Some, None, Result, Ok, Err, IfSome, OnOk, IsSomeAnd, MatchOption, map, nat_le, nat_lt, refl, sym, ◌∙◌, ap, subst, arith, inl, inr, length-append}
+use Rattle.std.proofs.Common.{◌≡◌, ℕ, zero, suc, ◌+◌, ◌-◌, ◌≤◌, ◌<◌, ◌⊎◌, ◌&&◌, ◌||◌, ◌++◌, Bool, true, false, not, List, [], ◌∷◌, if◌then◌else◌, length, find, get_or, Option, Some, None, Result, Ok, Err, IfSome, OnOk, IsSomeAnd, MatchOption, nat_le, nat_lt, refl, sym, ◌∙◌, ap, subst, arith, inl, inr, length-append}
 use Rattle.std.specs.List.{All, Contains, list_all, slice_get}
 use Rattle.std.specs.Option.{option_map, option_map_or}
 use Rattle.std.proofs.lemmas.Bool.{cases_lt}
@@ -12,7 +12,6 @@ use Rattle.he_addr.specs.Ip.{same_ip}
 use Rattle.he_plan.specs.declared.attempts.Attempt.{Attempt}
 use Rattle.he_plan.specs.declared.outcome.Outcome.{Outcome}
 use Rattle.he_plan.specs.declared.outcome.Outcome.TheVariants as outcomes
-use Rattle.he_plan.specs.declared.finish.Fate.{Fate}
 use Rattle.he_plan.specs.Agreement.{AgreeBelow, AreAlike, FailAlike}
 use Rattle.he_plan.specs.Attempts.{AreNextInTurn, HasWaited, HaveFailed, IsFree, IsLeast, IsNext, IsSeen, MayBegin, MayFollow, MayStart, has_failed, has_failed_by, is_tried, is_untried, last_of, seen, seen_past}
 use Rattle.he_plan.specs.Building.{last_end, unrecorded, with_outcome, with_pause}

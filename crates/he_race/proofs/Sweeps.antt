@@ -25,7 +25,7 @@ use Rattle.he_race.specs.Attempt.{AttemptPolls, due_of}
 use Rattle.he_race.specs.Kept.{MakesOne, first_after, IsLive}
 use Rattle.he_race.specs.Recording.{EndsRace, slept}
 use Rattle.he_race.specs.Polling.{AsksInTime, BeginsFrom, BeginsOne, EndsWith, GoesOn, LeftBy, PollsAt, TurnsFrom}
-use Rattle.he_race.specs.Turns.{ArePolled, BeginsAt, EndsPolled, Goes, PolledAt, PolledFrom, Replays, StartsOne, Sweep, Turned, asked_tick, begun, first_of, is_over, told, unpolled}
+use Rattle.he_race.specs.Turns.{ArePolled, BeginsAt, EndsPolled, Goes, PolledAt, PolledFrom, Replays, StartsOne, Sweep, Turned, asked_tick, first_of, is_over, told, unpolled}
 use Rattle.he_race.proofs.Turning.{alike-later, drop-set, take-set}
 
 -- an element that stands at i is the first of those from i on

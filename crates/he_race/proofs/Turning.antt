@@ -1,5 +1,5 @@
 -- What the unfinished attempts and the record of a race are after a poll of them, and at its end.
-use Rattle.std.proofs.Common.{◌≡◌, ℕ, zero, suc, ◌+◌, ◌-◌, ◌≤◌, ◌<◌, ◌==◌, ◌&&◌, ◌||◌, ◌++◌, Bool, true, false, List, [], ◌∷◌, if◌then◌else◌, length, take, drop, find, get_or, Option, Some, None, Result, IfSome, is_some, nat_le, nat_lt, refl, sym, ◌∙◌, ap, subst, arith, inl, inr, length-append, vec_len}
+use Rattle.std.proofs.Common.{◌≡◌, ℕ, zero, suc, ◌+◌, ◌≤◌, ◌<◌, ◌==◌, ◌&&◌, ◌||◌, ◌++◌, Bool, true, false, List, [], ◌∷◌, if◌then◌else◌, length, take, drop, find, get_or, Option, Some, None, Result, IfSome, is_some, nat_le, nat_lt, refl, sym, ◌∙◌, ap, subst, arith, inl, inr, length-append, vec_len}
 use Rattle.std.specs.List.{All, Contains, remove, slice_set}
 use Rattle.std.specs.Option.{option_map}
 use Rattle.std.proofs.lemmas.List.{get_or_append_left}
@@ -10,12 +10,12 @@ use Rattle.he_plan.specs.declared.attempts.Attempt.{Attempt}
 use Rattle.he_plan.specs.declared.outcome.Outcome.{Outcome}
 use Rattle.he_plan.specs.declared.outcome.Outcome.TheVariants as outcomes
 use Rattle.he_plan.specs.Agreement.{AreAlike}
-use Rattle.he_plan.specs.Attempts.{AreNextInTurn, MayStart}
-use Rattle.he_plan.specs.Building.{with_outcome, with_pause}
+use Rattle.he_plan.specs.Attempts.{MayStart}
+use Rattle.he_plan.specs.Building.{with_pause}
 use Rattle.he_plan.specs.Finish.{outcome_in, outcome_of}
 use Rattle.he_plan.specs.Race.{Race, Reply, has_outcome}
 use Rattle.he_plan.specs.Timeline.{IsRace}
-use Rattle.he_plan.specs.Underway.{IsUnderway, Progress}
+use Rattle.he_plan.specs.Underway.{IsUnderway}
 use Rattle.he_plan.proofs.Bools.{above, and_left, and_right, le_from, or_left_none, or_one, or_right_none}
 use Rattle.he_plan.proofs.Growing.{pauses-over}
 use Rattle.he_plan.proofs.Stopping.{none_left-ends}
@@ -27,7 +27,7 @@ use Rattle.he_race.specs.declared.live.Unfinished.{Unfinished}
 use Rattle.he_race.specs.declared.trial.Trial.{Ghosts as TrialOf}
 use Rattle.he_race.specs.Answered.{is_tried_out_by}
 use Rattle.he_race.specs.Kept.{Begins, FailedBelow, InTurn, IsEnded, MakesOne, IsUnfinished, are_untold}
-use Rattle.he_race.specs.Recording.{EndedBy, EndsRace, ended_by, slept}
+use Rattle.he_race.specs.Recording.{EndedBy, EndsRace, slept}
 use Rattle.he_race.specs.Polling.{Answers, Polled, Records}
 use Rattle.he_race.specs.Turns.{is_connection, is_over, told}
 use Rattle.he_race.proofs.Recorded.{finished}

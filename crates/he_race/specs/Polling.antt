@@ -1,11 +1,10 @@
 -- Mirrors the code: what private functions answer of a poll: of one attempt, of all of them, and of the end of a turn.
-use Rattle.std.specs.Prelude.{ℕ, ◌≡◌, ◌-◌, ◌≤◌, ◌++◌, ⊤, false, List, [], ◌∷◌, slice_get, Option, Some, None, Result}
+use Rattle.std.specs.Prelude.{ℕ, ◌≡◌, ◌≤◌, ◌++◌, ⊤, false, List, [], ◌∷◌, slice_get, Option, Some, None, Result}
 use Rattle.std.specs.List.{Contains, remove, slice_set}
 use Rattle.futures.specs.declared.task.Poll.{Poll}
 use Rattle.futures.specs.declared.task.Poll.TheVariants.{Ready, Pending}
 use Rattle.he_plan.specs.declared.attempts.Attempt.{Attempt}
 use Rattle.he_plan.specs.Agreement.{AreAlike}
-use Rattle.he_plan.specs.Building.{with_outcome}
 use Rattle.he_plan.specs.Race.{Race, has_outcome}
 use Rattle.he_plan.specs.Timeline.{IsRace}
 use Rattle.he_plan.specs.Underway.{IsUnderway}
@@ -20,9 +19,8 @@ use Rattle.he_race.specs.declared.live.Unfinished.{Unfinished}
 use Rattle.he_race.specs.declared.live.AfterPoll.{AfterPoll}
 use Rattle.he_race.specs.declared.trial.Trial.{Ghosts as TrialOf}
 use Rattle.he_race.specs.Attempt.{AttemptPolls}
-use Rattle.he_race.specs.Recording.{ended_by}
 use Rattle.he_race.specs.Kept.{IsLive}
-use Rattle.he_race.specs.Turns.{BeginsAt, EndsPolled, Goes, Replays, StartsOne, Sweep, asked_tick, is_connection, told}
+use Rattle.he_race.specs.Turns.{BeginsAt, EndsPolled, Goes, Replays, StartsOne, Sweep, asked_tick, told}
 use Rattle.he_race.specs.declared.live.AfterPoll.TheVariants as after_polls
 
 -- at the tick an attempt of the race answered, and how it ended is recorded, after the ticks since its start
