@@ -10,8 +10,8 @@ use std::test::Fail;
 /// 2001:db8:1::1
 pub const V6_A: Ip = Ip::V6(0x2001_0db8_0001_0000_0000_0000_0000_0001);
 
-// 2001:db8:1::2
-const V6_B: Ip = Ip::V6(0x2001_0db8_0001_0000_0000_0000_0000_0002);
+/// 2001:db8:1::2
+pub const V6_B: Ip = Ip::V6(0x2001_0db8_0001_0000_0000_0000_0000_0002);
 
 /// 198.51.100.1
 pub const V4_A: Ip = Ip::V4(0xc633_6401);
@@ -60,6 +60,15 @@ pub struct Given {
     pub pause: Option<(u64, u64)>,
 }
 
+/// A race of both IPv6 addresses and the IPv4 address, answered at 20, with what the client knows of them, in which one
+/// address succeeds after 10.
+#[derive(Clone, Copy)]
+pub struct Known {
+    pub rtts: &'static [(Ip, u64)],
+    pub used: &'static [Ip],
+    pub succeeds: Ip,
+}
+
 fn fill(builder: &mut TimelineBuilder, given: &Given) -> Result<(), Fail> {
     let count = if given.has_second { 2 } else { 1 };
     builder.answer(Family::V6, given.answers.0, &[V6_A, V6_B][..count])?;
@@ -94,15 +103,39 @@ fn settings(given: &Given) -> Result<Settings, Range> {
     }
 }
 
-pub fn race(alloc: Global, given: &Given) -> Result<Timeline, Fail> {
-    let mut builder = empty(alloc, settings(given)?, host(alloc)?)?;
-    match fill(&mut builder, given) {
+fn fill_known(builder: &mut TimelineBuilder, known: &Known) -> Result<(), Fail> {
+    builder.answer(Family::V6, 20, &[V6_A, V6_B])?;
+    builder.answer(Family::V4, 20, &[V4_A])?;
+    for (ip, rtt) in known.rtts {
+        builder.rtt(*ip, *rtt)?;
+    }
+    for ip in known.used {
+        builder.used(*ip)?;
+    }
+    builder.outcome(known.succeeds, Outcome::Ok(10))?;
+    Ok(())
+}
+
+fn finished(builder: TimelineBuilder, filled: Result<(), Fail>) -> Result<Timeline, Fail> {
+    match filled {
         Ok(()) => Ok(builder.finish()),
         Err(fault) => {
             drop(builder);
             Err(fault)
         }
     }
+}
+
+pub fn race(alloc: Global, given: &Given) -> Result<Timeline, Fail> {
+    let mut builder = empty(alloc, settings(given)?, host(alloc)?)?;
+    let filled = fill(&mut builder, given);
+    finished(builder, filled)
+}
+
+pub fn known_race(alloc: Global, known: &Known) -> Result<Timeline, Fail> {
+    let mut builder = empty(alloc, Settings::new(50, 250, 1, 30_000)?, host(alloc)?)?;
+    let filled = fill_known(&mut builder, known);
+    finished(builder, filled)
 }
 
 /// The first race: its IPv6 address succeeds after 35, and the IPv4 address does what is given.

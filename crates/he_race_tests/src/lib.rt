@@ -7,6 +7,8 @@ mod attempts;
 #[cfg(test)]
 mod homes;
 #[cfg(test)]
+mod known;
+#[cfg(test)]
 mod own;
 #[cfg(test)]
 mod races;

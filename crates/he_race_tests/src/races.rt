@@ -59,10 +59,10 @@ impl Ticker for Moments {
     }
 }
 
-// Goes on to the next tick asked for whenever it is asked the tick.
+/// Goes on to the next tick asked for whenever it is asked the tick.
 #[derive(Drop)]
-struct Stepping<'a> {
-    wheel: WheelTicker<'a>,
+pub struct Stepping<'a> {
+    pub wheel: WheelTicker<'a>,
 }
 
 impl<'a> Ticker for Stepping<'a> {
@@ -106,8 +106,8 @@ impl<'a> Connector for FailsFirst<'a> {
     }
 }
 
-// What the future gives within this many polls. It is dropped then.
-fn drive<F: Future>(solo: &Solo, mut future: F, polls: u8) -> Option<F::Output>
+/// What the future gives within this many polls. It is dropped then.
+pub fn drive<F: Future>(solo: &Solo, mut future: F, polls: u8) -> Option<F::Output>
     requires { F.can_poll future }
 {
     for _ in 0..polls {
