@@ -1,4 +1,4 @@
-pub mod Fields
+pub mod Hex
 pub mod IfInet6
-pub mod Ipv4Route
-pub mod Ipv6Route
+pub mod Interfaces
+pub mod Parts
