@@ -1,0 +1,75 @@
+// /proc/net/ipv6_route: the IPv6 routes of all tables.
+
+ghost use Rattle.std.specs.Prelude.{◌≡◌};
+ghost use Rattle.he_host.specs.Ipv6Route.{route_line, route_of};
+
+use crate::hex::{has, read_hex_field};
+use crate::interface::Link;
+use crate::left_out::Why;
+use he_addr::Prefix;
+use he_select::Route;
+
+const IN_USE: u128 = 0x0000_0001;
+
+const REJECT: u128 = 0x0000_0200;
+
+const CACHED: u128 = 0x0100_0000;
+
+const LOCAL: u128 = 0x8000_0000;
+
+/// The numbers of a line.
+#[derive(Clone, Copy, Debug, PartialEq, Eq)]
+pub struct RouteLine {
+    pub bits: u128,
+    pub len: u8,
+    pub metric: u128,
+    pub flags: u128,
+}
+
+/// The numbers of a line; None where it isn't understood.
+#[tactic(auto, unfolding(crate::specs::Ipv6Route::route_line))]
+pub fn read_route_line(line: &[u8]) -> Option<RouteLine>
+    ensures { result ≡ route_line line.now }
+{
+    let bits = read_hex_field(line, 0, 32)?;
+    let len = read_hex_field(line, 1, 2)?;
+    let metric = read_hex_field(line, 5, 8)?;
+    let flags = read_hex_field(line, 8, 8)?;
+    Some(RouteLine {
+        bits,
+        len: len as u8,
+        metric,
+        flags,
+    })
+}
+
+/// The route of a line whose interface has this link, or why there is none.
+///
+/// # Errors
+///
+/// [`Why::Unclear`], [`Why::Unreachable`], [`Why::Internal`], [`Why::Down`], in this order.
+#[tactic(auto, unfolding(crate::specs::Ipv6Route::route_of))]
+pub fn make_route(read: RouteLine, link: Option<Link>) -> Result<Route, Why>
+    ensures { result ≡ route_of read link }
+{
+    let Some(prefix) = Prefix::try_new(read.bits, read.len) else {
+        return Err(Why::Unclear);
+    };
+    if has(read.flags, REJECT) {
+        return Err(Why::Unreachable);
+    }
+    if has(read.flags, LOCAL) || has(read.flags, CACHED) || !has(read.flags, IN_USE) {
+        return Err(Why::Internal);
+    }
+    if read.bits >> 120 == 0xff {
+        return Err(Why::Internal);
+    }
+    let Some(link) = link else {
+        return Err(Why::Down);
+    };
+    Ok(Route {
+        prefix,
+        interface: link.number,
+        tunnel: link.tunnel,
+    })
+}
