@@ -20,7 +20,7 @@ end
 
 const TWO: &[u8] = b"race 1\nend\nrace 1\nend\n";
 
-const SECOND_IS_WRONG: &[u8] = b"race 1\nend\nrace 2\nend\n";
+const SECOND_IS_WRONG: &[u8] = b"race 1\nend\nrace 3\nend\n";
 
 const UNFINISHED: &[u8] = b"race 1\n";
 
