@@ -6,6 +6,7 @@ ghost use Rattle.he_addr.specs.Ip.{is_usable};
 ghost use Rattle.he_plan.specs.declared.limits.TheConstants.{MAX_ADDRESSES};
 ghost use Rattle.he_plan.specs.Alternating.{interlace};
 ghost use Rattle.he_plan.specs.Attempts.{order};
+ghost use Rattle.he_plan.specs.Building.{empty_history};
 ghost use Rattle.he_plan.specs.Planning.{interlaced_list, is_of_included, part_of, parts_of};
 ghost use Rattle.he_plan.specs.Race.{known_of, race_input, reply_of, usable_addresses};
 ghost use Rattle.he_plan.specs.Timeline.{IsRace};
@@ -15,7 +16,7 @@ ghost use Rattle.he_select.specs.Standing.{standing_of};
 use crate::interlacing::{interlace, members};
 use crate::timeline::{Timeline, are_addresses_in_range};
 use he_addr::{Family, Ip, Memory};
-use he_select::{Known, Standing, order_known, order_known_with_standings};
+use he_select::{Known, Standing, order, order_known, order_known_with_standings};
 use std::alloc::{AllocError, Allocator};
 
 // The interlaced list of the included answers. The addresses of both answers are sorted at the first list that needs
@@ -75,6 +76,32 @@ fn sort_once<A: Allocator + Copy, B: Allocator>(
 
 // The usable addresses of both answers in order.
 fn sorted_addresses<A: Allocator + Copy, B: Allocator>(
+    alloc: A,
+    timeline: &Timeline<B>,
+) -> Result<Vec<Ip, A>, Memory>
+    ensures { IfOk result (λ v. v.items ≡ order timeline.now (usable_addresses timeline.now)) }
+{
+    match (timeline.rtts(), timeline.used_addresses()) {
+        // Most clients keep no history.
+        ([], []) => sorted_unknown(alloc, timeline),
+        _ => sorted_known(alloc, timeline),
+    }
+}
+
+// The same where nothing is known of the addresses.
+fn sorted_unknown<A: Allocator + Copy, B: Allocator>(
+    alloc: A,
+    timeline: &Timeline<B>,
+) -> Result<Vec<Ip, A>, Memory>
+    requires { timeline.now.history ≡ empty_history }
+    ensures { IfOk result (λ v. v.items ≡ order timeline.now (usable_addresses timeline.now)) }
+{
+    let ips = included_addresses(alloc, timeline, true, true)?;
+    order(alloc, timeline.policy(), timeline.host(), &ips)
+}
+
+// The same by what is known of the addresses.
+fn sorted_known<A: Allocator + Copy, B: Allocator>(
     alloc: A,
     timeline: &Timeline<B>,
 ) -> Result<Vec<Ip, A>, Memory>

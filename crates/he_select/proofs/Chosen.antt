@@ -44,18 +44,18 @@ labelled_sound rows [] = refl
 labelled_sound rows (source ∷ sources) = ap (λ t. is_sound_source source && t) (labelled_sound rows sources)
 
 -- the standings that the code makes of a list, by the labels that it took before
-pub all_standings : (input : SelectionInput) (labelled : List LabelledSource) (told : List Known) (standings : List Standing)
-    → labelled ≡ map (labelled_of input.rows) input.sources → told ≡ told_of input.known → standings ≡ map (λ one. standing_from input.rows input.routes labelled told one.ip) input.known
-    → standings ≡ map (standing_of input) (map (λ one. one.ip) input.known)
-all_standings input labelled told standings by_label by_told is =
-    is ∙ ap (λ t. map (λ (one : Known). standing_from input.rows input.routes labelled t one.ip) input.known) by_told
-    ∙ ap (λ l. map (λ (one : Known). standing_from input.rows input.routes l (told_of input.known) one.ip) input.known) by_label ∙ each_made input.known
+pub all_standings : (input : SelectionInput) (ips : List Ip) (labelled : List LabelledSource) (told : List Known) (standings : List Standing)
+    → labelled ≡ map (labelled_of input.rows) input.sources → told ≡ told_of input.known → standings ≡ map (standing_from input.rows input.routes labelled told) ips
+    → standings ≡ map (standing_of input) ips
+all_standings input ips labelled told standings by_label by_told is =
+    is ∙ ap (λ t. map (standing_from input.rows input.routes labelled t) ips) by_told
+    ∙ ap (λ l. map (standing_from input.rows input.routes l (told_of input.known)) ips) by_label ∙ each_made ips
   where
-    each_made : (ones : List Known) → map (λ one. standing_from input.rows input.routes (map (labelled_of input.rows) input.sources) (told_of input.known) one.ip) ones ≡ map (standing_of input) (map (λ one. one.ip) ones)
+    each_made : (some : List Ip) → map (standing_from input.rows input.routes (map (labelled_of input.rows) input.sources) (told_of input.known)) some ≡ map (standing_of input) some
     each_made [] = refl
-    each_made (one ∷ more) =
-        ap (λ s. s ∷ map (λ (one : Known). standing_from input.rows input.routes (map (labelled_of input.rows) input.sources) (told_of input.known) one.ip) more) (standing_is input one.ip)
-        ∙ ap (λ l. standing_of input one.ip ∷ l) (each_made more)
+    each_made (ip ∷ more) =
+        ap (λ s. s ∷ map (standing_from input.rows input.routes (map (labelled_of input.rows) input.sources) (told_of input.known)) more) (standing_is input ip)
+        ∙ ap (λ l. standing_of input ip ∷ l) (each_made more)
 
 keys_counted : (input : SelectionInput) (place : ℕ) (ips : List Ip) → keys_of place (map (standing_of input) ips) ≡ map (destination_key input) (members_from place ips)
 unfolding destination_key

@@ -97,11 +97,6 @@ known_in f own (x ∷ xs) (suc i) ip at =
       | inr gone ↦ rw gone (known_in f own xs i ip at)
     ]
 
-pub usable_known : (known : List Known) → IsTrue (list_all (λ (one : Known). is_usable one.ip) known) → All (λ (one : Known). InRange one.ip) known → Each IsUsable (map (λ (one : Known). one.ip) known)
-usable_known known usable range =
-    let pass : AllPass (λ (one : Known). is_usable one.ip) known = AllPass-from_list_all (λ (one : Known). is_usable one.ip) known usable in
-    mapped known (each-get (λ (one : Known). IsUsable one.ip) known (λ i d lt. (pass i d lt, range i d lt)))
-  where
-    mapped : (ones : List Known) → Each (λ (one : Known). IsUsable one.ip) ones → Each IsUsable (map (λ (one : Known). one.ip) ones)
-    mapped [] each = tt
-    mapped (one ∷ more) each = (each.0, mapped more each.1)
+pub usable_ips : (known : List Known) → list_all is_usable (map (λ (one : Known). one.ip) known) ≡ list_all (λ (one : Known). is_usable one.ip) known
+usable_ips [] = refl
+usable_ips (one ∷ more) = ap (λ t. is_usable one.ip && t) (usable_ips more)

@@ -7,7 +7,7 @@ ghost use Rattle.he_select.specs.DestinationKeys.{key_cmp, keys_of};
 ghost use Rattle.he_select.specs.HostFaults.{is_sound_source};
 ghost use Rattle.he_select.specs.LabelledRules.{labelled_of};
 ghost use Rattle.he_select.specs.Preference.{IsOrder, order_of};
-ghost use Rattle.he_select.specs.Selection.{known_input, nothing_known, selection_input};
+ghost use Rattle.he_select.specs.Selection.{known_input, selection_input};
 ghost use Rattle.he_select.specs.Standing.{standing_from, standing_of};
 ghost use Rattle.he_select.specs.Tables.{IsAdmitted};
 
@@ -41,17 +41,15 @@ pub fn order<A: Allocator + Copy, P: Allocator, H: Allocator>(
     ensures order { IfOk result (λ sorted. IsOrder (selection_input policy.now host.now) addresses.now sorted.items) }
     ensures value { IfOk result (λ sorted. sorted.items ≡ order_of (selection_input policy.now host.now) addresses.now) }
 {
-    let known = nothing_known(alloc, addresses)?;
-    order_known(alloc, policy, host, &known)
-}
-
-fn nothing_known<A: Allocator>(alloc: A, addresses: &[Ip]) -> Result<Vec<Known, A>, AllocError>
-    ensures { IfOk result (λ known. known.items ≡ map nothing_known addresses.now) }
-{
-    addresses
-        .iter()
-        .map(|ip| Known::nothing(*ip))
-        .collect(alloc)
+    let standings = sort_standings(
+        alloc,
+        policy.rows(),
+        host.sources(),
+        host.routes(),
+        &[],
+        addresses,
+    )?;
+    Ok(addresses_of(alloc, &standings)?)
 }
 
 /// The addresses in the order in which they are to be tried by what is known of them as well (RFC 8305 section 4). Each
@@ -81,8 +79,22 @@ pub fn order_known_with_standings<A: Allocator + Copy, P: Allocator, H: Allocato
     ensures order { IfOk result (λ _. IsOrder (known_input policy.now host.now known.now) (map (λ one. one.ip) known.now) (order_of (known_input policy.now host.now known.now) (map (λ one. one.ip) known.now))) }
     ensures value { IfOk result (λ sorted. sorted.items ≡ map (standing_of (known_input policy.now host.now known.now)) (order_of (known_input policy.now host.now known.now) (map (λ one. one.ip) known.now))) }
 {
-    let sorted = sort_standings(alloc, policy.rows(), host.sources(), host.routes(), known)?;
+    let addresses = known_addresses(alloc, known)?;
+    let sorted = sort_standings(
+        alloc,
+        policy.rows(),
+        host.sources(),
+        host.routes(),
+        known,
+        &addresses,
+    )?;
     Ok(sorted)
+}
+
+fn known_addresses<A: Allocator>(alloc: A, known: &[Known]) -> Result<Vec<Ip, A>, AllocError>
+    ensures { IfOk result (λ addresses. addresses.items ≡ map (λ one. one.ip) known.now) }
+{
+    known.iter().map(|one| one.ip).collect(alloc)
 }
 
 fn addresses_of<A: Allocator>(alloc: A, standings: &[Standing]) -> Result<Vec<Ip, A>, AllocError>
@@ -99,15 +111,16 @@ fn sort_standings<A: Allocator + Copy>(
     sources: &[Source],
     routes: &[Route],
     known: &[Known],
+    addresses: &[Ip],
 ) -> Result<Vec<Standing, A>, AllocError>
     requires admitted { IsAdmitted rows.now }
     requires sound { IsTrue (list_all is_sound_source sources.now) }
-    requires usable { IsTrue (list_all (λ one. is_usable one.ip) known.now) }
-    ensures order { IfOk result (λ _. IsOrder (record { rows = rows.now; sources = sources.now; routes = routes.now; known = known.now }) (map (λ one. one.ip) known.now) (order_of (record { rows = rows.now; sources = sources.now; routes = routes.now; known = known.now }) (map (λ one. one.ip) known.now))) }
-    ensures value { IfOk result (λ sorted. sorted.items ≡ map (standing_of (record { rows = rows.now; sources = sources.now; routes = routes.now; known = known.now })) (order_of (record { rows = rows.now; sources = sources.now; routes = routes.now; known = known.now }) (map (λ one. one.ip) known.now))) }
+    requires usable { IsTrue (list_all is_usable addresses.now) }
+    ensures order { IfOk result (λ _. IsOrder (record { rows = rows.now; sources = sources.now; routes = routes.now; known = known.now }) addresses.now (order_of (record { rows = rows.now; sources = sources.now; routes = routes.now; known = known.now }) addresses.now)) }
+    ensures value { IfOk result (λ sorted. sorted.items ≡ map (standing_of (record { rows = rows.now; sources = sources.now; routes = routes.now; known = known.now })) (order_of (record { rows = rows.now; sources = sources.now; routes = routes.now; known = known.now }) addresses.now)) }
 {
     let labelled = label_sources(alloc, rows, sources)?;
-    let standings = standings_of(alloc, rows, routes, &labelled, told(known), known)?;
+    let standings = standings_of(alloc, rows, routes, &labelled, told(known), addresses)?;
     let mut keys = keys_of(alloc, &standings)?;
     sort(&mut keys);
     pick(alloc, &standings, &keys)
@@ -133,15 +146,15 @@ fn standings_of<A: Allocator + Copy>(
     routes: &[Route],
     sources: &[LabelledSource],
     told: &[Known],
-    known: &[Known],
+    addresses: &[Ip],
 ) -> Result<Vec<Standing, A>, AllocError>
     requires { IsTrue (list_all (λ labelled. is_sound_source labelled.source) sources.now) }
-    ensures standings { IfOk result (λ standings. standings.items ≡ map (λ one. standing_from rows.now routes.now sources.now told.now one.ip) known.now) }
-    ensures range { OnOk result (All (λ one. InRange one.ip) known.now) }
+    ensures standings { IfOk result (λ standings. standings.items ≡ map (standing_from rows.now routes.now sources.now told.now) addresses.now) }
+    ensures range { OnOk result (All InRange addresses.now) }
 {
-    let mut standings = Vec::with_capacity(alloc, known.len())?;
-    for one in known {
-        standings.push(Standing::new(rows, routes, sources, told, one.ip))?;
+    let mut standings = Vec::with_capacity(alloc, addresses.len())?;
+    for ip in addresses {
+        standings.push(Standing::new(rows, routes, sources, told, *ip))?;
     }
     Ok(standings)
 }

@@ -1,30 +1,32 @@
-use Rattle.std.proofs.Common.{◌≡◌, List, map, ◌∙◌, ap, subst}
+use Rattle.std.proofs.Common.{◌≡◌, List, map, [], sym, ◌∙◌, ap, subst}
 use Rattle.std.specs.List.{list_all}
-use Rattle.std.proofs.lemmas.Result.{IfOk-weaker}
 use Rattle.he_addr.specs.declared.ip.Ip.{Ip}
-use Rattle.he_addr.specs.Ip.{is_usable}
-use Rattle.he_select.specs.declared.known.Known.{Known}
+use Rattle.he_select.specs.HostFaults.{is_sound_source}
+use Rattle.he_select.specs.declared.standing.Standing.{Standing}
 use Rattle.he_select.specs.Preference.{IsOrder, order_of}
-use Rattle.he_select.specs.Selection.{known_input, nothing_known}
-use Rattle.he_select.proofs.Alike.{nothing_is_order, nothing_order_of}
-use Rattle.he_select.proofs.Told.{nothing_ips, nothing_usable}
+use Rattle.he_select.specs.Selection.{SelectionInput, selection_input}
+use Rattle.he_select.specs.Standing.{standing_of}
+use Rattle.he_select.specs.Tables.{IsAdmitted}
+use Rattle.he_select.proofs.Chosen.{ips_again}
+use Rattle.he_select.proofs.Hosted.{all_sound, given_is}
 use Rattle.he_select.proofs.sorting.order.Goals as goal
 
-pub order_known-requires : goal.order_known-requires
-order_known-requires g c =
-    ap (list_all (λ (one : Known). is_usable one.ip)) (c.deref.ensures.value ∙ c.in_ok-known.ensures) ∙ nothing_usable c.args.addresses.now ∙ c.requires
+pub sort_standings-requires : goal.sort_standings-requires
+sort_standings-requires g c = record {
+  admitted = subst IsAdmitted (sym c.rows.ensures.rows) c.rows.ensures.admitted;
+  sound = ap (list_all is_sound_source) c.sources.ensures.sources ∙ all_sound c.args.host.now c.sources.ensures.host;
+  usable = c.requires;
+}
 
 pub returns : goal.returns
 returns g c =
     let ips : List Ip = c.args.addresses.now in
-    let rows = c.args.policy.now in
-    let host = c.args.host.now in
-    let is : c.deref.result.now ≡ map nothing_known ips = c.deref.ensures.value ∙ c.in_ok-known.ensures in
-    record {
-      order = IfOk-weaker c.order_known.result _ _ (λ v e.
-          nothing_is_order rows host ips v.items (subst (λ (l : List Ip). IsOrder (known_input rows host (map nothing_known ips)) l v.items) (nothing_ips ips) (subst (λ (l : List Known). IsOrder (known_input rows host l) (map (λ (one : Known). one.ip) l) v.items) is e)))
-          c.order_known.ensures.order;
-      value = IfOk-weaker c.order_known.result _ _ (λ v e.
-          e ∙ ap (λ (l : List Known). order_of (known_input rows host l) (map (λ (one : Known). one.ip) l)) is ∙ ap (order_of (known_input rows host (map nothing_known ips))) (nothing_ips ips) ∙ nothing_order_of rows host ips)
-          c.order_known.ensures.value;
-    }
+    let input : SelectionInput = selection_input c.args.policy.now c.args.host.now in
+    let same : ◌≡◌ {A = SelectionInput} (record { rows = c.rows.result.now; sources = c.sources.result.now; routes = c.routes.result.now; known = [] }) input =
+    given_is c.args.policy.now c.rows.result.now c.args.host.now c.sources.result.now c.routes.result.now [] c.rows.ensures.rows c.sources.ensures.sources c.routes.ensures.routes in
+    let sorted : c.in_ok-standings.standings.items ≡ map (standing_of input) (order_of input ips) =
+    subst (λ (given : SelectionInput). c.in_ok-standings.standings.items ≡ map (standing_of given) (order_of given ips)) same c.in_ok-standings.ensures.value in
+    let value : c.in_ok-addresses_of.field-0.items ≡ order_of input ips =
+    c.in_ok-addresses_of.ensures ∙ ap (λ (l : List Standing). map (λ (s : Standing). s.ip) l) (c.deref.ensures.value ∙ sorted) ∙ ips_again input (order_of input ips) in
+    let order : IsOrder input ips (order_of input ips) = subst (λ (given : SelectionInput). IsOrder given ips (order_of given ips)) same c.in_ok-standings.ensures.order in
+    record { order = subst (IsOrder input ips) (sym value) order; value = value }

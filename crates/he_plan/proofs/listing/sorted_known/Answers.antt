@@ -1,7 +1,7 @@
 use Rattle.std.proofs.Common.{◌∙◌}
 use Rattle.he_plan.specs.Race.{usable_addresses}
 use Rattle.he_plan.proofs.Known.{known_ips, known_usable}
-use Rattle.he_plan.proofs.listing.sorted_addresses.Goals as goal
+use Rattle.he_plan.proofs.listing.sorted_known.Goals as goal
 
 pub order_known-requires : goal.order_known-requires
 order_known-requires g c = known_usable c.args.timeline.now _ (c.deref.ensures.value ∙ c.in_ok-known.ensures)
