@@ -66,7 +66,3 @@ keys_counted input place (ip ∷ ips) = ap (λ l. destination_key input (record 
 pub all_keys : (input : SelectionInput) (ips : List Ip) (standings : List Standing) (keys : List Key)
     → standings ≡ map (standing_of input) ips → keys ≡ keys_of 0 standings → keys ≡ map (destination_key input) (members_from 0 ips)
 all_keys input ips standings keys made is = is ∙ ap (keys_of 0) made ∙ keys_counted input 0 ips
-
-pub ips_again : (input : SelectionInput) (ips : List Ip) → map (λ (s : Standing). s.ip) (map (standing_of input) ips) ≡ ips
-ips_again input [] = refl
-ips_again input (ip ∷ ips) = ap (λ l. ip ∷ l) (ips_again input ips)

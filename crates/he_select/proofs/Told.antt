@@ -1,11 +1,10 @@
 -- What is known of addresses: a list that tells nothing is as good as none, and each address is found in a list of all.
 use Rattle.std.proofs.Common.{◌≡◌, ℕ, ◌||◌, ◌&&◌, Bool, true, false, List, [], ◌∷◌, map, refl, sym, ◌∙◌, ap, inl, inr, slice_get, zero, suc}
-use Rattle.std.specs.Prelude.{Option, None, Some, is_some, IsTrue, All}
-use Rattle.std.specs.List.{AllPass, list_all, list_any}
+use Rattle.std.specs.Prelude.{Option, None, Some, is_some}
+use Rattle.std.specs.List.{list_all, list_any}
 use Rattle.std.proofs.lemmas.Bool.{cases_Bool}
-use Rattle.std.proofs.lemmas.List.Sums.{AllPass-from_list_all}
 use Rattle.he_addr.specs.declared.ip.Ip.{Ip}
-use Rattle.he_addr.specs.Ip.{InRange, IsUsable, is_usable, same_ip}
+use Rattle.he_addr.specs.Ip.{is_usable, same_ip}
 use Rattle.he_select.specs.declared.host.Route.{Route}
 use Rattle.he_select.specs.declared.known.Known.{Known}
 use Rattle.he_select.specs.declared.policy.Row.{Row}
@@ -13,7 +12,6 @@ use Rattle.he_select.specs.declared.selection.LabelledSource.{LabelledSource}
 use Rattle.he_select.specs.declared.standing.Standing.{Standing}
 use Rattle.he_select.specs.Selection.{known_of, known_rtt, known_used, nothing_known}
 use Rattle.he_select.specs.Standing.{standing_with, tells, told_of}
-use Rattle.he_select.proofs.Counting.{Each, each-get}
 use Rattle.he_select.proofs.Equality.{ip_from, ip_self}
 
 or_left : (a b : Bool) → (a || b) ≡ false → a ≡ false
@@ -75,14 +73,6 @@ standing_told rows route source known ip = standing_knowing rows route source (t
 pub nothing_told : (ips : List Ip) → list_any tells (map nothing_known ips) ≡ false
 nothing_told [] = refl
 nothing_told (ip ∷ ips) = nothing_told ips
-
-pub nothing_ips : (ips : List Ip) → map (λ (one : Known). one.ip) (map nothing_known ips) ≡ ips
-nothing_ips [] = refl
-nothing_ips (ip ∷ ips) = ap (λ l. ip ∷ l) (nothing_ips ips)
-
-pub nothing_usable : (ips : List Ip) → list_all (λ (one : Known). is_usable one.ip) (map nothing_known ips) ≡ list_all is_usable ips
-nothing_usable [] = refl
-nothing_usable (ip ∷ ips) = ap (λ t. is_usable ip && t) (nothing_usable ips)
 
 -- what is known of each address of a list is found in the list of all that is known of them
 pub known_in : (f : Ip → Known) → ((ip : Ip) → (f ip).ip ≡ ip) → (ips : List Ip) (i : ℕ) (ip : Ip) → slice_get ips i ≡ Some ip → known_of (map f ips) ip ≡ Some (f ip)

@@ -41,7 +41,7 @@ pub fn order<A: Allocator + Copy, P: Allocator, H: Allocator>(
     ensures order { IfOk result (λ sorted. IsOrder (selection_input policy.now host.now) addresses.now sorted.items) }
     ensures value { IfOk result (λ sorted. sorted.items ≡ order_of (selection_input policy.now host.now) addresses.now) }
 {
-    let standings = sort_standings(
+    let sorted = sort_addresses(
         alloc,
         policy.rows(),
         host.sources(),
@@ -49,7 +49,7 @@ pub fn order<A: Allocator + Copy, P: Allocator, H: Allocator>(
         &[],
         addresses,
     )?;
-    Ok(addresses_of(alloc, &standings)?)
+    Ok(sorted)
 }
 
 /// The addresses in the order in which they are to be tried by what is known of them as well (RFC 8305 section 4). Each
@@ -64,8 +64,16 @@ pub fn order_known<A: Allocator + Copy, P: Allocator, H: Allocator>(
     ensures order { IfOk result (λ sorted. IsOrder (known_input policy.now host.now known.now) (map (λ one. one.ip) known.now) sorted.items) }
     ensures value { IfOk result (λ sorted. sorted.items ≡ order_of (known_input policy.now host.now known.now) (map (λ one. one.ip) known.now)) }
 {
-    let standings = order_known_with_standings(alloc, policy, host, known)?;
-    Ok(addresses_of(alloc, &standings)?)
+    let addresses = known_addresses(alloc, known)?;
+    let sorted = sort_addresses(
+        alloc,
+        policy.rows(),
+        host.sources(),
+        host.routes(),
+        known,
+        &addresses,
+    )?;
+    Ok(sorted)
 }
 
 /// The addresses in the order of [`order_known`], each with what the rules look at of it. Each address is usable.
@@ -97,14 +105,27 @@ fn known_addresses<A: Allocator>(alloc: A, known: &[Known]) -> Result<Vec<Ip, A>
     known.iter().map(|one| one.ip).collect(alloc)
 }
 
-fn addresses_of<A: Allocator>(alloc: A, standings: &[Standing]) -> Result<Vec<Ip, A>, AllocError>
-    ensures { IfOk result (λ addresses. addresses.items ≡ map (λ standing. standing.ip) standings.now) }
+/// The addresses in order.
+fn sort_addresses<A: Allocator + Copy>(
+    alloc: A,
+    rows: &[Row],
+    sources: &[Source],
+    routes: &[Route],
+    known: &[Known],
+    addresses: &[Ip],
+) -> Result<Vec<Ip, A>, AllocError>
+    requires admitted { IsAdmitted rows.now }
+    requires sound { IsTrue (list_all is_sound_source sources.now) }
+    requires usable { IsTrue (list_all is_usable addresses.now) }
+    ensures order { IfOk result (λ _. IsOrder (record { rows = rows.now; sources = sources.now; routes = routes.now; known = known.now }) addresses.now (order_of (record { rows = rows.now; sources = sources.now; routes = routes.now; known = known.now }) addresses.now)) }
+    ensures value { IfOk result (λ sorted. sorted.items ≡ order_of (record { rows = rows.now; sources = sources.now; routes = routes.now; known = known.now }) addresses.now) }
 {
-    standings.iter().map(|standing| standing.ip).collect(alloc)
+    let standings = standings_of(alloc, rows, sources, routes, known, addresses)?;
+    let keys = sorted_keys(alloc, &standings)?;
+    pick(alloc, addresses, &keys)
 }
 
-/// What the rules look at is computed once for each source and for each address. What is sorted is keys alone, small
-/// as they are: each names the place of its address.
+/// What the rules look at of the addresses, in the addresses' order.
 fn sort_standings<A: Allocator + Copy>(
     alloc: A,
     rows: &[Row],
@@ -119,11 +140,26 @@ fn sort_standings<A: Allocator + Copy>(
     ensures order { IfOk result (λ _. IsOrder (record { rows = rows.now; sources = sources.now; routes = routes.now; known = known.now }) addresses.now (order_of (record { rows = rows.now; sources = sources.now; routes = routes.now; known = known.now }) addresses.now)) }
     ensures value { IfOk result (λ sorted. sorted.items ≡ map (standing_of (record { rows = rows.now; sources = sources.now; routes = routes.now; known = known.now })) (order_of (record { rows = rows.now; sources = sources.now; routes = routes.now; known = known.now }) addresses.now)) }
 {
-    let labelled = label_sources(alloc, rows, sources)?;
-    let standings = standings_of(alloc, rows, routes, &labelled, told(known), addresses)?;
-    let mut keys = keys_of(alloc, &standings)?;
-    sort(&mut keys);
+    let standings = standings_of(alloc, rows, sources, routes, known, addresses)?;
+    let keys = sorted_keys(alloc, &standings)?;
     pick(alloc, &standings, &keys)
+}
+
+/// What the rules look at, computed once for each source and for each address.
+fn standings_of<A: Allocator + Copy>(
+    alloc: A,
+    rows: &[Row],
+    sources: &[Source],
+    routes: &[Route],
+    known: &[Known],
+    addresses: &[Ip],
+) -> Result<Vec<Standing, A>, AllocError>
+    requires { IsTrue (list_all is_sound_source sources.now) }
+    ensures standings { IfOk result (λ standings. standings.items ≡ map (standing_of (record { rows = rows.now; sources = sources.now; routes = routes.now; known = known.now })) addresses.now) }
+    ensures range { OnOk result (All InRange addresses.now) }
+{
+    let labelled = label_sources(alloc, rows, sources)?;
+    standings_by(alloc, rows, routes, &labelled, told(known), addresses)
 }
 
 fn label_sources<A: Allocator + Copy>(
@@ -139,8 +175,8 @@ fn label_sources<A: Allocator + Copy>(
         .collect(alloc)
 }
 
-/// What the rules look at of each destination, with what is told of them.
-fn standings_of<A: Allocator + Copy>(
+/// What the rules look at of each destination, by the labels of the sources and what is told of them.
+fn standings_by<A: Allocator + Copy>(
     alloc: A,
     rows: &[Row],
     routes: &[Route],
@@ -169,24 +205,37 @@ fn keys_of<A: Allocator + Copy>(alloc: A, standings: &[Standing]) -> Result<Vec<
     Ok(keys)
 }
 
-/// The standings at the places of the keys, in the order of the keys.
-fn pick<A: Allocator + Copy>(
+/// What is sorted is keys alone, small as they are: each names the place of its destination.
+fn sorted_keys<A: Allocator + Copy>(
     alloc: A,
     standings: &[Standing],
+) -> Result<Vec<Key, A>, AllocError>
+    ensures permutation { IfOk result (λ keys. IsPermutation (keys_of 0 standings.now) keys.items) }
+    ensures sorted { IfOk result (λ keys. IsSorted key_cmp keys.items) }
+{
+    let mut keys = keys_of(alloc, standings)?;
+    sort(&mut keys);
+    Ok(keys)
+}
+
+/// What stands at the places of the keys, in the order of the keys.
+fn pick<T: Copy, A: Allocator + Copy>(
+    alloc: A,
+    items: &[T],
     keys: &[Key],
-) -> Result<Vec<Standing, A>, AllocError>
-    ensures { IfOk result (λ picked. picked.items ≡ filter_map (λ key. slice_get standings.now key.place) keys.now) }
+) -> Result<Vec<T, A>, AllocError>
+    ensures { IfOk result (λ picked. picked.items ≡ filter_map (λ key. slice_get items.now key.place) keys.now) }
 {
     keys.iter()
-        .filter_map(|key| standing_at(standings, key.place))
+        .filter_map(|key| item_at(items, key.place))
         .collect(alloc)
 }
 
 /// What stands at this place, if anything does.
-fn standing_at(standings: &[Standing], place: usize) -> Option<Standing>
-    ensures { result ≡ slice_get standings.now place }
+fn item_at<T: Copy>(items: &[T], place: usize) -> Option<T>
+    ensures { result ≡ slice_get items.now place }
 {
-    standings.get(place).copied()
+    items.get(place).copied()
 }
 
 #[tactic(auto, unfolding(crate::specs::DestinationKeys::key_cmp))]

@@ -1,18 +1,15 @@
-use Rattle.std.proofs.Common.{◌≡◌, List, map, [], sym, ◌∙◌, ap, subst}
+use Rattle.std.proofs.Common.{◌≡◌, List, [], sym, ◌∙◌, ap, subst}
 use Rattle.std.specs.List.{list_all}
 use Rattle.he_addr.specs.declared.ip.Ip.{Ip}
 use Rattle.he_select.specs.HostFaults.{is_sound_source}
-use Rattle.he_select.specs.declared.standing.Standing.{Standing}
 use Rattle.he_select.specs.Preference.{IsOrder, order_of}
 use Rattle.he_select.specs.Selection.{SelectionInput, selection_input}
-use Rattle.he_select.specs.Standing.{standing_of}
 use Rattle.he_select.specs.Tables.{IsAdmitted}
-use Rattle.he_select.proofs.Chosen.{ips_again}
 use Rattle.he_select.proofs.Hosted.{all_sound, given_is}
 use Rattle.he_select.proofs.sorting.order.Goals as goal
 
-pub sort_standings-requires : goal.sort_standings-requires
-sort_standings-requires g c = record {
+pub sort_addresses-requires : goal.sort_addresses-requires
+sort_addresses-requires g c = record {
   admitted = subst IsAdmitted (sym c.rows.ensures.rows) c.rows.ensures.admitted;
   sound = ap (list_all is_sound_source) c.sources.ensures.sources ∙ all_sound c.args.host.now c.sources.ensures.host;
   usable = c.requires;
@@ -24,9 +21,6 @@ returns g c =
     let input : SelectionInput = selection_input c.args.policy.now c.args.host.now in
     let same : ◌≡◌ {A = SelectionInput} (record { rows = c.rows.result.now; sources = c.sources.result.now; routes = c.routes.result.now; known = [] }) input =
     given_is c.args.policy.now c.rows.result.now c.args.host.now c.sources.result.now c.routes.result.now [] c.rows.ensures.rows c.sources.ensures.sources c.routes.ensures.routes in
-    let sorted : c.in_ok-standings.standings.items ≡ map (standing_of input) (order_of input ips) =
-    subst (λ (given : SelectionInput). c.in_ok-standings.standings.items ≡ map (standing_of given) (order_of given ips)) same c.in_ok-standings.ensures.value in
-    let value : c.in_ok-addresses_of.field-0.items ≡ order_of input ips =
-    c.in_ok-addresses_of.ensures ∙ ap (λ (l : List Standing). map (λ (s : Standing). s.ip) l) (c.deref.ensures.value ∙ sorted) ∙ ips_again input (order_of input ips) in
-    let order : IsOrder input ips (order_of input ips) = subst (λ (given : SelectionInput). IsOrder given ips (order_of given ips)) same c.in_ok-standings.ensures.order in
+    let value : c.in_ok-sorted.sorted.items ≡ order_of input ips = subst (λ (given : SelectionInput). c.in_ok-sorted.sorted.items ≡ order_of given ips) same c.in_ok-sorted.ensures.value in
+    let order : IsOrder input ips (order_of input ips) = subst (λ (given : SelectionInput). IsOrder given ips (order_of given ips)) same c.in_ok-sorted.ensures.order in
     record { order = subst (IsOrder input ips) (sym value) order; value = value }

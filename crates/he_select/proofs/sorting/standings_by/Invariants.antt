@@ -2,7 +2,7 @@ use Rattle.std.proofs.Common.{◌≡◌, drop, map, ◌++◌}
 use Rattle.std.specs.List.{AllWithin}
 use Rattle.he_addr.specs.Ip.{InRange}
 use Rattle.he_select.specs.Standing.{standing_from}
-use Rattle.he_select.proofs.sorting.standings_of.Given as goal
+use Rattle.he_select.proofs.sorting.standings_by.Given as goal
 
 abbrev pub invariant-loop-ip : goal.invariant-loop-ip
 invariant-loop-ip g l =
