@@ -78,7 +78,7 @@ type Row = (
     &'static [u8],
 );
 
-static ROWS: [Row; 55] = [
+static ROWS: [Row; 57] = [
     (&["he", "replay"], TEXT, Streams::Whole, 0, TRANSCRIPT, b""),
     (
         &["he", "replay", "--workers", "1"],
@@ -339,6 +339,22 @@ static ROWS: [Row; 55] = [
         3,
         b"exhausted ",
         b"",
+    ),
+    (
+        &["he", "live", "-v", "--port", "1"],
+        NO_ADDRESS,
+        Streams::Whole,
+        0,
+        b"exhausted ",
+        b"",
+    ),
+    (
+        &["he", "replay", "-v"],
+        TEXT,
+        Streams::Whole,
+        2,
+        b"",
+        b"error: ",
     ),
     (
         &["he", "live", "--must-connect", "--port", "1"],
