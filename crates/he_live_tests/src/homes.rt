@@ -1,6 +1,6 @@
 // Races on real sockets, and what is wanted of them.
 
-use he_live::{LiveFault, Reason, Reasons, failed_attempts, live_race, live_race_on};
+use he_live::{LiveFault, Reason, Reasons, live_race, live_race_on};
 use he_plan::{Mark, Outcome3, Transcript};
 use he_race::Raced;
 use he_replay::replay;
@@ -113,25 +113,20 @@ fn is_right_of<R: Lender>(
 ) -> Result<bool, Fail> {
     let raced = raced?;
     let is_right = is_right(rt, &raced, wanted);
-    let is_told = is_told(rt, &raced, wanted.reason, reasons);
+    let is_told = is_told(&raced.transcript, wanted.reason, reasons);
     drop(raced);
-    Ok(is_right? && is_told?)
+    Ok(is_right? && is_told)
 }
 
 // Whether each attempt that failed did so for this reason.
-fn is_told<R: Lender>(
-    rt: &R,
-    raced: &Raced<TcpStream>,
-    wanted: Reason,
-    reasons: &Reasons,
-) -> Result<bool, Fail> {
-    let failed = failed_attempts(rt.alloc(), raced.transcript.attempts(), reasons)?;
+fn is_told(transcript: &Transcript, wanted: Reason, reasons: &Reasons) -> bool {
     let mut is_told = true;
-    for attempt in &failed {
-        is_told = is_told && attempt.reason == wanted;
+    for line in transcript.attempts() {
+        if let Mark::Failed(_) = line.mark {
+            is_told = is_told && reasons.of(line.place) == wanted;
+        }
     }
-    drop(failed);
-    Ok(is_told)
+    is_told
 }
 
 /// Whether the race comes to what is wanted at the port, and its record replays.

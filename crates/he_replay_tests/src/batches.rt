@@ -77,8 +77,8 @@ const JOBS: usize = 2_048;
 
 const RACES: usize = 4;
 
-// The most turns for which a gate holds a worker.
-const TURNS: u64 = 300_000_000;
+// The most turns for which a gate holds a worker: tens of seconds, so that another is run by then on a busy machine.
+const TURNS: u64 = 50_000_000;
 
 // So many races: the four of the text, again and again.
 fn timelines_of<A: Allocator + Copy>(alloc: A, count: usize) -> Option<Vec<Timeline<A>, A>> {

@@ -2,6 +2,7 @@
 
 use he_replay::Gate;
 use std::sync::atomic::{AtomicU64, Ordering};
+use std::thread;
 
 // Whom the gate holds until the others have begun so many jobs.
 #[derive(Clone, Copy)]
@@ -29,7 +30,7 @@ impl Held {
 #[derive(Drop)]
 pub struct Holding {
     held: Held,
-    // How many jobs of others a worker waits for, and how many turns at most.
+    // How many jobs of others a worker waits for, and how many turns at most. In each it lets others run.
     others: u64,
     turns: u64,
     // A hexadecimal digit for each job: how often the gate was told of it.
@@ -86,6 +87,7 @@ impl Gate for Holding {
             if self.begun.load(Ordering::SeqCst) >= self.others {
                 return;
             }
+            thread::yield_now();
         }
         self.vain.fetch_add(1, Ordering::SeqCst);
     }
