@@ -7,8 +7,7 @@ use thiserror::Error;
 /// Why a text is no host name.
 #[derive(Clone, Copy, Debug, PartialEq, Eq, Error)]
 pub enum NameFault {
-    /// A name of more than 255 octets in a message (RFC 1035 section 2.3.4): of more than 253 bytes, a dot at its end
-    /// not counted.
+    /// A name of more than 255 octets in a message (RFC 1035 section 2.3.4).
     #[error("name too long")]
     LongName,
     /// Nothing stands before, between or behind the dots.

@@ -7,9 +7,6 @@ pub const MAX_LABEL: usize = 63;
 /// (RFC 1035 section 2.3.4).
 pub const MAX_NAME: usize = 254;
 
-/// The most bytes of a host name's text without a dot at its end: one less than the octets of its labels.
-pub const MAX_NAME_TEXT: usize = 253;
-
 /// The most parts, labels and pointers, of a name in a message. A name has at most 127 labels, so one with a pointer
 /// between any two of them is read.
 pub const MAX_PARTS: usize = 255;

@@ -1,5 +1,9 @@
 // The parts of a name in a message (RFC 1035 section 4.1.4).
 
+ghost use Rattle.std.specs.Prelude.{◌≡◌, ◌+◌, ◌<◌, IfSome, length};
+ghost use Rattle.he_dns.specs.declared.parts.Part.TheVariants.{Label};
+ghost use Rattle.he_dns.specs.Reading.{IsWithin, label_at, part_at};
+
 use crate::limits::{MAX_LABEL, POINTER};
 use crate::words::octet_at;
 
@@ -14,7 +18,11 @@ pub(crate) enum Part {
     Pointer(usize),
 }
 
-pub(crate) fn part_at(message: &[u8], at: usize) -> Option<Part> {
+#[tactic(auto, unfolding(crate::specs::Reading::part_at, crate::specs::Reading::octet_at))]
+pub(crate) fn part_at(message: &[u8], at: usize) -> Option<Part>
+    ensures value { result ≡ part_at message.now at }
+    ensures within { IfSome result (IsWithin (length message.now) at) }
+{
     let first = octet_at(message, at)?;
     if first == 0 {
         return Some(Part::Root);
@@ -30,9 +38,14 @@ pub(crate) fn part_at(message: &[u8], at: usize) -> Option<Part> {
 }
 
 // A label that lies within the message.
-fn label_at(message: &[u8], at: usize, len: usize) -> Option<Part> {
-    if at >= message.len() || message.len() - at <= len {
-        return None;
+#[tactic(auto, unfolding(crate::specs::Reading::label_at))]
+fn label_at(message: &[u8], at: usize, len: usize) -> Option<Part>
+    ensures value { result ≡ label_at message.now at len }
+    ensures within { IfSome result (λ part. (part ≡ Label len) × (at + len < length message.now)) }
+{
+    if at < message.len() && len < message.len() - at {
+        Some(Part::Label(len))
+    } else {
+        None
     }
-    Some(Part::Label(len))
 }

@@ -1,5 +1,8 @@
 // Resource records (RFC 1035 section 4.1.3).
 
+ghost use Rattle.std.specs.Prelude.{◌≡◌, ◌+◌, ◌≤◌, IfSome, length};
+ghost use Rattle.he_dns.specs.Reading.{record_at};
+
 use crate::names::read_name;
 use crate::octets::Octets;
 use crate::words::word_at;
@@ -20,7 +23,11 @@ pub(crate) struct Record {
 }
 
 // The record at a place.
-pub(crate) fn read_record(message: &[u8], at: usize) -> Option<Record> {
+#[tactic(auto, unfolding(crate::specs::Reading::record_at, crate::specs::Reading::word_at))]
+pub(crate) fn read_record(message: &[u8], at: usize) -> Option<Record>
+    ensures value { result ≡ record_at message.now at }
+    ensures within { IfSome result (λ r. r.place + r.size ≤ length message.now) }
+{
     let (owner, end) = read_name(message, at)?;
     let kind = word_at(message, end)?;
     let class = word_at(message, end + 2)?;
