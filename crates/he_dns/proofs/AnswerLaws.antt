@@ -79,10 +79,13 @@ question_found m name family at is =
     let of_type = eq-eqb (type_of family) (type_of family) refl in
     rw (asked, kind, class, same, of_type) (ap Some (sym is.ends))
 
-mapped : (o : Option ℕ) (a b : Header) (at : ℕ) → option_map (λ (x : ℕ). (a, x)) o ≡ Some (b, at) → (o ≡ Some at) × (a ≡ b)
+abbrev paired : Header → ℕ → Header × ℕ
+paired h at = (h, at)
+
+mapped : (o : Option ℕ) (a b : Header) (at : ℕ) → option_map (paired a) o ≡ Some (paired b at) → (o ≡ Some at) × (a ≡ b)
 mapped None a b at h = cc
 mapped (Some x) a b at h =
-    let same : (a, x) ≡ (b, at) = some_same (a, x) (b, at) h in
+    let same : paired a x ≡ paired b at = some_same (paired a x) (paired b at) h in
     (ap (λ (p : Header × ℕ). Some p.1) same, ap (λ (p : Header × ℕ). p.0) same)
 
 -- the response
@@ -91,7 +94,7 @@ response_stands : (m : List ℕ) (id : ℕ) (name : List ℕ) (family : Family) 
 unfolding response_in
 response_stands m id name family h at is =
     let header = bind_some _ _ (h, at) is in
-    let test = allowed (responds header.0 id) (option_map (λ (a : ℕ). (header.0, a)) (behind_question m name family)) (h, at) header.2 in
+    let test = allowed (responds header.0 id) (option_map (paired header.0) (behind_question m name family)) (paired h at) header.2 in
     let outer = and_parts (eqb header.0.id id && eqb (header.0.flags / 2048) 16) (eqb header.0.questions 1) test.0 in
     let inner = and_parts (eqb header.0.id id) (eqb (header.0.flags / 2048) 16) outer.0 in
     let question = mapped (behind_question m name family) header.0 h at test.1 in

@@ -72,10 +72,10 @@ address_stands : (octets : List ℕ) (family : Family) (content : Content) → a
 unfolding address_of
 address_stands octets families.V4 content h =
     let a = allowed (eqb (length octets) 4) (Some (Address (V4 (from_be_bytes w32 octets)))) content h in
-    (V4 (from_be_bytes w32 octets), sym (some_same (Address (V4 (from_be_bytes w32 octets))) content a.1), eqb-true (length octets) 4 a.0, refl)
+    (V4 (from_be_bytes w32 octets), sym (some_same (Address (V4 (from_be_bytes w32 octets))) content a.1), (eqb-true (length octets) 4 a.0, refl))
 address_stands octets families.V6 content h =
     let a = allowed (eqb (length octets) 16) (Some (Address (V6 (from_be_bytes w128 octets)))) content h in
-    (V6 (from_be_bytes w128 octets), sym (some_same (Address (V6 (from_be_bytes w128 octets))) content a.1), eqb-true (length octets) 16 a.0, refl)
+    (V6 (from_be_bytes w128 octets), sym (some_same (Address (V6 (from_be_bytes w128 octets))) content a.1), (eqb-true (length octets) 16 a.0, refl))
 
 address_found : (octets : List ℕ) (family : Family) (ip : Ip) → IsAddress family octets ip → address_of octets family ≡ Some (Address ip)
 unfolding address_of

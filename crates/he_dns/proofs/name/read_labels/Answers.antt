@@ -4,8 +4,8 @@ use Rattle.he_dns.proofs.name.read_labels.Goals as goal
 
 pub loop-at-preserved : goal.loop-at-preserved
 loop-at-preserved g c =
-    left_on c.loop-at.octets.items c.append_label.new.octets.items c.loop-at.rest.now c.behind.result.now c.args.body.now c.in-Some.at c.loop-at.invariant c.in-Some.ensures
-    c.behind.ensures c.in_ok-append_label.ensures.ok.0 c.in_ok-append_label.ensures.ok.1
+    left_on c.loop-at.octets.items c.append_label.new.octets.items c.loop-at.rest.now c.behind-rest.result.now c.args.body.now c.in-Some.at c.loop-at.invariant c.in-Some.ensures
+    c.behind-rest.ensures c.in_ok-append_label.ensures.ok.0 c.in_ok-append_label.ensures.ok.1
 
 pub returns-clause-ok : goal.returns-clause-ok
 returns-clause-ok g c =
