@@ -1,0 +1,9 @@
+pub mod Answers
+pub mod Chains
+pub mod Header
+pub mod Names
+pub mod Numbers
+pub mod Queries
+pub mod Reading
+pub mod Records
+pub mod Texts

@@ -1,0 +1,42 @@
+-- Numbers of a message (RFC 1035 section 2.3.2), and the numbers that the RFC gives to things.
+use Rattle.std.specs.Prelude.{◌≡◌, ℕ, ◌+◌, ◌*◌, ◌<◌, List, length, slice_index}
+use Rattle.he_addr.specs.declared.ip.Family.{Family}
+use Rattle.he_addr.specs.declared.ip.Family.TheVariants.{V4, V6}
+
+-- two octets that stand at a place, the first the high one
+pub record IsWordAt (message : List ℕ) (at word : ℕ) : Type 0 where
+  pub within : at + 1 < length message
+  pub value : word ≡ slice_index message at * 256 + slice_index message (at + 1)
+
+-- the most octets of a label (section 2.3.4)
+abbrev pub max_label : ℕ
+max_label = 63
+
+-- the most octets of a name without the last one, the root's empty label: a whole name has at most 255 (section 2.3.4)
+abbrev pub max_name : ℕ
+max_name = 254
+
+-- the most labels and pointers of a name in a message
+abbrev pub max_parts : ℕ
+max_parts = 255
+
+-- the most aliases that are followed
+abbrev pub max_aliases : ℕ
+max_aliases = 16
+
+-- a message's header has so many octets (section 4.1.1)
+abbrev pub header_len : ℕ
+header_len = 12
+
+-- TYPE of an address of the family (section 3.2.2; RFC 3596 section 2.1)
+abbrev pub type_of : Family → ℕ
+type_of V4 = 1
+type_of V6 = 28
+
+-- TYPE of an alias (section 3.2.2)
+abbrev pub type_cname : ℕ
+type_cname = 5
+
+-- CLASS of the Internet (section 3.2.4)
+abbrev pub class_in : ℕ
+class_in = 1

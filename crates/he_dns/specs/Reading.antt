@@ -1,0 +1,155 @@
+-- Mirrors the code: what the readers answer, as functions on lists. What stands in a message is said in `Names`, `Header`,
+-- `Records`, `Chains` and `Answers`.
+use Rattle.std.specs.Prelude.{◌≡◌, ◌⊎◌, ℕ, zero, suc, ◌+◌, ◌-◌, ◌*◌, ◌<◌, ◌/◌, ◌%◌, ◌==◌, ◌&&◌, Bool, List, [], ◌∷◌, ◌++◌, Option, Some, None, Result, Ok, Err, length, slice_index, slice_get, slice_range, take, drop, nat_lt, nat_le, if◌then◌else◌}
+use Rattle.std.specs.Int.{w32, w128, from_be_bytes}
+use Rattle.std.specs.Option.{option_and_then, option_map, option_map_or, option_or, unwrap_or}
+use Rattle.he_addr.specs.declared.ip.Family.{Family}
+use Rattle.he_addr.specs.declared.ip.Family.TheVariants as families
+use Rattle.he_addr.specs.declared.ip.Ip.{Ip}
+use Rattle.he_addr.specs.declared.ip.Ip.TheVariants.{V4, V6}
+use Rattle.he_dns.specs.declared.entries.Content.{Content}
+use Rattle.he_dns.specs.declared.entries.Content.TheVariants.{Alias, Address, Other}
+use Rattle.he_dns.specs.declared.entries.Entry.{Entry}
+use Rattle.he_dns.specs.declared.fault.AnswerFault.{AnswerFault}
+use Rattle.he_dns.specs.declared.fault.AnswerFault.TheVariants as faults
+use Rattle.he_dns.specs.declared.fault.NameFault.{NameFault}
+use Rattle.he_dns.specs.declared.fault.NameFault.TheVariants as names
+use Rattle.he_dns.specs.declared.header.Header.{Header}
+use Rattle.he_dns.specs.declared.parts.Part.{Part}
+use Rattle.he_dns.specs.declared.parts.Part.TheVariants.{Root, Label, Pointer}
+use Rattle.he_dns.specs.declared.records.Record.{Record}
+use Rattle.he_dns.specs.Chains.{addresses_of, alias_of}
+use Rattle.he_dns.specs.Header.{flags_fault}
+use Rattle.he_dns.specs.Names.{is_same}
+use Rattle.he_dns.specs.Numbers.{class_in, type_cname, type_of}
+
+infixl 10 ◌>>=◌
+abbrev pub ◌>>=◌ : {A B : Type 0} → Option A → (A → Option B) → Option B
+o >>= f = option_and_then f o
+
+-- why a label is none, and the first of some that is
+abbrev pub label_fault : List ℕ → Option NameFault
+label_fault label = if length label == 0 then Some names.EmptyLabel else if nat_lt 63 (length label) then Some names.LongLabel else None
+
+abbrev pub labels_fault : List (List ℕ) → Option NameFault
+labels_fault [] = None
+labels_fault (label ∷ more) = option_or (label_fault label) (labels_fault more)
+
+-- an octet, and a word of two
+unfoldable pub octet_at : List ℕ → ℕ → Option ℕ
+octet_at message at = if nat_lt at (length message) then Some (slice_index message at) else None
+
+unfoldable pub word_at : List ℕ → ℕ → Option ℕ
+word_at message at = if nat_lt (at + 1) (length message) then Some (slice_index message at * 256 + slice_index message (at + 1)) else None
+
+-- what stands at a place of a name
+unfoldable pub label_at : List ℕ → ℕ → ℕ → Option Part
+label_at message at len = if nat_lt (at + len) (length message) then Some (Label len) else None
+
+unfoldable pub part_at : List ℕ → ℕ → Option Part
+part_at message at = octet_at message at >>= λ first.
+    if first == 0 then Some Root
+    else if nat_le first 63 then label_at message at first
+    else if nat_lt first 192 then None
+    else octet_at message (at + 1) >>= λ second. Some (Pointer ((first - 192) * 256 + second))
+
+-- the part lies within a message of this length
+abbrev pub IsWithin : ℕ → ℕ → Part → Type 0
+IsWithin len at Root = at < len
+IsWithin len at (Label n) = at + n < len
+IsWithin len at (Pointer to) = at + 1 < len
+
+-- what comes of each part
+abbrev pub by_part : {A : Type 0} → Option Part → A → A → (ℕ → A) → (ℕ → A) → A
+by_part None none root label pointer = none
+by_part (Some Root) none root label pointer = root
+by_part (Some (Label len)) none root label pointer = label len
+by_part (Some (Pointer to)) none root label pointer = pointer to
+
+-- the name whose octets up to this place are read, with so many parts left; its end is known behind the first pointer
+unfoldable pub name_from : ℕ → List ℕ → ℕ → ℕ → Option ℕ → List ℕ → Option (List ℕ × ℕ)
+name_from zero message begin place end octets = None
+name_from (suc left) message begin place end octets = by_part (part_at message place) None
+    (Some (octets, unwrap_or end (place + 1)))
+    (λ len. if nat_lt 254 (length octets + (1 + len)) then None
+    else name_from left message begin (place + (1 + len)) end (octets ++ take (1 + len) (drop place message)))
+    (λ to. if nat_lt to begin then name_from left message to to (Some (unwrap_or end (place + 2))) octets else None)
+
+unfoldable pub name_at : List ℕ → ℕ → Option (List ℕ × ℕ)
+name_at message at = name_from 255 message at at None []
+
+-- the header, and the place behind the question, of a response to this query
+unfoldable pub header_at : List ℕ → Option Header
+header_at message = if nat_lt (length message) 12 then None
+    else word_at message 0 >>= λ id. word_at message 2 >>= λ flags. word_at message 4 >>= λ questions. word_at message 6 >>= λ answers.
+    Some (record { id = id; flags = flags; questions = questions; answers = answers })
+
+abbrev pub responds : Header → ℕ → Bool
+responds header id = header.id == id && header.flags / 2048 == 16 && header.questions == 1
+
+unfoldable pub behind_question : List ℕ → List ℕ → Family → Option ℕ
+behind_question message name family = name_at message 12 >>= λ asked. word_at message asked.1 >>= λ kind. word_at message (asked.1 + 2) >>= λ class.
+    if is_same asked.0 name && kind == type_of family && class == class_in then Some (asked.1 + 4) else None
+
+unfoldable pub response_in : List ℕ → ℕ → List ℕ → Family → Option (Header × ℕ)
+response_in message id name family = header_at message >>= λ header.
+    if responds header id then option_map (λ at. (header, at)) (behind_question message name family) else None
+
+-- the record at a place
+unfoldable pub record_at : List ℕ → ℕ → Option Record
+record_at message at = name_at message at >>= λ owner. word_at message owner.1 >>= λ kind. word_at message (owner.1 + 2) >>= λ class.
+    word_at message (owner.1 + 8) >>= λ size.
+    if nat_lt (length message) (owner.1 + 10 + size) then None
+    else Some (record { owner = owner.0; kind = kind; class = class; place = owner.1 + 10; size = size })
+
+-- what a record says
+unfoldable pub alias_at : List ℕ → ℕ → ℕ → Option Content
+alias_at message place size = name_at message place >>= λ target. if target.1 == place + size then Some (Alias target.0) else None
+
+unfoldable pub address_of : List ℕ → Family → Option Content
+address_of octets families.V4 = if length octets == 4 then Some (Address (V4 (from_be_bytes w32 octets))) else None
+address_of octets families.V6 = if length octets == 16 then Some (Address (V6 (from_be_bytes w128 octets))) else None
+
+unfoldable pub content_of : List ℕ → Family → Record → Option Content
+content_of message family r =
+    if r.class == class_in then
+    (if r.kind == type_cname then alias_at message r.place r.size
+    else if r.kind == type_of family then address_of (slice_range message r.place (r.place + r.size)) family
+    else Some Other)
+    else Some Other
+
+unfoldable pub entry_at : List ℕ → Family → ℕ → Option (Entry × ℕ)
+entry_at message family at = record_at message at >>= λ r. content_of message family r >>= λ content.
+    Some (record { owner = r.owner; content = content }, r.place + r.size)
+
+-- what so many records say from a place on
+unfoldable pub entries_from : ℕ → List ℕ → Family → ℕ → Option (List Entry)
+entries_from zero message family at = Some []
+entries_from (suc count) message family at = entry_at message family at >>= λ first. option_map (λ more. first.0 ∷ more) (entries_from count message family first.1)
+
+-- the name at the end of the chain, where so many names may be looked up
+unfoldable pub chain_end : ℕ → List Entry → List ℕ → Result (List ℕ) AnswerFault
+chain_end zero entries name = Err faults.ChainTooLong
+chain_end (suc left) entries name = option_map_or (λ target. chain_end left entries target) (alias_of entries name) (Ok name)
+
+-- the addresses at the end of the chain
+abbrev pub addresses_at : List Entry → Result (List ℕ) AnswerFault → Result (List Ip) AnswerFault
+addresses_at entries (Ok host) = Ok (addresses_of entries host)
+addresses_at entries (Err fault) = Err fault
+
+unfoldable pub chain_addresses : List Entry → List ℕ → Result (List Ip) AnswerFault
+chain_addresses entries name = addresses_at entries (chain_end 17 entries name)
+
+unfoldable pub section_addresses : List ℕ → Header → ℕ → List ℕ → Family → Result (List Ip) AnswerFault
+section_addresses message header at name family =
+    option_map_or (λ entries. chain_addresses entries name) (entries_from header.answers message family at) (Err faults.Malformed)
+
+unfoldable pub answer_of : List ℕ → ℕ → List ℕ → Family → Result (List Ip) AnswerFault
+answer_of message id name family = option_map_or
+    (λ response. option_map_or (λ fault. Err fault) (flags_fault response.0.flags) (section_addresses message response.0 response.1 name family))
+    (response_in message id name family) (Err faults.NotOurs)
+
+-- what a fault of the reading of an answer section tells of it
+abbrev pub Refuses : Option (List Entry) → AnswerFault → Type 0
+Refuses expected faults.Malformed = expected ≡ None
+Refuses expected fault = fault ≡ faults.Memory

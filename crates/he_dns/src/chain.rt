@@ -1,0 +1,82 @@
+// The chain of aliases that leads from a name to the host's own.
+
+ghost use Rattle.std.specs.Prelude.{◌≡◌, ◌≤◌, IfOk, OnErr, MatchResult, Ok, Err};
+ghost use Rattle.std.specs.Option.{option_map};
+ghost use Rattle.std.specs.Result.{IfErr};
+ghost use Rattle.he_dns.specs.declared.fault.AnswerFault.TheVariants as faults;
+ghost use Rattle.he_dns.specs.Chains.{address_for, addresses_of, alias_of, target_for};
+ghost use Rattle.he_dns.specs.Reading.{chain_end};
+
+use crate::entries::{Content, Entry};
+use crate::fault::AnswerFault;
+use crate::limits::MAX_ALIASES;
+use crate::question::is_same;
+use he_addr::Ip;
+use std::alloc::Allocator;
+
+// The names of a chain: one more than its aliases.
+const MAX_NAMES: usize = MAX_ALIASES + 1;
+
+// The name of which this one is an alias, if the entry says so.
+fn target_for<'e>(name: &[u8], entry: &'e Entry) -> Option<&'e [u8]>
+    ensures { option_map (λ target. target.now) result ≡ target_for name.now entry.now }
+{
+    match &entry.content {
+        Content::Alias(target) if is_same(entry.owner.as_slice(), name) => Some(target.as_slice()),
+        _ => None,
+    }
+}
+
+// The address of this name that the entry has.
+fn address_for(name: &[u8], entry: &Entry) -> Option<Ip>
+    ensures { result ≡ address_for name.now entry.now }
+{
+    match &entry.content {
+        Content::Address(ip) if is_same(entry.owner.as_slice(), name) => Some(*ip),
+        _ => None,
+    }
+}
+
+// The name of which this one is an alias, by the first record that says so.
+fn alias_of<'e>(entries: &'e [Entry], name: &[u8]) -> Option<&'e [u8]>
+    ensures { option_map (λ target. target.now) result ≡ alias_of entries.now name.now }
+{
+    for entry in entries {
+        if let Some(target) = target_for(name, entry) {
+            return Some(target);
+        }
+    }
+    None
+}
+
+// The name at the end of the chain.
+pub(crate) fn chain_end<'e>(entries: &'e [Entry], name: &'e [u8]) -> Result<&'e [u8], AnswerFault>
+    ensures { MatchResult result (λ host. chain_end 17 entries.now name.now ≡ Ok host.now) (λ fault. chain_end 17 entries.now name.now ≡ Err fault) }
+{
+    let mut current = name;
+    'names: for passed in 0..MAX_NAMES {
+        match alias_of(entries, current) {
+            Some(target) => current = target,
+            None => return Ok(current),
+        }
+    }
+    Err(AnswerFault::ChainTooLong)
+}
+
+// The addresses of a name, in the order in which they stand.
+pub(crate) fn addresses_of<A: Allocator + Copy>(
+    alloc: A,
+    entries: &[Entry],
+    name: &[u8],
+) -> Result<Vec<Ip, A>, AnswerFault>
+    ensures ok { IfOk result (λ found. found.items ≡ addresses_of entries.now name.now) }
+    ensures err { IfErr result (λ fault. fault ≡ faults.Memory) }
+{
+    let mut addresses = Vec::new(alloc);
+    for entry in entries {
+        if let Some(ip) = address_for(name, entry) {
+            addresses.push(ip)?;
+        }
+    }
+    Ok(addresses)
+}
