@@ -1,20 +1,20 @@
 -- What is read of a message is what the definitions say of it, and the other way round.
-use Rattle.std.proofs.Common.{◌≡◌, ◌⊎◌, ℕ, zero, suc, ◌+◌, ◌/◌, ◌<◌, ◌≤◌, Bool, true, false, cond, ltb, eqb, ◌&&◌, List, [], ◌∷◌, Option, Some, None, Result, Ok, Err, length, refl, sym, ◌∙◌, ap, subst, arith, inl, inr}
+use Rattle.std.proofs.Common.{◌≡◌, ◌⊎◌, ℕ, zero, suc, ◌+◌, ◌/◌, ◌<◌, Bool, true, false, cond, eqb, ◌&&◌, List, Option, Some, None, Result, Ok, Err, length, refl, sym, ◌∙◌, ap, subst, arith, inl, inr}
 use Rattle.std.specs.Option.{option_map, option_map_or}
 use Rattle.std.specs.Result.{IfErr, IfOk, MatchResult}
-use Rattle.std.proofs.lemmas.Bool.{and_from, and_parts, eqb-true, eq-eqb, ltb-false, le-ltb}
+use Rattle.std.proofs.lemmas.Bool.{and_parts, eqb-true, eq-eqb, ltb-false, le-ltb}
 use Rattle.he_addr.specs.declared.ip.Family.{Family}
 use Rattle.he_addr.specs.declared.ip.Ip.{Ip}
 use Rattle.he_dns.specs.declared.entries.Entry.{Entry}
 use Rattle.he_dns.specs.declared.fault.AnswerFault.{AnswerFault}
 use Rattle.he_dns.specs.declared.fault.AnswerFault.TheVariants as faults
 use Rattle.he_dns.specs.declared.header.Header.{Header}
-use Rattle.he_dns.specs.Answers.{Answers, Fails, HasFault, IsMalformed, IsStranger, LeadsOn, Tells}
-use Rattle.he_dns.specs.Chains.{IsCanonical, IsTooLong, Leads, addresses_of, alias_of}
-use Rattle.he_dns.specs.Header.{Asks, IsHeader, Responds, code_fault, flags_fault, rcode_of, tc_of}
+use Rattle.he_dns.specs.Answers.{Answers, Fails, HasFault, IsStranger, Tells}
+use Rattle.he_dns.specs.Chains.{Leads, addresses_of, alias_of}
+use Rattle.he_dns.specs.Header.{Asks, IsHeader, Responds, flags_fault, rcode_of, tc_of}
 use Rattle.he_dns.specs.Names.{is_same}
 use Rattle.he_dns.specs.Numbers.{type_of}
-use Rattle.he_dns.specs.Reading.{addresses_at, answer_of, behind_question, chain_addresses, chain_end, entries_from, header_at, name_at, responds, response_in, section_addresses, word_at}
+use Rattle.he_dns.specs.Reading.{addresses_at, answer_of, behind_question, chain_addresses, chain_end, entries_from, header_at, responds, response_in, section_addresses}
 use Rattle.he_dns.specs.Records.{AreEntries}
 use Rattle.he_dns.proofs.Chained.{alias_step, own_step}
 use Rattle.he_dns.proofs.NameLaws.{name_found, name_stands}

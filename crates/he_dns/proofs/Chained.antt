@@ -1,5 +1,5 @@
 -- One more alias of a chain.
-use Rattle.std.proofs.Common.{◌≡◌, ℕ, zero, suc, ◌+◌, ◌-◌, ◌<◌, ◌≤◌, List, Option, Some, None, Result, Ok, Err, refl, sym, ◌∙◌, ap, arith}
+use Rattle.std.proofs.Common.{◌≡◌, ℕ, zero, suc, ◌+◌, ◌-◌, ◌<◌, ◌≤◌, List, Some, None, Result, Ok, Err, refl, sym, ◌∙◌, ap, arith}
 use Rattle.he_dns.specs.declared.entries.Entry.{Entry}
 use Rattle.he_dns.specs.declared.fault.AnswerFault.{AnswerFault}
 use Rattle.he_dns.specs.declared.fault.AnswerFault.TheVariants as faults

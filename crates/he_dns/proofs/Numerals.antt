@@ -1,7 +1,7 @@
 -- Octets, words and parts of names: what is read is what stands there, and the other way round.
 use Rattle.std.proofs.Common.{◌≡◌, ℕ, ◌+◌, ◌-◌, ◌*◌, ◌<◌, ◌≤◌, Bool, true, false, cond, ltb, leb, eqb, List, Option, Some, None, length, get_or, refl, sym, ◌∙◌, ap, subst, arith}
 use Rattle.std.specs.Option.{option_and_then}
-use Rattle.std.proofs.lemmas.Bool.{ltb-true, ltb-false, leb-true, leb-false, eqb-true, eqb-false, lt-ltb, le-ltb, le-leb, lt-leb, ne_eqb}
+use Rattle.std.proofs.lemmas.Bool.{ltb-true, ltb-false, leb-true, eqb-true, eqb-false, lt-ltb, le-ltb, le-leb, lt-leb, ne_eqb}
 use Rattle.he_dns.specs.declared.parts.Part.{Part}
 use Rattle.he_dns.specs.declared.parts.Part.TheVariants.{Root, Label, Pointer}
 use Rattle.he_dns.specs.Names.{IsPartAt}

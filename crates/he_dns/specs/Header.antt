@@ -1,5 +1,5 @@
 -- Headers of messages (RFC 1035 section 4.1.1) and their first question (section 4.1.2).
-use Rattle.std.specs.Prelude.{◌≡◌, ◌⊎◌, ℕ, ◌+◌, ◌/◌, ◌%◌, ◌^◌, ◌≤◌, ◌==◌, List, Option, Some, None, IsTrue, length, if◌then◌else◌}
+use Rattle.std.specs.Prelude.{◌≡◌, ℕ, ◌+◌, ◌/◌, ◌%◌, ◌^◌, ◌≤◌, ◌==◌, List, Option, Some, None, IsTrue, length, if◌then◌else◌}
 use Rattle.he_addr.specs.declared.ip.Family.{Family}
 use Rattle.he_dns.specs.declared.fault.AnswerFault.{AnswerFault}
 use Rattle.he_dns.specs.declared.fault.AnswerFault.TheVariants as faults

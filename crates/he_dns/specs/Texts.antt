@@ -1,5 +1,5 @@
 -- Host names as texts (RFC 1035 section 2.3.1): labels parted by dots.
-use Rattle.std.specs.Prelude.{◌≡◌, ℕ, ◌+◌, ◌-◌, ◌<◌, ◌≤◌, ◌==◌, ◌&&◌, Bool, List, [], ◌∷◌, ◌++◌, length, nat_lt, slice_index, take, if◌then◌else◌}
+use Rattle.std.specs.Prelude.{◌≡◌, ℕ, ◌-◌, ◌<◌, ◌≤◌, ◌==◌, ◌&&◌, Bool, List, [], ◌∷◌, ◌++◌, length, nat_lt, slice_index, take, if◌then◌else◌}
 use Rattle.std.specs.List.{AllByRecursion, count_by, slice_split}
 use Rattle.he_dns.specs.declared.fault.NameFault.{NameFault}
 use Rattle.he_dns.specs.declared.fault.NameFault.TheVariants as faults

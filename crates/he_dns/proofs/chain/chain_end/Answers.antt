@@ -1,4 +1,4 @@
-use Rattle.std.proofs.Common.{◌≡◌, sym, arith}
+use Rattle.std.proofs.Common.{sym, arith}
 use Rattle.he_dns.specs.Reading.{chain_end}
 use Rattle.he_dns.proofs.Chained.{own_left, alias_left, nothing_left}
 use Rattle.he_dns.proofs.chain.chain_end.Goals as goal

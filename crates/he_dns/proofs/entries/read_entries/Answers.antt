@@ -1,7 +1,7 @@
-use Rattle.std.proofs.Common.{◌≡◌, ◌++◌, ◌∷◌, [], ◌+◌, ◌-◌, sym, ◌∙◌, ap, arith}
+use Rattle.std.proofs.Common.{◌++◌, ◌+◌, ◌-◌, sym, ◌∙◌, ap, arith}
 use Rattle.std.specs.Option.{option_map}
 use Rattle.he_dns.specs.Reading.{entries_from}
-use Rattle.he_dns.proofs.Gathered.{begun, entry_left, none_left, all_read}
+use Rattle.he_dns.proofs.Gathered.{entry_left, none_left, all_read}
 use Rattle.he_dns.proofs.entries.read_entries.Goals as goal
 
 pub returns-in-None : goal.returns-in-None

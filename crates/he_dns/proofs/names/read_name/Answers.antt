@@ -1,4 +1,4 @@
-use Rattle.std.proofs.Common.{◌≡◌, ◌+◌, ◌++◌, ◌≤◌, ◌<◌, Some, None, length, take, drop, refl, sym, ◌∙◌, ap, subst, arith}
+use Rattle.std.proofs.Common.{◌≡◌, ◌+◌, ◌++◌, ◌≤◌, ◌<◌, Some, None, length, take, drop, sym, ◌∙◌, ap, subst, arith}
 use Rattle.std.specs.Option.{IfSome, unwrap_or}
 use Rattle.he_dns.specs.declared.parts.Part.TheVariants.{Root, Label, Pointer}
 use Rattle.he_dns.specs.Reading.{name_at, name_from, part_at}

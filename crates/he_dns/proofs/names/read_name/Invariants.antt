@@ -1,4 +1,4 @@
-use Rattle.std.proofs.Common.{◌≡◌, ◌-◌, ◌≤◌, length, ◌+◌}
+use Rattle.std.proofs.Common.{◌≡◌, ◌-◌, ◌≤◌, length}
 use Rattle.std.specs.Option.{IfSome}
 use Rattle.he_dns.specs.Reading.{name_at, name_from}
 use Rattle.he_dns.proofs.names.read_name.Given as goal
