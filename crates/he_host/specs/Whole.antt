@@ -1,5 +1,6 @@
 -- The host of the files: what each says, and what is kept of it.
 use Rattle.std.specs.Prelude.{◌≡◌, ◌++◌, false, true, List, [], ◌∷◌, Option, Some, None, Ok, drop, length, map, min, take, option_to_list}
+use Rattle.he_select.specs.HostFaults.{host_of}
 use Rattle.he_select.specs.Hosts.{HostLists}
 use Rattle.he_addr.specs.Prefix.{PrefixBits}
 use Rattle.he_host.specs.declared.found.FoundRoute.{FoundRoute}
@@ -43,10 +44,9 @@ v4_sources_in given interfaces routes asked = map (found_own interfaces routes a
 abbrev pub in_turn : List FoundSource → List FoundSource → List FoundSource
 in_turn v4 v6 = take (min (length v4) FIRST) v4 ++ v6 ++ drop (min (length v4) FIRST) v4
 
--- a host has what is kept of these, and what is left out is told, of sources first
+-- the host is that of what is kept of these, and what is left out is told, of sources first
 pub record HasKept (sources_found : List FoundSource) (routes_found : List FoundRoute) (host : HostLists) (left : List LeftOut) : Type 0 where
-  pub sources : host.sources ≡ sources_kept [] sources_found
-  pub routes : host.routes ≡ routes_kept [] routes_found
+  pub made : Ok host ≡ host_of (sources_kept [] sources_found) (routes_kept [] routes_found)
   pub told : left ≡ sources_left [] sources_found ++ routes_left [] routes_found
 
 -- the host of the files, and what is left out of it, with routes that are those of the files by rank

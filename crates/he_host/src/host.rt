@@ -158,8 +158,10 @@ fn keep<A: Allocator + Copy>(
     keep_sources(turn, &mut sources, &mut left_out)?;
     let mut kept = Vec::new(alloc);
     keep_routes(routes, &mut kept, &mut left_out)?;
-    let host = Host::from_lists(sources, kept).map_err(|_| Memory)?;
-    Ok(FoundHost { host, left_out })
+    match Host::from_lists(sources, kept) {
+        Ok(host) => Ok(FoundHost { host, left_out }),
+        Err(_) => Err(Memory),
+    }
 }
 
 /// The host of the files, and the lines that are left out. `around` has the interfaces, the routes as [`find_routes`]
