@@ -8,11 +8,14 @@ use Rattle.he_select.specs.Hosts.{HostLists}
 abbrev pub mark : Bool → List ℕ → List ℕ
 mark holds word = if holds then word else []
 
+-- [deprecated] [temporary]
+abbrev pub source_end : Source → List ℕ
+source_end source = mark source.deprecated (codes " deprecated") ++ mark source.temporary (codes " temporary") ++ 10 ∷ []
+
 -- source ADDRESS/LENGTH INTERFACE [deprecated] [temporary]
 abbrev pub source_line : Source → List ℕ
 source_line source =
-    codes "source " ++ source_text source.ip source.plen ++ codes " " ++ decimal source.interface
-    ++ mark source.deprecated (codes " deprecated") ++ mark source.temporary (codes " temporary") ++ 10 ∷ []
+    codes "source " ++ source_text source.ip source.plen ++ codes " " ++ decimal source.interface ++ source_end source
 
 -- route PREFIX INTERFACE [tunnel], IPv4 prefixes in IPv4 form
 abbrev pub route_line : Route → List ℕ

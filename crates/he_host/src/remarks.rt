@@ -38,7 +38,8 @@ fn reason(why: Why) -> Option<&'static [u8]> {
 #[derive(Clone, Copy)]
 enum Subject {
     Address(Ip),
-    Route(Prefix),
+    // The bits and the length of a prefix.
+    Route(u128, u8),
 }
 
 // The line with this number. It is the line at its place, but behind an empty one.
@@ -63,12 +64,13 @@ fn find_address(own: &[OwnAddress], number: u64) -> Option<Ip> {
 
 fn v6_subject(line: &[u8]) -> Option<Subject> {
     let read = read_route_line(line)?;
-    Some(Subject::Route(Prefix::try_new(read.bits, read.len)?))
+    Some(Subject::Route(read.bits, read.len))
 }
 
 fn v4_subject(line: &[u8]) -> Option<Subject> {
     let read = read_v4_line(line)?;
-    Some(Subject::Route(read_mask(read.destination, read.mask)?))
+    let prefix = read_mask(read.destination, read.mask)?;
+    Some(Subject::Route(prefix.bits(), prefix.len()))
 }
 
 fn source_subject(line: &[u8]) -> Option<Subject> {
@@ -110,6 +112,20 @@ fn write_word<A: Allocator + Copy>(word: &[u8], out: &mut Vec<u8, A>) -> Result<
     Ok(())
 }
 
+fn write_route<A: Allocator + Copy>(
+    bits: u128,
+    len: u8,
+    out: &mut Vec<u8, A>,
+) -> Result<(), Memory> {
+    match Prefix::try_new(bits, len) {
+        Some(prefix) => {
+            write_word(b"the route ", out)?;
+            write_prefix(prefix, true, out)
+        }
+        None => write_word(b"a line", out),
+    }
+}
+
 fn write_subject<A: Allocator + Copy>(
     subject: Option<Subject>,
     out: &mut Vec<u8, A>,
@@ -119,10 +135,7 @@ fn write_subject<A: Allocator + Copy>(
             write_word(b"the address ", out)?;
             write_ip(ip, out)
         }
-        Some(Subject::Route(prefix)) => {
-            write_word(b"the route ", out)?;
-            write_prefix(prefix, true, out)
-        }
+        Some(Subject::Route(bits, len)) => write_route(bits, len, out),
         None => write_word(b"a line", out),
     }
 }

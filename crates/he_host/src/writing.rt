@@ -1,7 +1,7 @@
 // The lines of a host, as a race has them.
 
 ghost use Rattle.std.specs.Prelude.{◌++◌, OnOk, ◌≡◌};
-ghost use Rattle.he_host.specs.Written.{source_line, route_line, host_lines, written_sources, written_routes};
+ghost use Rattle.he_host.specs.Written.{source_end, source_line, route_line, host_lines, written_sources, written_routes};
 
 use he_addr::{Memory, write_number, write_prefix, write_source};
 use he_select::{Host, Route, Source};
@@ -28,6 +28,18 @@ fn write_mark<A: Allocator + Copy>(
     Ok(())
 }
 
+// [deprecated] [temporary]
+fn write_source_end<A: Allocator + Copy>(
+    source: Source,
+    out: &mut Vec<u8, A>,
+) -> Result<(), Memory>
+    ensures { OnOk result (out.new.items ≡ out.old.items ++ source_end source) }
+{
+    write_mark(source.deprecated, b" deprecated", out)?;
+    write_mark(source.temporary, b" temporary", out)?;
+    write_word(b"\n", out)
+}
+
 // source ADDRESS/LENGTH INTERFACE [deprecated] [temporary]
 fn write_source_line<A: Allocator + Copy>(
     source: Source,
@@ -39,9 +51,7 @@ fn write_source_line<A: Allocator + Copy>(
     write_source(source.ip, source.plen, out)?;
     write_word(b" ", out)?;
     write_number(u64::from(source.interface), out)?;
-    write_mark(source.deprecated, b" deprecated", out)?;
-    write_mark(source.temporary, b" temporary", out)?;
-    write_word(b"\n", out)
+    write_source_end(source, out)
 }
 
 // route PREFIX INTERFACE [tunnel]
