@@ -43,11 +43,7 @@ fn is_own(line: &[u8]) -> Option<bool>
     let length = field(line, 0)?;
     let scope = field(line, 1)?;
     let kind = field(line, 2)?;
-    Some(
-        length == b"/32".as_slice()
-            && scope == b"host".as_slice()
-            && kind == b"LOCAL".as_slice(),
-    )
+    Some(length == b"/32".as_slice() && scope == b"host".as_slice() && kind == b"LOCAL".as_slice())
 }
 
 /// What a line says.

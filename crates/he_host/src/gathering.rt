@@ -19,7 +19,8 @@ fn rank(read: Result<Metered, Why>) -> u128
     ensures { result ≡ rank read }
 {
     match read {
-        Ok(metered) => u128::from(metered.route.prefix.len()) * METRICS + u128::from(metered.metric),
+        Ok(metered) => u128::from(metered.route.prefix.len()) * METRICS
+            + u128::from(metered.metric),
         Err(_) => 0,
     }
 }

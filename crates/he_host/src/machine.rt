@@ -128,7 +128,9 @@ fn read_interfaces<R: FileSystem + AllocGlobal>(rt: &R) -> Result<Vec<Named>, Ma
 // The source that the kernel takes for a destination. To connect a datagram socket sends nothing.
 fn ask_source<R: Net>(rt: &R, destination: u32) -> Option<Ip> {
     let socket = UdpSocket::bind(rt, (Ipv4Addr::UNSPECIFIED, 0u16)).ok()?;
-    socket.connect((Ipv4Addr::from(destination), ANY_PORT)).ok()?;
+    socket
+        .connect((Ipv4Addr::from(destination), ANY_PORT))
+        .ok()?;
     match socket.local_addr().ok()?.ip() {
         IpAddr::V4(ip) => Some(Ip::V4(u32::from(ip))),
         IpAddr::V6(_) => None,
@@ -173,7 +175,10 @@ fn ask<R: Net + AllocGlobal>(
 ) -> Result<Vec<Asked>, MachineFault> {
     let mut asked = Vec::new(rt.alloc());
     for address in own {
-        if let (Some(ip), Err(Why::Unconnected)) = (address.ip, make_v4_source(around, address.ip)) {
+        if let (Some(ip), Err(Why::Unconnected)) = (
+            address.ip,
+            make_v4_source(around, address.ip),
+        ) {
             if let Some(told) = ask_place(rt, ip, around.routes) {
                 asked.push(told)?;
             }

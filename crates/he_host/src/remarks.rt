@@ -27,7 +27,9 @@ fn reason(why: Why) -> Option<&'static [u8]> {
         Why::Unusable => Some(b"is none that a source can have"),
         Why::Down => Some(b"is of an interface that is down, has no carrier or is not known"),
         Why::Unreachable => Some(b"leads nowhere: unreachable, prohibited or a blackhole"),
-        Why::Unconnected => Some(b"is on an interface that no route and no answer of the kernel tells"),
+        Why::Unconnected => Some(
+            b"is on an interface that no route and no answer of the kernel tells",
+        ),
         Why::Repeated => Some(b"is there already, over another interface"),
         Why::TooMany => Some(b"is more than a race holds: 64 sources and 64 routes"),
         Why::Internal | Why::Again => None,

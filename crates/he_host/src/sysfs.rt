@@ -71,7 +71,12 @@ fn read_index(text: &[u8]) -> u16
 fn is_tunnel(kind: u64) -> bool
     ensures { result ≡ is_tunnel kind }
 {
-    kind == TUN || kind == IPIP || kind == IP6_TUNNEL || kind == SIT || kind == GRE || kind == IP6_GRE
+    kind == TUN
+        || kind == IPIP
+        || kind == IP6_TUNNEL
+        || kind == SIT
+        || kind == GRE
+        || kind == IP6_GRE
 }
 
 /// What the files of an interface say.

@@ -29,10 +29,7 @@ fn write_mark<A: Allocator + Copy>(
 }
 
 // [deprecated] [temporary]
-fn write_source_end<A: Allocator + Copy>(
-    source: Source,
-    out: &mut Vec<u8, A>,
-) -> Result<(), Memory>
+fn write_source_end<A: Allocator + Copy>(source: Source, out: &mut Vec<u8, A>) -> Result<(), Memory>
     ensures { OnOk result (out.new.items ≡ out.old.items ++ source_end source) }
 {
     write_mark(source.deprecated, b" deprecated", out)?;
