@@ -2,7 +2,7 @@
 # hand: . completions/he.bash
 _he() {
     local word=${COMP_WORDS[COMP_CWORD]} before=${COMP_WORDS[COMP_CWORD - 1]} command=
-    local commands='replay order explain check live help' options=
+    local commands='replay order explain check live host help' options=
     [ "$COMP_CWORD" -gt 1 ] && command=${COMP_WORDS[1]}
     case $before in
         --workers | --port) COMPREPLY=(); return ;;
@@ -14,6 +14,7 @@ _he() {
         explain) options='--help -h' ;;
         check) options='--help -h' ;;
         live) options='--port --must-connect --verbose -v --help -h' ;;
+        host) options='--help -h' ;;
         help) options=$commands ;;
     esac
     mapfile -t COMPREPLY < <(compgen -W "$options" -- "$word")

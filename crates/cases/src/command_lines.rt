@@ -8,6 +8,7 @@ use std::io;
 use std::mem::drop;
 use std::net::Net;
 use std::random::RandomSource;
+use std::rt::Files;
 use std::sync::Wait;
 use std::thread::Threads;
 use std::time::Clock;
@@ -500,6 +501,22 @@ static ROWS: [Row; 57] = [
         b"Checks timelines of races",
         b"",
     ),
+    (
+        &["he", "host", "more"],
+        TEXT,
+        Streams::Whole,
+        2,
+        b"",
+        b"error: ",
+    ),
+    (
+        &["he", "host", "--help"],
+        TEXT,
+        Streams::Whole,
+        0,
+        b"Writes the addresses and routes of this machine",
+        b"",
+    ),
 ];
 
 // A reader of the text that breaks behind it where the streams do.
@@ -523,7 +540,7 @@ fn writer_of(alloc: Global, streams: Streams) -> FakeWriter {
 // Whether the line of this row ends as it must, with a writer of faults that takes so many bytes.
 fn is_right<R>(rt: &HostRuntime, lender: &R, row: &Row, faults_room: usize) -> bool
 where
-    R: Threads + Wait + Clock + RandomSource + AllocGlobal + Net + Sync,
+    R: Threads + Wait + Clock + RandomSource + AllocGlobal + Net + Files + Sync,
 {
     let (words, text, streams, status, output, fault) = row;
     let mut input = FromReader::new(reader_of(text, *streams));
@@ -554,7 +571,7 @@ where
 /// A line that cannot be written.
 pub fn run_command_lines<R>(rt: &HostRuntime, lender: &R) -> io::Result<Counts>
 where
-    R: Threads + Wait + Clock + RandomSource + AllocGlobal + Net + Sync,
+    R: Threads + Wait + Clock + RandomSource + AllocGlobal + Net + Files + Sync,
 {
     let mut counts = Counts { ran: 0, differ: 0 };
     for (at, row) in ROWS.iter().enumerate() {

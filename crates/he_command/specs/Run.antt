@@ -14,7 +14,7 @@ use Rattle.he_plan.specs.declared.transcript.Outcome3.TheVariants as results
 use Rattle.he_replay.specs.Actions.{HasWorkers, RunsAction}
 use Rattle.he_replay.specs.declared.fault.ReplayFault.{ReplayFault}
 use Rattle.he_command.specs.declared.command.Request.{Request}
-use Rattle.he_command.specs.declared.command.Request.TheVariants.{Action, Check, Live}
+use Rattle.he_command.specs.declared.command.Request.TheVariants.{Action, Check, Host, Live}
 use Rattle.he_command.specs.declared.limits.TheConstants.{LEAST_PORT}
 use Rattle.he_command.specs.declared.run.TheConstants.{DONE, FAULT, NO_CONNECTION, USAGE}
 
@@ -55,6 +55,7 @@ abbrev pub IsRequest : Request → Type 0
 IsRequest (Action action) = HasWorkers action
 IsRequest Check = Unit {0}
 IsRequest (Live port must verbose) = LEAST_PORT ≤ port
+IsRequest Host = Unit {0}
 
 -- what was asked for was done, and the status tells how that ended. Given, Taken, Ended, Failed and Put as `RunsAction` has
 -- them: of a text that is put in rounds; Whole, Part and Kept as `Lives` has them: of one text
@@ -65,6 +66,7 @@ RunsRequest Check Given Taken Ended Failed Put Whole Part Kept status =
     (result : Result (Unit {0}) CheckFault) × Checks Given Whole Part Kept result × (status ≡ status_of result)
 RunsRequest (Live port must verbose) Given Taken Ended Failed Put Whole Part Kept status =
     (result : Result Outcome3 LiveFault) × (failed : List FailedAttempt) × Lives Given Whole Part Kept failed result × (status ≡ status_of_live must result)
+RunsRequest Host Given Taken Ended Failed Put Whole Part Kept status = Shows Whole Part Kept status
 
 -- what comes of a line: what it asks for was done; or it asks for nothing that is done, and the input is Unread
 abbrev pub RunsLine : Result Request Error → (List ℕ → Bool → Type 0) → (List ℕ → Type 0) → Type 0 → (List ℕ → Type 0) → (List ℕ → Type 0) → (List ℕ → Type 0) → (List ℕ → Type 0) → (List ℕ → Type 0) → Type 0 → ℕ → Type 0

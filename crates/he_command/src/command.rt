@@ -22,6 +22,8 @@ pub enum Request {
         must_connect: bool,
         verbose: bool,
     },
+    /// To write the lines of this machine's addresses and routes.
+    Host,
 }
 
 const ABOUT: &str =
@@ -36,6 +38,8 @@ const EXPLAIN_ABOUT: &str = "Reads timelines of races and writes why they went a
 const CHECK_ABOUT: &str = "Checks timelines of races, and explains the first fault";
 
 const LIVE_ABOUT: &str = "Races real connections, and writes what happened and a record of it";
+
+const HOST_ABOUT: &str = "Writes the addresses and routes of this machine as lines of a race";
 
 const PORT_HELP: &str = "The TCP port at which each address is connected to, 1 to 65535";
 
@@ -209,6 +213,38 @@ Exit status: 0 when all is done, whether a connection was made or not; 3 in plac
 that with --must-connect where none was made; 1 after a fault, with one line on
 standard error; 2 for a command line that is refused.";
 
+const HOST_EXAMPLE: &str = "\
+Reads no input. Standard output has the `source` and `route` lines of this machine, as a
+race of a timeline text has them, from what Linux says in /proc/net and /sys/class/net.
+Standard error has a line for each address and each route that a race has no place for:
+addresses that are not in use yet, routes that lead nowhere, interfaces that are down,
+and what is more than the 64 sources and 64 routes of a race.
+
+Of two routes to one prefix the one with the lower metric is taken. Where no file tells
+the interface of an IPv4 address, the kernel is asked from where it reaches which
+addresses, which sends nothing.
+
+Output, on a machine with one network:
+
+  source 127.0.0.1/8 1
+  source 192.0.2.2/24 2
+  source 2001:db8::2/64 2
+  source ::1/128 1
+  route ::/0 2
+  route 2001:db8::/64 2
+  route 0.0.0.0/0 2
+  route 127.0.0.0/8 1
+  route 192.0.2.0/24 2
+  route ::1/128 1
+
+To make a race of it, and to run that:
+
+  { echo race 1; he host; echo aaaa 0 ::1; echo a 0 127.0.0.1; echo end; } > race.txt
+  he live --port 8080 < race.txt
+
+Exit status: 0 when all is done, whether something was left out or not; 1 after a fault,
+with one line on standard error; 2 for a command line that is refused.";
+
 // The whole command line of the program.
 fn command<'a>(alloc: Global) -> Result<Command<'a>, AllocError> {
     let workers = Arg::new(alloc, "workers")
@@ -236,6 +272,9 @@ fn command<'a>(alloc: Global) -> Result<Command<'a>, AllocError> {
         .arg(port(alloc))?
         .arg(must_connect(alloc))?
         .arg(verbose(alloc))?;
+    let host = Command::new(alloc, "host")
+        .about(HOST_ABOUT)
+        .after_help(HOST_EXAMPLE);
     Command::new(alloc, "he")
         .bin_name("he")?
         .version("1.0.0")
@@ -246,7 +285,8 @@ fn command<'a>(alloc: Global) -> Result<Command<'a>, AllocError> {
         .subcommand(order)?
         .subcommand(explain)?
         .subcommand(check)?
-        .subcommand(live)
+        .subcommand(live)?
+        .subcommand(host)
 }
 
 // The port of `he live`.
@@ -294,6 +334,7 @@ pub fn read_words<'a>(alloc: Global, words: &'a [&'a str]) -> Result<Request, Er
             must_connect: live.get_flag("must-connect"),
             verbose: live.get_flag("verbose"),
         },
+        Some(("host", _)) => Request::Host,
         Some((_, replay)) => Request::Action(Action::Replay {
             workers: workers_of(replay),
         }),

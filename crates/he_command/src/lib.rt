@@ -2,16 +2,16 @@
 //!
 //! `he replay` reads a text of races from the input and writes a transcript for each to the output, `he order` the
 //! order of its addresses; `he check` counts the races and lines of the input, or explains its first fault; `he live`
-//! runs the one race of the input on real sockets, and writes its transcript and its record. [`run_words`] does all of
-//! it over an input, an output and a writer of faults; the program hands it its words, standard input, standard output
-//! and standard error.
+//! runs the one race of the input on real sockets, and writes its transcript and its record; `he host` writes the
+//! addresses and routes of this machine as lines of a race. [`run_words`] does all of it over an input, an output and a
+//! writer of faults; the program hands it its words, standard input, standard output and standard error.
 //!
 //! Proved (`run_line`): `he replay` writes the transcripts of the input's races and `he order` their orders, as
 //! `he_replay` says, `he check` the numbers of its races and lines where nothing is wrong with it, as `he_check` says,
-//! `he live` a transcript and a record that replays to it, as `he_live` says, and the status tells how that ended. A
-//! line that asks for none of them leaves the input alone: help and the version go to the output, whole with status 0,
-//! or with status 1 after a fault; a line that is refused leaves the output alone too, with status 2, or with 1 where
-//! it was refused for want of memory.
+//! `he live` a transcript and a record that replays to it, as `he_live` says, `he host` one text, which no clause here
+//! names, and the status tells how that ended. A line that asks for none of them leaves the input alone: help and the
+//! version go to the output, whole with status 0, or with status 1 after a fault; a line that is refused leaves the
+//! output alone too, with status 2, or with 1 where it was refused for want of memory.
 //!
 //! Only tested: which words ask for what, and what help, usage, faults and their explanations say.
 #![tactic(auto)]

@@ -10,6 +10,7 @@ use crate::command::{Request, read_words};
 use clap::Error;
 use clap::error::ErrorKind;
 use he_check::check;
+use he_host::machine::write_machine;
 use he_live::{FailedAttempt, LiveFault, first_local, live, write_failures};
 use he_plan::Outcome3;
 use he_replay::{ReplayFault, run_action};
@@ -20,6 +21,7 @@ use std::io::Write;
 use std::mem::drop;
 use std::net::Net;
 use std::random::RandomSource;
+use std::rt::Files;
 use std::sync::Wait;
 use std::thread::Threads;
 use std::time::Clock;
@@ -48,7 +50,7 @@ pub fn run_words<'a, R, I, O, F>(
     faults: &mut F,
 ) -> u8
 where
-    R: Threads + Wait + Clock + RandomSource + AllocGlobal + Net + Sync,
+    R: Threads + Wait + Clock + RandomSource + AllocGlobal + Net + Files + Sync,
     I: InputStream,
     O: OutputStream,
     F: Write,
@@ -74,7 +76,7 @@ pub fn run_line<R, I, O, F>(
     faults: &mut F,
 ) -> u8
 where
-    R: Threads + Wait + Clock + RandomSource + AllocGlobal + Net + Sync,
+    R: Threads + Wait + Clock + RandomSource + AllocGlobal + Net + Files + Sync,
     I: InputStream,
     O: OutputStream,
     F: Write,
@@ -103,7 +105,7 @@ fn run_request<R, I, O, F>(
     faults: &mut F,
 ) -> u8
 where
-    R: Threads + Wait + Clock + RandomSource + AllocGlobal + Net + Sync,
+    R: Threads + Wait + Clock + RandomSource + AllocGlobal + Net + Files + Sync,
     I: InputStream,
     O: OutputStream,
     F: Write,
@@ -132,6 +134,7 @@ where
             drop(failed);
             report_race(end, must_connect, faults)
         }
+        Request::Host => run_host(rt, alloc, output, faults),
     }
 }
 
@@ -155,6 +158,34 @@ fn run_check<I: InputStream, O: OutputStream, F: Write>(
     let status = report_end(end, faults);
     let _ = faults.write_all(explanation.as_slice());
     status
+}
+
+// Writes the lines of this machine, and what is left out of them.
+fn run_host<R, O, F>(rt: &R, alloc: Global, output: &mut O, faults: &mut F) -> u8
+where
+    R: Files + Net + AllocGlobal,
+    O: OutputStream,
+    F: Write,
+    ensures { Shows (PutsWhole O.contents O.puts O.flushes output.old output.new)
+        (PutsPart O.contents O.puts O.flushes output.old output.new) (output.new ≡ output.old) result }
+{
+    let mut lines = Vec::new(alloc);
+    let mut remarks = Vec::new(alloc);
+    match write_machine(rt, &mut lines, &mut remarks) {
+        Ok(()) => {
+            let status = report_end(put_lines(&lines, output), faults);
+            let _ = faults.write_all(remarks.as_slice());
+            status
+        }
+        Err(fault) => report(fault, faults),
+    }
+}
+
+fn put_lines<O: OutputStream>(lines: &[u8], output: &mut O) -> Result<(), ReplayFault>
+    ensures { Shows (PutsWhole O.contents O.puts O.flushes output.old output.new)
+        (PutsPart O.contents O.puts O.flushes output.old output.new) (output.new ≡ output.old) (status_of result) }
+{
+    write_whole(output, lines).map_err(|_| ReplayFault::Write)
 }
 
 // Answers a line that asks for no action.

@@ -1,0 +1,71 @@
+-- /proc/net/fib_trie: the tables of IPv4 routes, each as a tree below its heading. In the table `Local:` an address of
+-- the host is a leaf, a line `|-- ADDRESS`, with a line `/32 host LOCAL` among those below it.
+use Rattle.std.specs.Prelude.{ℕ, ◌++◌, ◌||◌, ◌&&◌, Bool, true, false, codes, List, [], ◌∷◌, Option, Some, None, if◌then◌else◌}
+use Rattle.std.specs.Option.{option_map_or}
+use Rattle.std.specs.Str.{bytes_eq}
+use Rattle.he_addr.specs.declared.ip.Ip.{Ip}
+use Rattle.he_addr.specs.declared.ip.Family.TheVariants as families
+use Rattle.he_addr.specs.Reading.{◌>>=◌, ip_of_in}
+use Rattle.he_host.specs.declared.fib_trie.OwnAddress.{OwnAddress}
+use Rattle.he_host.specs.declared.fib_trie.TrieLine.{TrieLine}
+use Rattle.he_host.specs.declared.fib_trie.TrieLine.TheVariants.{Heading, Leaf, Own, Other}
+use Rattle.he_host.specs.declared.fib_trie.Walk.{Walk}
+use Rattle.he_host.specs.Parts.{field_of}
+
+-- the line is `/32 host LOCAL`; none where it has fewer fields
+unfoldable pub is_own : List ℕ → Option Bool
+is_own line = do
+  len ← field_of 0 line
+  scope ← field_of 1 line
+  kind ← field_of 2 line
+  Some (bytes_eq len (codes "/32") && bytes_eq scope (codes "host") && bytes_eq kind (codes "LOCAL"))
+
+-- the address of a leaf
+unfoldable pub leaf_of : List ℕ → Option Ip
+leaf_of line = do
+  text ← field_of 1 line
+  ip_of_in families.V4 text
+
+abbrev pub own_or_other : Option Bool → TrieLine
+own_or_other (Some true) = Own
+own_or_other (Some false) = Other
+own_or_other None = Other
+
+abbrev pub line_by : List ℕ → Option (List ℕ) → TrieLine
+line_by line None = Other
+line_by line (Some first) =
+    if bytes_eq first (codes "|--") then Leaf (leaf_of line)
+    else (if bytes_eq first (codes "Local:") then Heading true
+    else (if bytes_eq first (codes "Main:") || bytes_eq first (codes "Id") then Heading false
+    else own_or_other (is_own line)))
+
+-- what a line says, by its first field
+unfoldable pub trie_line : List ℕ → TrieLine
+trie_line line = line_by line (field_of 0 line)
+
+-- where one stands after a line: a heading begins a table, a leaf stands until the next one
+abbrev pub step : Walk → TrieLine → Walk
+step walk (Heading is_local) = record { is_local = is_local; leaf = None }
+step walk (Leaf leaf) = record { is_local = walk.is_local; leaf = leaf }
+step walk Own = walk
+step walk Other = walk
+
+-- the line tells that the leaf is an address of the host
+abbrev pub told : Walk → TrieLine → Bool
+told walk Own = walk.is_local
+told walk (Heading is_local) = false
+told walk (Leaf leaf) = false
+told walk Other = false
+
+-- the addresses that the lines tell to one who stands here
+abbrev pub own_from : Walk → List (ℕ × List ℕ) → List OwnAddress
+own_from walk [] = []
+own_from walk (line ∷ lines) =
+    (if told walk (trie_line line.1) then record { line = line.0; ip = walk.leaf } ∷ [] else []) ++ own_from (step walk (trie_line line.1)) lines
+
+abbrev pub nowhere : Walk
+nowhere = record { is_local = false; leaf = None }
+
+-- the addresses that all lines tell
+unfoldable pub own_addresses : List (ℕ × List ℕ) → List OwnAddress
+own_addresses lines = own_from nowhere lines

@@ -1,0 +1,49 @@
+-- /proc/net/ipv6_route: one line for each IPv6 route of every table, of ten fields: destination and its prefix length,
+-- source and its length, next hop, metric, two counts and flags, all in hexadecimal, and the interface's name.
+use Rattle.std.specs.Prelude.{ℕ, ◌/◌, ◌^◌, ◌==◌, ◌&&◌, ◌||◌, Bool, false, not, List, Option, Some, None, Result, Ok, Err, if◌then◌else◌}
+use Rattle.he_addr.specs.Prefix.{PrefixBits}
+use Rattle.he_addr.specs.Reading.{◌>>=◌, checked}
+use Rattle.he_host.specs.declared.found.Metered.{Metered}
+use Rattle.he_host.specs.declared.interface.Link.{Link}
+use Rattle.he_host.specs.declared.ipv6_route.RouteLine.{RouteLine}
+use Rattle.he_host.specs.declared.ipv6_route.TheConstants.{ANYCAST, CACHED, IN_USE, LAST_METRIC, LOCAL, LOOPBACK, REJECT}
+use Rattle.he_host.specs.declared.left_out.Why.{Why}
+use Rattle.he_host.specs.declared.left_out.Why.TheVariants as whys
+use Rattle.he_host.specs.Hex.{has, hex_field}
+
+-- the numbers of a line
+unfoldable pub route_line : List ℕ → Option RouteLine
+route_line line = do
+  bits ← hex_field 32 0 line
+  len ← hex_field 2 1 line
+  metric ← hex_field 8 5 line
+  flags ← hex_field 8 8 line
+  Some (record { bits = bits; len = len; metric = metric; flags = flags })
+
+-- A route of the kernel's own: to an address of the host, where that isn't the loopback's ::1; to an anycast address; a
+-- cached one; the one that leads nowhere with which each table ends; one that isn't in use; one to multicast, ff00::/8.
+unfoldable pub is_internal : RouteLine → Bool
+is_internal read =
+    (has read.flags LOCAL && not (read.bits == LOOPBACK))
+    || has read.flags ANYCAST
+    || has read.flags CACHED
+    || (has read.flags REJECT && read.metric == LAST_METRIC)
+    || (not (has read.flags REJECT) && not (has read.flags IN_USE))
+    || read.bits / 2 ^ 120 == 255
+
+abbrev pub route_on : RouteLine → PrefixBits → Option Link → Result Metered Why
+route_on read prefix None = Err whys.Down
+route_on read prefix (Some link) =
+    Ok (record { route = record { prefix = prefix; interface = link.number; tunnel = link.tunnel }; metric = read.metric; connected = false; carrier = link.carrier })
+
+-- the route to a prefix, by the line's flags: no route for one that leads nowhere
+abbrev pub route_to : RouteLine → Option Link → Option PrefixBits → Result Metered Why
+route_to read link None = Err whys.Unclear
+route_to read link (Some prefix) =
+    if is_internal read then Err whys.Internal
+    else (if has read.flags REJECT then Err whys.Unreachable
+    else route_on read prefix link)
+
+-- the route of a line, by its interface
+unfoldable pub route_of : RouteLine → Option Link → Result Metered Why
+route_of read link = route_to read link (checked (record { bits = read.bits; len = read.len }))

@@ -1,0 +1,134 @@
+// /proc/net/fib_trie: the tables of IPv4 routes as trees. In the part `Local:` each address of the host stands as a
+// leaf, `|-- 192.0.2.2`, with the line `/32 host LOCAL` below.
+
+ghost use Rattle.std.specs.Prelude.{◌≡◌, map, IfOk};
+ghost use Rattle.he_host.specs.FibTrie.{trie_line, is_own, step, told, own_from, nowhere, own_addresses};
+ghost use Rattle.he_host.specs.Lines.{plain};
+
+use crate::lines::Line;
+use crate::parts::field;
+use he_addr::{Family, Ip, Memory, read_ip_of};
+use std::alloc::Allocator;
+
+/// What a line says.
+#[derive(Clone, Copy, Debug, PartialEq, Eq)]
+pub enum TrieLine {
+    /// A table begins; whether it is that of the host's own addresses.
+    Heading(bool),
+    /// A leaf: an address, or the first one of a network; None where it isn't understood.
+    Leaf(Option<Ip>),
+    /// The leaf above is an address of the host.
+    Own,
+    Other,
+}
+
+/// Where a walk through the file stands: whether in the part `Local:`, and below which leaf.
+#[derive(Clone, Copy, Debug, PartialEq, Eq)]
+pub struct Walk {
+    pub is_local: bool,
+    pub leaf: Option<Ip>,
+}
+
+/// An IPv4 address of the host, with the number of its line; None where it isn't understood.
+#[derive(Clone, Copy, Debug, PartialEq, Eq)]
+pub struct OwnAddress {
+    pub line: u64,
+    pub ip: Option<Ip>,
+}
+
+#[tactic(auto, unfolding(crate::specs::FibTrie::is_own))]
+fn is_own(line: &[u8]) -> Option<bool>
+    ensures { result ≡ is_own line.now }
+{
+    let length = field(line, 0)?;
+    let scope = field(line, 1)?;
+    let kind = field(line, 2)?;
+    Some(length == b"/32".as_slice() && scope == b"host".as_slice() && kind == b"LOCAL".as_slice())
+}
+
+/// What a line says.
+#[tactic(auto, unfolding(crate::specs::FibTrie::trie_line))]
+pub fn read_trie_line(line: &[u8]) -> TrieLine
+    ensures { result ≡ trie_line line.now }
+{
+    let Some(first) = field(line, 0) else {
+        return TrieLine::Other;
+    };
+    if first == b"|--".as_slice() {
+        return TrieLine::Leaf(read_leaf(line));
+    }
+    if first == b"Local:".as_slice() {
+        return TrieLine::Heading(true);
+    }
+    if first == b"Main:".as_slice() || first == b"Id".as_slice() {
+        return TrieLine::Heading(false);
+    }
+    if is_own(line) == Some(true) {
+        return TrieLine::Own;
+    }
+    TrieLine::Other
+}
+
+#[tactic(auto, unfolding(crate::specs::FibTrie::leaf_of))]
+fn read_leaf(line: &[u8]) -> Option<Ip>
+    ensures { result ≡ Rattle.he_host.specs.FibTrie.leaf_of line.now }
+{
+    read_ip_of(Family::V4, field(line, 1)?)
+}
+
+impl Walk {
+    fn step(self, line: TrieLine) -> Walk
+        ensures { result ≡ step self line }
+    {
+        match line {
+            TrieLine::Heading(is_local) => Walk {
+                is_local,
+                leaf: None,
+            },
+            TrieLine::Leaf(leaf) => Walk {
+                is_local: self.is_local,
+                leaf,
+            },
+            TrieLine::Own | TrieLine::Other => self,
+        }
+    }
+
+    fn tells(self, line: TrieLine) -> bool
+        ensures { result ≡ told self line }
+    {
+        match line {
+            TrieLine::Own => self.is_local,
+            _ => false,
+        }
+    }
+}
+
+/// The host's addresses of all lines.
+///
+/// # Errors
+///
+/// [`Memory`]: an allocation was refused.
+#[tactic(auto, unfolding(crate::specs::FibTrie::own_addresses))]
+pub fn read_own_addresses<A: Allocator + Copy>(
+    alloc: A,
+    lines: &[Line<'_>],
+) -> Result<Vec<OwnAddress, A>, Memory>
+    ensures { IfOk result (λ found. found.items ≡ own_addresses (map plain lines.now)) }
+{
+    let mut found = Vec::new(alloc);
+    let mut walk = Walk {
+        is_local: false,
+        leaf: None,
+    };
+    for line in lines {
+        let says = read_trie_line(line.text);
+        if walk.tells(says) {
+            found.push(OwnAddress {
+                line: line.number,
+                ip: walk.leaf,
+            })?;
+        }
+        walk = walk.step(says);
+    }
+    Ok(found)
+}

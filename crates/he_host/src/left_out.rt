@@ -1,0 +1,47 @@
+// What a host has no place for, and why.
+
+/// The file in which a line stands.
+#[derive(Clone, Copy, Debug, PartialEq, Eq)]
+pub enum File {
+    /// `/proc/net/if_inet6`
+    IfInet6,
+    /// `/proc/net/fib_trie`
+    FibTrie,
+    /// `/proc/net/ipv6_route`
+    Ipv6Route,
+    /// `/proc/net/route`
+    Ipv4Route,
+}
+
+/// Why a line is left out.
+#[derive(Clone, Copy, Debug, PartialEq, Eq)]
+pub enum Why {
+    /// It isn't understood.
+    Unclear,
+    /// The address is not in use yet, or was found twice on its link.
+    Unready,
+    /// No source may have the address: unspecified, multicast or IPv4-mapped.
+    Unusable,
+    /// The interface isn't known, is down or, for a route, has no carrier.
+    Down,
+    /// The route leads nowhere: unreachable, blackhole and the like.
+    Unreachable,
+    /// The route is one of the kernel's own: to an address of the host, to multicast, or not in use.
+    Internal,
+    /// No connected route holds the address, so that its interface isn't known.
+    Unconnected,
+    /// The host has the same route already.
+    Again,
+    /// The host has the address already, or a route to the prefix over another interface, with no higher metric.
+    Repeated,
+    /// A host holds no more.
+    TooMany,
+}
+
+/// A line that is left out; lines are counted from 1.
+#[derive(Clone, Copy, Debug, PartialEq, Eq)]
+pub struct LeftOut {
+    pub file: File,
+    pub line: u64,
+    pub why: Why,
+}

@@ -1,0 +1,245 @@
+// This machine: its files read, what they leave open asked of the kernel, and its lines written.
+//
+// Proved is that it is safe and ends; what the system answers is in no contract.
+
+use crate::fib_trie::{OwnAddress, read_own_addresses};
+use crate::found::FoundRoute;
+use crate::host::{Files, FoundHost, find_host, find_routes};
+use crate::interface::{Interface, Link};
+use crate::left_out::Why;
+use crate::lines::read_lines;
+use crate::parts::field;
+use crate::placing::{Around, Asked, make_v4_source};
+use crate::remarks::write_remarks;
+use crate::sysfs::{Sysfs, make_link};
+use crate::writing::write_host;
+use he_addr::prefix::V6_BITS;
+use he_addr::{Ip, Memory};
+use he_select::Route;
+use std::alloc::{AllocError, AllocFailed, AllocGlobal, Global};
+use std::net::{IpAddr, Ipv4Addr, Net, UdpSocket};
+use std::rt::Files as FileSystem;
+use std::{fs, io};
+use thiserror::Error;
+
+// The port of a connect that sends nothing: the discard service.
+const ANY_PORT: u16 = 9;
+
+/// Why the lines of this machine aren't written.
+#[derive(Clone, Copy, Debug, PartialEq, Eq, Error)]
+pub enum MachineFault {
+    /// `/proc/net/route` or `/proc/net/fib_trie` can't be read.
+    #[error("cannot read /proc/net")]
+    NoFiles,
+    /// An allocation was refused.
+    #[error("out of memory")]
+    Memory,
+}
+
+impl From<AllocError> for MachineFault {
+    fn from(_refused: AllocError) -> MachineFault {
+        MachineFault::Memory
+    }
+}
+
+impl<T: Drop> From<AllocFailed<T>> for MachineFault {
+    fn from(_refused: AllocFailed<T>) -> MachineFault {
+        MachineFault::Memory
+    }
+}
+
+impl From<Memory> for MachineFault {
+    fn from(_refused: Memory) -> MachineFault {
+        MachineFault::Memory
+    }
+}
+
+impl From<io::Error> for MachineFault {
+    fn from(error: io::Error) -> MachineFault {
+        match error.kind() {
+            io::ErrorKind::OutOfMemory => MachineFault::Memory,
+            _ => MachineFault::NoFiles,
+        }
+    }
+}
+
+// The bytes of a file; none where it isn't there.
+fn read_if_there<R: FileSystem + AllocGlobal>(rt: &R, path: &str) -> Result<Vec<u8>, MachineFault> {
+    match fs::read(rt, path) {
+        Ok(bytes) => Ok(bytes),
+        Err(error) => match MachineFault::from(error) {
+            MachineFault::Memory => Err(MachineFault::Memory),
+            MachineFault::NoFiles => Ok(Vec::new(rt.alloc())),
+        },
+    }
+}
+
+// An interface with its name, before it is lent.
+#[derive(Drop)]
+struct Named {
+    name: Vec<u8>,
+    link: Link,
+}
+
+fn read_sysfs<R: FileSystem + AllocGlobal>(
+    rt: &R,
+    name: &str,
+    file: &str,
+) -> Result<Vec<u8>, MachineFault> {
+    let path = format!(in rt.alloc(); "/sys/class/net/{name}/{file}")?;
+    read_if_there(rt, path.as_str())
+}
+
+fn read_link_of<R: FileSystem + AllocGlobal>(rt: &R, name: &str) -> Result<Link, MachineFault> {
+    let ifindex = read_sysfs(rt, name, "ifindex")?;
+    let flags = read_sysfs(rt, name, "flags")?;
+    let carrier = read_sysfs(rt, name, "carrier")?;
+    let kind = read_sysfs(rt, name, "type")?;
+    Ok(make_link(Sysfs {
+        ifindex: &ifindex,
+        flags: &flags,
+        carrier: &carrier,
+        kind: &kind,
+    }))
+}
+
+// The name in a line of `/proc/net/dev`, which stands before a colon.
+fn name_in<'t>(line: &'t [u8]) -> Option<&'t str> {
+    let first = field(line, 0)?;
+    let end = first.iter().position(|byte| *byte == b':')?;
+    std::str::from_utf8(&first[..end]).ok()
+}
+
+// The interfaces that `/proc/net/dev` names.
+fn read_interfaces<R: FileSystem + AllocGlobal>(rt: &R) -> Result<Vec<Named>, MachineFault> {
+    let text = fs::read(rt, "/proc/net/dev")?;
+    let mut interfaces = Vec::new(rt.alloc());
+    for line in read_lines(rt.alloc(), &text)?.iter() {
+        if let Some(name) = name_in(line.text) {
+            interfaces.push(Named {
+                name: Vec::from_slice(rt.alloc(), name.as_bytes())?,
+                link: read_link_of(rt, name)?,
+            })?;
+        }
+    }
+    Ok(interfaces)
+}
+
+// The source that the kernel takes for a destination. To connect a datagram socket sends nothing.
+fn ask_source<R: Net>(rt: &R, destination: u32) -> Option<Ip> {
+    let socket = UdpSocket::bind(rt, (Ipv4Addr::UNSPECIFIED, 0u16)).ok()?;
+    socket
+        .connect((Ipv4Addr::from(destination), ANY_PORT))
+        .ok()?;
+    match socket.local_addr().ok()?.ip() {
+        IpAddr::V4(ip) => Some(Ip::V4(u32::from(ip))),
+        IpAddr::V6(_) => None,
+    }
+}
+
+// An IPv4 address to which the route leads: the first one behind that of the network, where it has more than one.
+fn destination_of(route: Route) -> Option<u32> {
+    if !route.prefix.is_v4() {
+        return None;
+    }
+    let first = (route.prefix.bits() & 0xffff_ffff) as u32;
+    if route.prefix.len() == V6_BITS {
+        Some(first)
+    } else {
+        first.checked_add(1)
+    }
+}
+
+// Asks which route it is whose destinations the kernel reaches from the address.
+fn ask_place<R: Net>(rt: &R, ip: Ip, routes: &[FoundRoute]) -> Option<Asked> {
+    for found in routes {
+        if let Ok(metered) = found.read {
+            if let Some(destination) = destination_of(metered.route) {
+                if ask_source(rt, destination) == Some(ip) {
+                    return Some(Asked {
+                        ip,
+                        interface: metered.route.interface,
+                    });
+                }
+            }
+        }
+    }
+    None
+}
+
+// Asks for the addresses that no connected route holds.
+fn ask<R: Net + AllocGlobal>(
+    rt: &R,
+    around: Around<'_, '_, '_>,
+    own: &[OwnAddress],
+) -> Result<Vec<Asked>, MachineFault> {
+    let mut asked = Vec::new(rt.alloc());
+    for address in own {
+        if let (Some(ip), Err(Why::Unconnected)) = (
+            address.ip,
+            make_v4_source(around, address.ip),
+        ) {
+            if let Some(told) = ask_place(rt, ip, around.routes) {
+                asked.push(told)?;
+            }
+        }
+    }
+    Ok(asked)
+}
+
+// The host of the files, where the kernel is asked for what they leave open.
+fn ask_host<R: Net + AllocGlobal>(
+    rt: &R,
+    files: Files<'_>,
+    interfaces: &[Interface<'_>],
+) -> Result<FoundHost<Global>, MachineFault> {
+    let routes = find_routes(rt.alloc(), files, interfaces)?;
+    let trie = read_lines(rt.alloc(), files.fib_trie)?;
+    let own = read_own_addresses(rt.alloc(), &trie)?;
+    let around = Around {
+        interfaces,
+        routes: &routes,
+        asked: &[],
+    };
+    let asked = ask(rt, around, &own)?;
+    let around = Around {
+        interfaces,
+        routes: &routes,
+        asked: &asked,
+    };
+    Ok(find_host(rt.alloc(), files, around)?)
+}
+
+/// Appends the lines of this machine's host, and a line for each thing that it has no place for.
+///
+/// # Errors
+///
+/// [`MachineFault::NoFiles`]: `/proc/net` can't be read. [`MachineFault::Memory`]: an allocation was refused.
+pub fn write_machine<R: FileSystem + Net + AllocGlobal>(
+    rt: &R,
+    lines: &mut Vec<u8>,
+    remarks: &mut Vec<u8>,
+) -> Result<(), MachineFault> {
+    let named = read_interfaces(rt)?;
+    let mut interfaces = Vec::new(rt.alloc());
+    for interface in named.iter() {
+        interfaces.push(Interface {
+            name: &interface.name,
+            link: interface.link,
+        })?;
+    }
+    let if_inet6 = read_if_there(rt, "/proc/net/if_inet6")?;
+    let fib_trie = fs::read(rt, "/proc/net/fib_trie")?;
+    let ipv6_route = read_if_there(rt, "/proc/net/ipv6_route")?;
+    let route = fs::read(rt, "/proc/net/route")?;
+    let files = Files {
+        if_inet6: &if_inet6,
+        fib_trie: &fib_trie,
+        ipv6_route: &ipv6_route,
+        route: &route,
+    };
+    let found = ask_host(rt, files, &interfaces)?;
+    write_host(&found.host, lines)?;
+    write_remarks(rt.alloc(), files, &found.left_out, remarks)?;
+    Ok(())
+}

@@ -1,0 +1,182 @@
+// What a host has no place for, told in plain words: a line for each.
+
+use crate::fib_trie::{OwnAddress, read_own_addresses};
+use crate::host::Files;
+use crate::if_inet6::read_address_line;
+use crate::ipv4_route::{read_mask, read_v4_line};
+use crate::ipv6_route::read_route_line;
+use crate::left_out::{File, LeftOut, Why};
+use crate::lines::{Line, read_lines};
+use he_addr::{Ip, Memory, Prefix, write_ip, write_number, write_prefix};
+use std::alloc::Allocator;
+
+fn file_name(file: File) -> &'static [u8] {
+    match file {
+        File::IfInet6 => b"/proc/net/if_inet6",
+        File::FibTrie => b"/proc/net/fib_trie",
+        File::Ipv6Route => b"/proc/net/ipv6_route",
+        File::Ipv4Route => b"/proc/net/route",
+    }
+}
+
+// Why a line is left out; None where nobody needs to know.
+fn reason(why: Why) -> Option<&'static [u8]> {
+    match why {
+        Why::Unclear => Some(b"is not understood"),
+        Why::Unready => Some(b"is not in use: tentative, or found twice on its link"),
+        Why::Unusable => Some(b"is none that a source can have"),
+        Why::Down => Some(b"is of an interface that is down, has no carrier or is not known"),
+        Why::Unreachable => Some(b"leads nowhere: unreachable, prohibited or a blackhole"),
+        Why::Unconnected => Some(
+            b"is on an interface that no route and no answer of the kernel tells",
+        ),
+        Why::Repeated => Some(b"is there already, over another interface"),
+        Why::TooMany => Some(b"is more than a race holds: 64 sources and 64 routes"),
+        Why::Internal | Why::Again => None,
+    }
+}
+
+// What is left out.
+#[derive(Clone, Copy)]
+enum Subject {
+    Address(Ip),
+    // The bits and the length of a prefix.
+    Route(u128, u8),
+}
+
+// The line with this number. It is the line at its place, but behind an empty one.
+fn line_at<'t>(lines: &[Line<'t>], number: u64) -> Option<&'t [u8]> {
+    let place = usize::try_from(number).ok()?.checked_sub(1)?;
+    let line = lines.get(place)?;
+    if line.number == number {
+        Some(line.text)
+    } else {
+        None
+    }
+}
+
+fn find_address(own: &[OwnAddress], number: u64) -> Option<Ip> {
+    for address in own {
+        if address.line == number {
+            return address.ip;
+        }
+    }
+    None
+}
+
+fn v6_subject(line: &[u8]) -> Option<Subject> {
+    let read = read_route_line(line)?;
+    Some(Subject::Route(read.bits, read.len))
+}
+
+fn v4_subject(line: &[u8]) -> Option<Subject> {
+    let read = read_v4_line(line)?;
+    let prefix = read_mask(read.destination, read.mask)?;
+    Some(Subject::Route(prefix.bits(), prefix.len()))
+}
+
+fn source_subject(line: &[u8]) -> Option<Subject> {
+    Some(Subject::Address(Ip::V6(read_address_line(line)?.number)))
+}
+
+// The lines of the files, to find in them what is left out.
+#[derive(Drop)]
+struct Read<'t, A: Allocator> {
+    if_inet6: Vec<Line<'t>, A>,
+    own: Vec<OwnAddress, A>,
+    ipv6_route: Vec<Line<'t>, A>,
+    route: Vec<Line<'t>, A>,
+}
+
+impl<'t, A: Allocator + Copy> Read<'t, A> {
+    fn new(alloc: A, files: Files<'t>) -> Result<Read<'t, A>, Memory> {
+        let trie = read_lines(alloc, files.fib_trie)?;
+        Ok(Read {
+            if_inet6: read_lines(alloc, files.if_inet6)?,
+            own: read_own_addresses(alloc, &trie)?,
+            ipv6_route: read_lines(alloc, files.ipv6_route)?,
+            route: read_lines(alloc, files.route)?,
+        })
+    }
+
+    fn subject(&self, left: LeftOut) -> Option<Subject> {
+        match left.file {
+            File::IfInet6 => source_subject(line_at(&self.if_inet6, left.line)?),
+            File::FibTrie => Some(Subject::Address(find_address(&self.own, left.line)?)),
+            File::Ipv6Route => v6_subject(line_at(&self.ipv6_route, left.line)?),
+            File::Ipv4Route => v4_subject(line_at(&self.route, left.line)?),
+        }
+    }
+}
+
+fn write_word<A: Allocator + Copy>(word: &[u8], out: &mut Vec<u8, A>) -> Result<(), Memory> {
+    out.extend_from_slice(word)?;
+    Ok(())
+}
+
+fn write_route<A: Allocator + Copy>(
+    bits: u128,
+    len: u8,
+    out: &mut Vec<u8, A>,
+) -> Result<(), Memory> {
+    match Prefix::try_new(bits, len) {
+        Some(prefix) => {
+            write_word(b"the route ", out)?;
+            write_prefix(prefix, true, out)
+        }
+        None => write_word(b"a line", out),
+    }
+}
+
+fn write_subject<A: Allocator + Copy>(
+    subject: Option<Subject>,
+    out: &mut Vec<u8, A>,
+) -> Result<(), Memory> {
+    match subject {
+        Some(Subject::Address(ip)) => {
+            write_word(b"the address ", out)?;
+            write_ip(ip, out)
+        }
+        Some(Subject::Route(bits, len)) => write_route(bits, len, out),
+        None => write_word(b"a line", out),
+    }
+}
+
+// he: left out: the route 10.0.0.0/8 (/proc/net/route, line 3) REASON
+fn write_remark<A: Allocator + Copy>(
+    left: LeftOut,
+    subject: Option<Subject>,
+    reason: &[u8],
+    out: &mut Vec<u8, A>,
+) -> Result<(), Memory> {
+    write_word(b"he: left out: ", out)?;
+    write_subject(subject, out)?;
+    write_word(b" (", out)?;
+    write_word(file_name(left.file), out)?;
+    write_word(b", line ", out)?;
+    write_number(left.line, out)?;
+    write_word(b") ", out)?;
+    write_word(reason, out)?;
+    write_word(b"\n", out)
+}
+
+/// Appends a line for each line of the files that is left out and that a person may miss: not those for the kernel's own
+/// routes, nor for a route that is there already.
+///
+/// # Errors
+///
+/// [`Memory`]: an allocation was refused; a part of the lines may be there.
+pub fn write_remarks<A: Allocator + Copy>(
+    alloc: A,
+    files: Files<'_>,
+    left_out: &[LeftOut],
+    out: &mut Vec<u8, A>,
+) -> Result<(), Memory> {
+    let read = Read::new(alloc, files)?;
+    for left in left_out {
+        if let Some(reason) = reason(left.why) {
+            write_remark(*left, read.subject(*left), reason, out)?;
+        }
+    }
+    Ok(())
+}

@@ -1,0 +1,87 @@
+//! Prints the host of each recording of the folder in which it is started, and what is left out of it.
+//!
+//! A recording `NAME` is `NAME.if_inet6`, `NAME.fib_trie`, `NAME.ipv6_route` and `NAME.route`, as `/proc/net` has them,
+//! and `NAME.interfaces`, a line for each interface: its name, `ifindex`, `flags`, `carrier` and `type` of
+//! `/sys/class/net`. Nothing is proved of this program but that it is safe and ends.
+#![tactic(auto)]
+
+use he_host::host::{Files, find_host, find_routes};
+use he_host::interface::Interface;
+use he_host::lines::read_lines;
+use he_host::parts::field;
+use he_host::placing::Around;
+use he_host::remarks::write_remarks;
+use he_host::sysfs::{Sysfs, make_link};
+use he_host::writing::write_host;
+use std::alloc::Global;
+use std::io::Write;
+use std::{fs, io};
+
+const NAMES: [&str; 5] = ["edge", "machine", "mixed", "none", "vpn"];
+
+fn main(rt: HostRuntime) -> io::Result<()> {
+    for name in &NAMES {
+        show(&rt, name)?;
+    }
+    Ok(())
+}
+
+fn read(rt: &HostRuntime, name: &str, file: &str) -> io::Result<Vec<u8>> {
+    let path = format!(in rt.alloc(); "{name}.{file}")?;
+    fs::read(rt, path.as_str())
+}
+
+// The interface of a line of a recording.
+fn read_interface<'t>(line: &'t [u8]) -> Option<Interface<'t>> {
+    Some(Interface {
+        name: field(line, 0)?,
+        link: make_link(Sysfs {
+            ifindex: field(line, 1)?,
+            flags: field(line, 2)?,
+            carrier: field(line, 3)?,
+            kind: field(line, 4)?,
+        }),
+    })
+}
+
+fn show(rt: &HostRuntime, name: &str) -> io::Result<()> {
+    let told = read(rt, name, "interfaces")?;
+    let if_inet6 = read(rt, name, "if_inet6")?;
+    let fib_trie = read(rt, name, "fib_trie")?;
+    let ipv6_route = read(rt, name, "ipv6_route")?;
+    let route = read(rt, name, "route")?;
+    let files = Files {
+        if_inet6: &if_inet6,
+        fib_trie: &fib_trie,
+        ipv6_route: &ipv6_route,
+        route: &route,
+    };
+    match written(rt.alloc(), &told, files) {
+        Some(text) => {
+            println!(rt; "{name}")?;
+            rt.stdout().write_all(&text)
+        }
+        None => println!(rt; "{name}: out of memory"),
+    }
+}
+
+// The lines of a recording's host, and then of what is left out.
+fn written(alloc: Global, told: &[u8], files: Files<'_>) -> Option<Vec<u8>> {
+    let mut interfaces = Vec::new(alloc);
+    for line in read_lines(alloc, told).ok()?.iter() {
+        if let Some(interface) = read_interface(line.text) {
+            interfaces.push(interface).ok()?;
+        }
+    }
+    let routes = find_routes(alloc, files, &interfaces).ok()?;
+    let around = Around {
+        interfaces: &interfaces,
+        routes: &routes,
+        asked: &[],
+    };
+    let found = find_host(alloc, files, around).ok()?;
+    let mut text = Vec::new(alloc);
+    write_host(&found.host, &mut text).ok()?;
+    write_remarks(alloc, files, &found.left_out, &mut text).ok()?;
+    Some(text)
+}
