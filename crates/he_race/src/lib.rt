@@ -108,26 +108,32 @@
 #![tactic(auto)]
 
 mod alone;
+pub mod answers;
 pub mod attempt;
 pub mod connector;
 pub mod faults;
+mod hearing;
+pub mod laws;
 pub mod limits;
 mod live;
 pub mod one;
 pub mod race;
 mod recorder;
+pub mod resolving;
 pub mod run;
 pub mod scripted;
 pub mod ticker;
 pub mod trial;
 pub mod wheel;
 
+pub use answers::AnswerSource;
 pub use attempt::{AttemptFuture, Finish};
 pub use connector::Connector;
 pub use faults::{ConnectFault, RaceFault, TickFault};
 pub use live::Raced;
 pub use one::race_one;
 pub use race::RaceFuture;
+pub use resolving::ResolvingRace;
 pub use run::run_attempt;
 pub use scripted::{Scripted, ScriptedTrial};
 pub use ticker::Ticker;
