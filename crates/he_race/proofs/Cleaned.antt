@@ -29,11 +29,11 @@ all_kept p q (ip ∷ ips) h = by_head (q ip) (all_kept p q ips (and_right (p ip)
 
 all_own : (p : Ip → Bool) (ips : List Ip) → list_all p (filter p ips) ≡ true
 all_own p [] = refl
-all_own p (ip ∷ ips) = by_head (p ip) refl
+all_own p (ip ∷ ips) = by_head (p ip) refl (all_own p ips)
   where
-    by_head : (b : Bool) → p ip ≡ b → list_all p (if b then ip ∷ filter p ips else filter p ips) ≡ true
-    by_head true e = and_both (p ip) _ e (all_own p ips)
-    by_head false e = all_own p ips
+    by_head : (b : Bool) → p ip ≡ b → list_all p (filter p ips) ≡ true → list_all p (if b then ip ∷ filter p ips else filter p ips) ≡ true
+    by_head true e rest = and_both (p ip) _ e rest
+    by_head false e rest = rest
 
 all_once : (p : Ip → Bool) (ips : List Ip) → list_all p ips ≡ true → list_all p (each_once ips) ≡ true
 all_once p [] h = refl
@@ -66,11 +66,11 @@ none_taken (suc n) ip (other ∷ ips) h = or_none (same_ip other ip) _ (or_left_
 
 none_other : (ip : Ip) (ips : List Ip) → has_ip ip (filter (is_other ip) ips) ≡ false
 none_other ip [] = refl
-none_other ip (other ∷ ips) = by_head (same_ip ip other) refl
+none_other ip (other ∷ ips) = by_head (same_ip ip other) refl (none_other ip ips)
   where
-    by_head : (b : Bool) → same_ip ip other ≡ b → has_ip ip (if not b then other ∷ filter (is_other ip) ips else filter (is_other ip) ips) ≡ false
-    by_head true e = none_other ip ips
-    by_head false e = or_none (same_ip other ip) _ (same_ip-sym other ip ∙ e) (none_other ip ips)
+    by_head : (b : Bool) → same_ip ip other ≡ b → has_ip ip (filter (is_other ip) ips) ≡ false → has_ip ip (if not b then other ∷ filter (is_other ip) ips else filter (is_other ip) ips) ≡ false
+    by_head true e rest = rest
+    by_head false e rest = or_none (same_ip other ip) _ (same_ip-sym other ip ∙ e) rest
 
 not_true : (b : Bool) → b ≡ false → not b ≡ true
 not_true b e = ap not e
@@ -105,13 +105,13 @@ cleaned-distinct family told = distinct_taken MAX_ADDRESSES _ (distinct_once (fi
 -- an address is found among others where it was found before
 kept_same : (q : Ip → Bool) (ip : Ip) → q ip ≡ true → (ips : List Ip) → has_ip ip (filter q ips) ≡ has_ip ip ips
 kept_same q ip own [] = refl
-kept_same q ip own (other ∷ ips) = by_head (q other) refl
+kept_same q ip own (other ∷ ips) = by_head (q other) refl (kept_same q ip own ips)
   where
-    by_head : (b : Bool) → q other ≡ b → has_ip ip (if b then other ∷ filter q ips else filter q ips) ≡ (same_ip other ip || has_ip ip ips)
-    by_head true e = ap (λ (found : Bool). same_ip other ip || found) (kept_same q ip own ips)
-    by_head false e = elim (cases_Bool (same_ip other ip)) [
+    by_head : (b : Bool) → q other ≡ b → has_ip ip (filter q ips) ≡ has_ip ip ips → has_ip ip (if b then other ∷ filter q ips else filter q ips) ≡ (same_ip other ip || has_ip ip ips)
+    by_head true e rest = ap (λ (found : Bool). same_ip other ip || found) rest
+    by_head false e rest = elim (cases_Bool (same_ip other ip)) [
       | inl here ↦ let same : q other ≡ q ip = ap q (ip_from other ip here) in cc
-      | inr gone ↦ rw gone (kept_same q ip own ips)
+      | inr gone ↦ rw gone rest
     ]
 
 once_same : (ip : Ip) (ips : List Ip) → has_ip ip (each_once ips) ≡ has_ip ip ips

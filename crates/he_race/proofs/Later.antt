@@ -11,7 +11,7 @@ use Rattle.he_plan.specs.declared.attempts.Attempt.{Attempt}
 use Rattle.he_plan.specs.declared.outcome.Outcome.{Outcome}
 use Rattle.he_plan.specs.declared.outcome.Outcome.TheVariants as outcomes
 use Rattle.he_plan.specs.Alternating.{interlace}
-use Rattle.he_plan.specs.Attempts.{AreNextInTurn, HasWaited, HaveFailed, IsNext, MayBegin, MayFollow, MayStart, has_failed, has_failed_by, is_untried, last_of, order, order_at, received, received_of, seen}
+use Rattle.he_plan.specs.Attempts.{AreNextInTurn, HasWaited, HaveFailed, IsAnswered, IsNext, IsPositive, MayBegin, MayFollow, MayStart, has_failed, has_failed_by, is_untried, last_of, order, order_at, received, received_of, seen}
 use Rattle.he_plan.specs.Building.{with_answer}
 use Rattle.he_plan.specs.Finish.{outcome_of}
 use Rattle.he_plan.specs.Race.{History, Race, Reply, addresses_of, known_of as told_in, race_input, reply_of, usable_addresses}
@@ -189,32 +189,23 @@ module _ (race : Race) (r : IsRace race) (reply : Reply) where
   begins_to families.V6 none t m = (
     m.0,
     elim m.1 [
-      | inl six ↦ absurd (none_positive none six)
+      | inl six ↦ absurd (subst (IsPositive race t) none six)
       | inr four ↦ inr (
         four.0,
         elim four.1 [
-          | inl answered ↦ absurd (none_answered none answered)
+          | inl answered ↦ absurd (subst (IsAnswered race t) none answered)
           | inr over ↦ inr over
         ],
       )
     ],
   )
-    where
-      none_positive : {P : Reply → Type 0} → race.aaaa ≡ None → IsSomeAnd race.aaaa P → ⊥
-      none_positive {P} e h = subst (λ (o : Option Reply). IsSomeAnd o P) e h
-
-      none_answered : {P : Reply → Type 0} → race.aaaa ≡ None → IsSomeAnd race.aaaa P → ⊥
-      none_answered {P} e h = subst (λ (o : Option Reply). IsSomeAnd o P) e h
   begins_to families.V4 none t m = (
     m.0,
     elim m.1 [
       | inl six ↦ inl six
-      | inr four ↦ absurd (none_positive none four.0)
+      | inr four ↦ absurd (subst (IsPositive race t) none four.0)
     ],
   )
-    where
-      none_positive : {P : Reply → Type 0} → race.a ≡ None → IsSomeAnd race.a P → ⊥
-      none_positive {P} e h = subst (λ (o : Option Reply). IsSomeAnd o P) e h
 
   begins_from : (family : Family) (t : ℕ) → t < reply.tick → MayBegin (with_answer race family reply) t → MayBegin race t
   begins_from families.V6 t below m = (

@@ -7,7 +7,7 @@ pub mod DueTicks
 pub mod Ending
 pub mod Failing
 pub mod Finished
-pub mod Hearing
+pub mod Heard
 pub mod Held
 pub mod Later
 pub mod Onward

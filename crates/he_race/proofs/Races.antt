@@ -28,7 +28,7 @@ use Rattle.he_race.specs.Racing.{PollsFrom, RacePollsBy, StepOf, fault_of}
 use Rattle.he_race.specs.Recording.{slept}
 use Rattle.he_race.specs.Resolving.{HeardAt, HeardFrom, HeardTurn, HearsAndTurns, KeepsGiven, ReplaysGiven}
 use Rattle.he_race.specs.Turns.{GivesBy, PolledAt, PolledFrom, Replays, Sweep, Turned, begun}
-use Rattle.he_race.proofs.Hearing.{HeardSame, given-alike, given-itself, given-later, heard-same, unheard-same}
+use Rattle.he_race.proofs.Heard.{HeardSame, given-alike, given-itself, given-later, heard-same, unheard-same}
 use Rattle.he_race.proofs.Turning.{alike-later, slept-alike}
 
 module _ {C Conn Run T : Type 0} (steps : StepOf C Conn Run) (ticker : TickerOf T) where
@@ -54,16 +54,16 @@ module _ {C Conn Run T : Type 0} (steps : StepOf C Conn Run) (ticker : TickerOf 
       subst (λ (x : Option (Live C Conn Run)). PollsFrom steps ticker x old (Ready (Err faults.Memory)) new) (sym was) tt
 
   -- a poll by steps that are others too
-  module _ (others : StepOf C Conn Run) (as : (c c' : C) (live : Live C Conn Run) (now : ℕ) (step : AfterPoll C Conn Run) → steps c live now c' step → others c live now c' step) where
+  module _ (others : StepOf C Conn Run) (weaker : (c c' : C) (live : Live C Conn Run) (now : ℕ) (step : AfterPoll C Conn Run) → steps c live now c' step → others c live now c' step) where
     polls_from : (x : Option (Live C Conn Run)) (old new : RaceFuture C T Conn Run) (result : Poll (Result (Raced Conn) RaceFault)) → PollsFrom steps ticker x old result new → PollsFrom others ticker x old result new
     polls_from None old new result h = h
     polls_from (Some live) old new Pending h = record {
-      asked = record { now = h.asked.now; told = h.asked.told; tells = h.asked.tells; next = h.asked.next; tick = h.asked.tick; polled = as old.connector new.connector live h.asked.now _ h.asked.polled; asks = h.asked.asks };
+      asked = record { now = h.asked.now; told = h.asked.told; tells = h.asked.tells; next = h.asked.next; tick = h.asked.tick; polled = weaker old.connector new.connector live h.asked.now _ h.asked.polled; asks = h.asked.asks };
       next = h.next;
     }
-    polls_from (Some live) old new (Ready (Ok raced)) h = record { now = h.now; tells = h.tells; polled = as old.connector new.connector live h.now _ h.polled }
+    polls_from (Some live) old new (Ready (Ok raced)) h = record { now = h.now; tells = h.tells; polled = weaker old.connector new.connector live h.now _ h.polled }
     polls_from (Some live) old new (Ready (Err faults.Memory)) h = tt
-    polls_from (Some live) old new (Ready (Err faults.Clock)) h = record { now = h.now; told = h.told; tells = h.tells; next = h.next; tick = h.tick; polled = as old.connector new.connector live h.now _ h.polled; asks = h.asks }
+    polls_from (Some live) old new (Ready (Err faults.Clock)) h = record { now = h.now; told = h.told; tells = h.tells; next = h.next; tick = h.tick; polled = weaker old.connector new.connector live h.now _ h.polled; asks = h.asks }
     polls_from (Some live) old new (Ready (Err faults.Over)) h = absurd h
 
     pub polls-as : (old new : RaceFuture C T Conn Run) (result : Poll (Result (Raced Conn) RaceFault)) → RacePollsBy steps ticker old result new → RacePollsBy others ticker old result new
@@ -153,7 +153,10 @@ module _ {C Conn Run : Type 0} (connector : ConnectorOf C Conn Run) (trial : Tri
       by_test true h =
           let same : next ≡ live = cc (h.1) in
           subst (GoneOn connector trial Replays live) (sym same) (record { kept = is; later = λ raced g. g })
-      by_test false h = gone c c' live next at tick None is h
+      by_test false h = record {
+        kept = h.kept;
+        later = λ raced g. replays-later live.recorder.recorded next.recorder.recorded raced (alike-later live.recorder.recorded _ next.recorder.recorded (slept-alike live.recorder.recorded live.recorder.due at) h.alike) g;
+      }
 
   pub polled-goes : (c c' : C) (live next : Live C Conn Run) (now tick : ℕ) → IsLive connector trial live → PolledAt connector trial c live now c' (after_polls.Waits next tick) → GoneOn connector trial Replays live next
   polled-goes c c' live next now tick is h = gone c c' live next (min now (live.recorder.recorded.settings.limit + 1)) tick live.recorder.turn is h

@@ -2,7 +2,7 @@ use Rattle.std.proofs.Common.{◌≡◌, List, ap, sym, subst, arith}
 use Rattle.std.specs.List.{All}
 use Rattle.he_plan.specs.declared.attempts.Attempt.{Attempt}
 use Rattle.he_race.specs.Kept.{IsUnfinished}
-use Rattle.he_race.proofs.Hearing.{HeardSame, heard-same}
+use Rattle.he_race.proofs.Heard.{HeardSame, heard-same}
 use Rattle.he_race.proofs.Sweeps.{heard-run}
 use Rattle.he_race.proofs.live.Live.hear.Goals as goal
 
