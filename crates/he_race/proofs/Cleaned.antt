@@ -1,9 +1,10 @@
 -- What a race takes of the addresses that are told for a family: they are of it, each once, and few enough.
-use Rattle.std.proofs.Common.{◌≡◌, ℕ, zero, suc, ◌+◌, ◌≤◌, ◌<◌, ◌&&◌, ◌||◌, ◌++◌, Bool, true, false, not, List, [], ◌∷◌, if◌then◌else◌, filter, length, take, nat_lt, min, refl, sym, ◌∙◌, ap, arith, inl, inr, length-append}
+use Rattle.std.proofs.Common.{◌≡◌, ℕ, zero, suc, ◌+◌, ◌≤◌, ◌<◌, ◌&&◌, ◌||◌, ◌++◌, Bool, true, false, not, List, [], ◌∷◌, if◌then◌else◌, filter, length, take, nat_lt, get_or, min, refl, sym, ◌∙◌, ap, arith, inl, inr, length-append}
 use Rattle.std.specs.List.{list_all, list_any}
 use Rattle.std.proofs.lemmas.Bool.{cases_Bool, cases_lt}
 use Rattle.std.proofs.lemmas.List.{append-nil, length-take, take-append-le, take_all}
 use Rattle.std.proofs.lemmas.List.Elements.{filter-append}
+use Rattle.std.proofs.Math.Seq.{take-suc}
 use Rattle.he_addr.specs.declared.ip.Family.{Family}
 use Rattle.he_addr.specs.declared.ip.Ip.{Ip}
 use Rattle.he_addr.specs.Ip.{same_ip}
@@ -46,7 +47,7 @@ all_taken p (suc n) [] h = refl
 all_taken p (suc n) (ip ∷ ips) h = and_both (p ip) _ (and_left (p ip) _ h) (all_taken p n ips (and_right (p ip) _ h))
 
 pub cleaned-own : (family : Family) (told : List Ip) → are_of family (cleaned family told) ≡ true
-cleaned-own family told = all_taken (is_of family) MAX_ADDRESSES _ (all_once (is_of family) _ (all_own (is_of family) told))
+cleaned-own family told = all_taken (is_of family) MAX_ADDRESSES (each_once (filter (is_of family) told)) (all_once (is_of family) (filter (is_of family) told) (all_own (is_of family) told))
 
 pub cleaned-few : (family : Family) (told : List Ip) → length (cleaned family told) ≤ MAX_ADDRESSES
 cleaned-few family told = omega (arith, length-take MAX_ADDRESSES (each_once (filter (is_of family) told)))
@@ -100,7 +101,7 @@ distinct_taken (suc n) (ip ∷ ips) h =
     and_both (not (has_ip ip (take n ips))) _ (not_true _ (none_taken n ip ips (from_not _ (and_left (not (has_ip ip ips)) _ h)))) (distinct_taken n ips (and_right (not (has_ip ip ips)) _ h))
 
 pub cleaned-distinct : (family : Family) (told : List Ip) → are_distinct (cleaned family told) ≡ true
-cleaned-distinct family told = distinct_taken MAX_ADDRESSES _ (distinct_once (filter (is_of family) told))
+cleaned-distinct family told = distinct_taken MAX_ADDRESSES (each_once (filter (is_of family) told)) (distinct_once (filter (is_of family) told))
 
 -- an address is found among others where it was found before
 kept_same : (q : Ip → Bool) (ip : Ip) → q ip ≡ true → (ips : List Ip) → has_ip ip (filter q ips) ≡ has_ip ip ips
@@ -164,3 +165,23 @@ cleaned-more family told ip = ap (λ (ips : List Ip). take MAX_ADDRESSES (each_o
         none : (b : Bool) → cleaned family told ≡ (if b && false then cleaned family told ++ ip ∷ [] else cleaned family told)
         none true = refl
         none false = refl
+
+-- the step of the loop that cleans
+module _ (family : Family) (told ys : List Ip) (i : ℕ) (d : Ip) (below : i < length told) (was : ys ≡ cleaned family (take i told)) where
+  abbrev next_ip : Ip
+  next_ip = get_or told i d
+
+  abbrev pub wanted : Bool
+  wanted = nat_lt (length ys) MAX_ADDRESSES && (is_of family next_ip && not (has_ip next_ip ys))
+
+  step : cleaned family (take (i + 1) told) ≡ (if wanted then ys ++ next_ip ∷ [] else ys)
+  step =
+      let grown : List Ip → List Ip = λ zs. if nat_lt (length zs) MAX_ADDRESSES && (is_of family next_ip && not (has_ip next_ip zs)) then zs ++ next_ip ∷ [] else zs in
+      let suc_is : i + 1 ≡ suc i = omega arith in
+      ap (λ (k : ℕ). cleaned family (take k told)) suc_is ∙ ap (cleaned family) (take-suc told i d below) ∙ cleaned-more family (take i told) next_ip ∙ ap grown (sym was)
+
+  pub cleaned_next : (zs : List Ip) → wanted ≡ true → zs ≡ ys ++ next_ip ∷ [] → zs ≡ cleaned family (take (i + 1) told)
+  cleaned_next zs is grown = grown ∙ sym (step ∙ ap (λ (b : Bool). if b then ys ++ next_ip ∷ [] else ys) is)
+
+  pub cleaned_left : wanted ≡ false → ys ≡ cleaned family (take (i + 1) told)
+  cleaned_left is = sym (step ∙ ap (λ (b : Bool). if b then ys ++ next_ip ∷ [] else ys) is)

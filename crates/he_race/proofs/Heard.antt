@@ -1,7 +1,9 @@
 -- What a race that is being run is once answers have come in a turn.
-use Rattle.std.proofs.Common.{◌≡◌, ℕ, ◌+◌, ◌≤◌, ◌<◌, ◌∙◌, true, false, List, [], if◌then◌else◌, length, Option, Some, None, IfSome, refl, sym, ap, subst, arith, inl, inr}
+use Rattle.std.proofs.Common.{◌≡◌, ℕ, suc, ◌+◌, ◌≤◌, ◌<◌, ◌∙◌, ◌++◌, find, get_or, take, true, false, List, [], ◌∷◌, if◌then◌else◌, length, Option, Some, None, IfSome, refl, sym, ap, subst, arith, inl, inr}
 use Rattle.std.specs.List.{All}
 use Rattle.std.proofs.lemmas.Bool.{cases_lt}
+use Rattle.std.proofs.lemmas.Option.{slice_get-get_or}
+use Rattle.std.proofs.Math.Seq.{take-suc}
 use Rattle.std.proofs.lemmas.List.Elements.{All-weaker}
 use Rattle.he_addr.specs.declared.ip.Family.{Family}
 use Rattle.he_addr.specs.declared.ip.Family.TheVariants as families
@@ -10,13 +12,14 @@ use Rattle.he_plan.specs.declared.attempts.Attempt.{Attempt}
 use Rattle.he_plan.specs.declared.outcome.Outcome.{Outcome}
 use Rattle.he_plan.specs.declared.outcome.Outcome.TheVariants as outcomes
 use Rattle.he_plan.specs.Agreement.{AreAlike}
-use Rattle.he_plan.specs.Attempts.{MayStart, is_paused}
+use Rattle.he_plan.specs.Attempts.{AreNextInTurn, IsLeast, IsNext, MayStart, is_paused, is_untried, order_at}
 use Rattle.he_plan.specs.Building.{with_answer}
 use Rattle.he_plan.specs.Finish.{outcome_in, outcome_of}
 use Rattle.he_plan.specs.Race.{Race, Reply, reply_of}
 use Rattle.he_plan.specs.Timeline.{IsRace}
+use Rattle.he_plan.specs.Underway.{MakesNext}
 use Rattle.he_plan.proofs.Bools.{le_test}
-use Rattle.he_race.specs.Heard.{Hears, HearsFrom, HearsOf, Tells, with_told}
+use Rattle.he_race.specs.Heard.{Hears, HearsFrom, HearsOf, IsSilent, StaysSilent, Tells, with_told}
 use Rattle.he_race.specs.Kept.{InTurn, taken, taken_of}
 use Rattle.he_race.specs.Recording.{EndedBy}
 use Rattle.he_race.specs.Resolving.{KeepsAnswer, KeepsGiven}
@@ -37,14 +40,14 @@ module _ (race : Race) (reply : Reply) (xs : List Attempt) (t : InTurn race repl
       omega (arith, was, taken_new)
 
   ended_as : (new : Race) → new.pauses ≡ race.pauses → new.outcomes ≡ race.outcomes → All (λ (x : Attempt). IfSome (outcome_of new x.ip) (EndedBy new reply.tick false x)) xs
-  ended_as new pauses outcomes = All-weaker (λ (x : Attempt). IfSome (outcome_of race x.ip) (EndedBy race reply.tick false x)) (λ (x : Attempt). IfSome (outcome_of new x.ip) (EndedBy new reply.tick false x)) (λ x h.
-      let same : outcome_of new x.ip ≡ outcome_of race x.ip = ap (λ told. outcome_in told x.ip) outcomes in
+  ended_as new pauses told = All-weaker (λ (x : Attempt). IfSome (outcome_of race x.ip) (EndedBy race reply.tick false x)) (λ (x : Attempt). IfSome (outcome_of new x.ip) (EndedBy new reply.tick false x)) (λ x h.
+      let same : outcome_of new x.ip ≡ outcome_of race x.ip = ap (λ (all : List (Ip × Outcome)). outcome_in all x.ip) told in
       subst (λ (o : Option Outcome). IfSome o (EndedBy new reply.tick false x)) (sym same) (by_outcome x (outcome_of race x.ip) h)) xs t.ended
     where
       by_outcome : (x : Attempt) (o : Option Outcome) → IfSome o (EndedBy race reply.tick false x) → IfSome o (EndedBy new reply.tick false x)
       by_outcome x None h = tt
       by_outcome x (Some (outcomes.Ok d)) h = h
-      by_outcome x (Some (outcomes.Fail d)) h = (ap (λ ps. is_paused ps (x.tick + d)) pauses ∙ h.0, h.1)
+      by_outcome x (Some (outcomes.Fail d)) h = (ap (λ (ps : List (ℕ × ℕ)). is_paused ps (x.tick + d)) pauses ∙ h.0, h.1)
 
   not_before : (family : Family) → reply_of race family ≡ None → (s : ℕ) → MayStart (with_answer race family reply) xs s → reply.tick ≤ s
   not_before family none s m = elim (cases_lt s reply.tick) [
@@ -161,3 +164,32 @@ module _ {S : Type 0} (hears : Tells S) where
           by_reply : (o : Option Reply) → HearsFrom hears o s race family now s' new → new ≡ race
           by_reply (Some reply) h = h.1
           by_reply None h = h.2 ∙ ap (with_told race family now) (silent s family now h.0 s' h.1)
+
+stays_silent : {S : Type 0} (hears : Tells S) → ((s : S) (family : Family) (now : ℕ) (told : Option (List Ip)) (s' : S) → hears s family now told s' → told ≡ None) → (family : Family) (polls : List (Family × ℕ)) (s : S) → StaysSilent hears s family polls
+stays_silent hears none family [] s = tt
+stays_silent hears none family (p ∷ polls) s = λ told s' h. ((λ same. none s p.0 p.1 told s' h), stays_silent hears none family polls s')
+
+-- a source that tells nothing is silent
+pub silent-stays : {S : Type 0} (hears : Tells S) → ((s : S) (family : Family) (now : ℕ) (told : Option (List Ip)) (s' : S) → hears s family now told s' → told ≡ None) → (s : S) (family : Family) → IsSilent hears s family
+silent-stays hears none s family = record { at = λ polls. stays_silent hears none family polls s }
+
+same_attempt : (x y : Attempt) → x.place ≡ y.place → x.tick ≡ y.tick → x.ip ≡ y.ip → x ≡ y
+same_attempt x y place tick ip =
+    ap (λ (n : ℕ). record x { place = n }) place ∙ ap (λ (n : ℕ). record x { place = y.place; tick = n }) tick ∙ ap (λ (address : Ip). record y { ip = address }) ip
+
+-- the attempts of a race, made again one after the other
+module _ (race : Race) (attempts done : List Attempt) (i : ℕ) (d : Attempt) (in_turn : AreNextInTurn race attempts) (was : done ≡ take i attempts) (below : i < length attempts) where
+  next_is : IsNext race done (get_or attempts i d)
+  next_is = subst (λ (xs : List Attempt). IsNext race xs (get_or attempts i d)) (sym was) (in_turn i (get_or attempts i d) (slice_get-get_or attempts i d below))
+
+  pub least-again : IsLeast (MayStart race done) (get_or attempts i d).tick
+  least-again = next_is.tick
+
+  pub made-again : (all : List Attempt) → MakesNext race done all (get_or attempts i d).tick → all ≡ take (i + 1) attempts
+  made-again all m =
+      let found : Some m.next.ip ≡ Some (get_or attempts i d).ip = sym m.is.ip ∙ ap (λ (t : ℕ). find (is_untried done) (order_at race t)) m.at ∙ next_is.ip in
+      let ip : m.next.ip ≡ (get_or attempts i d).ip = cc in
+      let same : m.next ≡ get_or attempts i d = same_attempt m.next (get_or attempts i d) (m.is.place ∙ sym next_is.place) m.at ip in
+      let suc_is : i + 1 ≡ suc i = omega arith in
+      m.more ∙ ap (λ (x : Attempt). done ++ x ∷ []) same ∙ ap (λ (xs : List Attempt). xs ++ get_or attempts i d ∷ []) was
+      ∙ sym (ap (λ (k : ℕ). take k attempts) suc_is ∙ take-suc attempts i d below)

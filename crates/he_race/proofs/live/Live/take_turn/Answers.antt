@@ -20,7 +20,7 @@ returns-then-now-limit-clause-turned g c =
     let recorded : c.begin_turn.new.self.recorded ≡ slept c.args.self.recorder.recorded c.args.self.recorder.due c.args.now = ap (λ (x : Recorder). x.recorded) c.in-Ok.ensures.recorded in
     let alike : AreAlike c.args.self.recorder.recorded c.begin_turn.new.self.recorded = subst (AreAlike c.args.self.recorder.recorded) (sym recorded) (slept-alike c.args.self.recorder.recorded c.args.self.recorder.due c.args.now) in
     let after : c.args.now ≡ c.begin_turn.new.self.recorded.settings.limit + 1 = omega (arith, same_limit c.args.self.recorder.recorded c.begin_turn.new.self.recorded alike) in
-    turned-late g.S.hears g.C.Connector g.C.Run.Trial c.args.source.now c.args.connector.now c.args.self c.args.now c.begin_turn.new.self c.end.result c.in-Ok.ensures.recorded (omega (arith, after)) (ends-late c.begin_turn.new.self.recorded c.args.now c.begin_turn.new.self.underway.attempts c.in-Ok.ensures.begins after) c.end.ensures
+    turned-late g.S.AnswerSource.hears g.C.Connector g.C.Run.Trial c.args.source.now c.args.connector.now c.args.self c.args.now c.begin_turn.new.self c.end.result c.in-Ok.ensures.recorded (omega (arith, after)) (ends-late c.begin_turn.new.self.recorded c.args.now c.begin_turn.new.self.underway.attempts c.in-Ok.ensures.begins after) c.end.ensures
 
 pub hear-requires-clause-turn : goal.hear-requires-clause-turn
 hear-requires-clause-turn g c = c.in-Ok.ensures.begins.in_turn
@@ -42,4 +42,4 @@ hear-requires-clause-early g c =
 
 pub returns-else-now-limit-clause-turned : goal.returns-else-now-limit-clause-turned
 returns-else-now-limit-clause-turned g c =
-    turned-run g.S.hears g.C.Connector g.C.Run.Trial c.args.source.now c.hear.new.source c.args.connector.now c.hear.new.connector c.args.self c.args.now c.begin_turn.new.self c.hear.result c.in-Ok.ensures.recorded c.hear.ensures.turned
+    turned-run g.S.AnswerSource.hears g.C.Connector g.C.Run.Trial c.args.source.now c.hear.new.source c.args.connector.now c.hear.new.connector c.args.self c.args.now c.begin_turn.new.self c.hear.result c.in-Ok.ensures.recorded c.hear.ensures.turned
