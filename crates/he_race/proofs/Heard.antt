@@ -193,3 +193,8 @@ module _ (race : Race) (attempts done : List Attempt) (i : ℕ) (d : Attempt) (i
       let suc_is : i + 1 ≡ suc i = omega arith in
       m.more ∙ ap (λ (x : Attempt). done ++ x ∷ []) same ∙ ap (λ (xs : List Attempt). xs ++ get_or attempts i d ∷ []) was
       ∙ sym (ap (λ (k : ℕ). take k attempts) suc_is ∙ take-suc attempts i d below)
+
+-- a turn goes on where an answer is recorded in it
+pub answered-turn : (race new : Race) (family : Family) (now : ℕ) (ips : List Ip) (xs : List Attempt) → InTurn race now xs false → reply_of race family ≡ None → new ≡ with_answer race family (record { tick = now; addresses = ips }) → IsRace new → InTurn new now xs false
+answered-turn race new family now ips xs t none is valid =
+    subst (λ (r : Race). InTurn r now xs false) (sym is) (heard-turn race (record { tick = now; addresses = ips }) xs t family none (subst IsRace is valid))
