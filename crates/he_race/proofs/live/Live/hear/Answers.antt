@@ -23,3 +23,6 @@ run_turn-requires-clause-early g c =
 pub returns-in-Ok-clause-turned : goal.returns-in-Ok-clause-turned
 returns-in-Ok-clause-turned g c =
     heard-run g.S.AnswerSource.hears g.C.Connector g.C.Run.Trial c.args.source.now c.hear.new.source c.args.connector.now c.run_turn.new.connector c.args.self.recorder.recorded c.hear.new.self.recorded c.args.self.recorder.underway.attempts c.hear.new.self.underway.attempts c.args.self.unfinished.items c.args.now c.run_turn.result c.in-Ok.ensures.heard c.in-Ok.ensures.attempts c.run_turn.ensures.turned
+
+pub returns-in-Ok-clause-kept : goal.returns-in-Ok-clause-kept
+returns-in-Ok-clause-kept g c = λ fact h. c.run_turn.ensures.kept fact (c.hear.ensures.kept fact h)
