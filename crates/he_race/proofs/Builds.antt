@@ -1,14 +1,16 @@
 -- What the calls of the builder leave where their checks are met.
-use Rattle.std.proofs.Common.{◌≡◌, ℕ, ◌≤◌, ◌<◌, true, false, length, Result, Ok, Err, IfErr, OnOk, refl, sym, subst}
+use Rattle.std.proofs.Common.{◌≡◌, ℕ, ◌≤◌, ◌<◌, true, false, List, length, None, Result, Ok, Err, IfErr, OnOk, is_some, refl, sym, ap, subst}
+use Rattle.he_addr.specs.declared.ip.Family.{Family}
 use Rattle.he_addr.specs.declared.ip.Ip.{Ip}
 use Rattle.he_plan.specs.declared.builder.BuildFault.{BuildFault}
 use Rattle.he_plan.specs.declared.builder.BuildFault.TheVariants as faults
-use Rattle.he_plan.specs.declared.limits.TheConstants.{MAX_PAUSES, MAX_PAUSE_END}
+use Rattle.he_plan.specs.declared.limits.TheConstants.{MAX_ADDRESSES, MAX_PAUSES, MAX_PAUSE_END, MAX_TICK}
 use Rattle.he_plan.specs.declared.outcome.Outcome.{Outcome}
-use Rattle.he_plan.specs.Building.{Becomes, add_outcome, add_pause, last_end, with_outcome, with_pause}
-use Rattle.he_plan.specs.Race.{Race, has_outcome, is_in_answer}
-use Rattle.he_plan.specs.Timeline.{IsRace, duration_of, is_duration}
-use Rattle.he_plan.proofs.Bools.{le_test, lt_test, not_le}
+use Rattle.he_plan.specs.Building.{Becomes, add_answer, add_outcome, add_pause, last_end, with_answer, with_outcome, with_pause}
+use Rattle.he_plan.specs.Race.{Race, has_outcome, is_in_answer, reply_of}
+use Rattle.he_plan.specs.Timeline.{IsRace, are_distinct, are_of, duration_of, is_duration}
+use Rattle.he_plan.proofs.Bools.{le_test, lt_test, not_le, not_lt}
+use Rattle.he_plan.proofs.Ranges.{IsRace-with_answer}
 
 -- what a call of the builder leaves where its checks are met: the race with what was added, and it refuses nothing but
 -- memory
@@ -51,3 +53,13 @@ pub outcome-adds : (answer : Result (Unit {0}) BuildFault) (race new : Race) (ip
 outcome-adds answer race new ip outcome lasts known first b =
     let fits : add_outcome ip outcome race ≡ Ok (with_outcome race ip outcome) = rw (lasts, known, first) refl in
     adds answer race new (with_outcome race ip outcome) (subst (Becomes answer race new) fits b)
+
+pub answer-adds : (answer : Result (Unit {0}) BuildFault) (race new : Race) (family : Family) (tick : ℕ) (ips : List Ip) → reply_of race family ≡ None → tick ≤ MAX_TICK → length ips ≤ MAX_ADDRESSES → are_of family ips ≡ true → are_distinct ips ≡ true → Becomes answer race new (add_answer family tick ips race) → Adds answer new (with_answer race family (record { tick = tick; addresses = ips }))
+answer-adds answer race new family tick ips none early few own distinct b =
+    let made : Race = with_answer race family (record { tick = tick; addresses = ips }) in
+    let fits : add_answer family tick ips race ≡ Ok made = rw (none, not_lt MAX_TICK tick early, not_lt MAX_ADDRESSES (length ips) few, own, distinct) refl in
+    adds answer race new made (subst (Becomes answer race new) fits b)
+
+pub answer-valid : (race : Race) (family : Family) (tick : ℕ) (ips : List Ip) → IsRace race → reply_of race family ≡ None → tick ≤ MAX_TICK → length ips ≤ MAX_ADDRESSES → are_of family ips ≡ true → are_distinct ips ≡ true → IsRace (with_answer race family (record { tick = tick; addresses = ips }))
+answer-valid race family tick ips r none early few own distinct =
+    IsRace-with_answer race family tick ips r (ap is_some none) (not_lt MAX_TICK tick early) (not_lt MAX_ADDRESSES (length ips) few) own distinct

@@ -64,8 +64,8 @@ module _ {C : Type 0} (connector : ConnectorOf C (Unit {0}) ScriptedTrial) where
       by_turn (Some turn) later after h =
           at_false ((c' ≡ c) × (step ≡ after_polls.Waits live (turn + 1))) (Turned connector scripted_trial c live (min at (live.recorder.recorded.settings.limit + 1)) c' step) (nat_le (min at (live.recorder.recorded.settings.limit + 1)) turn) (not_le (min at (live.recorder.recorded.settings.limit + 1)) turn (omega (arith, after.1))) h
 
-  live_polls : (old new : Future) (live : Live C (Unit {0}) ScriptedTrial) (result : Poll (Result (Raced (Unit {0})) RaceFault)) → old.live ≡ Some live → RacePolls connector scripted_trial wheel_ticker old result new → LivePolls connector scripted_trial wheel_ticker old live result new
-  live_polls old new live result is h = subst (λ (x : Option (Live C (Unit {0}) ScriptedTrial)). PollsFrom connector scripted_trial wheel_ticker x old result new) is h
+  live_polls : (old new : Future) (live : Live C (Unit {0}) ScriptedTrial) (result : Poll (Result (Raced (Unit {0})) RaceFault)) → old.live ≡ Some live → RacePolls connector scripted_trial wheel_ticker old result new → LivePolls (PolledAt connector scripted_trial) wheel_ticker old live result new
+  live_polls old new live result is h = subst (λ (x : Option (Live C (Unit {0}) ScriptedTrial)). PollsFrom (PolledAt connector scripted_trial) wheel_ticker x old result new) is h
 
   -- what a race that ends gives
   pub gives-script : (turns : ℕ) (old new : Future) (given : Result (Raced (Unit {0})) RaceFault) → IsUnderWay connector turns old → RacePolls connector scripted_trial wheel_ticker old (Ready given) new → GivesScripts old.ticker.race given
@@ -78,7 +78,7 @@ module _ {C : Type 0} (connector : ConnectorOf C (Unit {0}) ScriptedTrial) where
             | inr swept ↦ ended-polled connector old.ticker.race u.script old.connector u.scripted u.live old.ticker.at u.follows u.kept (min old.ticker.at (u.live.recorder.recorded.settings.limit + 1)) new.connector raced refl swept
           ]
 
-      by_given : (given : Result (Raced (Unit {0})) RaceFault) → LivePolls connector scripted_trial wheel_ticker old u.live (Ready given) new → GivesScripts old.ticker.race given
+      by_given : (given : Result (Raced (Unit {0})) RaceFault) → LivePolls (PolledAt connector scripted_trial) wheel_ticker old u.live (Ready given) new → GivesScripts old.ticker.race given
       by_given (Ok raced) e = ended raced e.now e.tells.0 e.polled
       by_given (Err faults.Memory) e = refl
       by_given (Err faults.Clock) e = let lost : clocks.Lost ≡ clocks.Memory = e.asks.0 in cc
@@ -103,9 +103,9 @@ module _ {C : Type 0} (connector : ConnectorOf C (Unit {0}) ScriptedTrial) where
       turned : (now : ℕ) → now ≡ old.ticker.at → (next : Live C (Unit {0}) ScriptedTrial) (tick : ℕ) → PolledAt connector scripted_trial old.connector u.live now polled.connector (after_polls.Waits next tick) → Goes connector scripted_trial (begun old.connector u.live (min old.ticker.at (limit + 1))) u.live.unfinished.items (min old.ticker.at (limit + 1)) polled.connector next tick
       turned now at next tick p = polled_turned old.connector polled.connector u.live old.ticker.at (after_polls.Waits next tick) u.kept u.follows.later (subst (λ (n : ℕ). PolledAt connector scripted_trial old.connector u.live n polled.connector (after_polls.Waits next tick)) at p)
 
-      by_asked : GoesOn connector scripted_trial wheel_ticker old u.live polled → IsUnderWay connector (turns + 1) (record polled { ticker = left }) × (left.race ≡ old.ticker.race)
+      by_asked : GoesOn (PolledAt connector scripted_trial) wheel_ticker old u.live polled → IsUnderWay connector (turns + 1) (record polled { ticker = left }) × (left.race ≡ old.ticker.race)
       by_asked g =
-          let a : AsksFor connector scripted_trial wheel_ticker old u.live polled (Ok tt) = g.asked in
+          let a : AsksFor (PolledAt connector scripted_trial) wheel_ticker old u.live polled (Ok tt) = g.asked in
           let t : Goes connector scripted_trial (begun old.connector u.live (min old.ticker.at (limit + 1))) u.live.unfinished.items (min old.ticker.at (limit + 1)) polled.connector a.next a.tick = turned a.now a.tells.0 a.next a.tick a.polled in
           let on = follows-on connector old.ticker.race u.script old.connector u.scripted u.live old.ticker.at u.follows u.kept (min old.ticker.at (limit + 1)) polled.connector a.next a.tick refl t in
           let early : old.ticker.at < last_tick = early_by a.next t.kept on.2 in

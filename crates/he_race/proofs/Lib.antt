@@ -1,12 +1,15 @@
 pub mod Awake
 pub mod Builds
+pub mod Cleaned
 pub mod Counted
 pub mod Driven
 pub mod DueTicks
 pub mod Ending
 pub mod Failing
 pub mod Finished
+pub mod Heard
 pub mod Held
+pub mod Later
 pub mod Onward
 pub mod Races
 pub mod Recorded

@@ -1,7 +1,11 @@
 -- What a poll of a race comes to, by what it did.
-use Rattle.std.proofs.Common.{◌≡◌, ◌+◌, ℕ, Bool, true, false, MatchBool, min, nat_le, Option, Some, None, Result, IfSome, Ok, Err, refl, sym, subst, inl, inr}
+use Rattle.std.proofs.Common.{◌≡◌, ◌+◌, ◌∙◌, ℕ, Bool, true, false, MatchBool, min, nat_le, List, Option, Some, None, Result, IfSome, Ok, Err, refl, sym, subst, inl, inr}
 use Rattle.std.specs.Option.{option_map}
+use Rattle.futures.specs.Poll.{IfReady, OnPending}
+use Rattle.futures.specs.declared.task.Poll.{Poll}
 use Rattle.futures.specs.declared.task.Poll.TheVariants.{Ready, Pending}
+use Rattle.he_addr.specs.declared.ip.Family.{Family}
+use Rattle.he_addr.specs.declared.ip.Ip.{Ip}
 use Rattle.he_plan.specs.Agreement.{AreAlike}
 use Rattle.he_plan.specs.Race.{Race}
 use Rattle.he_race.specs.declared.connector.Connector.{Ghosts as ConnectorOf}
@@ -9,38 +13,112 @@ use Rattle.he_race.specs.declared.faults.RaceFault.{RaceFault}
 use Rattle.he_race.specs.declared.faults.RaceFault.TheVariants as faults
 use Rattle.he_race.specs.declared.faults.TickFault.{TickFault}
 use Rattle.he_race.specs.declared.faults.TickFault.TheVariants as clocks
+use Rattle.he_race.specs.declared.live.AfterPoll.{AfterPoll}
+use Rattle.he_race.specs.declared.live.AfterPoll.TheVariants as after_polls
 use Rattle.he_race.specs.declared.live.Live.{Live}
 use Rattle.he_race.specs.declared.live.Raced.{Raced}
-use Rattle.he_race.specs.declared.live.AfterPoll.TheVariants as after_polls
+use Rattle.he_race.specs.declared.live.Unfinished.{Unfinished}
 use Rattle.he_race.specs.declared.race.RaceFuture.{RaceFuture}
 use Rattle.he_race.specs.declared.ticker.Ticker.{Ghosts as TickerOf}
 use Rattle.he_race.specs.declared.trial.Trial.{Ghosts as TrialOf}
-use Rattle.he_race.specs.Racing.{RacePolls, PollsFrom, fault_of}
+use Rattle.he_race.specs.Heard.{Hears, Tells}
 use Rattle.he_race.specs.Kept.{IsLive}
-use Rattle.he_race.specs.Turns.{GivesFrom, PolledAt, PolledFrom, Replays, Turned}
+use Rattle.he_race.specs.Polling.{TurnsFrom}
+use Rattle.he_race.specs.Racing.{PollsFrom, RacePollsBy, StepOf, fault_of}
+use Rattle.he_race.specs.Recording.{slept}
+use Rattle.he_race.specs.Resolving.{HeardAt, HeardFrom, HeardTurn, HearsAndTurns, KeepsGiven, ReplaysGiven}
+use Rattle.he_race.specs.Turns.{GivesBy, PolledAt, PolledFrom, Replays, Sweep, Turned, begun}
+use Rattle.he_race.proofs.Heard.{HeardSame, given-alike, given-itself, given-later, heard-same, unheard-same}
 use Rattle.he_race.proofs.Turning.{alike-later, slept-alike}
 
-module _ {C Conn Run T : Type 0} (connector : ConnectorOf C Conn Run) (trial : TrialOf Run Conn) (ticker : TickerOf T) where
-  pub waits : (old new : RaceFuture C T Conn Run) (live next : Live C Conn Run) (now tick : ℕ) (told : T) (u : Unit {0}) → old.live ≡ Some live → ticker.tells old.ticker now told → PolledAt connector trial old.connector live now new.connector (after_polls.Waits next tick) → ticker.wakes told tick (Ok u) new.ticker → new.live ≡ Some next → RacePolls connector trial ticker old Pending new
+module _ {C Conn Run T : Type 0} (steps : StepOf C Conn Run) (ticker : TickerOf T) where
+  pub waits : (old new : RaceFuture C T Conn Run) (live next : Live C Conn Run) (now tick : ℕ) (told : T) (u : Unit {0}) → old.live ≡ Some live → ticker.tells old.ticker now told → steps old.connector live now new.connector (after_polls.Waits next tick) → ticker.wakes told tick (Ok u) new.ticker → new.live ≡ Some next → RacePollsBy steps ticker old Pending new
   waits old new live next now tick told u was tells polled asks next_is =
-      subst (λ (x : Option (Live C Conn Run)). PollsFrom connector trial ticker x old Pending new) (sym was) (record {
+      subst (λ (x : Option (Live C Conn Run)). PollsFrom steps ticker x old Pending new) (sym was) (record {
         asked = record { now = now; told = told; tells = tells; next = next; tick = tick; polled = polled; asks = asks };
         next = next_is;
       })
 
-  pub ends : (old new : RaceFuture C T Conn Run) (live : Live C Conn Run) (now : ℕ) (raced : Raced Conn) → old.live ≡ Some live → ticker.tells old.ticker now new.ticker → PolledAt connector trial old.connector live now new.connector (after_polls.Ended raced) → RacePolls connector trial ticker old (Ready (Ok raced)) new
+  pub ends : (old new : RaceFuture C T Conn Run) (live : Live C Conn Run) (now : ℕ) (raced : Raced Conn) → old.live ≡ Some live → ticker.tells old.ticker now new.ticker → steps old.connector live now new.connector (after_polls.Ended raced) → RacePollsBy steps ticker old (Ready (Ok raced)) new
   ends old new live now raced was tells polled =
-      subst (λ (x : Option (Live C Conn Run)). PollsFrom connector trial ticker x old (Ready (Ok raced)) new) (sym was) (record { now = now; tells = tells; polled = polled })
+      subst (λ (x : Option (Live C Conn Run)). PollsFrom steps ticker x old (Ready (Ok raced)) new) (sym was) (record { now = now; tells = tells; polled = polled })
 
-  pub fails : (old new : RaceFuture C T Conn Run) (live next : Live C Conn Run) (now tick : ℕ) (told : T) (fault : TickFault) → old.live ≡ Some live → ticker.tells old.ticker now told → PolledAt connector trial old.connector live now new.connector (after_polls.Waits next tick) → ticker.wakes told tick (Err fault) new.ticker → RacePolls connector trial ticker old (Ready (Err (fault_of fault))) new
+  pub fails : (old new : RaceFuture C T Conn Run) (live next : Live C Conn Run) (now tick : ℕ) (told : T) (fault : TickFault) → old.live ≡ Some live → ticker.tells old.ticker now told → steps old.connector live now new.connector (after_polls.Waits next tick) → ticker.wakes told tick (Err fault) new.ticker → RacePollsBy steps ticker old (Ready (Err (fault_of fault))) new
   fails old new live next now tick told clocks.Memory was tells polled asks =
-      subst (λ (x : Option (Live C Conn Run)). PollsFrom connector trial ticker x old (Ready (Err faults.Memory)) new) (sym was) tt
+      subst (λ (x : Option (Live C Conn Run)). PollsFrom steps ticker x old (Ready (Err faults.Memory)) new) (sym was) tt
   fails old new live next now tick told clocks.Lost was tells polled asks =
-      subst (λ (x : Option (Live C Conn Run)). PollsFrom connector trial ticker x old (Ready (Err faults.Clock)) new) (sym was) (record { now = now; told = told; tells = tells; next = next; tick = tick; polled = polled; asks = asks })
+      subst (λ (x : Option (Live C Conn Run)). PollsFrom steps ticker x old (Ready (Err faults.Clock)) new) (sym was) (record { now = now; told = told; tells = tells; next = next; tick = tick; polled = polled; asks = asks })
 
-  pub refused : (old new : RaceFuture C T Conn Run) (live : Live C Conn Run) → old.live ≡ Some live → RacePolls connector trial ticker old (Ready (Err faults.Memory)) new
+  pub refused : (old new : RaceFuture C T Conn Run) (live : Live C Conn Run) → old.live ≡ Some live → RacePollsBy steps ticker old (Ready (Err faults.Memory)) new
   refused old new live was =
-      subst (λ (x : Option (Live C Conn Run)). PollsFrom connector trial ticker x old (Ready (Err faults.Memory)) new) (sym was) tt
+      subst (λ (x : Option (Live C Conn Run)). PollsFrom steps ticker x old (Ready (Err faults.Memory)) new) (sym was) tt
+
+  -- a poll by steps that are others too
+  module _ (others : StepOf C Conn Run) (weaker : (c c' : C) (live : Live C Conn Run) (now : ℕ) (step : AfterPoll C Conn Run) → steps c live now c' step → others c live now c' step) where
+    polls_from : (x : Option (Live C Conn Run)) (old new : RaceFuture C T Conn Run) (result : Poll (Result (Raced Conn) RaceFault)) → PollsFrom steps ticker x old result new → PollsFrom others ticker x old result new
+    polls_from None old new result h = h
+    polls_from (Some live) old new Pending h = record {
+      asked = record { now = h.asked.now; told = h.asked.told; tells = h.asked.tells; next = h.asked.next; tick = h.asked.tick; polled = weaker old.connector new.connector live h.asked.now _ h.asked.polled; asks = h.asked.asks };
+      next = h.next;
+    }
+    polls_from (Some live) old new (Ready (Ok raced)) h = record { now = h.now; tells = h.tells; polled = weaker old.connector new.connector live h.now _ h.polled }
+    polls_from (Some live) old new (Ready (Err faults.Memory)) h = tt
+    polls_from (Some live) old new (Ready (Err faults.Clock)) h = record { now = h.now; told = h.told; tells = h.tells; next = h.next; tick = h.tick; polled = weaker old.connector new.connector live h.now _ h.polled; asks = h.asks }
+    polls_from (Some live) old new (Ready (Err faults.Over)) h = absurd h
+
+    pub polls-as : (old new : RaceFuture C T Conn Run) (result : Poll (Result (Raced Conn) RaceFault)) → RacePollsBy steps ticker old result new → RacePollsBy others ticker old result new
+    polls-as old new result h = polls_from old.live old new result h
+
+-- after a poll that goes on: what is said of an end of the race then is said of one before
+pub record GoneOn {C Conn Run : Type 0} (connector : ConnectorOf C Conn Run) (trial : TrialOf Run Conn) (said : Race → Raced Conn → Type 0) (live next : Live C Conn Run) : Type 0 where
+  pub kept : IsLive connector trial next
+  pub later : (raced : Raced Conn) → said next.recorder.recorded raced → said live.recorder.recorded raced
+
+-- what a race gives of whose ends this is said
+module _ {C Conn Run T : Type 0} (connector : ConnectorOf C Conn Run) (trial : TrialOf Run Conn) (steps : StepOf C Conn Run) (ticker : TickerOf T) (said : Race → Raced Conn → Type 0)
+    (ends : (c c' : C) (live : Live C Conn Run) (now : ℕ) (raced : Raced Conn) → steps c live now c' (after_polls.Ended raced) → said live.recorder.recorded raced)
+    (goes : (c c' : C) (live next : Live C Conn Run) (now tick : ℕ) → IsLive connector trial live → steps c live now c' (after_polls.Waits next tick) → GoneOn connector trial said live next) where
+  abbrev record_of : Option (Live C Conn Run) → Option Race
+  record_of x = option_map (λ (live : Live C Conn Run). live.recorder.recorded) x
+
+  gives_from : (x : Option (Live C Conn Run)) (old new : RaceFuture C T Conn Run) (result : Poll (Result (Raced Conn) RaceFault)) → PollsFrom steps ticker x old result new → IfReady result (GivesBy said (record_of x))
+  gives_from None old new Pending h = tt
+  gives_from None old new (Ready (Ok raced)) h = cc (h.0)
+  gives_from None old new (Ready (Err fault)) h = cc (h.0)
+  gives_from (Some live) old new Pending h = tt
+  gives_from (Some live) old new (Ready (Ok raced)) h = ends old.connector new.connector live h.now raced h.polled
+  gives_from (Some live) old new (Ready (Err faults.Memory)) h = tt
+  gives_from (Some live) old new (Ready (Err faults.Clock)) h = tt
+  gives_from (Some live) old new (Ready (Err faults.Over)) h = absurd h
+
+  pub poll-gives : (old new : RaceFuture C T Conn Run) (result : Poll (Result (Raced Conn) RaceFault)) → RacePollsBy steps ticker old result new → IfReady result (GivesBy said (record_of old.live))
+  poll-gives old new result h = gives_from old.live old new result h
+
+  again_from : (x : Option (Live C Conn Run)) (old new : RaceFuture C T Conn Run) (result : Poll (Result (Raced Conn) RaceFault)) → IfSome x (IsLive connector trial) → PollsFrom steps ticker x old result new → OnPending result (IfSome new.live (IsLive connector trial))
+  again_from None old new Pending is h = cc (h.0)
+  again_from None old new (Ready given) is h = tt
+  again_from (Some live) old new Pending is h =
+      subst (λ (z : Option (Live C Conn Run)). IfSome z (IsLive connector trial)) (sym h.next) (goes old.connector new.connector live h.asked.next h.asked.now h.asked.tick is h.asked.polled).kept
+  again_from (Some live) old new (Ready given) is h = tt
+
+  pub poll-again : (old new : RaceFuture C T Conn Run) (result : Poll (Result (Raced Conn) RaceFault)) → IfSome old.live (IsLive connector trial) → RacePollsBy steps ticker old result new → OnPending result (IfSome new.live (IsLive connector trial))
+  poll-again old new result is h = again_from old.live old new result is h
+
+  gives_later : (live next : Live C Conn Run) → GoneOn connector trial said live next → (r : Result (Raced Conn) RaceFault) → GivesBy said (Some next.recorder.recorded) r → GivesBy said (Some live.recorder.recorded) r
+  gives_later live next g (Ok raced) h = g.later raced h
+  gives_later live next g (Err faults.Memory) h = tt
+  gives_later live next g (Err faults.Clock) h = tt
+  gives_later live next g (Err faults.Over) h = absurd h
+
+  same_from : (x : Option (Live C Conn Run)) (old new : RaceFuture C T Conn Run) (result : Poll (Result (Raced Conn) RaceFault)) → IfSome x (IsLive connector trial) → PollsFrom steps ticker x old result new → OnPending result ((r : Result (Raced Conn) RaceFault) → GivesBy said (record_of new.live) r → GivesBy said (record_of x) r)
+  same_from None old new Pending is h = cc (h.0)
+  same_from None old new (Ready given) is h = tt
+  same_from (Some live) old new Pending is h = λ r given.
+      gives_later live h.asked.next (goes old.connector new.connector live h.asked.next h.asked.now h.asked.tick is h.asked.polled) r (subst (λ (z : Option (Live C Conn Run)). GivesBy said (record_of z) r) h.next given)
+  same_from (Some live) old new (Ready given) is h = tt
+
+  pub poll-same : (old new : RaceFuture C T Conn Run) (result : Poll (Result (Raced Conn) RaceFault)) → IfSome old.live (IsLive connector trial) → RacePollsBy steps ticker old result new → OnPending result ((r : Result (Raced Conn) RaceFault) → GivesBy said (record_of new.live) r → GivesBy said (record_of old.live) r)
+  poll-same old new result is h = same_from old.live old new result is h
 
 module _ {C Conn Run : Type 0} (connector : ConnectorOf C Conn Run) (trial : TrialOf Run Conn) where
   pub live-of : (x : Option (Live C Conn Run)) (live : Live C Conn Run) → x ≡ Some live → IfSome x (IsLive connector trial) → IsLive connector trial live
@@ -61,41 +139,94 @@ module _ {C Conn Run : Type 0} (connector : ConnectorOf C Conn Run) (trial : Tri
       by_test true h = cc (h.1)
       by_test false h = turned-gives c c' live at raced h
 
-  -- after a poll that goes on
-  pub record Later (live next : Live C Conn Run) : Type 0 where
-    pub kept : IsLive connector trial next
-    pub alike : AreAlike live.recorder.recorded next.recorder.recorded
+  pub polled-ends : (c c' : C) (live : Live C Conn Run) (now : ℕ) (raced : Raced Conn) → PolledAt connector trial c live now c' (after_polls.Ended raced) → Replays live.recorder.recorded raced
+  polled-ends c c' live now raced h = ended-gives c c' live (min now (live.recorder.recorded.settings.limit + 1)) raced live.recorder.turn h
 
-  later : (c c' : C) (live next : Live C Conn Run) (at tick : ℕ) (turn : Option ℕ) → IsLive connector trial live → PolledFrom connector trial turn c live at c' (after_polls.Waits next tick) → Later live next
-  later c c' live next at tick None is h = record { kept = h.kept; alike = alike-later live.recorder.recorded _ next.recorder.recorded (slept-alike live.recorder.recorded live.recorder.due at) h.alike }
-  later c c' live next at tick (Some turn) is h = by_test (nat_le at turn) h
+  gone : (c c' : C) (live next : Live C Conn Run) (at tick : ℕ) (turn : Option ℕ) → IsLive connector trial live → PolledFrom connector trial turn c live at c' (after_polls.Waits next tick) → GoneOn connector trial Replays live next
+  gone c c' live next at tick None is h = record {
+    kept = h.kept;
+    later = λ raced g. replays-later live.recorder.recorded next.recorder.recorded raced (alike-later live.recorder.recorded _ next.recorder.recorded (slept-alike live.recorder.recorded live.recorder.due at) h.alike) g;
+  }
+  gone c c' live next at tick (Some turn) is h = by_test (nat_le at turn) h
     where
-      by_test : (b : Bool) → MatchBool b ((c' ≡ c) × (after_polls.Waits next tick ≡ after_polls.Waits live (turn + 1))) (Turned connector trial c live at c' (after_polls.Waits next tick)) → Later live next
+      by_test : (b : Bool) → MatchBool b ((c' ≡ c) × (after_polls.Waits next tick ≡ after_polls.Waits live (turn + 1))) (Turned connector trial c live at c' (after_polls.Waits next tick)) → GoneOn connector trial Replays live next
       by_test true h =
           let same : next ≡ live = cc (h.1) in
-          subst (Later live) (sym same) (record { kept = is; alike = refl })
-      by_test false h = record { kept = h.kept; alike = alike-later live.recorder.recorded _ next.recorder.recorded (slept-alike live.recorder.recorded live.recorder.due at) h.alike }
+          subst (GoneOn connector trial Replays live) (sym same) (record { kept = is; later = λ raced g. g })
+      by_test false h = record {
+        kept = h.kept;
+        later = λ raced g. replays-later live.recorder.recorded next.recorder.recorded raced (alike-later live.recorder.recorded _ next.recorder.recorded (slept-alike live.recorder.recorded live.recorder.due at) h.alike) g;
+      }
 
-  pub gives-ended : (x : Option (Live C Conn Run)) (c c' : C) (live : Live C Conn Run) (now : ℕ) (raced : Raced Conn) → x ≡ Some live → PolledAt connector trial c live now c' (after_polls.Ended raced) → GivesFrom (option_map (λ (live : Live C Conn Run). live.recorder.recorded) x) (Ok raced)
-  gives-ended x c c' live now raced was h =
-      subst (λ (y : Option (Live C Conn Run)). GivesFrom (option_map (λ (live : Live C Conn Run). live.recorder.recorded) y) (Ok raced)) (sym was) (ended-gives c c' live (min now (live.recorder.recorded.settings.limit + 1)) raced live.recorder.turn h)
+  pub polled-goes : (c c' : C) (live next : Live C Conn Run) (now tick : ℕ) → IsLive connector trial live → PolledAt connector trial c live now c' (after_polls.Waits next tick) → GoneOn connector trial Replays live next
+  polled-goes c c' live next now tick is h = gone c c' live next (min now (live.recorder.recorded.settings.limit + 1)) tick live.recorder.turn is h
 
-  pub gives-fault : (x : Option (Live C Conn Run)) (live : Live C Conn Run) (fault : TickFault) → x ≡ Some live → GivesFrom {Conn = Conn} (option_map (λ (live : Live C Conn Run). live.recorder.recorded) x) (Err (fault_of fault))
-  gives-fault x live clocks.Memory was = subst (λ (y : Option (Live C Conn Run)). GivesFrom {Conn = Conn} (option_map (λ (live : Live C Conn Run). live.recorder.recorded) y) (Err faults.Memory)) (sym was) tt
-  gives-fault x live clocks.Lost was = subst (λ (y : Option (Live C Conn Run)). GivesFrom {Conn = Conn} (option_map (λ (live : Live C Conn Run). live.recorder.recorded) y) (Err faults.Clock)) (sym was) tt
+module _ {S C Conn Run : Type 0} (hears : Tells S) (connector : ConnectorOf C Conn Run) (trial : TrialOf Run Conn) where
+  replays_given : (x y : Race) (raced : Raced Conn) → KeepsGiven x y → Replays y raced → ReplaysGiven x raced
+  replays_given x y raced k h = record { kept = given-later x y raced.recorded k (given-alike y raced.recorded h.alike); transcript = h.transcript; winner = h.winner }
 
-  pub later-poll : (c c' : C) (live next : Live C Conn Run) (now tick : ℕ) → IsLive connector trial live → PolledAt connector trial c live now c' (after_polls.Waits next tick) → Later live next
-  later-poll c c' live next now tick is h = later c c' live next (min now (live.recorder.recorded.settings.limit + 1)) tick live.recorder.turn is h
+  given_later : (x y : Race) (raced : Raced Conn) → KeepsGiven x y → ReplaysGiven y raced → ReplaysGiven x raced
+  given_later x y raced k h = record { kept = given-later x y raced.recorded k h.kept; transcript = h.transcript; winner = h.winner }
 
-  pub still-live : (y : Option (Live C Conn Run)) (live next : Live C Conn Run) → y ≡ Some next → Later live next → IfSome y (IsLive connector trial)
-  still-live y live next e h = subst (λ (z : Option (Live C Conn Run)). IfSome z (IsLive connector trial)) (sym e) h.kept
+  slept_given : (live : Live C Conn Run) (now : ℕ) → KeepsGiven live.recorder.recorded (slept live.recorder.recorded live.recorder.due now)
+  slept_given live now = given-alike live.recorder.recorded (slept live.recorder.recorded live.recorder.due now) (slept-alike live.recorder.recorded live.recorder.due now)
 
-  pub gives-same : (x y : Option (Live C Conn Run)) (live next : Live C Conn Run) → x ≡ Some live → y ≡ Some next → Later live next → (r : Result (Raced Conn) RaceFault) → GivesFrom (option_map (λ (live : Live C Conn Run). live.recorder.recorded) y) r → GivesFrom (option_map (λ (live : Live C Conn Run). live.recorder.recorded) x) r
-  gives-same x y live next was is h r given =
-      subst (λ (z : Option (Live C Conn Run)). GivesFrom (option_map (λ (live : Live C Conn Run). live.recorder.recorded) z) r) (sym was) (by_result r (subst (λ (z : Option (Live C Conn Run)). GivesFrom (option_map (λ (live : Live C Conn Run). live.recorder.recorded) z) r) is given))
+  -- what is recorded so far stays in a turn in which answers come
+  heard_given : (s s' : S) (live : Live C Conn Run) (now : ℕ) (race : Race) → Hears hears s (slept live.recorder.recorded live.recorder.due now) now s' race → KeepsGiven live.recorder.recorded race
+  heard_given s s' live now race h =
+      given-later live.recorder.recorded (slept live.recorder.recorded live.recorder.due now) race (slept_given live now) (heard-same hears s s' (slept live.recorder.recorded live.recorder.due now) race now h).kept
+
+  heard_ends : (s s' : S) (c c' : C) (live : Live C Conn Run) (now : ℕ) (raced : Raced Conn) → HeardTurn hears connector trial s c live now s' c' (after_polls.Ended raced) → ReplaysGiven live.recorder.recorded raced
+  heard_ends s s' c c' live now raced (inl e) = replays_given live.recorder.recorded _ raced (slept_given live now) e.1.replays
+  heard_ends s s' c c' live now raced (inr e) = replays_given live.recorder.recorded e.race raced (heard_given s s' live now e.race e.heard) e.turns.replays
+
+  heard_goes : (s s' : S) (c c' : C) (live next : Live C Conn Run) (now tick : ℕ) → HeardTurn hears connector trial s c live now s' c' (after_polls.Waits next tick) → GoneOn connector trial ReplaysGiven live next
+  heard_goes s s' c c' live next now tick (inl e) = absurd e
+  heard_goes s s' c c' live next now tick (inr e) = record {
+    kept = e.turns.kept;
+    later = λ raced g. given_later live.recorder.recorded next.recorder.recorded raced (given-later live.recorder.recorded e.race next.recorder.recorded (heard_given s s' live now e.race e.heard) (given-alike e.race next.recorder.recorded e.turns.alike)) g;
+  }
+
+  -- a poll takes a turn, or nothing changes
+  by_turn : (P : AfterPoll C Conn Run → Type 0) (turn : Option ℕ) (s s' : S) (c c' : C) (live : Live C Conn Run) (at : ℕ) (step : AfterPoll C Conn Run) → ((n : ℕ) → step ≡ after_polls.Waits live (n + 1) → P step) → (HeardTurn hears connector trial s c live at s' c' step → P step) → HeardFrom hears connector trial turn s c live at s' c' step → P step
+  by_turn P None s s' c c' live at step none some h = some h
+  by_turn P (Some turn) s s' c c' live at step none some h = by_test (nat_le at turn) h
     where
-      by_result : (r : Result (Raced Conn) RaceFault) → GivesFrom (Some next.recorder.recorded) r → GivesFrom (Some live.recorder.recorded) r
-      by_result (Ok raced) g = replays-later live.recorder.recorded next.recorder.recorded raced h.alike g
-      by_result (Err faults.Memory) g = tt
-      by_result (Err faults.Clock) g = tt
-      by_result (Err faults.Over) g = absurd g
+      by_test : (b : Bool) → MatchBool b ((s' ≡ s) × (c' ≡ c) × (step ≡ after_polls.Waits live (turn + 1))) (HeardTurn hears connector trial s c live at s' c' step) → P step
+      by_test true h = none turn h.2
+      by_test false h = some h
+
+  pub heard-ends : (s s' : S) (c c' : C) (live : Live C Conn Run) (now : ℕ) (raced : Raced Conn) → HeardAt hears connector trial s c live now s' c' (after_polls.Ended raced) → ReplaysGiven live.recorder.recorded raced
+  heard-ends s s' c c' live now raced h =
+      by_turn (λ step. ReplaysGiven live.recorder.recorded raced) live.recorder.turn s s' c c' live (min now (live.recorder.recorded.settings.limit + 1)) (after_polls.Ended raced) (λ n e. cc) (heard_ends s s' c c' live (min now (live.recorder.recorded.settings.limit + 1)) raced) h
+
+  pub heard-goes : (s s' : S) (c c' : C) (live next : Live C Conn Run) (now tick : ℕ) → IsLive connector trial live → HeardAt hears connector trial s c live now s' c' (after_polls.Waits next tick) → GoneOn connector trial ReplaysGiven live next
+  heard-goes s s' c c' live next now tick is h =
+      by_turn (λ step. GoneOn connector trial ReplaysGiven live next) live.recorder.turn s s' c c' live (min now (live.recorder.recorded.settings.limit + 1)) (after_polls.Waits next tick) (λ n e. still next (same_next n e)) (heard_goes s s' c c' live next (min now (live.recorder.recorded.settings.limit + 1)) tick) h
+    where
+      same_next : (n : ℕ) → after_polls.Waits next tick ≡ after_polls.Waits live (n + 1) → next ≡ live
+      same_next n e = cc
+
+      still : (x : Live C Conn Run) → x ≡ live → GoneOn connector trial ReplaysGiven live x
+      still x same = subst (GoneOn connector trial ReplaysGiven live) (sym same) (record { kept = is; later = λ raced g. g })
+
+  -- over a source that tells nothing the race is the one of which all answers were given
+  module _ (silent : (s : S) (family : Family) (now : ℕ) (told : Option (List Ip)) (s' : S) → hears s family now told s' → told ≡ None) where
+    unheard_turn : (s s' : S) (c c' : C) (live : Live C Conn Run) (now : ℕ) (step : AfterPoll C Conn Run) → HeardTurn hears connector trial s c live now s' c' step → Turned connector trial c live now c' step
+    unheard_turn s s' c c' live now (after_polls.Ended raced) (inl e) = inl e.1
+    unheard_turn s s' c c' live now (after_polls.Waits next tick) (inl e) = absurd e
+    unheard_turn s s' c c' live now (after_polls.Ended raced) (inr e) =
+        inr (subst (λ (race : Race). TurnsFrom connector trial (record (begun c live now) { recorded = race }) live.unfinished.items now c' (after_polls.Ended raced)) (unheard-same hears silent s s' _ e.race now e.heard) e.turns)
+    unheard_turn s s' c c' live now (after_polls.Waits next tick) (inr e) =
+        subst (λ (race : Race). TurnsFrom connector trial (record (begun c live now) { recorded = race }) live.unfinished.items now c' (after_polls.Waits next tick)) (unheard-same hears silent s s' _ e.race now e.heard) e.turns
+
+    unheard_from : (turn : Option ℕ) (s s' : S) (c c' : C) (live : Live C Conn Run) (at : ℕ) (step : AfterPoll C Conn Run) → HeardFrom hears connector trial turn s c live at s' c' step → PolledFrom connector trial turn c live at c' step
+    unheard_from None s s' c c' live at step h = unheard_turn s s' c c' live at step h
+    unheard_from (Some turn) s s' c c' live at step h = by_test (nat_le at turn) h
+      where
+        by_test : (b : Bool) → MatchBool b ((s' ≡ s) × (c' ≡ c) × (step ≡ after_polls.Waits live (turn + 1))) (HeardTurn hears connector trial s c live at s' c' step) → MatchBool b ((c' ≡ c) × (step ≡ after_polls.Waits live (turn + 1))) (Turned connector trial c live at c' step)
+        by_test true h = (h.1, h.2)
+        by_test false h = unheard_turn s s' c c' live at step h
+
+    pub unheard-at : (s s' : S) (c c' : C) (live : Live C Conn Run) (now : ℕ) (step : AfterPoll C Conn Run) → HeardAt hears connector trial s c live now s' c' step → PolledAt connector trial c live now c' step
+    unheard-at s s' c c' live now step h = unheard_from live.recorder.turn s s' c c' live (min now (live.recorder.recorded.settings.limit + 1)) step h

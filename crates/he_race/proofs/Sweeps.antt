@@ -25,7 +25,9 @@ use Rattle.he_race.specs.Attempt.{AttemptPolls, due_of}
 use Rattle.he_race.specs.Kept.{MakesOne, first_after, IsLive}
 use Rattle.he_race.specs.Recording.{EndsRace, slept}
 use Rattle.he_race.specs.Polling.{AsksInTime, BeginsFrom, BeginsOne, EndsWith, GoesOn, LeftBy, PollsAt, TurnsFrom}
-use Rattle.he_race.specs.Turns.{ArePolled, BeginsAt, EndsPolled, Goes, PolledAt, PolledFrom, Replays, StartsOne, Sweep, Turned, asked_tick, first_of, is_over, told, unpolled}
+use Rattle.he_race.specs.Heard.{Hears, Tells}
+use Rattle.he_race.specs.Resolving.{HeardAt, HeardFrom, HeardTurn, HearsAndTurns}
+use Rattle.he_race.specs.Turns.{ArePolled, BeginsAt, Goes, Replays, StartsOne, Sweep, asked_tick, first_of, is_over, told, unpolled}
 use Rattle.he_race.proofs.Turning.{alike-later, drop-set, take-set}
 
 -- an element that stands at i is the first of those from i on
@@ -188,55 +190,67 @@ module _ {C Conn Run : Type 0} (connector : ConnectorOf C Conn Run) (trial : Tri
     asked = h.asked;
   }
 
+  pub again-in_time : (live : Live C Conn Run) (turn : ℕ) → IsLive connector trial live → live.recorder.turn ≡ Some turn → turn + 1 ≤ MAX_POLL_TICK
+  again-in_time live turn h was =
+      let after = subst (λ (x : Option ℕ). IsAfterTurn live.recorder.recorded x live.recorder.underway.attempts) was h.recorder.rests.after in
+      omega (arith, after.1, h.recorder.rests.valid.settings.limit_most)
+
+module _ {S C Conn Run : Type 0} (hears : Tells S) (connector : ConnectorOf C Conn Run) (trial : TrialOf Run Conn) where
+  -- a turn of a race to which answers came
+  pub heard-run : {E : Type 0} (s s' : S) (c c' : C) (race heard : Race) (xs all : List Attempt) (os : List (Unfinished C Conn Run)) (now : ℕ) (r : Result (AfterPoll C Conn Run) E) → Hears hears s race now s' heard → all ≡ xs → IfOk r (TurnsFrom connector trial (unpolled c heard all) os now c') → IfOk r (HearsAndTurns hears connector trial s (unpolled c race xs) os now s' c')
+  heard-run s s' c c' race heard xs all os now (Err e) h same t = tt
+  heard-run s s' c c' race heard xs all os now (Ok step) h same t = record {
+    race = heard;
+    heard = h;
+    turns = subst (λ (ys : List Attempt). TurnsFrom connector trial (unpolled c heard ys) os now c' step) same t;
+  }
+
   -- the recorder once what was slept is recorded
   abbrev pub slept_from : Live C Conn Run → ℕ → Recorder
   slept_from live now = record live.recorder { recorded = slept live.recorder.recorded live.recorder.due now }
 
   -- a turn past the limit
-  pub turned-late : {E : Type 0} (c : C) (live : Live C Conn Run) (now : ℕ) (recorder : Recorder) (r : Result (AfterPoll C Conn Run) E) → recorder ≡ slept_from live now → recorder.recorded.settings.limit < now → EndsRace recorder.recorded recorder.recorded.settings.limit recorder.underway.attempts false → IfOk r (EndsWith recorder.recorded None) → IfOk r (Turned connector trial c live now c)
-  turned-late c live now recorder (Err e) same late ended h = tt
-  turned-late c live now recorder (Ok (after_polls.Waits new tick)) same late ended h = absurd h
-  turned-late c live now recorder (Ok (after_polls.Ended raced)) same late ended h =
+  pub turned-late : {E : Type 0} (s : S) (c : C) (live : Live C Conn Run) (now : ℕ) (recorder : Recorder) (r : Result (AfterPoll C Conn Run) E) → recorder ≡ slept_from live now → recorder.recorded.settings.limit < now → EndsRace recorder.recorded recorder.recorded.settings.limit recorder.underway.attempts false → IfOk r (EndsWith recorder.recorded None) → IfOk r (HeardTurn hears connector trial s c live now s c)
+  turned-late s c live now recorder (Err e) same late ended h = tt
+  turned-late s c live now recorder (Ok (after_polls.Waits new tick)) same late ended h = absurd h
+  turned-late s c live now recorder (Ok (after_polls.Ended raced)) same late ended h =
       let recorded : recorder.recorded ≡ slept live.recorder.recorded live.recorder.due now = ap (λ (x : Recorder). x.recorded) same in
-      inl (record {
-        late = subst (λ (race : Race). race.settings.limit < now) recorded late;
-        ended = subst (λ (x : Recorder). EndsRace x.recorded x.recorded.settings.limit x.underway.attempts false) same ended;
-        still = refl;
-        recorded = h.1 ∙ recorded;
-        winner = h.2;
-        replays = subst (λ (race : Race). Replays race raced) recorded h.0;
-      })
+      inl (
+        refl,
+        record {
+          late = subst (λ (race : Race). race.settings.limit < now) recorded late;
+          ended = subst (λ (x : Recorder). EndsRace x.recorded x.recorded.settings.limit x.underway.attempts false) same ended;
+          still = refl;
+          recorded = h.1 ∙ recorded;
+          winner = h.2;
+          replays = subst (λ (race : Race). Replays race raced) recorded h.0;
+        },
+      )
 
   -- a turn at or before the limit
-  pub turned-run : {E : Type 0} (c c' : C) (live : Live C Conn Run) (now : ℕ) (recorder : Recorder) (r : Result (AfterPoll C Conn Run) E) → recorder ≡ slept_from live now → IfOk r (TurnsFrom connector trial (unpolled c recorder.recorded recorder.underway.attempts) live.unfinished.items now c') → IfOk r (Turned connector trial c live now c')
-  turned-run c c' live now recorder (Err e) same h = tt
-  turned-run c c' live now recorder (Ok (after_polls.Ended raced)) same h =
-      inr (subst (λ (x : Recorder). EndsPolled connector trial (unpolled c x.recorded x.underway.attempts) live.unfinished.items now c' raced) same h)
-  turned-run c c' live now recorder (Ok (after_polls.Waits new tick)) same h =
-      subst (λ (x : Recorder). Goes connector trial (unpolled c x.recorded x.underway.attempts) live.unfinished.items now c' new tick) same h
+  pub turned-run : {E : Type 0} (s s' : S) (c c' : C) (live : Live C Conn Run) (now : ℕ) (recorder : Recorder) (r : Result (AfterPoll C Conn Run) E) → recorder ≡ slept_from live now → IfOk r (HearsAndTurns hears connector trial s (unpolled c recorder.recorded recorder.underway.attempts) live.unfinished.items now s' c') → IfOk r (HeardTurn hears connector trial s c live now s' c')
+  turned-run s s' c c' live now recorder (Err e) same h = tt
+  turned-run s s' c c' live now recorder (Ok step) same h =
+      inr (subst (λ (x : Recorder). HearsAndTurns hears connector trial s (unpolled c x.recorded x.underway.attempts) live.unfinished.items now s' c' step) same h)
 
   -- a turn asks for a tick that may be asked for
-  pub turn-in_time : {E : Type 0} (c c' : C) (live : Live C Conn Run) (now : ℕ) (r : Result (AfterPoll C Conn Run) E) → IfOk r (Turned connector trial c live now c') → IfOk r AsksInTime
-  turn-in_time c c' live now (Err e) h = tt
-  turn-in_time c c' live now (Ok (after_polls.Ended raced)) h = tt
-  turn-in_time c c' live now (Ok (after_polls.Waits new tick)) h = let by : asked_tick connector trial new.recorder.due new.unfinished.items ≤ MAX_POLL_TICK = asked-by new h.kept in omega (arith, by, h.asked)
+  pub turn-in_time : {E : Type 0} (s s' : S) (c c' : C) (live : Live C Conn Run) (now : ℕ) (r : Result (AfterPoll C Conn Run) E) → IfOk r (HeardTurn hears connector trial s c live now s' c') → IfOk r AsksInTime
+  turn-in_time s s' c c' live now (Err e) h = tt
+  turn-in_time s s' c c' live now (Ok (after_polls.Ended raced)) h = tt
+  turn-in_time s s' c c' live now (Ok (after_polls.Waits new tick)) (inl h) = absurd h
+  turn-in_time s s' c c' live now (Ok (after_polls.Waits new tick)) (inr h) = let by : asked_tick connector trial new.recorder.due new.unfinished.items ≤ MAX_POLL_TICK = asked-by connector trial new h.turns.kept in omega (arith, by, h.turns.asked)
 
   -- a poll that takes a turn
-  pub polled-turn : {E : Type 0} (c c' : C) (live : Live C Conn Run) (now : ℕ) (at limit : ℕ) (r : Result (AfterPoll C Conn Run) E) → at ≡ min now (limit + 1) → limit ≡ live.recorder.recorded.settings.limit → first_after live.recorder.turn ≤ at → IfOk r (Turned connector trial c live at c') → IfOk r (PolledAt connector trial c live now c')
-  polled-turn c c' live now at limit (Err e) same l later h = tt
-  polled-turn c c' live now at limit (Ok step) same l later h =
-      subst (λ (n : ℕ). PolledFrom connector trial live.recorder.turn c live n c' step) (same ∙ ap (λ (n : ℕ). min now (n + 1)) l) (by_turn live.recorder.turn later)
+  pub polled-turn : {E : Type 0} (s s' : S) (c c' : C) (live : Live C Conn Run) (now : ℕ) (at limit : ℕ) (r : Result (AfterPoll C Conn Run) E) → at ≡ min now (limit + 1) → limit ≡ live.recorder.recorded.settings.limit → first_after live.recorder.turn ≤ at → IfOk r (HeardTurn hears connector trial s c live at s' c') → IfOk r (HeardAt hears connector trial s c live now s' c')
+  polled-turn s s' c c' live now at limit (Err e) same l later h = tt
+  polled-turn s s' c c' live now at limit (Ok step) same l later h =
+      subst (λ (n : ℕ). HeardFrom hears connector trial live.recorder.turn s c live n s' c' step) (same ∙ ap (λ (n : ℕ). min now (n + 1)) l) (by_turn live.recorder.turn later)
     where
-      by_turn : (turn : Option ℕ) → first_after turn ≤ at → PolledFrom connector trial turn c live at c' step
+      by_turn : (turn : Option ℕ) → first_after turn ≤ at → HeardFrom hears connector trial turn s c live at s' c' step
       by_turn None later = h
       by_turn (Some turn) later = rw (not_le at turn (omega (arith, later))) h
 
   -- a poll that takes none
-  pub polled-again : (c : C) (live : Live C Conn Run) (now at turn : ℕ) → at ≡ min now (live.recorder.recorded.settings.limit + 1) → live.recorder.turn ≡ Some turn → at ≤ turn → PolledAt connector trial c live now c (after_polls.Waits live (turn + 1))
-  polled-again c live now at turn same was early =
-      subst (λ (n : ℕ). PolledFrom connector trial live.recorder.turn c live n c (after_polls.Waits live (turn + 1))) same (subst (λ (x : Option ℕ). PolledFrom connector trial x c live at c (after_polls.Waits live (turn + 1))) (sym was) (rw (le_test at turn early) (refl, refl)))
-
-  pub again-in_time : (live : Live C Conn Run) (turn : ℕ) → IsLive connector trial live → live.recorder.turn ≡ Some turn → turn + 1 ≤ MAX_POLL_TICK
-  again-in_time live turn h was =
-      let after = subst (λ (x : Option ℕ). IsAfterTurn live.recorder.recorded x live.recorder.underway.attempts) was h.recorder.rests.after in
-      omega (arith, after.1, h.recorder.rests.valid.settings.limit_most)
+  pub polled-again : (s : S) (c : C) (live : Live C Conn Run) (now at turn : ℕ) → at ≡ min now (live.recorder.recorded.settings.limit + 1) → live.recorder.turn ≡ Some turn → at ≤ turn → HeardAt hears connector trial s c live now s c (after_polls.Waits live (turn + 1))
+  polled-again s c live now at turn same was early =
+      subst (λ (n : ℕ). HeardFrom hears connector trial live.recorder.turn s c live n s c (after_polls.Waits live (turn + 1))) same (subst (λ (x : Option ℕ). HeardFrom hears connector trial x s c live at s c (after_polls.Waits live (turn + 1))) (sym was) (rw (le_test at turn early) (refl, refl, refl)))

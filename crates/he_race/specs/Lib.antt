@@ -1,10 +1,12 @@
 pub mod Answered
 pub mod Attempt
 pub mod Following
+pub mod Heard
 pub mod Kept
 pub mod Polling
 pub mod Racing
 pub mod Recording
+pub mod Resolving
 pub mod Running
 pub mod Scripted
 pub mod Turns

@@ -9,6 +9,7 @@ use Rattle.he_race.specs.declared.faults.TickFault.{TickFault}
 use Rattle.he_race.specs.declared.faults.TickFault.TheVariants as clocks
 use Rattle.he_race.specs.declared.live.Live.{Live}
 use Rattle.he_race.specs.declared.live.Raced.{Raced}
+use Rattle.he_race.specs.declared.live.AfterPoll.{AfterPoll}
 use Rattle.he_race.specs.declared.live.AfterPoll.TheVariants as after_polls
 use Rattle.he_race.specs.declared.race.RaceFuture.{RaceFuture}
 use Rattle.he_race.specs.declared.ticker.Ticker.{Ghosts as TickerOf}
@@ -20,7 +21,12 @@ abbrev pub fault_of : TickFault → RaceFault
 fault_of clocks.Memory = faults.Memory
 fault_of clocks.Lost = faults.Clock
 
-module _ {C Conn Run T : Type 0} (connector : ConnectorOf C Conn Run) (trial : TrialOf Run Conn) (ticker : TickerOf T) where
+-- what a poll of the race itself may do at a tick: the connector and the race before, the connector after it, and what it
+-- comes to
+abbrev pub StepOf : Type 0 → Type 0 → Type 0 → Type 1
+StepOf C Conn Run = C → Live C Conn Run → ℕ → C → AfterPoll C Conn Run → Type 0
+
+module _ {C Conn Run T : Type 0} (steps : StepOf C Conn Run) (ticker : TickerOf T) where
   -- the race goes on, and is to be polled again at a tick, for which the ticker is asked
   pub record AsksFor (old : RaceFuture C T Conn Run) (live : Live C Conn Run) (new : RaceFuture C T Conn Run) (answer : Result (Unit {0}) TickFault) : Type 0 where
     pub now : ℕ
@@ -28,7 +34,7 @@ module _ {C Conn Run T : Type 0} (connector : ConnectorOf C Conn Run) (trial : T
     pub tells : ticker.tells old.ticker now told
     pub next : Live C Conn Run
     pub tick : ℕ
-    pub polled : PolledAt connector trial old.connector live now new.connector (after_polls.Waits next tick)
+    pub polled : steps old.connector live now new.connector (after_polls.Waits next tick)
     pub asks : ticker.wakes told tick answer new.ticker
 
   pub record GoesOn (old : RaceFuture C T Conn Run) (live : Live C Conn Run) (new : RaceFuture C T Conn Run) : Type 0 where
@@ -39,7 +45,7 @@ module _ {C Conn Run T : Type 0} (connector : ConnectorOf C Conn Run) (trial : T
   pub record Ends (old : RaceFuture C T Conn Run) (live : Live C Conn Run) (new : RaceFuture C T Conn Run) (raced : Raced Conn) : Type 0 where
     pub now : ℕ
     pub tells : ticker.tells old.ticker now new.ticker
-    pub polled : PolledAt connector trial old.connector live now new.connector (after_polls.Ended raced)
+    pub polled : steps old.connector live now new.connector (after_polls.Ended raced)
 
   -- a fault: the clock is lost only where the ticker says so
   abbrev pub Fails : RaceFuture C T Conn Run → Live C Conn Run → RaceFuture C T Conn Run → RaceFault → Type 0
@@ -58,5 +64,9 @@ module _ {C Conn Run T : Type 0} (connector : ConnectorOf C Conn Run) (trial : T
   PollsFrom None old result new = (result ≡ Ready (Err faults.Over)) × (new ≡ old)
   PollsFrom (Some live) old result new = LivePolls old live result new
 
-  abbrev pub RacePolls : RaceFuture C T Conn Run → Poll (Result (Raced Conn) RaceFault) → RaceFuture C T Conn Run → Type 0
-  RacePolls old result new = PollsFrom old.live old result new
+  abbrev pub RacePollsBy : RaceFuture C T Conn Run → Poll (Result (Raced Conn) RaceFault) → RaceFuture C T Conn Run → Type 0
+  RacePollsBy old result new = PollsFrom old.live old result new
+
+-- a poll of a race whose answers are known
+abbrev pub RacePolls : {C Conn Run T : Type 0} → ConnectorOf C Conn Run → TrialOf Run Conn → TickerOf T → RaceFuture C T Conn Run → Poll (Result (Raced Conn) RaceFault) → RaceFuture C T Conn Run → Type 0
+RacePolls connector trial ticker old result new = RacePollsBy (PolledAt connector trial) ticker old result new

@@ -37,14 +37,18 @@ pub record Replays {Conn : Type 0} (race : Race) (raced : Raced Conn) : Type 0 w
   pub transcript : IsTranscript raced.recorded raced.transcript
   pub winner : is_some raced.winner ≡ is_won raced.transcript.result
 
--- what a race that is being run may give, with what is recorded so far: an end that replays, or a fault; where
+-- what a race that is being run may give, with what is recorded so far: an end of which this is said, or a fault; where
 -- nothing is left of it, that it is over, and only then
+abbrev pub GivesBy : {Conn : Type 0} → (Race → Raced Conn → Type 0) → Option Race → Result (Raced Conn) RaceFault → Type 0
+GivesBy said (Some race) (Ok raced) = said race raced
+GivesBy said (Some race) (Err faults.Over) = ⊥
+GivesBy said (Some race) (Err fault) = Unit {0}
+GivesBy said None (Ok raced) = ⊥
+GivesBy said None (Err fault) = fault ≡ faults.Over
+
+-- where all answers were given: an end that replays
 abbrev pub GivesFrom : {Conn : Type 0} → Option Race → Result (Raced Conn) RaceFault → Type 0
-GivesFrom (Some race) (Ok raced) = Replays race raced
-GivesFrom (Some race) (Err faults.Over) = ⊥
-GivesFrom (Some race) (Err fault) = Unit {0}
-GivesFrom None (Ok raced) = ⊥
-GivesFrom None (Err fault) = fault ≡ faults.Over
+GivesFrom {Conn} race result = GivesBy (Replays {Conn = Conn}) race result
 
 abbrev pub GivesOf : {C Conn Run : Type 0} → Option (Live C Conn Run) → Result (Raced Conn) RaceFault → Type 0
 GivesOf {C} {Conn} {Run} live result = GivesFrom {Conn = Conn} (option_map (λ (x : Live C Conn Run). x.recorder.recorded) live) result

@@ -10,6 +10,8 @@
 //!   trial.
 //! - [`RaceFuture`] is a race of attempts over a connector and a ticker: a future that gives [`Raced`], the
 //!   transcript of the race, its record as a timeline, and the winner's connection.
+//! - [`ResolvingRace`] is a race whose answers come while it runs, from an [`AnswerSource`]: each turn polls it once for
+//!   each family that has no answer, and what it tells counts as come at the turn's tick.
 //! - [`Scripted`] and [`WheelTicker`] are the connector and the ticker of a recorded race, [`race_one`] runs a race
 //!   over them to its transcript, and [`run_attempt`] drives one attempt to its fate.
 //!
@@ -67,6 +69,7 @@
 //! |---|---|
 //! | `Trial` | a poll that is pending has registered in `cx`, or `due` names a tick before which every poll is pending, or `due` is None and every later poll is pending |
 //! | `Connector` | a trial that may be polled, or a fault, which is the attempt's failure |
+//! | `AnswerSource` | a poll that is pending has registered in `cx`, or no later poll for its family tells anything |
 //! | `Ticker` | a `wake_at` that answers Ok has registered in `cx` or yielded, so that the task is polled again |
 //!
 //! What each of them does to its own state is a relation that the implementation states (`polls`, `begins`, `tells`,
@@ -108,26 +111,32 @@
 #![tactic(auto)]
 
 mod alone;
+pub mod answers;
 pub mod attempt;
 pub mod connector;
 pub mod faults;
+mod hearing;
+pub mod laws;
 pub mod limits;
 mod live;
 pub mod one;
 pub mod race;
 mod recorder;
+pub mod resolving;
 pub mod run;
 pub mod scripted;
 pub mod ticker;
 pub mod trial;
 pub mod wheel;
 
+pub use answers::AnswerSource;
 pub use attempt::{AttemptFuture, Finish};
 pub use connector::Connector;
 pub use faults::{ConnectFault, RaceFault, TickFault};
 pub use live::Raced;
 pub use one::race_one;
 pub use race::RaceFuture;
+pub use resolving::ResolvingRace;
 pub use run::run_attempt;
 pub use scripted::{Scripted, ScriptedTrial};
 pub use ticker::Ticker;

@@ -10,8 +10,10 @@ ghost use Rattle.he_race.specs.Attempt.{CanPoll};
 ghost use Rattle.he_race.specs.Kept.{InTurn, IsEnded, first_after, IsLive, IsUnfinished, are_untold};
 ghost use Rattle.he_plan.specs.Building.{unrecorded};
 ghost use Rattle.he_race.specs.Polling.{Answers, AsksInTime, BeginsFrom, EndsWith, GoesOn, Polled, PollsAt, TurnsFrom};
-ghost use Rattle.he_race.specs.Turns.{ArePolled, BeginsAt, IsNew, PolledAt, Turned, asked_tick, first_of, is_connection, is_over, unpolled};
+ghost use Rattle.he_race.specs.Resolving.{HeardAt, HeardTurn, HearsAndTurns};
+ghost use Rattle.he_race.specs.Turns.{ArePolled, BeginsAt, IsNew, asked_tick, first_of, is_connection, is_over, unpolled};
 
+use crate::answers::AnswerSource;
 use crate::attempt::{AttemptFuture, Finish};
 use crate::connector::Connector;
 use crate::faults::ConnectFault;
@@ -69,14 +71,15 @@ impl<C: Connector> Live<C> {
     }
 
     // A poll at the tick: a turn where there was none yet at this tick or later.
-    pub(crate) fn step(
+    pub(crate) fn step<S: AnswerSource>(
         self,
         now: u64,
         connector: &mut C,
+        source: &mut S,
         cx: &mut Context<'_>,
     ) -> Result<AfterPoll<C>, Memory>
         requires { IsLive C.Connector C.Run.Trial self }
-        ensures polled { IfOk result (PolledAt C.Connector C.Run.Trial connector.old self now connector.new) }
+        ensures polled { IfOk result (HeardAt S.hears C.Connector C.Run.Trial source.old connector.old self now source.new connector.new) }
         ensures in_time { IfOk result AsksInTime }
         ensures kept { Keeps cx.old cx.new }
     {
@@ -84,21 +87,22 @@ impl<C: Connector> Live<C> {
         let now = now.min(limit + 1);
         match self.recorder.turn {
             Some(turn) if now <= turn => Ok(AfterPoll::Waits(self, turn + 1)),
-            _ => self.take_turn(now, connector, cx),
+            _ => self.take_turn(now, connector, source, cx),
         }
     }
 
     // The turn at the tick: it ends the race, or the race goes on and is to be polled again at a tick.
-    fn take_turn(
+    fn take_turn<S: AnswerSource>(
         mut self,
         now: u64,
         connector: &mut C,
+        source: &mut S,
         cx: &mut Context<'_>,
     ) -> Result<AfterPoll<C>, Memory>
         requires live { IsLive C.Connector C.Run.Trial self }
         requires later { first_after self.recorder.turn ≤ now }
         requires in_time { now ≤ self.recorder.recorded.settings.limit + 1 }
-        ensures turned { IfOk result (Turned C.Connector C.Run.Trial connector.old self now connector.new) }
+        ensures turned { IfOk result (HeardTurn S.hears C.Connector C.Run.Trial source.old connector.old self now source.new connector.new) }
         ensures kept { Keeps cx.old cx.new }
     {
         let limit = self.recorder.limit();
@@ -111,12 +115,38 @@ impl<C: Connector> Live<C> {
                 if now > limit {
                     return self.end(None);
                 }
-                self.run_turn(now, connector, cx)
+                self.hear(now, connector, source, cx)
             }
         }
     }
 
-    // What a turn at or before the limit does once it has begun.
+    // What a turn at or before the limit does once it has begun: the answers that have come are recorded before the
+    // attempts are polled.
+    fn hear<S: AnswerSource>(
+        mut self,
+        now: u64,
+        connector: &mut C,
+        source: &mut S,
+        cx: &mut Context<'_>,
+    ) -> Result<AfterPoll<C>, Memory>
+        requires turn { InTurn self.recorder.recorded now self.recorder.underway.attempts false }
+        requires underway { IsUnderway self.recorder.recorded self.recorder.underway }
+        requires unfinished { All (IsUnfinished C.Connector C.Run.Trial self.recorder.underway.attempts) self.unfinished.items }
+        requires untold { are_untold self.recorder.recorded.outcomes self.unfinished.items ≡ true }
+        requires early { now ≤ self.recorder.recorded.settings.limit }
+        ensures turned { IfOk result (HearsAndTurns S.hears C.Connector C.Run.Trial source.old (unpolled connector.old self.recorder.recorded self.recorder.underway.attempts) self.unfinished.items now source.new connector.new) }
+        ensures kept { Keeps cx.old cx.new }
+    {
+        match self.recorder.hear(now, source, cx) {
+            Err(fault) => {
+                drop(self);
+                Err(fault)
+            }
+            Ok(()) => self.run_turn(now, connector, cx),
+        }
+    }
+
+    // What it does once the answers that have come are recorded.
     fn run_turn(
         mut self,
         now: u64,

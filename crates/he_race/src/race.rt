@@ -3,13 +3,15 @@
 ghost use Rattle.std.specs.Prelude.{◌≡◌, None, IfOk, IfSome, IsSomeAnd};
 ghost use Rattle.std.specs.Borrow.{Lends, sem};
 ghost use Rattle.futures.specs.Poll.{IfReady, OnPending};
-ghost use Rattle.futures.specs.Task.{Covers, Keeps};
+ghost use Rattle.futures.specs.Task.{Covers, IsArmed, Keeps};
 ghost use Rattle.he_plan.specs.Building.{unrecorded};
 ghost use Rattle.he_race.specs.contracts.race.RaceFuture.{the_row};
-ghost use Rattle.he_race.specs.Racing.{RacePolls, fault_of};
+ghost use Rattle.he_race.specs.Racing.{RacePolls, RacePollsBy, fault_of};
+ghost use Rattle.he_race.specs.Resolving.{HeardAt};
 ghost use Rattle.he_race.specs.Kept.{IsLive};
-ghost use Rattle.he_race.specs.Turns.{GivesOf, IsNew, GivesOf};
+ghost use Rattle.he_race.specs.Turns.{GivesOf, IsNew};
 
+use crate::answers::{AnswerSource, NoAnswers};
 use crate::connector::Connector;
 use crate::faults::{RaceFault, TickFault};
 use crate::live::{AfterPoll, Live, Raced};
@@ -62,6 +64,42 @@ impl<C: Connector, T: Ticker> RaceFuture<C, T> {
     }
 }
 
+impl<C: Connector, T: Ticker> RaceFuture<C, T> {
+    // A poll: a turn where there was none yet at the ticker's tick or later, in which the source is polled for the
+    // answers that have not come, and then the ticker is asked for the tick at which something is due.
+    pub(crate) fn poll_hearing<S: AnswerSource>(
+        &mut self,
+        source: &mut S,
+        cx: &mut Context<'_>,
+    ) -> Poll<Result<Raced<C::Conn>, RaceFault>>
+        requires { IfSome self.old.live (IsLive C.Connector C.Run.Trial) }
+        ensures turn { RacePollsBy (λ c live now c' step. HeardAt S.hears C.Connector C.Run.Trial source.old c live now source.new c' step) T.Ticker self.old result self.new }
+        ensures still { self.old.live ≡ None → source.new ≡ source.old }
+        ensures over { IfReady result (λ _. self.new.live ≡ None) }
+        ensures registered { OnPending result (IsArmed cx.new) }
+        ensures kept { Keeps cx.old cx.new }
+    {
+        let Some(live) = self.live.take() else {
+            return Poll::Ready(Err(RaceFault::Over));
+        };
+        let now = self.ticker.now();
+        match live.step(now, &mut self.connector, source, cx) {
+            Err(_) => Poll::Ready(Err(RaceFault::Memory)),
+            Ok(AfterPoll::Ended(raced)) => Poll::Ready(Ok(raced)),
+            Ok(AfterPoll::Waits(live, tick)) => match self.ticker.wake_at(tick, cx) {
+                Ok(()) => {
+                    put(&mut self.live, live);
+                    Poll::Pending
+                }
+                Err(fault) => {
+                    drop(live);
+                    Poll::Ready(Err(fault_of(fault)))
+                }
+            },
+        }
+    }
+}
+
 impl<C: Connector, T: Ticker> Future for RaceFuture<C, T> {
     type Output = Result<Raced<C::Conn>, RaceFault>;
 
@@ -82,24 +120,7 @@ impl<C: Connector, T: Ticker> Future for RaceFuture<C, T> {
         ensures over { IfReady result (λ _. self.new.live ≡ None) }
         ensures turn { RacePolls C.Connector C.Run.Trial T.Ticker self.old result self.new }
     {
-        let Some(live) = self.live.take() else {
-            return Poll::Ready(Err(RaceFault::Over));
-        };
-        let now = self.ticker.now();
-        match live.step(now, &mut self.connector, cx) {
-            Err(_) => Poll::Ready(Err(RaceFault::Memory)),
-            Ok(AfterPoll::Ended(raced)) => Poll::Ready(Ok(raced)),
-            Ok(AfterPoll::Waits(live, tick)) => match self.ticker.wake_at(tick, cx) {
-                Ok(()) => {
-                    put(&mut self.live, live);
-                    Poll::Pending
-                }
-                Err(fault) => {
-                    drop(live);
-                    Poll::Ready(Err(fault_of(fault)))
-                }
-            },
-        }
+        self.poll_hearing(&mut NoAnswers, cx)
     }
 }
 

@@ -27,7 +27,7 @@ use std::mem::drop;
 
 #[derive(Drop)]
 pub(crate) struct Recorder {
-    alloc: Global,
+    pub(crate) alloc: Global,
     pub(crate) recorded: TimelineBuilder,
     pub(crate) underway: Underway,
     pub(crate) turn: Option<u64>,
@@ -195,7 +195,7 @@ fn add_outcome(recorded: &mut TimelineBuilder, ip: Ip, outcome: Outcome) -> Resu
 }
 
 // The answer of a call of the builder that meets all its checks, so that nothing but memory can be refused.
-fn only_memory(answer: Result<(), BuildFault>) -> Result<(), Memory>
+pub(crate) fn only_memory(answer: Result<(), BuildFault>) -> Result<(), Memory>
     requires { IfErr answer (λ fault. fault ≡ build_faults.Memory) }
     ensures ok { OnOk result (answer ≡ Ok tt) }
     ensures refused { OnErr result (answer ≡ Err build_faults.Memory) }

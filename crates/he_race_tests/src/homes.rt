@@ -132,6 +132,11 @@ pub fn race(alloc: Global, given: &Given) -> Result<Timeline, Fail> {
     finished(builder, filled)
 }
 
+/// The same race with neither answers nor outcomes.
+pub fn unanswered(alloc: Global, given: &Given) -> Result<Timeline, Fail> {
+    Ok(empty(alloc, settings(given)?, host(alloc)?)?.finish())
+}
+
 pub fn known_race(alloc: Global, known: &Known) -> Result<Timeline, Fail> {
     let mut builder = empty(alloc, Settings::new(50, 250, 1, 30_000)?, host(alloc)?)?;
     let filled = fill_known(&mut builder, known);

@@ -6,14 +6,14 @@ use Rattle.he_race.proofs.live.Live.step.Goals as goal
 pub returns-in_default-clause-polled : goal.returns-in_default-clause-polled
 returns-in_default-clause-polled g c =
     let later : first_after c.args.self.recorder.turn ≤ c.min-now.result = search rules in
-    polled-turn g.C.Connector g.C.Run.Trial c.args.connector.now c.take_turn.new.connector c.args.self c.args.now c.min-now.result c.limit-limit.result c.take_turn.result c.min-now.ensures c.limit-limit.ensures.value later c.take_turn.ensures.turned
+    polled-turn g.S.AnswerSource.hears g.C.Connector g.C.Run.Trial c.args.source.now c.take_turn.new.source c.args.connector.now c.take_turn.new.connector c.args.self c.args.now c.min-now.result c.limit-limit.result c.take_turn.result c.min-now.ensures c.limit-limit.ensures.value later c.take_turn.ensures.turned
 
 pub returns-in_default-clause-in_time : goal.returns-in_default-clause-in_time
 returns-in_default-clause-in_time g c =
-    turn-in_time g.C.Connector g.C.Run.Trial c.args.connector.now c.take_turn.new.connector c.args.self c.min-now.result c.take_turn.result c.take_turn.ensures.turned
+    turn-in_time g.S.AnswerSource.hears g.C.Connector g.C.Run.Trial c.args.source.now c.take_turn.new.source c.args.connector.now c.take_turn.new.connector c.args.self c.min-now.result c.take_turn.result c.take_turn.ensures.turned
 
 pub returns-in-Some-clause-polled : goal.returns-in-Some-clause-polled
 returns-in-Some-clause-polled g c =
     let early : c.min-now.result ≤ c.in-Some.turn = search rules in
     let same = c.min-now.ensures ∙ ap (λ (n : ℕ). min c.args.now (n + 1)) c.limit-limit.ensures.value in
-    polled-again g.C.Connector g.C.Run.Trial c.args.connector.now c.args.self c.args.now c.min-now.result c.in-Some.turn same c.in-Some.is early
+    polled-again g.S.AnswerSource.hears g.C.Connector g.C.Run.Trial c.args.source.now c.args.connector.now c.args.self c.args.now c.min-now.result c.in-Some.turn same c.in-Some.is early

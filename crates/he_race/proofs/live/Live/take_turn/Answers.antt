@@ -20,26 +20,26 @@ returns-then-now-limit-clause-turned g c =
     let recorded : c.begin_turn.new.self.recorded ≡ slept c.args.self.recorder.recorded c.args.self.recorder.due c.args.now = ap (λ (x : Recorder). x.recorded) c.in-Ok.ensures.recorded in
     let alike : AreAlike c.args.self.recorder.recorded c.begin_turn.new.self.recorded = subst (AreAlike c.args.self.recorder.recorded) (sym recorded) (slept-alike c.args.self.recorder.recorded c.args.self.recorder.due c.args.now) in
     let after : c.args.now ≡ c.begin_turn.new.self.recorded.settings.limit + 1 = omega (arith, same_limit c.args.self.recorder.recorded c.begin_turn.new.self.recorded alike) in
-    turned-late g.C.Connector g.C.Run.Trial c.args.connector.now c.args.self c.args.now c.begin_turn.new.self c.end.result c.in-Ok.ensures.recorded (omega (arith, after)) (ends-late c.begin_turn.new.self.recorded c.args.now c.begin_turn.new.self.underway.attempts c.in-Ok.ensures.begins after) c.end.ensures
+    turned-late g.S.AnswerSource.hears g.C.Connector g.C.Run.Trial c.args.source.now c.args.connector.now c.args.self c.args.now c.begin_turn.new.self c.end.result c.in-Ok.ensures.recorded (omega (arith, after)) (ends-late c.begin_turn.new.self.recorded c.args.now c.begin_turn.new.self.underway.attempts c.in-Ok.ensures.begins after) c.end.ensures
 
-pub run_turn-requires-clause-turn : goal.run_turn-requires-clause-turn
-run_turn-requires-clause-turn g c = c.in-Ok.ensures.begins.in_turn
+pub hear-requires-clause-turn : goal.hear-requires-clause-turn
+hear-requires-clause-turn g c = c.in-Ok.ensures.begins.in_turn
 
-pub run_turn-requires-clause-unfinished : goal.run_turn-requires-clause-unfinished
-run_turn-requires-clause-unfinished g c =
+pub hear-requires-clause-unfinished : goal.hear-requires-clause-unfinished
+hear-requires-clause-unfinished g c =
     subst (λ (x : Recorder). All (IsUnfinished g.C.Connector g.C.Run.Trial x.underway.attempts) c.args.self.unfinished.items) (sym c.in-Ok.ensures.recorded) c.requires.live.unfinished
 
-pub run_turn-requires-clause-untold : goal.run_turn-requires-clause-untold
-run_turn-requires-clause-untold g c =
+pub hear-requires-clause-untold : goal.hear-requires-clause-untold
+hear-requires-clause-untold g c =
     let same : c.begin_turn.new.self.recorded.outcomes ≡ c.args.self.recorder.recorded.outcomes = ap (λ (x : Recorder). x.recorded.outcomes) c.in-Ok.ensures.recorded ∙ slept-outcomes c.args.self.recorder.recorded c.args.self.recorder.due c.args.now in
     rw same c.requires.live.untold
 
-pub run_turn-requires-clause-early : goal.run_turn-requires-clause-early
-run_turn-requires-clause-early g c =
+pub hear-requires-clause-early : goal.hear-requires-clause-early
+hear-requires-clause-early g c =
     let recorded : c.begin_turn.new.self.recorded ≡ slept c.args.self.recorder.recorded c.args.self.recorder.due c.args.now = ap (λ (x : Recorder). x.recorded) c.in-Ok.ensures.recorded in
     let alike : AreAlike c.args.self.recorder.recorded c.begin_turn.new.self.recorded = subst (AreAlike c.args.self.recorder.recorded) (sym recorded) (slept-alike c.args.self.recorder.recorded c.args.self.recorder.due c.args.now) in
     omega (arith, same_limit c.args.self.recorder.recorded c.begin_turn.new.self.recorded alike)
 
 pub returns-else-now-limit-clause-turned : goal.returns-else-now-limit-clause-turned
 returns-else-now-limit-clause-turned g c =
-    turned-run g.C.Connector g.C.Run.Trial c.args.connector.now c.run_turn.new.connector c.args.self c.args.now c.begin_turn.new.self c.run_turn.result c.in-Ok.ensures.recorded c.run_turn.ensures.turned
+    turned-run g.S.AnswerSource.hears g.C.Connector g.C.Run.Trial c.args.source.now c.hear.new.source c.args.connector.now c.hear.new.connector c.args.self c.args.now c.begin_turn.new.self c.hear.result c.in-Ok.ensures.recorded c.hear.ensures.turned

@@ -1,0 +1,47 @@
+// Where the answers of a race come from while it runs.
+
+ghost use Rattle.std.specs.Prelude.{◌≡◌, ◌≤◌, ℕ, List, Option, None, Some, ◌⊎◌};
+ghost use Rattle.futures.specs.Poll.{IfReady, OnPending};
+ghost use Rattle.futures.specs.Task.{IsArmed, Keeps};
+ghost use Rattle.he_addr.specs.declared.ip.Family.{Family};
+ghost use Rattle.he_addr.specs.declared.ip.Ip.{Ip};
+ghost use Rattle.he_race.specs.declared.limits.TheConstants.{MAX_POLL_TICK};
+ghost use Rattle.he_race.specs.Heard.{IsSilent};
+
+use crate::limits::MAX_POLL_TICK;
+use futures::task::{Context, Poll};
+use he_addr::{Family, Ip};
+
+/// Where the answers of a race come from while it runs, as from a resolver that was asked for AAAA and A at once (RFC
+/// 8305 section 3). Each turn polls it once for each family that has no answer yet, IPv6 first, at the turn's tick.
+///
+/// A poll that is pending owes one of two: it has registered in `cx`, so that the task is polled again once something
+/// happened; or no later poll for this family tells anything.
+pub trait AnswerSource: Drop {
+    // What a poll for a family at a tick may tell, and the state that it leaves.
+    ghost hears: { Self → Family → ℕ → Option (List Ip) → Self → Type 0 };
+
+    /// Polls for the family's addresses at the tick `now`, at most `MAX_POLL_TICK`. It answers them, of which there may
+    /// be none; for a family that it has answered it isn't polled again. Of what it answers the race takes the
+    /// addresses of the family, each once, and the first `MAX_ADDRESSES` of them.
+    fn poll_answer(&mut self, family: Family, now: u64, cx: &mut Context<'_>) -> Poll<Vec<Ip>>
+        requires in_time { now ≤ MAX_POLL_TICK }
+        ensures pending { OnPending result (hears self.old family now None self.new) }
+        ensures ready { IfReady result (λ ips. hears self.old family now (Some ips.items) self.new) }
+        ensures waits { OnPending result (IsArmed cx.new ⊎ IsSilent hears self.new family) }
+        ensures kept { Keeps cx.old cx.new };
+}
+
+// The source of a race whose answers are all known: it tells nothing.
+#[derive(Drop)]
+pub(crate) struct NoAnswers;
+
+impl AnswerSource for NoAnswers {
+    ghost use Rattle.std.specs.Prelude.{◌≡◌, None};
+
+    ghost hears = { λ s family now told left. (told ≡ None) × (left ≡ s) };
+
+    fn poll_answer(&mut self, _family: Family, _now: u64, _cx: &mut Context<'_>) -> Poll<Vec<Ip>> {
+        Poll::Pending
+    }
+}
