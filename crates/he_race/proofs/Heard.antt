@@ -1,5 +1,5 @@
 -- What a race that is being run is once answers have come in a turn.
-use Rattle.std.proofs.Common.{◌≡◌, ℕ, suc, ◌+◌, ◌≤◌, ◌<◌, ◌∙◌, ◌++◌, find, get_or, take, true, false, List, [], ◌∷◌, if◌then◌else◌, length, Option, Some, None, IfSome, refl, sym, ap, subst, arith, inl, inr}
+use Rattle.std.proofs.Common.{◌≡◌, ℕ, suc, ◌+◌, ◌≤◌, ◌<◌, ◌∙◌, ◌++◌, find, get_or, take, true, false, List, [], ◌∷◌, length, Option, Some, None, IfSome, refl, sym, ap, subst, arith, inl, inr}
 use Rattle.std.specs.List.{All}
 use Rattle.std.proofs.lemmas.Bool.{cases_lt}
 use Rattle.std.proofs.lemmas.Option.{slice_get-get_or}

@@ -1,5 +1,5 @@
 -- One more answer changes nothing before its tick.
-use Rattle.std.proofs.Common.{◌≡◌, ℕ, zero, suc, ◌+◌, ◌≤◌, ◌<◌, ◌↔◌, ◌++◌, Bool, true, false, List, [], ◌∷◌, if◌then◌else◌, find, filter, length, map, take, Option, Some, None, MatchOption, IsSomeAnd, nat_le, nat_lt, refl, sym, ◌∙◌, ap, subst, arith, inl, inr}
+use Rattle.std.proofs.Common.{◌≡◌, ℕ, zero, suc, ◌+◌, ◌≤◌, ◌<◌, ◌↔◌, ◌++◌, Bool, true, false, List, [], ◌∷◌, if◌then◌else◌, find, filter, map, take, Option, Some, None, MatchOption, IsSomeAnd, nat_le, nat_lt, refl, sym, ◌∙◌, ap, subst, arith, inl, inr}
 use Rattle.std.specs.List.{list_all, list_any, slice_get}
 use Rattle.std.specs.Option.{option_and_then, option_map_or}
 use Rattle.std.proofs.lemmas.Bool.{cases_lt}
@@ -14,13 +14,12 @@ use Rattle.he_plan.specs.Alternating.{interlace}
 use Rattle.he_plan.specs.Attempts.{AreNextInTurn, HasWaited, HaveFailed, IsAnswered, IsNext, IsPositive, MayBegin, MayFollow, MayStart, has_failed, has_failed_by, is_untried, last_of, order, order_at, received, received_of, seen}
 use Rattle.he_plan.specs.Building.{with_answer}
 use Rattle.he_plan.specs.Finish.{outcome_of}
-use Rattle.he_plan.specs.Race.{History, Race, Reply, addresses_of, known_of as told_in, race_input, reply_of, usable_addresses}
+use Rattle.he_plan.specs.Race.{History, Race, Reply, addresses_of, known_of as told_in, reply_of, usable_addresses}
 use Rattle.he_plan.specs.Timeline.{IsRace}
 use Rattle.he_plan.proofs.Bools.{and_left, and_right, lt_from, not_le}
 use Rattle.he_plan.proofs.Starting.{IsSeen-seen}
 use Rattle.he_select.specs.declared.known.Known.{Known}
-use Rattle.he_select.specs.Preference.{order_of}
-use Rattle.he_select.specs.Selection.{known_of, known_rtt, known_used}
+use Rattle.he_select.specs.Selection.{known_of}
 use Rattle.he_select.proofs.Alike.{Alike, order_of_alike}
 use Rattle.he_select.proofs.Counting.{Each}
 use Rattle.he_select.proofs.Told.{known_in}

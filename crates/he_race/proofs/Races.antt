@@ -1,5 +1,5 @@
 -- What a poll of a race comes to, by what it did.
-use Rattle.std.proofs.Common.{◌≡◌, ◌+◌, ◌∙◌, ℕ, Bool, true, false, MatchBool, min, nat_le, List, Option, Some, None, Result, IfSome, Ok, Err, refl, sym, subst, inl, inr}
+use Rattle.std.proofs.Common.{◌≡◌, ◌+◌, ℕ, Bool, true, false, MatchBool, min, nat_le, List, Option, Some, None, Result, IfSome, Ok, Err, sym, subst, inl, inr}
 use Rattle.std.specs.Option.{option_map}
 use Rattle.futures.specs.Poll.{IfReady, OnPending}
 use Rattle.futures.specs.declared.task.Poll.{Poll}
@@ -17,7 +17,6 @@ use Rattle.he_race.specs.declared.live.AfterPoll.{AfterPoll}
 use Rattle.he_race.specs.declared.live.AfterPoll.TheVariants as after_polls
 use Rattle.he_race.specs.declared.live.Live.{Live}
 use Rattle.he_race.specs.declared.live.Raced.{Raced}
-use Rattle.he_race.specs.declared.live.Unfinished.{Unfinished}
 use Rattle.he_race.specs.declared.race.RaceFuture.{RaceFuture}
 use Rattle.he_race.specs.declared.ticker.Ticker.{Ghosts as TickerOf}
 use Rattle.he_race.specs.declared.trial.Trial.{Ghosts as TrialOf}
@@ -26,9 +25,9 @@ use Rattle.he_race.specs.Kept.{IsLive}
 use Rattle.he_race.specs.Polling.{TurnsFrom}
 use Rattle.he_race.specs.Racing.{PollsFrom, RacePollsBy, StepOf, fault_of}
 use Rattle.he_race.specs.Recording.{slept}
-use Rattle.he_race.specs.Resolving.{HeardAt, HeardFrom, HeardTurn, HearsAndTurns, KeepsGiven, ReplaysGiven}
-use Rattle.he_race.specs.Turns.{GivesBy, PolledAt, PolledFrom, Replays, Sweep, Turned, begun}
-use Rattle.he_race.proofs.Heard.{HeardSame, given-alike, given-itself, given-later, heard-same, unheard-same}
+use Rattle.he_race.specs.Resolving.{HeardAt, HeardFrom, HeardTurn, KeepsGiven, ReplaysGiven}
+use Rattle.he_race.specs.Turns.{GivesBy, PolledAt, PolledFrom, Replays, Turned, begun}
+use Rattle.he_race.proofs.Heard.{given-alike, given-later, heard-same, unheard-same}
 use Rattle.he_race.proofs.Turning.{alike-later, slept-alike}
 
 module _ {C Conn Run T : Type 0} (steps : StepOf C Conn Run) (ticker : TickerOf T) where

@@ -27,7 +27,7 @@ use Rattle.he_race.specs.Recording.{EndsRace, slept}
 use Rattle.he_race.specs.Polling.{AsksInTime, BeginsFrom, BeginsOne, EndsWith, GoesOn, LeftBy, PollsAt, TurnsFrom}
 use Rattle.he_race.specs.Heard.{Hears, Tells}
 use Rattle.he_race.specs.Resolving.{HeardAt, HeardFrom, HeardTurn, HearsAndTurns}
-use Rattle.he_race.specs.Turns.{ArePolled, BeginsAt, Goes, Replays, StartsOne, Sweep, asked_tick, first_of, is_over, told, unpolled}
+use Rattle.he_race.specs.Turns.{ArePolled, BeginsAt, Replays, StartsOne, Sweep, asked_tick, first_of, is_over, told, unpolled}
 use Rattle.he_race.proofs.Turning.{alike-later, drop-set, take-set}
 
 -- an element that stands at i is the first of those from i on

@@ -1,4 +1,4 @@
-use Rattle.std.proofs.Common.{◌≡◌, List, ap, sym, subst, arith}
+use Rattle.std.proofs.Common.{List, ap, sym, subst, arith}
 use Rattle.std.specs.List.{All}
 use Rattle.he_plan.specs.declared.attempts.Attempt.{Attempt}
 use Rattle.he_race.specs.Kept.{IsUnfinished}

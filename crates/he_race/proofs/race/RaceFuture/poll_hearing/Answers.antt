@@ -1,6 +1,6 @@
 use Rattle.std.proofs.Common.{◌∙◌, sym}
 use Rattle.he_race.specs.Resolving.{HeardAt}
-use Rattle.he_race.proofs.Races.{ends, fails, live-of, refused, waits}
+use Rattle.he_race.proofs.Races.{ends, fails, live-of, waits}
 use Rattle.he_race.proofs.race.RaceFuture.poll_hearing.Goals as goal
 
 pub step-requires : goal.step-requires

@@ -1,4 +1,3 @@
-use Rattle.he_race.specs.Racing.{RacePolls}
 use Rattle.he_race.specs.Turns.{PolledAt, Replays}
 use Rattle.he_race.proofs.Races.{poll-again, poll-gives, poll-same, polled-ends, polled-goes, polls-as, unheard-at}
 use Rattle.he_race.proofs.race.RaceFutureFuture.poll.Goals as goal
