@@ -1,2 +1,1 @@
-mod LoopLaws
 mod Records

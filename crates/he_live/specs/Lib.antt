@@ -1,3 +1,2 @@
 pub mod Live
-pub mod Reasons
 pub mod Reading

@@ -180,10 +180,8 @@ fn run_from(
         six: case.six,
         four: case.four,
     };
-    let ticker = Visiting {
-        ticks: case.ticks,
-        told: 0,
-    };
+    let ticks = case.ticks;
+    let ticker = Visiting { ticks, told: 0 };
     let connector = Scripted::new(timeline);
     let future = ResolvingRace::new(alloc, unanswered, connector, source, ticker)?;
     let given = drive(solo, future, 40);
