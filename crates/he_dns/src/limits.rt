@@ -1,0 +1,34 @@
+// The numbers of the domain name system and of this reader.
+
+/// The most octets of a label (RFC 1035 section 2.3.4).
+pub const MAX_LABEL: usize = 63;
+
+/// The most octets of a name in a message without its last one, the root's empty label: a whole name has at most 255
+/// (RFC 1035 section 2.3.4).
+pub const MAX_NAME: usize = 254;
+
+/// The most bytes of a host name's text without a dot at its end: one less than the octets of its labels.
+pub const MAX_NAME_TEXT: usize = 253;
+
+/// The most parts, labels and pointers, of a name in a message. A name has at most 127 labels, so one with a pointer
+/// between any two of them is read.
+pub const MAX_PARTS: usize = 255;
+
+/// The most aliases (CNAME records) that are followed to a host's addresses.
+pub const MAX_ALIASES: usize = 16;
+
+// A pointer's first octet is at least this one (RFC 1035 section 4.1.4).
+pub(crate) const POINTER: u8 = 0xc0;
+
+// The octets of a message's header (RFC 1035 section 4.1.1).
+pub(crate) const HEADER_LEN: usize = 12;
+
+// TYPE of an IPv4 address, of an alias (RFC 1035 section 3.2.2) and of an IPv6 address (RFC 3596 section 2.1).
+pub(crate) const TYPE_A: u16 = 1;
+
+pub(crate) const TYPE_CNAME: u16 = 5;
+
+pub(crate) const TYPE_AAAA: u16 = 28;
+
+// CLASS of the Internet (RFC 1035 section 3.2.4).
+pub(crate) const CLASS_IN: u16 = 1;

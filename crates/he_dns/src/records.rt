@@ -1,0 +1,39 @@
+// Resource records (RFC 1035 section 4.1.3).
+
+use crate::names::read_name;
+use crate::octets::Octets;
+use crate::words::word_at;
+
+// What stands before a record's data, and where the data stands.
+#[derive(Drop)]
+pub(crate) struct Record {
+    // NAME
+    pub(crate) owner: Octets,
+    // TYPE
+    pub(crate) kind: u16,
+    // CLASS
+    pub(crate) class: u16,
+    // The place of RDATA.
+    pub(crate) place: usize,
+    // RDLENGTH
+    pub(crate) size: usize,
+}
+
+// The record at a place.
+pub(crate) fn read_record(message: &[u8], at: usize) -> Option<Record> {
+    let (owner, end) = read_name(message, at)?;
+    let kind = word_at(message, end)?;
+    let class = word_at(message, end + 2)?;
+    let size = word_at(message, end + 8)? as usize;
+    let place = end + 10;
+    if message.len() - place < size {
+        return None;
+    }
+    Some(Record {
+        owner,
+        kind,
+        class,
+        place,
+        size,
+    })
+}
