@@ -8,6 +8,7 @@ use std::io;
 use std::mem::drop;
 use std::net::Net;
 use std::random::RandomSource;
+use std::rt::Files;
 use std::sync::Wait;
 use std::thread::Threads;
 use std::time::Clock;
@@ -507,7 +508,7 @@ fn writer_of(alloc: Global, streams: Streams) -> FakeWriter {
 // Whether the line of this row ends as it must, with a writer of faults that takes so many bytes.
 fn is_right<R>(rt: &HostRuntime, lender: &R, row: &Row, faults_room: usize) -> bool
 where
-    R: Threads + Wait + Clock + RandomSource + AllocGlobal + Net + Sync,
+    R: Threads + Wait + Clock + RandomSource + AllocGlobal + Net + Files + Sync,
 {
     let (words, text, streams, status, output, fault) = row;
     let mut input = FromReader::new(reader_of(text, *streams));
@@ -538,7 +539,7 @@ where
 /// A line that cannot be written.
 pub fn run_command_lines<R>(rt: &HostRuntime, lender: &R) -> io::Result<Counts>
 where
-    R: Threads + Wait + Clock + RandomSource + AllocGlobal + Net + Sync,
+    R: Threads + Wait + Clock + RandomSource + AllocGlobal + Net + Files + Sync,
 {
     let mut counts = Counts { ran: 0, differ: 0 };
     for (at, row) in ROWS.iter().enumerate() {

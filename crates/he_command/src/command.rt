@@ -4,13 +4,14 @@ ghost use Rattle.he_command.specs.Run.{IsRequest};
 
 use crate::limits::{DEFAULT_WORKERS, DEFAULT_WORKERS_TEXT, LEAST_PORT};
 use clap::{Arg, ArgAction, ArgMatches, Command, Error, value_parser};
+use he_names::Choice;
 use he_replay::Action;
 use he_replay::limits::{LEAST_WORKERS, MOST_WORKERS};
 use std::alloc::{AllocError, Global};
 
 /// What a command line asks for.
 #[derive(Clone, Copy)]
-pub enum Request {
+pub enum Request<'a> {
     /// Something to do with the races of the input.
     Action(Action),
     /// To check the input, and to explain its first fault.
@@ -18,6 +19,11 @@ pub enum Request {
     /// To run the race of the input on real sockets, each address at this port, 1 to 65,535. The status tells no
     /// connection where `must_connect`.
     Live { port: u16, must_connect: bool },
+    /// To find the addresses of a host, by this resolver; None where the line names none that there is.
+    Names {
+        host: &'a str,
+        resolver: Option<Choice>,
+    },
 }
 
 const ABOUT: &str =
@@ -32,6 +38,14 @@ const EXPLAIN_ABOUT: &str = "Reads timelines of races and writes why they went a
 const CHECK_ABOUT: &str = "Checks timelines of races, and explains the first fault";
 
 const LIVE_ABOUT: &str = "Races real connections, and writes what happened and a record of it";
+
+const NAMES_ABOUT: &str = "Finds the addresses of a host, and writes them as the answers of a timeline";
+
+const HOST_HELP: &str = "A host name, as www.example.com, or an address";
+
+const RESOLVER_HELP: &str =
+    "A name server in place of those of /etc/resolv.conf: ADDRESS or ADDRESS:PORT, IPv6 with a port as [ADDRESS]:PORT; \
+or `system`, the system's own resolver";
 
 const PORT_HELP: &str = "The TCP port at which each address is connected to, 1 to 65535";
 
@@ -190,6 +204,25 @@ Exit status: 0 when all is done, whether a connection was made or not; 3 in plac
 that with --must-connect where none was made; 1 after a fault, with one line on
 standard error; 2 for a command line that is refused.";
 
+const NAMES_EXAMPLE: &str = "\
+Standard output has the two answers that a timeline wants, each with the tick
+(millisecond since the start) at which it came; `none` where a family has no address.
+
+Example: `he names www.example.com` may write
+
+  aaaa 31 2001:db8:1::1 2001:db8:1::2
+  a 12 198.51.100.1
+
+An address is its own answer, and a name of /etc/hosts has the addresses there. Any
+other is asked of the name servers of /etc/resolv.conf, both families at once, over UDP,
+and over TCP where an answer is cut off; `search` and the options ndots, timeout and
+attempts count as resolver(5) has them. With `--resolver system` all of it is left to
+the system (getaddrinfo), which gives both families at once.
+
+Exit status: 0 when an address was found; 1 after a fault, with one line on standard
+error (`he: no such name`, `he: no name server answers`); 2 for a command line that is
+refused.";
+
 // The whole command line of the program.
 fn command<'a>(alloc: Global) -> Result<Command<'a>, AllocError> {
     let workers = Arg::new(alloc, "workers")
@@ -216,6 +249,11 @@ fn command<'a>(alloc: Global) -> Result<Command<'a>, AllocError> {
         .after_help(LIVE_EXAMPLE)
         .arg(port(alloc))?
         .arg(must_connect(alloc))?;
+    let names = Command::new(alloc, "names")
+        .about(NAMES_ABOUT)
+        .after_help(NAMES_EXAMPLE)
+        .arg(host(alloc))?
+        .arg(resolver(alloc))?;
     Command::new(alloc, "he")
         .bin_name("he")?
         .version("1.0.0")
@@ -226,7 +264,8 @@ fn command<'a>(alloc: Global) -> Result<Command<'a>, AllocError> {
         .subcommand(order)?
         .subcommand(explain)?
         .subcommand(check)?
-        .subcommand(live)
+        .subcommand(live)?
+        .subcommand(names)
 }
 
 // The port of `he live`.
@@ -247,12 +286,28 @@ fn must_connect<'a>(alloc: Global) -> Arg<'a> {
         .help(MUST_CONNECT_HELP)
 }
 
+// The host of `he names`.
+fn host<'a>(alloc: Global) -> Arg<'a> {
+    Arg::new(alloc, "host")
+        .value_name("HOST")
+        .required(true)
+        .help(HOST_HELP)
+}
+
+// The resolver of `he names`.
+fn resolver<'a>(alloc: Global) -> Arg<'a> {
+    Arg::new(alloc, "resolver")
+        .long("resolver")
+        .value_name("RESOLVER")
+        .help(RESOLVER_HELP)
+}
+
 /// Reads the words of a command line, of which the first is the program's name.
 ///
 /// # Errors
 ///
 /// The crate clap's error: a refused line, a request for help or the version, or want of memory.
-pub fn read_words<'a>(alloc: Global, words: &'a [&'a str]) -> Result<Request, Error>
+pub fn read_words<'a>(alloc: Global, words: &'a [&'a str]) -> Result<Request<'a>, Error>
     ensures { IfOk result IsRequest }
 {
     let matches = command(alloc)?.try_get_matches_from(words)?;
@@ -264,6 +319,10 @@ pub fn read_words<'a>(alloc: Global, words: &'a [&'a str]) -> Result<Request, Er
             port: port_of(live),
             must_connect: live.get_flag("must-connect"),
         },
+        Some(("names", names)) => Request::Names {
+            host: names.get_str("host").unwrap_or(""),
+            resolver: resolver_of(names),
+        },
         Some((_, replay)) => Request::Action(Action::Replay {
             workers: workers_of(replay),
         }),
@@ -271,6 +330,14 @@ pub fn read_words<'a>(alloc: Global, words: &'a [&'a str]) -> Result<Request, Er
             workers: DEFAULT_WORKERS,
         }),
     })
+}
+
+// The resolver that the line names: that of the system's settings where it names none.
+fn resolver_of(matches: &ArgMatches<'_>) -> Option<Choice> {
+    match matches.get_str("resolver") {
+        Some(text) => Choice::read(text.as_bytes()),
+        None => Some(Choice::Configured),
+    }
 }
 
 // The port. clap has tested that it is there, and its range, but has no clause on a subcommand's arguments.

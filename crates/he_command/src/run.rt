@@ -4,13 +4,14 @@ ghost use Rattle.clap.specs.Values.{kind_of};
 ghost use Rattle.he_stream.specs.Input.{Gives, GivesSoFar};
 ghost use Rattle.he_stream.specs.Output.{PutsAndEnds, PutsInRounds, PutsPart, PutsRoundsPart, PutsWhole};
 ghost use Rattle.he_command.specs.declared.command.Request.TheVariants.{Check};
-ghost use Rattle.he_command.specs.Run.{AnswersLine, IsRequest, RunsLine, RunsRequest, Shows, status_of, status_of_live};
+ghost use Rattle.he_command.specs.Run.{AnswersLine, IsRequest, RunsLine, RunsNames, RunsRequest, Shows, status_of, status_of_live};
 
 use crate::command::{Request, read_words};
 use clap::Error;
 use clap::error::ErrorKind;
 use he_check::check;
 use he_live::{LiveFault, live};
+use he_names::{Choice, write_names};
 use he_plan::Outcome3;
 use he_replay::{ReplayFault, run_action};
 use he_stream::{InputStream, OutputStream, write_whole};
@@ -19,6 +20,7 @@ use std::fmt::Display;
 use std::io::Write;
 use std::net::Net;
 use std::random::RandomSource;
+use std::rt::Files;
 use std::sync::Wait;
 use std::thread::Threads;
 use std::time::Clock;
@@ -35,6 +37,11 @@ pub const USAGE: u8 = 2;
 /// The exit status of a live race that had to make a connection and made none.
 pub const NO_CONNECTION: u8 = 3;
 
+const NO_RESOLVER: &str = "\
+error: invalid value for '--resolver <RESOLVER>': neither an address, nor an address and a port, nor `system`
+
+For more information, try '--help'.";
+
 /// Runs the command line `words`, of which the first is the program's name, and answers the exit
 /// status. Output and help that was asked for go to `output`; what is wrong goes to `faults`. What
 /// cannot be written to `faults` leaves the status as it is.
@@ -47,7 +54,7 @@ pub fn run_words<'a, R, I, O, F>(
     faults: &mut F,
 ) -> u8
 where
-    R: Threads + Wait + Clock + RandomSource + AllocGlobal + Net + Sync,
+    R: Threads + Wait + Clock + RandomSource + AllocGlobal + Net + Files + Sync,
     I: InputStream,
     O: OutputStream,
     F: Write,
@@ -67,13 +74,13 @@ where
 pub fn run_line<R, I, O, F>(
     rt: &R,
     alloc: Global,
-    line: Result<Request, Error>,
+    line: Result<Request<'_>, Error>,
     input: &mut I,
     output: &mut O,
     faults: &mut F,
 ) -> u8
 where
-    R: Threads + Wait + Clock + RandomSource + AllocGlobal + Net + Sync,
+    R: Threads + Wait + Clock + RandomSource + AllocGlobal + Net + Files + Sync,
     I: InputStream,
     O: OutputStream,
     F: Write,
@@ -96,13 +103,13 @@ where
 fn run_request<R, I, O, F>(
     rt: &R,
     alloc: Global,
-    request: Request,
+    request: Request<'_>,
     input: &mut I,
     output: &mut O,
     faults: &mut F,
 ) -> u8
 where
-    R: Threads + Wait + Clock + RandomSource + AllocGlobal + Net + Sync,
+    R: Threads + Wait + Clock + RandomSource + AllocGlobal + Net + Files + Sync,
     I: InputStream,
     O: OutputStream,
     F: Write,
@@ -122,6 +129,9 @@ where
         Request::Check => run_check(alloc, input, output, faults),
         Request::Live { port, must_connect } => {
             report_race(live(rt, alloc, input, output, port), must_connect, faults)
+        }
+        Request::Names { host, resolver } => {
+            run_names(rt, alloc, host, resolver, output, faults)
         }
     }
 }
@@ -146,6 +156,31 @@ fn run_check<I: InputStream, O: OutputStream, F: Write>(
     let status = report_end(end, faults);
     let _ = faults.write_all(explanation.as_slice());
     status
+}
+
+// Finds the addresses of a host. A resolver that is none is a line that is refused.
+fn run_names<R, O, F>(
+    rt: &R,
+    alloc: Global,
+    host: &str,
+    resolver: Option<Choice>,
+    output: &mut O,
+    faults: &mut F,
+) -> u8
+where
+    R: Wait + Clock + RandomSource + AllocGlobal + Net + Files,
+    O: OutputStream,
+    F: Write,
+    ensures { RunsNames resolver (PutsWhole O.contents O.puts O.flushes output.old output.new)
+        (PutsPart O.contents O.puts O.flushes output.old output.new) (output.new ≡ output.old) result }
+{
+    match resolver {
+        Some(choice) => report_end(write_names(rt, alloc, output, host, choice), faults),
+        None => {
+            let _ = writeln!(faults, "{NO_RESOLVER}");
+            USAGE
+        }
+    }
 }
 
 // Answers a line that asks for no action.

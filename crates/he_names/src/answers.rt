@@ -14,6 +14,7 @@ use std::alloc::Allocator;
 /// # Errors
 ///
 /// [`Memory`] where an allocation was refused.
+#[tactic(auto, using(crate::proofs::Once::once_step))]
 pub fn clean<A: Allocator + Copy>(alloc: A, ips: &[Ip]) -> Result<Vec<Ip, A>, Memory>
     ensures { IfOk result (λ kept. kept.items ≡ take 256 (each_once ips.now)) }
 {

@@ -96,21 +96,25 @@ impl Asking {
         }
     }
 
-    // Ready once it is told what addresses the family has, or why none.
+    // Asks for the name at this place. Ready once it is told what addresses the family has, or why none.
     pub(crate) fn poll<R: Net + RandomSource + Clock>(
         &mut self,
         setup: &Setup<'_, R>,
-        name: &Name,
+        place: usize,
         cx: &mut Context<'_>,
     ) -> Poll<()>
         ensures armed { OnPending result (IsArmed cx.new) }
         ensures kept { Keeps cx.old cx.new }
     {
+        let Some(name) = setup.asked.names.get(place) else {
+            self.told = Some(Err(self.lack));
+            return Poll::Ready(());
+        };
         for _ in 0..MOST_STEPS {
             if self.told.is_some() {
                 return Poll::Ready(());
             }
-            if self.poll_try(setup, name, cx).is_pending() {
+            if let Poll::Pending = self.poll_try(setup, name, cx) {
                 return Poll::Pending;
             }
         }
@@ -157,7 +161,7 @@ impl Asking {
         setup: &Setup<'_, R>,
         question: Question<'_>,
     ) {
-        let Some(server) = setup.server(self.tries) else {
+        let Some(server) = setup.asked.server(self.tries) else {
             self.told = Some(Err(self.lack));
             return;
         };
@@ -169,7 +173,7 @@ impl Asking {
     }
 
     fn wait<R: Clock>(&mut self, setup: &Setup<'_, R>, server: SocketAddr, query: Query) {
-        match setup.timers.sleep(setup.rt, setup.timeout) {
+        match setup.timers.sleep(setup.rt, setup.asked.timeout) {
             Ok(timer) => {
                 self.current = Some(Try {
                     query,

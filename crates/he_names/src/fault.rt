@@ -5,7 +5,7 @@ ghost use Rattle.he_names.specs.declared.fault.NamesFault.TheVariants.{Memory, R
 
 use he_dns::NameFault;
 use he_stream::WriteFault;
-use std::alloc::AllocError;
+use std::alloc::{AllocError, AllocFailed};
 use std::io;
 use thiserror::Error;
 
@@ -45,6 +45,14 @@ impl From<AllocError> for NamesFault {
     ghost from_gives = { λ _ fault. fault ≡ Memory };
 
     fn from(_refused: AllocError) -> NamesFault {
+        NamesFault::Memory
+    }
+}
+
+impl<T: Drop> From<AllocFailed<T>> for NamesFault {
+    ghost from_gives = { λ _ fault. fault ≡ Memory };
+
+    fn from(_refused: AllocFailed<T>) -> NamesFault {
         NamesFault::Memory
     }
 }

@@ -7,12 +7,14 @@ use crate::answers::clean;
 use crate::asking::Asking;
 use crate::fault::NamesFault;
 use crate::limits::MOST_STEPS;
-use crate::setup::Setup;
+use crate::setup::{Asked, Setup};
 use futures::task::{Context, Poll};
 use he_addr::{Family, Ip};
+use std::alloc::Global;
 use std::net::Net;
 use std::random::RandomSource;
 use std::time::Clock;
+use tokio::reactor::Handle;
 
 /// Asks name servers for both families of a name at once, and tells each family's addresses as they come.
 ///
@@ -29,9 +31,21 @@ pub struct Resolver<'h, R> {
 
 impl<'h, R: Net + RandomSource + Clock> Resolver<'h, R> {
     /// Nothing is sent before the first poll.
-    pub fn new(setup: Setup<'h, R>) -> Resolver<'h, R> {
+    pub fn new(
+        rt: &'h R,
+        alloc: Global,
+        reactor: &'h Handle,
+        timers: &'h tokio::time::Handle,
+        asked: Asked,
+    ) -> Resolver<'h, R> {
         Resolver {
-            setup,
+            setup: Setup {
+                rt,
+                alloc,
+                reactor,
+                timers,
+                asked,
+            },
             place: 0,
             v6: Asking::new(Family::V6),
             v4: Asking::new(Family::V4),
@@ -60,15 +74,7 @@ impl<'h, R: Net + RandomSource + Clock> Resolver<'h, R> {
         ensures kept { Keeps cx.old cx.new }
     {
         for _ in 0..MOST_STEPS {
-            let Some(name) = self.setup.names.get(self.place) else {
-                return Poll::Ready(());
-            };
-            let v6 = self.v6.poll(&self.setup, name, cx);
-            let v4 = self.v4.poll(&self.setup, name, cx);
-            if let Poll::Pending = v6 {
-                return Poll::Pending;
-            }
-            if let Poll::Pending = v4 {
+            if let Poll::Pending = self.poll_sides(cx) {
                 return Poll::Pending;
             }
             if !self.goes_on() {
@@ -81,6 +87,19 @@ impl<'h, R: Net + RandomSource + Clock> Resolver<'h, R> {
         cx.yield_now()
     }
 
+    // Both families go on with the name; ready where both are told.
+    fn poll_sides(&mut self, cx: &mut Context<'_>) -> Poll<()>
+        ensures armed { OnPending result (IsArmed cx.new) }
+        ensures kept { Keeps cx.old cx.new }
+    {
+        let v6 = self.v6.poll(&self.setup, self.place, cx);
+        let v4 = self.v4.poll(&self.setup, self.place, cx);
+        match (v6, v4) {
+            (Poll::Ready(()), Poll::Ready(())) => Poll::Ready(()),
+            _ => Poll::Pending,
+        }
+    }
+
     // Whether the next name is asked for: neither family has an address of this one, and a server said so of one.
     fn goes_on(&self) -> bool {
         match (self.v6.lack(), self.v4.lack()) {
@@ -90,7 +109,7 @@ impl<'h, R: Net + RandomSource + Clock> Resolver<'h, R> {
     }
 
     fn is_last(&self) -> bool {
-        self.place.saturating_add(1) >= self.setup.names.len()
+        self.place.saturating_add(1) >= self.setup.asked.names.len()
     }
 
     // Whether nothing that is still asked can change what the family is told.

@@ -11,19 +11,15 @@ use tokio::reactor::Handle;
 /// What a resolver asks: the names in their order, until one has an address; the servers in their order, each until
 /// `timeout`, and all of them `attempts` times.
 #[derive(Drop)]
-pub struct Setup<'h, R> {
-    pub rt: &'h R,
-    pub alloc: Global,
-    pub reactor: &'h Handle,
-    pub timers: &'h tokio::time::Handle,
+pub struct Asked {
     pub names: Vec<Name>,
     pub servers: Vec<SocketAddr>,
     pub timeout: Duration,
     pub attempts: usize,
 }
 
-impl<R> Setup<'_, R> {
-    // The server of this try, where the settings have so many.
+impl Asked {
+    // The server of this try, where there are so many.
     pub(crate) fn server(&self, tries: usize) -> Option<SocketAddr> {
         let servers = self.servers.as_slice();
         if servers.is_empty() || tries / servers.len() >= self.attempts {
@@ -31,6 +27,16 @@ impl<R> Setup<'_, R> {
         }
         servers.get(tries % servers.len()).copied()
     }
+}
+
+// What it is asked by.
+#[derive(Drop)]
+pub(crate) struct Setup<'h, R> {
+    pub(crate) rt: &'h R,
+    pub(crate) alloc: Global,
+    pub(crate) reactor: &'h Handle,
+    pub(crate) timers: &'h tokio::time::Handle,
+    pub(crate) asked: Asked,
 }
 
 /// A server at the port of name servers.

@@ -10,6 +10,7 @@ use futures::task::{Context, Poll};
 use he_dns::write_query;
 use std::alloc::Global;
 use std::io;
+use std::io::Cursor;
 use std::mem::replace;
 use std::net::{Net, SocketAddr};
 use std::random::RandomSource;
@@ -21,7 +22,7 @@ use tokio::reactor::Handle;
 #[derive(Drop)]
 enum Stage {
     Connecting(ConnectFuture, Vec<u8>),
-    Sending(WriteAll<TcpStream, Vec<u8>>),
+    Sending(WriteAll<TcpStream, Cursor<Vec<u8>>>),
     Length(ReadExact<TcpStream>),
     Message(ReadExact<TcpStream>),
     Over,
@@ -147,7 +148,7 @@ impl Stage {
         match self {
             Stage::Connecting(mut connecting, request) => match connecting.poll(cx) {
                 Poll::Pending => Step::Waits(Stage::Connecting(connecting, request)),
-                Poll::Ready(Ok(stream)) => Step::Goes(Stage::Sending(write_all(stream, request))),
+                Poll::Ready(Ok(stream)) => Step::Goes(Stage::Sending(write_all(stream, Cursor::new(request)))),
                 Poll::Ready(Err(error)) => Step::Ends(Err(error)),
             },
             Stage::Sending(mut sending) => match sending.poll(cx) {

@@ -1,5 +1,5 @@
 //! The program `he`: it reads timelines of races and writes what a Happy Eyeballs client does in them, or runs one on
-//! real sockets.
+//! real sockets; and it finds the addresses of a host.
 //!
 //! The crate `he_command` says what each command line does. Here are the program's words, its standard streams and its
 //! exit status.
@@ -12,6 +12,7 @@ use std::alloc::AllocGlobal;
 use std::net::Net;
 use std::process::ExitCode;
 use std::random::RandomSource;
+use std::rt::Files;
 use std::sync::Wait;
 use std::thread::Threads;
 use std::time::Clock;
@@ -25,7 +26,7 @@ fn main(rt: HostRuntime) -> ExitCode {
 // sockets and waiting in `main` alone, so `main` hands it on as what lends them too.
 fn run_program<R>(rt: &HostRuntime, lender: &R) -> u8
 where
-    R: Threads + Wait + Clock + RandomSource + AllocGlobal + Net + Sync,
+    R: Threads + Wait + Clock + RandomSource + AllocGlobal + Net + Files + Sync,
 {
     match words_of(rt) {
         Ok(words) => run_texts(rt, lender, words.as_slice()),
@@ -44,7 +45,7 @@ fn words_of(rt: &HostRuntime) -> io::Result<Vec<String>> {
 
 fn run_texts<R>(rt: &HostRuntime, lender: &R, words: &[String]) -> u8
 where
-    R: Threads + Wait + Clock + RandomSource + AllocGlobal + Net + Sync,
+    R: Threads + Wait + Clock + RandomSource + AllocGlobal + Net + Files + Sync,
 {
     let texts = words
         .iter()
