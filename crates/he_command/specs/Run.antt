@@ -8,9 +8,9 @@ use Rattle.he_check.specs.declared.fault.CheckFault.{CheckFault}
 use Rattle.he_check.specs.Stream.{Checks}
 use Rattle.he_live.specs.declared.fault.LiveFault.{LiveFault}
 use Rattle.he_live.specs.Live.{Lives}
-use Rattle.he_names.specs.Answers.{TellsNames}
-use Rattle.he_names.specs.declared.choice.Choice.{Choice}
-use Rattle.he_names.specs.declared.fault.NamesFault.{NamesFault}
+use Rattle.he_resolver.specs.Told.{TellsNames}
+use Rattle.he_resolver.specs.declared.choice.Choice.{Choice}
+use Rattle.he_resolver.specs.declared.fault.NamesFault.{NamesFault}
 use Rattle.he_plan.specs.declared.transcript.Outcome3.{Outcome3}
 use Rattle.he_plan.specs.declared.transcript.Outcome3.TheVariants as results
 use Rattle.he_replay.specs.Actions.{HasWorkers, RunsAction}

@@ -4,7 +4,7 @@ ghost use Rattle.he_command.specs.Run.{IsRequest};
 
 use crate::limits::{DEFAULT_WORKERS, DEFAULT_WORKERS_TEXT, LEAST_PORT};
 use clap::{Arg, ArgAction, ArgMatches, Command, Error, value_parser};
-use he_names::Choice;
+use he_resolver::Choice;
 use he_replay::Action;
 use he_replay::limits::{LEAST_WORKERS, MOST_WORKERS};
 use std::alloc::{AllocError, Global};

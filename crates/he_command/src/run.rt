@@ -11,7 +11,7 @@ use clap::Error;
 use clap::error::ErrorKind;
 use he_check::check;
 use he_live::{LiveFault, live};
-use he_names::{Choice, write_names};
+use he_resolver::{Choice, write_names};
 use he_plan::Outcome3;
 use he_replay::{ReplayFault, run_action};
 use he_stream::{InputStream, OutputStream, write_whole};

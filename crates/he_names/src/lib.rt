@@ -1,55 +1,26 @@
-//! A stub resolver: the addresses of a host, from the files of the system and from name servers.
+//! What the files of the system say of names, without sockets: addresses of the file of hosts (hosts(5)), and the
+//! settings of a resolver (resolver(5)); which names are asked for a host; and an answer as a line of a timeline.
 //!
-//! [`Resolver`] asks name servers for both families of a host at once (RFC 1035, RFC 3596), and is polled: it tells each
-//! family's addresses as soon as they are known. [`write_names`] finds a host's addresses and writes them as the two
-//! answers of a timeline: `he names` is this call. The messages are those of `he_dns`.
+//! Proved, for all bytes:
 //!
-//! # What is asked
-//!
-//! An address is its own answer, and a name that the file of hosts has an address of isn't asked for. Any other is asked
-//! for as resolver(5) has it: the names in the order that `search` and `ndots` give, each until one has an address of
-//! either family; of each the servers in turn, until one answers, each given `timeout` seconds, all of them `attempts`
-//! times. Not read are the environment, the host's own name, scopes of addresses, and other modules than files and DNS:
-//! for those there is the system's resolver ([`system`]).
-//!
-//! A query has a random id and a port that the kernel chooses, and its socket is connected, so what another peer sends is
-//! not seen. A response with another id or another question is passed over. One that is cut off is asked for over TCP.
-//!
-//! # What is proved
-//!
-//! - [`hosts`]: the addresses that a file of hosts has for a name (`specs/Hosts`), whatever its bytes.
-//! - [`conf`]: the servers, the search list and the numbers of a file of settings, with their defaults and bounds
-//!   (`specs/Conf`), whatever its bytes.
-//! - [`order`]: which names are asked for a host, and in which order (`specs/Order`).
-//! - [`answers`]: the addresses that are told are each there once and at most 256, and the line that tells them
+//! - [`read_hosts`]: the addresses that a file of hosts has for a name (`specs/Hosts`).
+//! - [`read_servers`], [`read_search`], [`read_ndots`], [`read_timeout`], [`read_attempts`]: the servers, the search list
+//!   and the numbers of a file of settings, with their defaults and bounds (`specs/Conf`).
+//! - [`names_to_ask`]: which names are asked for a host, and in which order (`specs/Order`).
+//! - [`clean`] and [`write_answer`]: addresses each once and at most 256, and the line that tells them
 //!   (`specs/Answers`).
-//! - [`write_names`] writes the two lines, and after any fault but `Write` nothing; where a poll is pending, it is woken
-//!   again.
 //!
-//! Only tested, on loopback: that queries leave, when, to whom, and what becomes of answers.
+//! Only tested: that a call succeeds where memory is granted.
 #![tactic(auto)]
 
 pub mod answers;
-mod asking;
-pub mod choice;
 pub mod conf;
-mod datagrams;
-pub mod fault;
 mod fields;
-mod gathering;
 pub mod hosts;
-mod known;
 pub mod limits;
-pub mod naming;
 pub mod order;
-mod replies;
-pub mod resolver;
-pub mod setup;
-mod streams;
-pub mod system;
 
-pub use choice::Choice;
-pub use fault::NamesFault;
-pub use naming::write_names;
-pub use resolver::Resolver;
-pub use setup::Asked;
+pub use answers::{clean, write_answer};
+pub use conf::{read_attempts, read_ndots, read_search, read_servers, read_timeout};
+pub use hosts::read_hosts;
+pub use order::names_to_ask;

@@ -1,10 +1,7 @@
-//! The limits of the resolver, each in one place.
+//! The limits of the files and the answers, each in one place.
 
 /// The most name servers of the file of settings that are asked (resolver(5), MAXNS).
 pub const MOST_SERVERS: usize = 3;
-
-/// The port of a name server (RFC 1035 section 4.2).
-pub const SERVER_PORT: u16 = 53;
 
 /// The dots that a name has to have to be asked for as it is first: the default, and the most.
 pub const DEFAULT_NDOTS: u64 = 1;
@@ -27,13 +24,3 @@ pub const MOST_ATTEMPTS: u64 = 5;
 
 /// The most addresses of an answer that are kept, as many as a line of a timeline has.
 pub const MOST_ADDRESSES: usize = 256;
-
-/// The bytes that a datagram of a name server may have. A server sends at most 512 to one that doesn't ask for more
-/// (RFC 1035 section 4.2.1), and a longer one is cut off here.
-pub const DATAGRAM_ROOM: usize = 4_096;
-
-/// The most datagrams that are looked at in a row before other work has its turn.
-pub const DATAGRAMS_IN_A_ROW: usize = 64;
-
-/// The most steps of one poll of a query before other work has its turn.
-pub const MOST_STEPS: usize = 64;

@@ -1,6 +1,6 @@
 //! The names that are asked for a host.
 
-ghost use Rattle.std.specs.Prelude.{◌≡◌, ◌++◌, ◌∷◌, IfOk, OnOk, map};
+ghost use Rattle.std.specs.Prelude.{◌≡◌, ◌++◌, [], ◌∷◌, IfOk, OnOk, map};
 ghost use Rattle.he_names.specs.Fields.{texts};
 ghost use Rattle.he_names.specs.Order.{dots, is_absolute, names_of, within};
 

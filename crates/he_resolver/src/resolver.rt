@@ -3,13 +3,13 @@
 ghost use Rattle.futures.specs.Poll.{OnPending};
 ghost use Rattle.futures.specs.Task.{IsArmed, Keeps};
 
-use crate::answers::clean;
 use crate::asking::Asking;
 use crate::fault::NamesFault;
 use crate::limits::MOST_STEPS;
 use crate::setup::{Asked, Setup};
 use futures::task::{Context, Poll};
 use he_addr::{Family, Ip};
+use he_names::clean;
 use std::alloc::Global;
 use std::net::Net;
 use std::random::RandomSource;

@@ -1,10 +1,9 @@
 // What is known of a host without asking a name server.
 
-use crate::answers::clean;
 use crate::fault::NamesFault;
 use crate::gathering::{Answer, Found};
-use crate::hosts::read_hosts;
 use he_addr::{Family, Ip, read_ip};
+use he_names::{clean, read_hosts};
 use std::alloc::{AllocGlobal, Global};
 use std::rt::Files;
 use std::{fs, io};

@@ -1,7 +1,7 @@
 //! Why a name has no addresses.
 
 ghost use Rattle.std.specs.Prelude.{◌≡◌, ◌⊎◌};
-ghost use Rattle.he_names.specs.declared.fault.NamesFault.TheVariants.{Memory, Runtime, Write};
+ghost use Rattle.he_resolver.specs.declared.fault.NamesFault.TheVariants.{Memory, Runtime, Write};
 
 use he_dns::NameFault;
 use he_stream::WriteFault;

@@ -2,19 +2,19 @@
 
 ghost use Rattle.std.specs.Prelude.{◌≡◌, IfOk};
 ghost use Rattle.he_stream.specs.Output.{PutsPart, PutsWhole};
-ghost use Rattle.he_names.specs.Answers.{TellsNames, answers_text};
+ghost use Rattle.he_resolver.specs.Told.{TellsNames, answers_text};
 
-use crate::answers::write_answer;
 use crate::choice::Choice;
-use crate::conf::{read_attempts, read_ndots, read_search, read_servers, read_timeout};
 use crate::fault::NamesFault;
 use crate::gathering::{Found, Gathering, ticks_since};
 use crate::known::{by_family, known_answers, read_file};
-use crate::order::names_to_ask;
 use crate::resolver::Resolver;
 use crate::setup::{Asked, server_at};
 use crate::system::look_up;
 use he_dns::{Name, NameFault};
+use he_names::{
+    names_to_ask, read_attempts, read_ndots, read_search, read_servers, read_timeout, write_answer,
+};
 use he_stream::{OutputStream, write_whole};
 use std::alloc::{AllocGlobal, Global};
 use std::net::{Net, SocketAddr};
