@@ -5,4 +5,4 @@ use Rattle.he_names.proofs.conf.read_search.Given as goal
 
 abbrev pub invariant-loop-line : goal.invariant-loop-line
 invariant-loop-line g l = texts l.search.items
-    ≡ last_of [] (filter (λ domains. nat_lt 0 (length domains)) (map domains_of (map entry_of (texts (take l.line-index l.lines.items)))))
+    ≡ last_of [] (filter (λ domains. nat_lt 0 (length domains)) (map domains_of (map entry_of (texts (take l.line-index l.line-items)))))
