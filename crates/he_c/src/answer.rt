@@ -36,12 +36,7 @@ fn answer_by(fault: Option<InputFault>) -> u32
 }
 
 // Puts the text at the front of the room, and tells of it and of the fault.
-pub(crate) fn leave(
-    text: &[u8],
-    fault: Option<InputFault>,
-    room: &mut [u8],
-    told: &mut Told,
-) -> u32
+pub(crate) fn leave(text: &[u8], fault: Option<InputFault>, room: &mut [u8], told: &mut Told) -> u32
     ensures left { Leaves text.now fault room.old room.new told.new result }
     ensures done { result ≢ NO_MEMORY }
 {

@@ -63,14 +63,10 @@ fn report_of(alloc: Global, checked: Checked) -> Result<Vec<u8>, Memory>
     Ok(text)
 }
 
-fn append_count(
-    number: u64,
-    one: &[u8],
-    many: &[u8],
-    text: &mut Vec<u8>,
-) -> Result<(), Memory>
+fn append_count(number: u64, one: &[u8], many: &[u8], text: &mut Vec<u8>) -> Result<(), Memory>
     ensures { OnOk result (text.new.items ≡ text.old.items ++ counted number one.now many.now) }
 {
     write_number(number, text)?;
-    text.extend_from_slice(if number == 1 { one } else { many }).map_err(|_| Memory)
+    text.extend_from_slice(if number == 1 { one } else { many })
+        .map_err(|_| Memory)
 }

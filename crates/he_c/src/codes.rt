@@ -23,18 +23,31 @@ pub const NOT_ONE: u32 = 4;
 
 // The kinds of faults, in the order of `TextKind`. 0 is none.
 pub const HEADER: u32 = 1;
+
 pub const WORD: u32 = 2;
+
 pub const NUMBER: u32 = 3;
+
 pub const ADDRESS: u32 = 4;
+
 pub const PREFIX: u32 = 5;
+
 pub const REPEATED: u32 = 6;
+
 pub const RANGE: u32 = 7;
+
 pub const TOO_MANY: u32 = 8;
+
 pub const UNFINISHED: u32 = 9;
+
 pub const NO_DEFAULT_ROW: u32 = 10;
+
 pub const NO_MAPPED_ROW: u32 = 11;
+
 pub const SHARED_PRECEDENCE: u32 = 12;
+
 pub const OTHER_POLICY: u32 = 13;
+
 pub const MEMORY: u32 = 14;
 
 /// An attempt starts.

@@ -20,6 +20,3 @@ mod next;
 mod step;
 mod telling;
 mod texts;
-
-#[cfg(test)]
-mod tests;

@@ -8,7 +8,7 @@ ghost use Rattle.he_c.specs.Steps.{LeavesFault, LeavesStep};
 ghost use Rattle.he_c.specs.declared.codes.TheConstants.{DONE, FAULT, NOT_ONE, NO_MEMORY, NO_ROOM};
 
 use crate::answer::{NOTHING, Told};
-use crate::codes::{DONE, FAULT, NOT_ONE, NO_MEMORY, fault_kind, fault_line};
+use crate::codes::{DONE, FAULT, NO_MEMORY, NOT_ONE, fault_kind, fault_line};
 use crate::step::{NO_STEP, StepNumbers, numbers_of};
 use he_next::{NextFault, next_step};
 use he_text::InputFault;
@@ -18,21 +18,21 @@ use std::alloc::Global;
 #[unsafe(no_mangle)]
 pub extern "C" fn he_next(
     alloc: Global,
-    record: &[u8],
+    lines: &[u8],
     started: u64,
     now: u64,
     step: &mut StepNumbers,
     told: &mut Told,
 ) -> u32
-    ensures done { result ≡ DONE → LeavesStep record.now started now step.new told.new }
-    ensures fault { result ≡ FAULT → LeavesFault record.now started now told.new }
-    ensures not_one { result ≡ NOT_ONE → IsNextFault record.now started now faults.NotOne }
+    ensures done { result ≡ DONE → LeavesStep lines.now started now step.new told.new }
+    ensures fault { result ≡ FAULT → LeavesFault lines.now started now told.new }
+    ensures not_one { result ≡ NOT_ONE → IsNextFault lines.now started now faults.NotOne }
     ensures known { result ≤ NOT_ONE }
     ensures room { result ≢ NO_ROOM }
 {
     *step = NO_STEP;
     *told = NOTHING;
-    match next_step(alloc, record, started as usize, now) {
+    match next_step(alloc, lines, started as usize, now) {
         Ok(found) => {
             *step = numbers_of(found);
             DONE

@@ -38,13 +38,7 @@ pub extern "C" fn he_explain(alloc: Global, text: &[u8], room: &mut [u8], told: 
     tell(alloc, text, Content::Explanation, room, told)
 }
 
-fn tell(
-    alloc: Global,
-    input: &[u8],
-    content: Content,
-    room: &mut [u8],
-    told: &mut Told,
-) -> u32
+fn tell(alloc: Global, input: &[u8], content: Content, room: &mut [u8], told: &mut Told) -> u32
     ensures left { result ≢ NO_MEMORY → LeavesOutput (IsTextOf content) input.now room.old room.new told.new result }
     ensures memory { result ≡ NO_MEMORY → LeavesNothing room.old room.new told.new }
 {

@@ -31,7 +31,7 @@ use Rattle.he_next.specs.declared.step.Action.{Action}
 use Rattle.he_next.specs.declared.step.Action.TheVariants.{Start, Wait, Won, Exhausted, Limit}
 
 lt_past : (m n : ℕ) → nat_lt m n ≡ false → n ≤ m
-lt_past m n h = elim cases_lt m n [
+lt_past m n h = elim (cases_lt m n) [
   | inl less ↦ absurd (clash (nat_lt m n) (lt_test m n less) h)
   | inr past ↦ past
 ]
@@ -108,8 +108,9 @@ not_late line now h = by_tick (nat_lt line.tick now) refl
 below_later : (m n : ℕ) (xs : List Attempt) → m ≤ n → AreBelow m xs → AreBelow n xs
 below_later m n [] le h = refl
 below_later m n (x ∷ xs) le h =
-    let first = lt_from _ _ (and_left _ _ h) in
-    and_both _ _ (lt_test x.tick n (omega (arith, first))) (below_later m n xs le (and_right _ _ h))
+    let first : x.tick < m = lt_from x.tick m (and_left _ _ h) in
+    let further : x.tick < n = omega (arith, first, le) in
+    and_both _ _ (lt_test x.tick n further) (below_later m n xs le (and_right _ _ h))
 
 ended_in_turn : (race : Race) (xs : List Attempt) (result : Outcome3) → AreNextInTurn race xs → AreNextInTurn race (with_started xs (end_action result))
 ended_in_turn race xs (results.Won place tick) turn = turn
@@ -157,7 +158,9 @@ ends_after : (race : Race) → IsRace race → (attempts : List Attempt) (winner
 ends_after race is attempts (Some w) k x at before = before
 ends_after race is attempts None k x at before = by_answers race.aaaa race.a
   where
+    told : List Fate
     told = map (fate_of race) attempts
+
     by_answers : (aaaa a : Option Reply) → x.tick < end_tick (without_winner race attempts told aaaa a)
     by_answers None a = before
     by_answers (Some aaaa) None = before
@@ -178,6 +181,7 @@ starts_now report started now place tick ip time h = by_end (nat_le (end_tick re
     by_result (results.Won p t) h = cc
     by_result (results.Exhausted t) h = cc
     by_result (results.Limit t) h = cc
+
     by_line : (found : Option Line) → before_tick now found ≡ None → due_action report.result now found ≡ Start place tick ip → tick ≡ now
     by_line None time h = cc
     by_line (Some line) time h = by_tick (nat_le line.tick now) refl
@@ -190,9 +194,10 @@ starts_now report started now place tick ip time h = by_end (nat_le (end_tick re
             let high = le_from _ _ come in
             omega (arith, ticks, low, high)
         by_tick false wait = let wrong : Wait line.tick ≡ Start place tick ip = sym (rw wait refl) ∙ h in cc
+
     by_end : (b : Bool) → nat_le (end_tick report.result) now ≡ b → tick ≡ now
     by_end true over = by_result report.result (sym (rw over refl) ∙ h)
-    by_end false open = by_line (slice_get report.lines started) time (sym (rw open refl) ∙ h)
+    by_end false running = by_line (slice_get report.lines started) time (sym (rw running refl) ∙ h)
 
 pub waits_later : (report : Report) (started now tick : ℕ) → late_start report started now ≡ None → action_of report started now ≡ Wait tick → now < tick
 waits_later report started now tick time h = by_end (nat_le (end_tick report.result) now) refl
@@ -201,6 +206,7 @@ waits_later report started now tick time h = by_end (nat_le (end_tick report.res
     by_result (results.Won p t) h = cc
     by_result (results.Exhausted t) h = cc
     by_result (results.Limit t) h = cc
+
     by_line : now < end_tick report.result → (found : Option Line) → due_action report.result now found ≡ Wait tick → now < tick
     by_line later None h = let same : end_tick report.result ≡ tick = cc in omega (arith, same, later)
     by_line later (Some line) h = by_tick (nat_le line.tick now) refl
@@ -212,9 +218,10 @@ waits_later report started now tick time h = by_end (nat_le (end_tick report.res
             let ticks : line.tick ≡ tick = cc in
             let high = above _ _ wait in
             omega (arith, ticks, high)
+
     by_end : (b : Bool) → nat_le (end_tick report.result) now ≡ b → now < tick
     by_end true over = by_result report.result (sym (rw over refl) ∙ h)
-    by_end false open = by_line (above _ _ open) (slice_get report.lines started) (sym (rw open refl) ∙ h)
+    by_end false running = by_line (above _ _ running) (slice_get report.lines started) (sym (rw running refl) ∙ h)
 
 -- the line behind those of attempts that are next in turn tells of the next one
 next_line : (race : Race) (report : Report) (xs : List Attempt) (line : Line) → IsTranscript race report → AreNextInTurn race xs → AreBelow (end_tick report.result) xs
@@ -222,10 +229,15 @@ next_line : (race : Race) (report : Report) (xs : List Attempt) (line : Line) �
 next_line race report xs line t turn below at =
     by_later b0.later refl
   where
+    f : Attempt → Line
     f = line_of race t.winner
+
     p : Attempt → Bool
     p x = nat_lt x.tick (stop_of race t.winner)
+
+    b0 : Begins race report xs t
     b0 = (begins race report xs t turn below 0 (λ s may. omega arith)).0
+
     by_later : (later : List Attempt) → b0.later ≡ later → IsNext race xs (attempt_of line)
     by_later [] none =
         let gone : slice_get (map f (filter p b0.later)) 0 ≡ None = ap (λ (zs : List Attempt). slice_get (map f (filter p zs)) 0) none in
@@ -234,11 +246,13 @@ next_line race report xs line t turn below at =
       where
         all : t.attempts ≡ xs ++ next ∷ more
         all = b0.attempts ∙ ap (λ (zs : List Attempt). xs ++ zs) some
+
         is : IsNext race xs next
         is =
             let there : slice_get t.attempts (length xs) ≡ Some next = ap (λ (zs : List Attempt). slice_get zs (length xs)) all ∙ get_seam xs (next ∷ more) in
             let front : take (length xs) t.attempts ≡ xs = ap (λ (zs : List Attempt). take (length xs) zs) all ∙ take-append_seam xs (next ∷ more) in
             subst (λ (d : List Attempt). IsNext race d next) front (t.are.in_turn (length xs) next there)
+
         by_stop : (is_before : Bool) → p next ≡ is_before → IsNext race xs (attempt_of line)
         by_stop true before =
             let kept : slice_get (map f (filter p b0.later)) 0 ≡ Some (f next) = ap (λ (zs : List Attempt). slice_get (map f (filter p zs)) 0) some ∙ (rw before refl) in
@@ -252,19 +266,24 @@ next_line race report xs line t turn below at =
             let wrong : Some line ≡ None = sym at ∙ line_at race report xs t far.0 ∙ gone in cc
 
 -- what passes stands in the list
+filtered_step : (p : Attempt → Bool) (z : Attempt) (zs : List Attempt) (x : Attempt)
+    → ((n : ℕ) → slice_get (filter p zs) n ≡ Some x → (p x ≡ true) × (k : ℕ) × (slice_get zs k ≡ Some x))
+    → (b : Bool) → p z ≡ b → (n : ℕ) → slice_get (filter p (z ∷ zs)) n ≡ Some x → (p x ≡ true) × (k : ℕ) × (slice_get (z ∷ zs) k ≡ Some x)
+filtered_step p z zs x more false out n h =
+    let e : slice_get (filter p zs) n ≡ Some x = rw out at h in
+    let m = more n e in
+    (m.0, suc m.1, m.2)
+filtered_step p z zs x more true passes zero h =
+    let e : slice_get (z ∷ filter p zs) 0 ≡ Some x = rw passes at h in
+    (ap p (sym (some_attempt z x e)) ∙ passes, zero, e)
+filtered_step p z zs x more true passes (suc n) h =
+    let e : slice_get (z ∷ filter p zs) (suc n) ≡ Some x = rw passes at h in
+    let m = more n e in
+    (m.0, suc m.1, m.2)
+
 filtered : (p : Attempt → Bool) (zs : List Attempt) (n : ℕ) (x : Attempt) → slice_get (filter p zs) n ≡ Some x → (p x ≡ true) × (k : ℕ) × (slice_get zs k ≡ Some x)
 filtered p [] n x h = cc
-filtered p (z ∷ zs) n x h = by_test (p z) refl
-  where
-    by_test : (b : Bool) → p z ≡ b → (p x ≡ true) × (k : ℕ) × (slice_get (z ∷ zs) k ≡ Some x)
-    by_test false out =
-        let more = filtered p zs n x (subst (λ (b : Bool). slice_get (if b then z ∷ filter p zs else filter p zs) n ≡ Some x) out h) in
-        (more.0, suc more.1, more.2)
-    by_test true in_it = by_place n (subst (λ (b : Bool). slice_get (if b then z ∷ filter p zs else filter p zs) n ≡ Some x) in_it h)
-      where
-        by_place : (m : ℕ) → slice_get (z ∷ filter p zs) m ≡ Some x → (p x ≡ true) × (k : ℕ) × (slice_get (z ∷ zs) k ≡ Some x)
-        by_place zero first = (ap p (sym (some_attempt z x first)) ∙ in_it, zero, first)
-        by_place (suc m) rest = let more = filtered p zs m x rest in (more.0, suc more.1, more.2)
+filtered p (z ∷ zs) n x h = filtered_step p z zs x (λ m e. filtered p zs m x e) (p z) refl n h
 
 -- a line of a transcript starts before the race's end
 line_before : (race : Race) (report : Report) → IsRace race → (t : IsTranscript race report) (n : ℕ) (line : Line) → slice_get report.lines n ≡ Some line
@@ -275,9 +294,12 @@ line_before race report is t n line at =
     let mapped : option_map f (slice_get (filter p t.attempts) n) ≡ Some line = sym (slice_get-map f (filter p t.attempts) n) ∙ ap (λ (ls : List Line). slice_get ls n) (sym t.lines) ∙ at in
     by_line (slice_get (filter p t.attempts) n) refl mapped
   where
+    f : Attempt → Line
     f = line_of race t.winner
+
     p : Attempt → Bool
     p x = nat_lt x.tick (stop_of race t.winner)
+
     by_line : (found : Option Attempt) → slice_get (filter p t.attempts) n ≡ found → option_map f found ≡ Some line → line.tick < end_tick report.result
     by_line None none h = cc
     by_line (Some x) there h =
@@ -321,9 +343,9 @@ started_in_turn race report xs now turn t below = by_end (nat_le (end_tick repor
   where
     by_end : (is_over : Bool) → nat_le (end_tick report.result) now ≡ is_over → AreNextInTurn race (with_started xs (action_of report (length xs) now))
     by_end true over = rw over (ended_in_turn race xs report.result turn)
-    by_end false open =
-        let later : AreBelow (end_tick report.result) xs = below_later now (end_tick report.result) xs (let gap = above _ _ open in omega (arith, gap)) below in
-        rw open (by_line later (slice_get report.lines (length xs)) refl)
+    by_end false running =
+        let later : AreBelow (end_tick report.result) xs = below_later now (end_tick report.result) xs (let gap = above _ _ running in omega (arith, gap)) below in
+        rw running (by_line later (slice_get report.lines (length xs)) refl)
       where
         by_line : AreBelow (end_tick report.result) xs → (found : Option Line) → slice_get report.lines (length xs) ≡ found
             → AreNextInTurn race (with_started xs (due_action report.result now (slice_get report.lines (length xs))))

@@ -25,7 +25,7 @@ with_pause record_text from until = record_text ++ written_line (codes "pause" �
 pub record IsSoFar (record_text : List ℕ) (limit : ℕ) (report : Report) : Type 0 where
   pub race : Race
   pub read : HasRaces (ended record_text) false (race ∷ []) None
-  pub limit : limit ≡ race.settings.limit
+  pub most : limit ≡ race.settings.limit
   pub transcript : IsTranscript race report
 
 -- when and how the race ends if nothing more happens
@@ -66,15 +66,15 @@ pub record IsLate (record_text : List ℕ) (started now start until : ℕ) : Typ
   pub limit : ℕ
   pub report : Report
   pub so_far : IsSoFar record_text limit report
-  pub until : until ≡ tick_of limit now
-  pub start : late_start report started until ≡ Some start
+  pub up_to : until ≡ tick_of limit now
+  pub missed : late_start report started until ≡ Some start
 
 -- the step is the one that the record, which is this race's so far, says
 pub record Says (record_text : List ℕ) (started now : ℕ) (action : Action) : Type 0 where
   pub limit : ℕ
   pub report : Report
   pub so_far : IsSoFar record_text limit report
-  pub action : action ≡ action_of report started (tick_of limit now)
+  pub due : action ≡ action_of report started (tick_of limit now)
 
 -- the client was not late
 pub record IsInTime (record_text : List ℕ) (started now : ℕ) (action : Action) : Type 0 where
@@ -82,7 +82,7 @@ pub record IsInTime (record_text : List ℕ) (started now : ℕ) (action : Actio
   pub report : Report
   pub so_far : IsSoFar record_text limit report
   pub none : late_start report started (tick_of limit now) ≡ None
-  pub action : action ≡ action_of report started (tick_of limit now)
+  pub due : action ≡ action_of report started (tick_of limit now)
 
 -- the step: where the client was late, the pause from the start that it missed up to now, and what is due behind it
 abbrev pub IsPausedStep : List ℕ → ℕ → ℕ → Option Pause → Action → Type 0

@@ -17,11 +17,8 @@
 
 mod fault;
 pub mod laws;
-mod record;
+mod so_far;
 mod step;
 
 pub use fault::NextFault;
 pub use step::{Action, Pause, Step, next_step};
-
-#[cfg(test)]
-mod tests;

@@ -1,11 +1,12 @@
 // What is due in a race that is being run.
 
-ghost use Rattle.std.specs.Prelude.{◌≡◌, IfErr, IfOk, Some, None};
+ghost use Rattle.std.specs.Prelude.{◌≡◌, ◌≤◌, IfErr, IfOk, Some, None};
+ghost use Rattle.he_plan.specs.declared.limits.TheConstants.{MAX_LIMIT};
 ghost use Rattle.he_next.specs.Faults.{IsFaultOf, IsNextFault};
 ghost use Rattle.he_next.specs.Steps.{IsStep, Says, action_of, due_action, end_action, end_tick, late_start, before_tick, tick_of, with_pause};
 
 use crate::fault::NextFault;
-use crate::record::{SoFar, paused_record, read_so_far};
+use crate::so_far::{SoFar, paused_record, read_so_far};
 use he_addr::Ip;
 use he_plan::{Line, Outcome3};
 use std::alloc::Allocator;
@@ -51,14 +52,14 @@ pub struct Step {
 /// - `Memory` where an allocation was refused.
 pub fn next_step<A: Allocator + Copy>(
     alloc: A,
-    record: &[u8],
+    lines: &[u8],
     started: usize,
     now: u64,
 ) -> Result<Step, NextFault>
-    ensures step { IfOk result (λ step. IsStep record.now started now step) }
-    ensures fault { IfErr result (λ fault. IsNextFault record.now started now fault) }
+    ensures step { IfOk result (λ step. IsStep lines.now started now step) }
+    ensures fault { IfErr result (λ fault. IsNextFault lines.now started now fault) }
 {
-    let so_far = read_so_far(alloc, record)?;
+    let so_far = read_so_far(alloc, lines)?;
     let until = so_far.limit_tick(now);
     match so_far.late_start(started, until) {
         None => Ok(Step {
@@ -66,7 +67,7 @@ pub fn next_step<A: Allocator + Copy>(
             action: so_far.action(started, until),
         }),
         Some(from) => {
-            let paused = paused_record(alloc, record, from, until)?;
+            let paused = paused_record(alloc, lines, from, until)?;
             let action = action_at(alloc, &paused, started, now)?;
             Ok(Step {
                 pause: Some(Pause { from, until }),
@@ -79,20 +80,21 @@ pub fn next_step<A: Allocator + Copy>(
 // What is due by the record, be the client late or not.
 fn action_at<A: Allocator + Copy>(
     alloc: A,
-    record: &[u8],
+    lines: &[u8],
     started: usize,
     now: u64,
 ) -> Result<Action, NextFault>
-    ensures says { IfOk result (λ action. Says record.now started now action) }
-    ensures fault { IfErr result (λ fault. IsFaultOf record.now fault) }
+    ensures says { IfOk result (λ action. Says lines.now started now action) }
+    ensures fault { IfErr result (λ fault. IsFaultOf lines.now fault) }
 {
-    let so_far = read_so_far(alloc, record)?;
+    let so_far = read_so_far(alloc, lines)?;
     Ok(so_far.action(started, so_far.limit_tick(now)))
 }
 
 impl<A: Allocator> SoFar<A> {
     // The tick, or the one behind the limit where that comes first.
     fn limit_tick(&self, now: u64) -> u64
+        requires { self.now.limit ≤ MAX_LIMIT }
         ensures { result ≡ tick_of self.now.limit now }
     {
         now.min(self.limit + 1)
@@ -115,7 +117,11 @@ impl<A: Allocator> SoFar<A> {
         if end_tick(ending) <= now {
             return end_action(ending);
         }
-        due_action(ending, now, self.transcript.attempts().get(started).copied())
+        due_action(
+            ending,
+            now,
+            self.transcript.attempts().get(started).copied(),
+        )
     }
 }
 

@@ -21,13 +21,13 @@ pub(crate) struct SoFar<A: Allocator> {
 // The race of a record so far.
 pub(crate) fn read_so_far<A: Allocator + Copy>(
     alloc: A,
-    record: &[u8],
+    lines: &[u8],
 ) -> Result<SoFar<A>, NextFault>
-    ensures so_far { IfOk result (λ s. IsSoFar record.now s.limit s.transcript) }
+    ensures so_far { IfOk result (λ s. IsSoFar lines.now s.limit s.transcript) }
     ensures range { IfOk result (λ s. s.limit ≤ MAX_LIMIT) }
-    ensures fault { IfErr result (λ fault. IsFaultOf record.now fault) }
+    ensures fault { IfErr result (λ fault. IsFaultOf lines.now fault) }
 {
-    let text = ended_record(alloc, record)?;
+    let text = ended_record(alloc, lines)?;
     let race = read_one_race(alloc, &text, false)?;
     let transcript = transcript_of(alloc, &race)?;
     Ok(SoFar {
@@ -37,11 +37,11 @@ pub(crate) fn read_so_far<A: Allocator + Copy>(
 }
 
 // The record, ended.
-fn ended_record<A: Allocator + Copy>(alloc: A, record: &[u8]) -> Result<Vec<u8, A>, Memory>
-    ensures { IfOk result (λ text. text.items ≡ ended record.now) }
+fn ended_record<A: Allocator + Copy>(alloc: A, lines: &[u8]) -> Result<Vec<u8, A>, Memory>
+    ensures { IfOk result (λ text. text.items ≡ ended lines.now) }
 {
     let mut text = Vec::new(alloc);
-    append(record, &mut text)?;
+    append(lines, &mut text)?;
     append(b"end\n", &mut text)?;
     Ok(text)
 }
@@ -49,14 +49,14 @@ fn ended_record<A: Allocator + Copy>(alloc: A, record: &[u8]) -> Result<Vec<u8, 
 // The record with the pause.
 pub(crate) fn paused_record<A: Allocator + Copy>(
     alloc: A,
-    record: &[u8],
+    lines: &[u8],
     from: u64,
     until: u64,
 ) -> Result<Vec<u8, A>, Memory>
-    ensures { IfOk result (λ text. text.items ≡ with_pause record.now from until) }
+    ensures { IfOk result (λ text. text.items ≡ with_pause lines.now from until) }
 {
     let mut text = Vec::new(alloc);
-    append(record, &mut text)?;
+    append(lines, &mut text)?;
     append(b"pause ", &mut text)?;
     write_number(from, &mut text)?;
     append(b" ", &mut text)?;
