@@ -131,7 +131,8 @@ struct he_step {
  * tried, on each example of the repository.
  *
  * Answers HE_DONE; HE_FAULT, where the record, ended, has a fault, or cannot have the pause that it must have; HE_NOT_ONE;
- * or HE_NO_MEMORY. `told` has a fault's line and kind. A call takes some TICKS for a race of 10 addresses. */
+ * or HE_NO_MEMORY. `told` has a fault's line and kind. The record is
+ * read anew by each call, so what a call costs grows with it. */
 uint32_t he_next(const uint8_t *record, size_t record_length, uint64_t started, uint64_t now, struct he_step *step,
                  struct he_told *told);
 

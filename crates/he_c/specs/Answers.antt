@@ -68,10 +68,10 @@ IsPut text old new =
 -- the text was put into the room, and told with its fault
 pub record Leaves (text : List ℕ) (fault : Option InputFault) (old new : List ℕ) (told : Told) (answer : ℕ) : Type 0 where
   pub put : IsPut text old new
-  pub told : told ≡ told_of text fault
-  pub answer : answer ≡ answer_of old text fault
+  pub tells : told ≡ told_of text fault
+  pub answers : answer ≡ answer_of old text fault
 
 -- nothing was done
 pub record LeavesNothing (old new : List ℕ) (told : Told) : Type 0 where
   pub same : new ≡ old
-  pub told : told ≡ nothing_told
+  pub tells : told ≡ nothing_told

@@ -1,20 +1,14 @@
 -- What is written of an input: a text of each of its races up to the first fault, and the fault.
-use Rattle.std.specs.Prelude.{ℕ, ◌≡◌, ⊤, Bool, false, List, Option, None, Some}
-use Rattle.he_check.specs.Checked.{IsRight, IsWrong}
-use Rattle.he_check.specs.Stream.{report_text}
-use Rattle.he_check.specs.declared.fault.CheckFault.TheVariants as checks
-use Rattle.he_check.specs.declared.input.Checked.{Checked}
+use Rattle.std.specs.Prelude.{ℕ, ◌≡◌, false, List, Option}
 use Rattle.he_explain.specs.Course.{IsExplanation}
 use Rattle.he_plan.specs.Race.{Race}
 use Rattle.he_plan.specs.Transcript.{IsTranscript, Report}
 use Rattle.he_text.specs.declared.inputs.InputFault.{InputFault}
-use Rattle.he_text.specs.declared.inputs.InputFault.TheVariants as inputs
 use Rattle.he_text.specs.Inputs.{AreTexts, HasRaces}
 use Rattle.he_text.specs.Orders.{order_text}
 use Rattle.he_text.specs.Written.{transcript_text}
-use Rattle.he_c.specs.Answers.{Leaves, LeavesNothing}
+use Rattle.he_c.specs.Answers.{Leaves}
 use Rattle.he_c.specs.declared.answer.Told.{Told}
-use Rattle.he_c.specs.declared.codes.TheConstants.{NO_MEMORY}
 use Rattle.he_c.specs.declared.telling.Content.{Content}
 use Rattle.he_c.specs.declared.telling.Content.TheVariants as contents
 
@@ -43,17 +37,4 @@ pub record LeavesOutput (IsText : List ℕ → Race → Type 0) (input old new :
   pub text : List ℕ
   pub fault : Option InputFault
   pub output : IsOutput IsText input text fault
-  pub left : Leaves text fault old new told answer
-
--- what is told of a check: the numbers of a right input's races and lines, or the fault with what is said of it
-abbrev pub IsCheck : List ℕ → List ℕ → Option InputFault → Type 0
-IsCheck input text None = (checked : Checked) × IsRight input false checked × (text ≡ report_text checked)
-IsCheck input text (Some (inputs.Text fault)) = IsWrong input false (checks.Text fault)
-IsCheck input text (Some inputs.Read) = IsWrong input false checks.Read
-
--- what is left of a check
-pub record LeavesCheck (input old new : List ℕ) (told : Told) (answer : ℕ) : Type 0 where
-  pub text : List ℕ
-  pub fault : Option InputFault
-  pub check : IsCheck input text fault
   pub left : Leaves text fault old new told answer

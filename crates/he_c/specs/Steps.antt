@@ -45,10 +45,10 @@ pub record LeavesStep (record_text : List ℕ) (started now : ℕ) (numbers : St
   pub is : IsStep record_text started now step
   pub pauses : PausesAs step.pause numbers
   pub acts : ActsAs step.action numbers
-  pub told : told ≡ nothing_told
+  pub tells : told ≡ nothing_told
 
 -- what is told is why the record has no step
 pub record LeavesFault (record_text : List ℕ) (started now : ℕ) (told : Told) : Type 0 where
   pub fault : InputFault
   pub is : IsNextFault record_text started now (faults.Record fault)
-  pub told : told ≡ record { length = 0; line = fault_line (Some fault); kind = fault_kind (Some fault) }
+  pub tells : told ≡ record { length = 0; line = fault_line (Some fault); kind = fault_kind (Some fault) }

@@ -14,7 +14,6 @@
 #![tactic(auto)]
 
 mod answer;
-mod checking;
 mod codes;
 mod next;
 mod step;

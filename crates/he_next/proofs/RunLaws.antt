@@ -1,5 +1,5 @@
 -- Races that are run by what is due: the attempts that are started are those of the transcript.
-use Rattle.std.proofs.Common.{ℕ, zero, suc, ◌≡◌, ◌≤◌, ◌<◌, ◌++◌, Bool, true, false, List, [], ◌∷◌, if◌then◌else◌, length, map, filter, take, Option, Some, None, option_map, nat_le, nat_lt, refl, sym, ◌∙◌, ap, subst, arith, inl, inr}
+use Rattle.std.proofs.Common.{ℕ, zero, suc, ◌≡◌, ◌≤◌, ◌<◌, ◌++◌, ◌&&◌, Bool, true, false, List, [], ◌∷◌, if◌then◌else◌, length, map, filter, max, take, Option, Some, None, option_map, nat_le, nat_lt, refl, sym, ◌∙◌, ap, subst, arith, inl, inr}
 use Rattle.std.specs.List.{list_all, slice_get}
 use Rattle.std.proofs.lemmas.Bool.{cases_lt}
 use Rattle.std.proofs.lemmas.List.{append-nil, length-map, map-append}
@@ -12,7 +12,7 @@ use Rattle.he_plan.specs.Continuing.{Follow}
 use Rattle.he_plan.specs.Finish.{fate_of}
 use Rattle.he_plan.specs.Race.{Race, Reply}
 use Rattle.he_plan.specs.Timeline.{IsRace}
-use Rattle.he_plan.specs.Transcript.{IsTranscript, Report, failures, greatest, is_exhausted, is_failed, line_of, result_of, stop_of, without_winner}
+use Rattle.he_plan.specs.Transcript.{IsTranscript, Report, failures, greatest, is_exhausted, is_failed, is_tried_out, line_of, result_of, stop_of, without_winner}
 use Rattle.he_plan.specs.declared.attempts.Attempt.{Attempt}
 use Rattle.he_plan.specs.declared.finish.Fate.{Fate}
 use Rattle.he_plan.specs.declared.finish.Fate.TheVariants.{Succeeded, Failed, Running, Skipped}
@@ -152,26 +152,37 @@ before_failure race is attempts k x at all =
     let most = failure_at_most told k fails.0 (there ∙ ap Some fails.1) in
     omega (arith, later, most)
 
+last_of_five : (a b c d e : Bool) → (a && b && c && d && e) ≡ true → e ≡ true
+last_of_five a b c d true h = refl
+last_of_five false b c d false h = cc
+last_of_five true false c d false h = cc
+last_of_five true true false d false h = cc
+last_of_five true true true false false h = cc
+last_of_five true true true true false h = cc
+
+-- what starts before the limit, and, where the race is exhausted, before the last failure, starts before the race's end
+before_end : (race : Race) (attempts : List Attempt) (told : List Fate) (aaaa a : Reply) (tick : ℕ) → tick < race.settings.limit
+    → (list_all is_failed told ≡ true → tick < greatest (failures told)) → tick < end_tick (without_winner race attempts told (Some aaaa) (Some a))
+before_end race attempts told aaaa a tick early last = by_test (is_exhausted race attempts told aaaa a) refl
+  where
+    by_test : (b : Bool) → is_exhausted race attempts told aaaa a ≡ b → tick < end_tick (without_winner race attempts told (Some aaaa) (Some a))
+    by_test false not = rw not early
+    by_test true all =
+        let failed : list_all is_failed told ≡ true = last_of_five (nat_le (seen race aaaa.tick) race.settings.limit) (nat_le (seen race a.tick) race.settings.limit) (is_tried_out attempts aaaa) (is_tried_out attempts a) (list_all is_failed told) all in
+        let most : tick < greatest (failures told) = last failed in
+        let later : tick < max (seen race aaaa.tick) (max (seen race a.tick) (greatest (failures told))) = omega (arith, most) in
+        rw all later
+
 -- an attempt of a race that starts before its stop starts before its end
 ends_after : (race : Race) → IsRace race → (attempts : List Attempt) (winner : Option (ℕ × ℕ)) (k : ℕ) (x : Attempt) → slice_get attempts k ≡ Some x
     → x.tick < stop_of race winner → x.tick < end_tick (result_of race attempts (map (fate_of race) attempts) winner)
 ends_after race is attempts (Some w) k x at before = before
 ends_after race is attempts None k x at before = by_answers race.aaaa race.a
   where
-    told : List Fate
-    told = map (fate_of race) attempts
-
-    by_answers : (aaaa a : Option Reply) → x.tick < end_tick (without_winner race attempts told aaaa a)
+    by_answers : (aaaa a : Option Reply) → x.tick < end_tick (without_winner race attempts (map (fate_of race) attempts) aaaa a)
     by_answers None a = before
     by_answers (Some aaaa) None = before
-    by_answers (Some aaaa) (Some a) = by_test (is_exhausted race attempts told aaaa a) refl
-      where
-        by_test : (b : Bool) → is_exhausted race attempts told aaaa a ≡ b → x.tick < end_tick (without_winner race attempts told (Some aaaa) (Some a))
-        by_test false not = rw not before
-        by_test true all =
-            let failed : list_all is_failed told ≡ true = and_right _ _ (and_right _ _ (and_right _ _ (and_right _ _ all))) in
-            let most = before_failure race is attempts k x at failed in
-            rw all (let top : greatest (failures told) ≤ greatest (seen race aaaa.tick ∷ seen race a.tick ∷ failures told) = omega arith in omega (arith, most, top))
+    by_answers (Some aaaa) (Some a) = before_end race attempts (map (fate_of race) attempts) aaaa a x.tick before (before_failure race is attempts k x at)
 
 -- the action of a turn, where the client is in time
 pub starts_now : (report : Report) (started now place tick : ℕ) (ip : Ip) → late_start report started now ≡ None → action_of report started now ≡ Start place tick ip → tick ≡ now

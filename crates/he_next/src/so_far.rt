@@ -29,11 +29,13 @@ pub(crate) fn read_so_far<A: Allocator + Copy>(
 {
     let text = ended_record(alloc, lines)?;
     let race = read_one_race(alloc, &text, false)?;
-    let transcript = transcript_of(alloc, &race)?;
-    Ok(SoFar {
-        limit: race.settings().limit(),
-        transcript,
-    })
+    match transcript_of(alloc, &race) {
+        Ok(transcript) => Ok(SoFar {
+            limit: race.settings().limit(),
+            transcript,
+        }),
+        Err(_) => Err(NextFault::Memory),
+    }
 }
 
 // The record, ended.
