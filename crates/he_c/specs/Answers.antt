@@ -1,5 +1,5 @@
 -- What a call leaves to its caller: the text in the caller's room, what is told of it, and the answer.
-use Rattle.std.specs.Prelude.{ℕ, ◌≡◌, List, length, take, drop, if◌then◌else◌, nat_le, Option, Some, None}
+use Rattle.std.specs.Prelude.{ℕ, ◌≡◌, ◌++◌, List, length, drop, if◌then◌else◌, nat_le, Option, Some, None}
 use Rattle.he_c.specs.declared.answer.Told.{Told}
 use Rattle.he_c.specs.declared.codes.TheConstants.{DONE, FAULT, NO_ROOM, HEADER, WORD, NUMBER, ADDRESS, PREFIX, REPEATED, RANGE, TOO_MANY, UNFINISHED, NO_DEFAULT_ROW, NO_MAPPED_ROW, SHARED_PRECEDENCE, OTHER_POLICY, MEMORY}
 use Rattle.he_select.specs.declared.policy.PolicyFault.{PolicyFault}
@@ -61,13 +61,12 @@ abbrev pub answer_of : List ℕ → List ℕ → Option InputFault → ℕ
 answer_of room text fault = if nat_le (length text) (length room) then answer_by fault else NO_ROOM
 
 -- the room with the text at its front, or as it was where the text doesn't fit
-abbrev pub IsPut : List ℕ → List ℕ → List ℕ → Type 0
-IsPut text old new =
-    if nat_le (length text) (length old) then (take (length text) new ≡ text) × (drop (length text) new ≡ drop (length text) old) else (new ≡ old)
+abbrev pub put_front : List ℕ → List ℕ → List ℕ
+put_front text room = if nat_le (length text) (length room) then text ++ drop (length text) room else room
 
 -- the text was put into the room, and told with its fault
 pub record Leaves (text : List ℕ) (fault : Option InputFault) (old new : List ℕ) (told : Told) (answer : ℕ) : Type 0 where
-  pub put : IsPut text old new
+  pub put : new ≡ put_front text old
   pub tells : told ≡ told_of text fault
   pub answers : answer ≡ answer_of old text fault
 

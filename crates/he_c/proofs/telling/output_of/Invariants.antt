@@ -3,8 +3,8 @@ use Rattle.he_c.specs.Outputs.{IsTextOf}
 use Rattle.he_c.specs.Telling.{HasTold}
 use Rattle.he_c.proofs.telling.output_of.Given as goal
 
-abbrev pub invariant-loop : goal.invariant-loop
-invariant-loop g l = HasTold (IsTextOf l.fn.content) l.fn.input l.text.items l.walk
+abbrev pub invariant-loop-race : goal.invariant-loop-race
+invariant-loop-race g l = HasTold (IsTextOf l.fn.content) l.fn.input l.text.items l.walk
 
-abbrev pub decreases-loop : goal.decreases-loop
-decreases-loop g l = length l.fn.input - l.walk.end
+abbrev pub decreases-loop-race : goal.decreases-loop-race
+decreases-loop-race g l = length l.fn.input - l.walk.end
