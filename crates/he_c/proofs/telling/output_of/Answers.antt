@@ -16,4 +16,6 @@ returns-in-Ok-None c =
 
 pub returns-in-Err-Input : goal.returns-in-Err-Input
 returns-in-Err-Input c =
-    fault_told (IsTextOf c.args.content) c.args.input.now c.loop-race.text.items c.loop-race.walk c.in-Err-Input.fault c.loop-race.invariant (rw c.in-Err-Input.field-0-is at c.in-Err-Input.ensures.fault)
+    rw c.in-Err-Input.field-0-is
+    (fault_told (IsTextOf c.args.content) c.args.input.now c.loop-race.text.items c.loop-race.walk c.in-Err-Input.fault c.loop-race.invariant
+    (rw c.in-Err-Input.field-0-is at c.in-Err-Input.ensures.fault))
