@@ -342,6 +342,22 @@ static ROWS: [Row; 57] = [
         b"",
     ),
     (
+        &["he", "live", "-v", "--port", "1"],
+        NO_ADDRESS,
+        Streams::Whole,
+        0,
+        b"exhausted ",
+        b"",
+    ),
+    (
+        &["he", "replay", "-v"],
+        TEXT,
+        Streams::Whole,
+        2,
+        b"",
+        b"error: ",
+    ),
+    (
         &["he", "live", "--must-connect", "--port", "1"],
         NO_TIME,
         Streams::Whole,

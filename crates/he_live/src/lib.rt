@@ -13,7 +13,8 @@
 //!     R: Wait + Clock + RandomSource + AllocGlobal + Net,
 //! {
 //!     let timeline = read_one_race(rt.alloc(), text, false)?;
-//!     let raced = live_race_on(rt, rt.alloc(), runtime, &timeline, port)?;
+//!     let reasons = Reasons::new(rt.alloc())?;
+//!     let raced = live_race_on(rt, rt.alloc(), runtime, &timeline, port, &reasons)?;
 //!     Ok(raced.winner)
 //! }
 //! ```
@@ -33,20 +34,28 @@
 //!   Its faults are `Runtime` and `Memory` alone.
 //! - [`live`] writes the transcript's text and then the record's, of the input's one race; it makes all of it before
 //!   it writes the first byte, and after any fault but `Write` nothing was written. `Text`, `Read` and `OneRace` come
-//!   only where the input has this fault (`specs/Live`).
+//!   only where the input has this fault (`specs/Live`). It tells each attempt of the transcript that failed, and no
+//!   other, by place and address.
+//! - Which reason an error of the system is, which reasons are the host's own, and the lines that tell failed attempts
+//!   ([`Reason::of`], [`Reason::is_local`], [`write_failures`]; `specs/Reasons`).
 //!
 //! Both promise this if they return: they wait for the system.
 //!
 //! Tested only, on loopback: that anything connects, and when; that a wake comes when it was asked for; that `Runtime`
-//! comes only where the event loop or the clock failed; and that no socket of a race is left but the winner's.
+//! comes only where the event loop or the clock failed; that the reason told of an attempt is its own; and that no
+//! socket of a race is left but the winner's.
 #![tactic(auto)]
 
 mod clock;
+pub mod failures;
 pub mod fault;
 pub mod racing;
+pub mod reason;
 pub mod recording;
 mod sockets;
 
+pub use failures::{FailedAttempt, failed_attempts, first_local, write_failures};
 pub use fault::LiveFault;
 pub use racing::{live_race, live_race_on};
+pub use reason::{Reason, Reasons};
 pub use recording::live;

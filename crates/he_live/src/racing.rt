@@ -5,6 +5,7 @@ ghost use Rattle.he_live.specs.Live.{IsRunFault};
 
 use crate::clock::LiveTicker;
 use crate::fault::LiveFault;
+use crate::reason::Reasons;
 use crate::sockets::TcpConnector;
 use he_plan::Timeline;
 use he_race::{RaceFault, RaceFuture, Raced};
@@ -22,7 +23,7 @@ use tokio::runtime::LocalRuntime;
 /// A tick is a millisecond since the call. An answer counts as come at its tick; one that is there already has tick 0.
 /// Of the timeline its settings, policy, host, answers and what is known of addresses from earlier are looked at alone:
 /// what each address does, and where the client was late, is what the record says. Replayed, the record gives the
-/// transcript.
+/// transcript. Why an attempt failed is noted in `reasons`, which is new for each race.
 ///
 /// The losers are closed before the call returns. The winner's stream belongs to an event loop that has ended: it is
 /// non-blocking, and its calls of `try_read`, `try_write`, `peer_addr` and such serve. A program that wants to wait
@@ -40,6 +41,7 @@ pub fn live_race<R, A>(
     alloc: Global,
     timeline: &Timeline<A>,
     port: u16,
+    reasons: &Reasons,
 ) -> Result<Raced<TcpStream>, LiveFault>
 where
     R: Wait + Clock + RandomSource + AllocGlobal + Net,
@@ -50,7 +52,7 @@ where
     // The timers count milliseconds from when the event loop is made, so a start just before makes both tick as one.
     let start = Instant::now(rt)?;
     let mut runtime = LocalRuntime::new(rt)?;
-    race_from(start, rt, alloc, &mut runtime, timeline, port)
+    race_from(start, rt, alloc, &mut runtime, timeline, port, reasons)
 }
 
 /// The same over an event loop of the caller's, to which the winner's stream belongs: it can be read and written there
@@ -65,6 +67,7 @@ pub fn live_race_on<R, A>(
     runtime: &mut LocalRuntime,
     timeline: &Timeline<A>,
     port: u16,
+    reasons: &Reasons,
 ) -> Result<Raced<TcpStream>, LiveFault>
 where
     R: Wait + Clock + RandomSource + AllocGlobal + Net,
@@ -73,7 +76,7 @@ where
     ensures fault { IfErr result IsRunFault }
 {
     let start = Instant::now(rt)?;
-    race_from(start, rt, alloc, runtime, timeline, port)
+    race_from(start, rt, alloc, runtime, timeline, port, reasons)
 }
 
 // The race of which `start` is tick 0.
@@ -84,6 +87,7 @@ fn race_from<R, A>(
     runtime: &mut LocalRuntime,
     timeline: &Timeline<A>,
     port: u16,
+    reasons: &Reasons,
 ) -> Result<Raced<TcpStream>, LiveFault>
 where
     R: Wait + Clock + RandomSource + AllocGlobal + Net,
@@ -93,7 +97,7 @@ where
 {
     // A handle of its own, since the run borrows the event loop.
     let handle = runtime.handle().clone()?;
-    let connector = TcpConnector::new(rt, handle.reactor(), port);
+    let connector = TcpConnector::new(rt, handle.reactor(), port, reasons);
     let ticker = LiveTicker::new(rt, handle.time(), start);
     let race = RaceFuture::new(alloc, timeline, connector, ticker)?;
     match runtime.block_on(rt, race)? {

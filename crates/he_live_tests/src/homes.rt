@@ -1,6 +1,6 @@
 // Races on real sockets, and what is wanted of them.
 
-use he_live::{LiveFault, live_race, live_race_on};
+use he_live::{LiveFault, Reason, Reasons, live_race, live_race_on};
 use he_plan::{Mark, Outcome3, Transcript};
 use he_race::Raced;
 use he_replay::replay;
@@ -47,6 +47,8 @@ pub struct Wanted<'a> {
     pub attempts: &'a [(u64, End)],
     pub result: Result3,
     pub least: u64,
+    // why each attempt that fails does so
+    pub reason: Reason,
 }
 
 fn end_of(mark: Mark) -> End {
@@ -107,11 +109,24 @@ fn is_right_of<R: Lender>(
     rt: &R,
     raced: Result<Raced<TcpStream>, LiveFault>,
     wanted: &Wanted<'_>,
+    reasons: &Reasons,
 ) -> Result<bool, Fail> {
     let raced = raced?;
     let is_right = is_right(rt, &raced, wanted);
+    let is_told = is_told(&raced.transcript, wanted.reason, reasons);
     drop(raced);
-    is_right
+    Ok(is_right? && is_told)
+}
+
+// Whether each attempt that failed did so for this reason.
+fn is_told(transcript: &Transcript, wanted: Reason, reasons: &Reasons) -> bool {
+    let mut is_told = true;
+    for line in transcript.attempts() {
+        if let Mark::Failed(_) = line.mark {
+            is_told = is_told && reasons.of(line.place) == wanted;
+        }
+    }
+    is_told
 }
 
 /// Whether the race comes to what is wanted at the port, and its record replays.
@@ -122,9 +137,10 @@ pub fn race<R: Lender + Net>(
     wanted: &Wanted<'_>,
 ) -> Result<bool, Fail> {
     let timeline = read_one_race(rt.alloc(), text, false)?;
-    let raced = live_race(rt, rt.alloc(), &timeline, port);
+    let reasons = Reasons::new(rt.alloc())?;
+    let raced = live_race(rt, rt.alloc(), &timeline, port, &reasons);
     drop(timeline);
-    is_right_of(rt, raced, wanted)
+    is_right_of(rt, raced, wanted, &reasons)
 }
 
 /// The same over an event loop that was made before.
@@ -136,9 +152,10 @@ pub fn race_on<R: Lender + Net>(
     wanted: &Wanted<'_>,
 ) -> Result<bool, Fail> {
     let timeline = read_one_race(rt.alloc(), text, false)?;
-    let raced = live_race_on(rt, rt.alloc(), runtime, &timeline, port);
+    let reasons = Reasons::new(rt.alloc())?;
+    let raced = live_race_on(rt, rt.alloc(), runtime, &timeline, port, &reasons);
     drop(timeline);
-    is_right_of(rt, raced, wanted)
+    is_right_of(rt, raced, wanted, &reasons)
 }
 
 /// A host with a source and a route of loopback, and an address of it that is known at once.
@@ -154,6 +171,7 @@ pub const REFUSED: Wanted<'static> = Wanted {
     attempts: &[(0, End::Failed)],
     result: Result3::Exhausted,
     least: 0,
+    reason: Reason::Refused,
 };
 
 /// How many descriptors the process has.
