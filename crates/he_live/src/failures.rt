@@ -2,7 +2,8 @@
 ghost use Rattle.std.specs.Prelude.{◌≡◌, ◌++◌, ◌∷◌, [], IfOk, OnOk};
 ghost use Rattle.he_live.specs.Reasons.{AreFailed, at_text, failure_line, failure_lines, fault_text, first_local, has_failed, place_text, reason_text, start_text, why_text};
 
-use crate::reason::{Reason, Reasons};
+use crate::reason::Reason;
+use crate::steps::Steps;
 use he_addr::{Ip, Memory, write_ip, write_number};
 use he_plan::{Line, Mark};
 use std::alloc::{AllocError, Allocator, Global};
@@ -26,7 +27,7 @@ pub struct FailedAttempt {
 pub fn failed_attempts(
     alloc: Global,
     attempts: &[Line],
-    reasons: &Reasons,
+    steps: &Steps,
 ) -> Result<Vec<FailedAttempt>, AllocError>
     ensures { IfOk result (λ failed. AreFailed attempts.now failed.items) }
 {
@@ -36,7 +37,7 @@ pub fn failed_attempts(
             failed.push(FailedAttempt {
                 place: line.place,
                 ip: line.ip,
-                reason: reasons.of(line.place),
+                reason: steps.reason_of(line.place),
             })?;
         }
     }

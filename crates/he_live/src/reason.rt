@@ -2,9 +2,6 @@
 ghost use Rattle.std.specs.Prelude.{◌≡◌};
 ghost use Rattle.he_live.specs.Reasons.{is_local, reason_of, reason_of_number, words_of};
 
-use he_plan::limits::MAX_ATTEMPTS;
-use std::alloc::{AllocError, Global};
-use std::cell::Cell;
 use std::io;
 
 /// Why an attempt failed, as the system tells it.
@@ -104,43 +101,6 @@ impl Reason {
             Reason::NoBuffers => b"no buffer space",
             Reason::NotPermitted => b"permission denied",
             Reason::Other(_) => b"system error ",
-        }
-    }
-}
-
-/// Why the attempts of a live race failed, by their places.
-#[derive(Drop)]
-pub struct Reasons {
-    // One for each attempt that a race may have, so that a failure is noted without an allocation.
-    by_place: Vec<Cell<Reason>>,
-}
-
-impl Reasons {
-    /// Nothing is known yet.
-    ///
-    /// # Errors
-    ///
-    /// `AllocError` where an allocation was refused.
-    pub fn new(alloc: Global) -> Result<Reasons, AllocError> {
-        let mut by_place = Vec::with_capacity(alloc, MAX_ATTEMPTS)?;
-        for _ in 0..MAX_ATTEMPTS {
-            by_place.push(Cell::new(Reason::Other(0)))?;
-        }
-        Ok(Reasons { by_place })
-    }
-
-    /// Why the attempt of the place failed; `Other(0)` where nothing was noted of it.
-    pub fn of(&self, place: usize) -> Reason {
-        match self.by_place.get(place) {
-            Some(reason) => reason.get(),
-            None => Reason::Other(0),
-        }
-    }
-
-    // Notes why the attempt of the place failed.
-    pub(crate) fn note(&self, place: usize, error: &io::Error) {
-        if let Some(reason) = self.by_place.get(place) {
-            reason.set(Reason::of(error));
         }
     }
 }

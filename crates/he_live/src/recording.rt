@@ -9,18 +9,17 @@ ghost use Rattle.he_live.specs.Reading.{IsTold, ReadsOne};
 use crate::failures::{FailedAttempt, failed_attempts};
 use crate::fault::LiveFault;
 use crate::racing::live_race;
-use crate::reason::Reasons;
+use crate::steps::Steps;
 use he_plan::{Outcome3, Timeline};
 use he_race::Raced;
 use he_stream::{InputStream, OutputStream, take_input, write_whole};
 use he_text::{NotOneRace, read_one_race, write_timeline, write_transcript};
 use std::alloc::{AllocGlobal, Global};
 use std::mem::drop;
-use std::net::Net;
+use std::net::{Net, TcpStream};
 use std::random::RandomSource;
 use std::sync::Wait;
 use std::time::Clock;
-use tokio::net::TcpStream;
 
 /// Reads one race to the end of the input, runs it on real sockets at the port ([`live_race`]), and writes its
 /// transcript and then its record, a timeline that replays to this transcript. Answers how the race ended.
@@ -90,20 +89,20 @@ where
     ensures text { IfOk result (λ told. IsLiveText timeline.now told.text.items told.failed.items told.ended) }
     ensures fault { IfErr result IsRunFault }
 {
-    let reasons = Reasons::new(alloc)?;
-    let raced = live_race(rt, alloc, timeline, port, &reasons)?;
-    let told = tell_race(alloc, &raced, &reasons);
+    let steps = Steps::new(alloc)?;
+    let raced = live_race(rt, alloc, timeline, port, &steps)?;
+    let told = tell_race(alloc, &raced, &steps);
     drop(raced);
     told
 }
 
-fn tell_race(alloc: Global, raced: &Raced<TcpStream>, reasons: &Reasons) -> Result<Told, LiveFault>
+fn tell_race(alloc: Global, raced: &Raced<TcpStream>, steps: &Steps) -> Result<Told, LiveFault>
     ensures text { IfOk result (λ told. IsTold raced.now.transcript raced.now.recorded told) }
     ensures fault { IfErr result IsRunFault }
 {
     Ok(Told {
         text: raced_text(alloc, raced)?,
-        failed: failed_attempts(alloc, raced.transcript.attempts(), reasons)?,
+        failed: failed_attempts(alloc, raced.transcript.attempts(), steps)?,
         ended: raced.transcript.result(),
     })
 }

@@ -1,6 +1,6 @@
 // Races on real sockets, and what is wanted of them.
 
-use he_live::{LiveFault, Reason, Reasons, live_race, live_race_on};
+use he_live::{LiveFault, Reason, Steps, live_race, live_race_on};
 use he_plan::{Mark, Outcome3, Transcript};
 use he_race::Raced;
 use he_replay::replay;
@@ -8,7 +8,7 @@ use he_stream::{FromReader, ToWriter};
 use he_text::{read_one_race, write_timeline, write_transcript};
 use std::alloc::AllocGlobal;
 use std::mem::drop;
-use std::net::Net;
+use std::net::{Net, TcpStream};
 use std::random::RandomSource;
 use std::sync::Wait;
 use std::test::Fail;
@@ -16,7 +16,6 @@ use std::thread::Threads;
 use std::time::Clock;
 use std::{fs, io};
 use stream_fakes::FakeReader;
-use tokio::net::TcpStream;
 use tokio::runtime::LocalRuntime;
 
 /// What races and their replays are lent, beside the network.
@@ -109,21 +108,21 @@ fn is_right_of<R: Lender>(
     rt: &R,
     raced: Result<Raced<TcpStream>, LiveFault>,
     wanted: &Wanted<'_>,
-    reasons: &Reasons,
+    steps: &Steps,
 ) -> Result<bool, Fail> {
     let raced = raced?;
     let is_right = is_right(rt, &raced, wanted);
-    let is_told = is_told(&raced.transcript, wanted.reason, reasons);
+    let is_told = is_told(&raced.transcript, wanted.reason, steps);
     drop(raced);
     Ok(is_right? && is_told)
 }
 
 // Whether each attempt that failed did so for this reason.
-fn is_told(transcript: &Transcript, wanted: Reason, reasons: &Reasons) -> bool {
+fn is_told(transcript: &Transcript, wanted: Reason, steps: &Steps) -> bool {
     let mut is_told = true;
     for line in transcript.attempts() {
         if let Mark::Failed(_) = line.mark {
-            is_told = is_told && reasons.of(line.place) == wanted;
+            is_told = is_told && steps.reason_of(line.place) == wanted;
         }
     }
     is_told
@@ -137,10 +136,10 @@ pub fn race<R: Lender + Net>(
     wanted: &Wanted<'_>,
 ) -> Result<bool, Fail> {
     let timeline = read_one_race(rt.alloc(), text, false)?;
-    let reasons = Reasons::new(rt.alloc())?;
-    let raced = live_race(rt, rt.alloc(), &timeline, port, &reasons);
+    let steps = Steps::new(rt.alloc())?;
+    let raced = live_race(rt, rt.alloc(), &timeline, port, &steps);
     drop(timeline);
-    is_right_of(rt, raced, wanted, &reasons)
+    is_right_of(rt, raced, wanted, &steps)
 }
 
 /// The same over an event loop that was made before.
@@ -152,10 +151,10 @@ pub fn race_on<R: Lender + Net>(
     wanted: &Wanted<'_>,
 ) -> Result<bool, Fail> {
     let timeline = read_one_race(rt.alloc(), text, false)?;
-    let reasons = Reasons::new(rt.alloc())?;
-    let raced = live_race_on(rt, rt.alloc(), runtime, &timeline, port, &reasons);
+    let steps = Steps::new(rt.alloc())?;
+    let raced = live_race_on(rt, rt.alloc(), runtime, &timeline, port, &steps);
     drop(timeline);
-    is_right_of(rt, raced, wanted, &reasons)
+    is_right_of(rt, raced, wanted, &steps)
 }
 
 /// A host with a source and a route of loopback, and an address of it that is known at once.
