@@ -8,7 +8,7 @@ use he_stream::{FromReader, ToWriter};
 use he_text::{read_one_race, write_timeline, write_transcript};
 use std::alloc::AllocGlobal;
 use std::mem::drop;
-use std::net::{Net, TcpStream};
+use std::net::{IpAddr, Ipv4Addr, Net, SocketAddr, TcpListener, TcpStream};
 use std::random::RandomSource;
 use std::sync::Wait;
 use std::test::Fail;
@@ -91,7 +91,8 @@ pub fn replays<R: Lender>(rt: &R, transcript: &[u8], record: &[u8]) -> Result<bo
     Ok(is_same)
 }
 
-fn is_right<R: Lender>(
+/// Whether the race came to what is wanted, and its record replays.
+pub fn is_right<R: Lender>(
     rt: &R,
     raced: &Raced<TcpStream>,
     wanted: &Wanted<'_>,
@@ -117,8 +118,8 @@ fn is_right_of<R: Lender>(
     Ok(is_right? && is_told)
 }
 
-// Whether each attempt that failed did so for this reason.
-fn is_told(transcript: &Transcript, wanted: Reason, steps: &Steps) -> bool {
+/// Whether each attempt that failed did so for this reason.
+pub fn is_told(transcript: &Transcript, wanted: Reason, steps: &Steps) -> bool {
     let mut is_told = true;
     for line in transcript.attempts() {
         if let Mark::Failed(_) = line.mark {
@@ -172,6 +173,26 @@ pub const REFUSED: Wanted<'static> = Wanted {
     least: 0,
     reason: Reason::Refused,
 };
+
+/// A listener at the address, at a free port where none is given, and its port.
+pub fn listen<R: Lender + Net<Listener = TcpListener, Stream = TcpStream>>(
+    rt: &R,
+    ip: IpAddr,
+    port: u16,
+) -> Result<(TcpListener, u16), Fail> {
+    let listener = TcpListener::bind(rt, SocketAddr::new(ip, port))?;
+    let port = listener.local_addr()?.port();
+    Ok((listener, port))
+}
+
+/// A port at which nobody listens.
+pub fn free_port<R: Lender + Net<Listener = TcpListener, Stream = TcpStream>>(
+    rt: &R,
+) -> Result<u16, Fail> {
+    let (listener, port) = listen(rt, IpAddr::V4(Ipv4Addr::LOCALHOST), 0)?;
+    drop(listener);
+    Ok(port)
+}
 
 /// How many descriptors the process has.
 pub fn descriptors(rt: &HostRuntime) -> io::Result<usize> {

@@ -1,6 +1,8 @@
 // Races against servers on loopback.
 
-use crate::homes::{End, Lender, ONE, REFUSED, Result3, Wanted, descriptors, race, replays};
+use crate::homes::{
+    End, Lender, ONE, REFUSED, Result3, Wanted, descriptors, free_port, listen, race, replays,
+};
 use he_addr::Ip;
 use he_live::{FailedAttempt, Reason, live};
 use he_plan::Outcome3;
@@ -99,26 +101,6 @@ const NOBODY: Wanted<'static> = Wanted {
 // The address of the server that is silent: its listener's queue is full.
 fn dead_ip() -> IpAddr {
     IpAddr::V4(Ipv4Addr::new(127, 0, 0, 2))
-}
-
-// A listener at the address, at a free port where none is given, and its port.
-fn listen<R: Lender + Net<Listener = TcpListener, Stream = StdStream>>(
-    rt: &R,
-    ip: IpAddr,
-    port: u16,
-) -> Result<(TcpListener, u16), Fail> {
-    let listener = TcpListener::bind(rt, SocketAddr::new(ip, port))?;
-    let port = listener.local_addr()?.port();
-    Ok((listener, port))
-}
-
-// A port at which nobody listens.
-fn free_port<R: Lender + Net<Listener = TcpListener, Stream = StdStream>>(
-    rt: &R,
-) -> Result<u16, Fail> {
-    let (listener, port) = listen(rt, IpAddr::V4(OPEN), 0)?;
-    drop(listener);
-    Ok(port)
 }
 
 fn races_with_a_listener<R: Lender + Net<Listener = TcpListener, Stream = StdStream>>(
