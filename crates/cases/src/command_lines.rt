@@ -79,7 +79,7 @@ type Row = (
     &'static [u8],
 );
 
-static ROWS: [Row; 57] = [
+static ROWS: [Row; 59] = [
     (&["he", "replay"], TEXT, Streams::Whole, 0, TRANSCRIPT, b""),
     (
         &["he", "replay", "--workers", "1"],

@@ -35,6 +35,7 @@ pub trait Watcher {
 }
 
 /// A watcher that does nothing.
+#[derive(Clone, Copy, Debug, Drop)]
 pub struct Quiet;
 
 impl Watcher for Quiet {

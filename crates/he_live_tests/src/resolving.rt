@@ -175,6 +175,7 @@ fn answers_take_part_when_they_come(rt: HostRuntime) -> Result<(), Fail> {
 }
 
 // Whether the steps that it is told are these, in order.
+#[derive(Drop)]
 struct Expecting<'a> {
     wanted: &'a [(usize, Ip, What)],
     count: Cell<usize>,
@@ -218,6 +219,7 @@ fn is_connection(
 }
 
 // How late the latest step was told, in milliseconds.
+#[derive(Drop)]
 struct Timing<'r, R: Clock> {
     clock: &'r R,
     start: Instant,
