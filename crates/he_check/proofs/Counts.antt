@@ -62,7 +62,7 @@ one_more input old new warnings line race before at within passes =
       passed = passes_on input 0 0 before.races old new race before.passed passes;
       within = within;
       warned = subst Warned (sym split)
-        (warned_on 0 before.races (take old.end input) warnings before.warned race (slice_range input old.end new.end) passes.read line (omega arith));
+          (warned_on 0 before.races (take old.end input) warnings before.warned race (slice_range input old.end new.end) passes.read line (omega arith));
     }
 
 pub fault_wrong : (input : List ℕ) (is_broken : Bool) (walk : Walk) (warnings : List Warning) (fault : WalkFault) → HasCounted input walk warnings → IsWalkFault input (ending_of is_broken) walk fault

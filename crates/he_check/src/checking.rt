@@ -8,7 +8,7 @@ ghost use Rattle.he_check.specs.Stream.{Checks, ExplainsText, counted, report_te
 use crate::explaining::explain_fault;
 use crate::fault::CheckFault;
 use crate::input::{Checked, check_input};
-use crate::warning::tell_warnings;
+use crate::telling::tell_warnings;
 use he_addr::{Memory, write_number};
 use he_stream::{InputStream, OutputStream, take_input, write_whole};
 use std::alloc::Allocator;

@@ -31,7 +31,7 @@ mod repeats;
 mod sentence;
 mod showing;
 pub mod slips;
-mod warning;
+mod telling;
 
 pub use checking::check;
 pub use explaining::explain_fault;

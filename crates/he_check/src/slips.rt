@@ -39,7 +39,12 @@ pub(crate) fn add_warnings<A: Allocator, B: Allocator>(
 ) -> Result<(), AllocError>
     ensures { OnOk result (warnings.new.items ≡ warnings.old.items ++ warnings_of line race.now) }
 {
-    add_if(is_floor_idle(race.settings()), line, Slip::IdleFloor, warnings)?;
+    add_if(
+        is_floor_idle(race.settings()),
+        line,
+        Slip::IdleFloor,
+        warnings,
+    )?;
     add_of_answer(race, Family::V6, line, warnings)?;
     add_of_answer(race, Family::V4, line, warnings)
 }
@@ -57,7 +62,12 @@ fn add_of_answer<A: Allocator, B: Allocator>(
     };
     let is_late = tick > race.settings().limit();
     add_if(is_late, line, Slip::LateAnswer(family), warnings)?;
-    add_if(are_unusable(ips), line, Slip::UnusableAnswer(family), warnings)
+    add_if(
+        are_unusable(ips),
+        line,
+        Slip::UnusableAnswer(family),
+        warnings,
+    )
 }
 
 fn add_if<A: Allocator>(

@@ -31,7 +31,8 @@ const ORDER_ABOUT: &str = "Reads timelines of races and writes the order of thei
 
 const EXPLAIN_ABOUT: &str = "Reads timelines of races and writes why they went as they did";
 
-const CHECK_ABOUT: &str = "Checks timelines of races, and explains the first fault or warns of slips";
+const CHECK_ABOUT: &str =
+    "Checks timelines of races, and explains the first fault or warns of slips";
 
 const LIVE_ABOUT: &str = "Races real connections, and writes what happened and a record of it";
 

@@ -40,12 +40,19 @@ fn sentence(slip: Slip) -> &'static [u8]
     ensures { result.now ≡ sentence_of slip }
 {
     match slip {
-        Slip::IdleFloor => b"the floor of this race is its attempt delay, so it changes nothing: set a lower one, or none",
-        Slip::NoAnswer(Family::V6) => b"this race has no aaaa line, so it can't be exhausted: for an answer without an address write `aaaa TICK none`",
-        Slip::NoAnswer(Family::V4) => b"this race has no a line, so it can't be exhausted: for an answer without an address write `a TICK none`",
-        Slip::LateAnswer(Family::V6) => b"the aaaa answer of this race comes after its limit and is never seen: set a higher limit, or an earlier tick",
-        Slip::LateAnswer(Family::V4) => b"the a answer of this race comes after its limit and is never seen: set a higher limit, or an earlier tick",
-        Slip::UnusableAnswer(Family::V6) => b"no address of this race's aaaa line may be tried, as each is unspecified, multicast or in ::ffff:0:0/96: write others, or `none`",
-        Slip::UnusableAnswer(Family::V4) => b"no address of this race's a line may be tried, as each is unspecified or multicast: write others, or `none`",
+        Slip::IdleFloor =>
+            b"the floor of this race is its attempt delay, so it changes nothing: set a lower one, or none",
+        Slip::NoAnswer(Family::V6) =>
+            b"this race has no aaaa line, so it can't be exhausted: for an answer without an address write `aaaa TICK none`",
+        Slip::NoAnswer(Family::V4) =>
+            b"this race has no a line, so it can't be exhausted: for an answer without an address write `a TICK none`",
+        Slip::LateAnswer(Family::V6) =>
+            b"the aaaa answer of this race comes after its limit and is never seen: set a higher limit, or an earlier tick",
+        Slip::LateAnswer(Family::V4) =>
+            b"the a answer of this race comes after its limit and is never seen: set a higher limit, or an earlier tick",
+        Slip::UnusableAnswer(Family::V6) =>
+            b"no address of this race's aaaa line may be tried, as each is unspecified, multicast or in ::ffff:0:0/96: write others, or `none`",
+        Slip::UnusableAnswer(Family::V4) =>
+            b"no address of this race's a line may be tried, as each is unspecified or multicast: write others, or `none`",
     }
 }
