@@ -29,8 +29,7 @@ warned_on lines [] text warnings (none, nothing) race last is line at =
       ap (λ (t : List ℕ). t ++ last) none ∙ sym (append-nil last),
       is,
       ap (λ (w : List Warning). w ++ warnings_of line race) nothing ∙ ap (λ (l : ℕ). warnings_of l race) here ∙ sym (append-nil (warnings_of (lines + 1) race)),
-      refl,
-      refl,
+      (refl, refl),
     )
 warned_on lines (one ∷ races) text warnings (first, more, later, split, read, warned, rest) race last is line at =
     let sum : line_count text ≡ line_count first + line_count more = ap line_count split ∙ line_count-append first more in
