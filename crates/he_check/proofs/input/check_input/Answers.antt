@@ -28,4 +28,4 @@ loop-warnings-preserved g c =
     let Counted : List Warning → Type 0 = λ warnings. HasCounted c.args.input.now c.next.new.self warnings in
     let more = one_more c.args.input.now c.loop-warnings.walk c.next.new.self c.loop-warnings.warnings.items c.loop-warnings.line c.in-Some.race
         c.loop-warnings.invariant.0 c.loop-warnings.invariant.1 c.in_ok-race.ensures.within passes in
-    (subst Counted (sym c.in_ok-added.ensures) more, refl)
+    (subst Counted (sym {A = List Warning} c.in_ok-added.ensures) more, refl)
