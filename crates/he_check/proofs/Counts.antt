@@ -11,7 +11,7 @@ use Rattle.he_text.specs.declared.inputs.InputFault.TheVariants as inputs
 use Rattle.he_text.specs.declared.walks.Walk.{Walk}
 use Rattle.he_text.specs.declared.walks.WalkFault.{WalkFault}
 use Rattle.he_text.specs.declared.walks.WalkFault.TheVariants as walks
-use Rattle.he_text.proofs.WalkLaws.{ends_whole, has_fault, has_none, line_count-append, none_behind, none_passed, passes_on}
+use Rattle.he_text.proofs.WalkLaws.{ends_whole, has_fault, has_none, line_count-append, none_behind, passes_on}
 use Rattle.he_check.specs.Checked.{IsRight, IsWrong, check_fault}
 use Rattle.he_check.specs.Slips.{AreWarned, HasWarnings, warnings_of}
 use Rattle.he_check.specs.Steps.{HasCounted}
@@ -49,19 +49,20 @@ take_to input from end le =
     let sum : end ≡ from + (end - from) = omega arith in
     ap (λ (n : ℕ). take n input) sum ∙ take-add from (end - from) input
 
-pub one_more : (input : List ℕ) (old new : Walk) (warnings : List Warning) (line : ℕ) (race : Race) → HasCounted input old warnings → line ≡ old.lines + 1
-    → IsWithin input new → PassesRace input old new race → HasCounted input new (warnings ++ warnings_of line race)
-one_more input old new warnings line race before at within passes =
+pub one_more : (input : List ℕ) (old new : Walk) (warnings more : List Warning) (line : ℕ) (race : Race) → HasCounted input old warnings → line ≡ old.lines + 1
+    → IsWithin input new → PassesRace input old new race → more ≡ warnings ++ warnings_of line race → HasCounted input new more
+one_more input old new warnings more line race before at within passes longer =
     let races = before.races ++ race ∷ [] in
     let split : take new.end input ≡ take old.end input ++ slice_range input old.end new.end = take_to input old.end new.end (let past = passes.past in omega arith) in
     let Warned : List ℕ → Type 0 = λ text. AreWarned 0 races text (warnings ++ warnings_of line race) in
     let lined = before.passed.lined in
+    let warned = subst Warned (sym split)
+    (warned_on 0 before.races (take old.end input) warnings before.warned race (slice_range input old.end new.end) passes.read line (omega arith)) in
     record {
       races = races;
       passed = passes_on input 0 0 before.races old new race before.passed passes;
       within = within;
-      warned = subst Warned (sym split)
-          (warned_on 0 before.races (take old.end input) warnings before.warned race (slice_range input old.end new.end) passes.read line (omega arith));
+      warned = subst (λ (w : List Warning). AreWarned 0 races (take new.end input) w) (sym longer) warned;
     }
 
 pub fault_wrong : (input : List ℕ) (is_broken : Bool) (walk : Walk) (warnings : List Warning) (fault : WalkFault) → HasCounted input walk warnings → IsWalkFault input (ending_of is_broken) walk fault

@@ -1,7 +1,5 @@
-use Rattle.std.proofs.Common.{List, refl, subst, sym}
+use Rattle.std.proofs.Common.{refl}
 use Rattle.he_check.specs.Checked.{IsWrong, check_fault}
-use Rattle.he_check.specs.Steps.{HasCounted}
-use Rattle.he_check.specs.declared.slips.Warning.{Warning}
 use Rattle.he_text.proofs.WalkLaws.{err_handed}
 use Rattle.he_check.proofs.Counts.{end_right, end_warned, fault_wrong, one_more}
 use Rattle.he_check.proofs.input.check_input.Goals as goal
@@ -25,7 +23,6 @@ returns-clause-warned g c =
 pub loop-warnings-preserved : goal.loop-warnings-preserved
 loop-warnings-preserved g c =
     let passes = rw c.in-Some.is at c.in_ok-race.ensures.found in
-    let Counted : List Warning → Type 0 = λ warnings. HasCounted c.args.input.now c.next.new.self warnings in
-    let more = one_more c.args.input.now c.loop-warnings.walk c.next.new.self c.loop-warnings.warnings.items c.loop-warnings.line c.in-Some.race
-        c.loop-warnings.invariant.0 c.loop-warnings.invariant.1 c.in_ok-race.ensures.within passes in
-    (subst Counted (sym {A = List Warning} c.in_ok-added.ensures) more, refl)
+    let more = one_more c.args.input.now c.loop-warnings.walk c.next.new.self c.loop-warnings.warnings.items c.add_warnings-added.new.warnings.items
+    c.loop-warnings.line c.in-Some.race c.loop-warnings.invariant.0 c.loop-warnings.invariant.1 c.in_ok-race.ensures.within passes c.in_ok-added.ensures in
+    (more, refl)
