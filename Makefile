@@ -1,5 +1,5 @@
 # What a newcomer needs. README.md and CONTRIBUTING.md say what each is for and how long it takes.
-.PHONY: help race test edits install examples documents explained hostile refused hosts captures live fuzz manual kit program
+.PHONY: help race test edits install install-library library examples documents explained hostile refused hosts captures live fuzz manual kit program
 
 PREFIX ?= /usr/local
 RACE ?= crates/cases/data/ipv6-late-but-within-delay-leads.timeline
@@ -16,6 +16,10 @@ help:
 	@echo 'make edits                 tries the wrong edits that the gate leaves out: each must be refused'
 	@echo 'make install PREFIX=DIR    proves and builds the program, and puts it at DIR/bin/he, its manual page,'
 	@echo '                           completion and licence below DIR/share'
+	@echo 'make install-library PREFIX=DIR'
+	@echo '                           proves and builds the library for C, and puts it at DIR/lib, its header at'
+	@echo '                           DIR/include'
+	@echo 'make library HE=FILE       builds the library for C and the examples in C and Python, and tries them'
 	@echo 'make examples HE=FILE      runs a built program over all examples'
 	@echo 'make documents HE=FILE     runs the command lines of the documents, and compares what stands below them'
 	@echo 'make hostile HE=FILE       runs a built program over streams that fail, open pipes, too little memory'
@@ -56,6 +60,21 @@ install: kit
 	install -D -m 644 docs/he.1 $(PREFIX)/share/man/man1/he.1
 	install -D -m 644 completions/he.bash $(PREFIX)/share/bash-completion/completions/he
 	install -D -m 644 LICENSE $(PREFIX)/share/doc/he/LICENSE
+
+install-library: kit
+	cd crates/he_c && rt lib
+	@work=$$(mktemp -d); trap 'rm -rf "$$work"' EXIT; \
+	scripts/make-library "$$work" "$(PREFIX)" && \
+	install -D -m 644 include/he.h $(PREFIX)/include/he.h && \
+	install -D -m 644 "$$work/libhe.a" $(PREFIX)/lib/libhe.a && \
+	install -D -m 755 "$$work/libhe.so.1.0.0" $(PREFIX)/lib/libhe.so.1.0.0 && \
+	ln -sf libhe.so.1.0.0 $(PREFIX)/lib/libhe.so.1 && ln -sf libhe.so.1 $(PREFIX)/lib/libhe.so && \
+	install -D -m 644 "$$work/he.pc" $(PREFIX)/lib/pkgconfig/he.pc && \
+	install -D -m 644 LICENSE $(PREFIX)/share/doc/he/LICENSE
+
+library: kit program
+	cd crates/he_c && rt lib
+	scripts/c-library $(HE)
 
 examples: program
 	scripts/examples $(HE)

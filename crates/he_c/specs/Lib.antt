@@ -1,0 +1,4 @@
+pub mod Answers
+pub mod Outputs
+pub mod Steps
+pub mod Telling
