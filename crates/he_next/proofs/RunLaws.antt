@@ -7,7 +7,9 @@ use Rattle.std.proofs.lemmas.List.Elements.{filter-append}
 use Rattle.std.proofs.lemmas.Option.{slice_get-map}
 use Rattle.std.proofs.Math.Seq.{take-append_seam}
 use Rattle.he_addr.specs.declared.ip.Ip.{Ip}
+use Rattle.he_plan.specs.Agreement.{AgreeBelow, FailAlike}
 use Rattle.he_plan.specs.Attempts.{AreNextInTurn, IsNext, MayStart, seen}
+use Rattle.he_plan.specs.Building.{with_pause}
 use Rattle.he_plan.specs.Continuing.{Follow}
 use Rattle.he_plan.specs.Finish.{fate_of}
 use Rattle.he_plan.specs.Race.{Race, Reply}
@@ -19,13 +21,16 @@ use Rattle.he_plan.specs.declared.finish.Fate.TheVariants.{Succeeded, Failed, Ru
 use Rattle.he_plan.specs.declared.transcript.Line.{Line}
 use Rattle.he_plan.specs.declared.transcript.Outcome3.{Outcome3}
 use Rattle.he_plan.specs.declared.transcript.Outcome3.TheVariants as results
-use Rattle.he_plan.proofs.Agreeing.{in_turn-below}
+use Rattle.he_plan.proofs.Agreeing.{alike-below, in_turn-below}
 use Rattle.he_plan.proofs.Bools.{and_both, and_left, and_right, clash, le_from, le_test, lt_from, lt_test, not_le, not_lt, above}
+use Rattle.he_plan.proofs.Ends.{ends-in_turn}
 use Rattle.he_plan.proofs.Finishing.{failure-in_range}
+use Rattle.he_plan.proofs.Growing.{pause-below}
 use Rattle.he_plan.proofs.InTurn.{in_turn-follow, in_turn-more, in_turn-none}
 use Rattle.he_plan.proofs.Lawful.{attempts-prefix}
 use Rattle.he_plan.proofs.Stopping.{none_before}
-use Rattle.he_next.specs.Runs.{AreBelow, IsOver, Runs, Takes, Turn, attempt_of, with_started}
+use Rattle.he_race.proofs.Later.{attempts-before}
+use Rattle.he_next.specs.Runs.{AreBelow, IsOver, IsWritten, Runs, Sleeps, State, attempt_of, with_started}
 use Rattle.he_next.specs.Steps.{action_of, before_tick, due_action, end_action, end_tick, late_start}
 use Rattle.he_next.specs.declared.step.Action.{Action}
 use Rattle.he_next.specs.declared.step.Action.TheVariants.{Start, Wait, Won, Exhausted, Limit}
@@ -367,9 +372,42 @@ started_in_turn race report xs now turn t below = by_end (nat_le (end_tick repor
             by_tick true come = rw come (in_turn-more race xs (attempt_of line) turn (next_line race report xs line t turn later there))
             by_tick false wait = rw wait turn
 
-pub runs_in_turn : (first race : Race) (turns : List Turn) (xs : List Attempt) → Runs first turns race xs → AreNextInTurn race xs
-runs_in_turn first race [] xs runs = subst (λ (all : List Attempt). AreNextInTurn race all) (sym runs.1) (in_turn-none race)
-runs_in_turn first race (turn ∷ turns) xs (old, before, runs, takes, same) =
-    let grown = in_turn-below turn.from old turn.race takes.grows.valid_before takes.grows.valid takes.grows.agree before takes.grows.failed takes.grows.above (runs_in_turn first old turns before runs) in
-    let started = started_in_turn turn.race turn.report before turn.now grown takes.transcript takes.before in
-    subst (λ (r : Race). AreNextInTurn r xs) (sym same) (subst (λ (all : List Attempt). AreNextInTurn turn.race all) (sym takes.starts) started)
+-- what is written down leaves the attempts that were started
+written_in_turn : (old new : State) → IsRace old.race → IsWritten old new → AreNextInTurn old.race old.attempts → AreNextInTurn new.race old.attempts
+written_in_turn old new r written turn = elim written.happened [
+  | inl answer ↦ subst (λ (race : Race). AreNextInTurn race old.attempts) (sym answer.told)
+      (attempts-before old.race r answer.reply answer.family answer.first old.attempts answer.late turn)
+  | inr more ↦ elim more [
+    | inl end ↦ ends-in_turn old.race new.race r written.valid old.attempts end.0 end.1 turn
+    | inr sleep ↦ slept_in_turn sleep
+  ]
+]
+  where
+    slept_in_turn : Sleeps old new.race → AreNextInTurn new.race old.attempts
+    slept_in_turn sleep =
+        let race = with_pause old.race sleep.from sleep.to in
+        let valid : IsRace race = subst IsRace sleep.told written.valid in
+        let agree : AgreeBelow sleep.from old.race race = pause-below old.race sleep.from sleep.to in
+        let alike : FailAlike sleep.from old.race race old.attempts = alike-below sleep.from old.race race r valid agree old.attempts (λ k d lt. refl) in
+        subst (λ (x : Race). AreNextInTurn x old.attempts) (sym sleep.told) (in_turn-below sleep.from old.race race r valid agree old.attempts alike sleep.late turn)
+
+-- a race within its ranges, whose attempts are next in turn
+abbrev IsSound : State → Type 0
+IsSound state = IsRace state.race × AreNextInTurn state.race state.attempts
+
+pub runs_in_turn : (first : Race) (earlier : List State) (state : State) → IsRace first → Runs first earlier state → IsSound state
+runs_in_turn first [] state r runs = subst IsSound (sym runs) (r, in_turn-none first)
+runs_in_turn first (old ∷ earlier) state r runs =
+    let before = runs_in_turn first earlier old r runs.0 in
+    elim runs.1 [
+      | inl written ↦ (
+        written.valid,
+        subst (λ (all : List Attempt). AreNextInTurn state.race all) (sym written.same) (written_in_turn old state before.0 written before.1),
+      )
+      | inr done ↦ (
+        subst IsRace (sym done.same) before.0,
+        subst (λ (race : Race). AreNextInTurn race state.attempts) (sym done.same)
+            (subst (λ (all : List Attempt). AreNextInTurn old.race all) (sym done.starts)
+            (started_in_turn old.race done.report old.attempts done.now before.1 done.transcript done.later)),
+      )
+    ]

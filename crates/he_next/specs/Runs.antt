@@ -1,10 +1,12 @@
--- Races that are run by what is due, turn by turn, and the attempts that they start.
-use Rattle.std.specs.Prelude.{ℕ, ◌≡◌, ◌++◌, List, [], ◌∷◌, Option, Some, None, IsTrue, length, nat_le, nat_lt}
+-- Races that are run by what is due, and the attempts that they start.
+use Rattle.std.specs.Prelude.{ℕ, ◌≡◌, ◌⊎◌, ◌++◌, List, [], ◌∷◌, None, IsTrue, length, nat_le, nat_lt}
 use Rattle.std.specs.List.{list_all}
-use Rattle.he_plan.specs.Agreement.{AgreeBelow, FailAlike}
-use Rattle.he_plan.specs.Race.{Race}
+use Rattle.he_addr.specs.declared.ip.Family.{Family}
+use Rattle.he_plan.specs.Building.{with_answer, with_pause}
+use Rattle.he_plan.specs.Race.{Race, Reply, reply_of}
 use Rattle.he_plan.specs.Timeline.{IsRace}
 use Rattle.he_plan.specs.Transcript.{IsTranscript, Report}
+use Rattle.he_plan.specs.Underway.{EndsOne}
 use Rattle.he_plan.specs.declared.attempts.Attempt.{Attempt}
 use Rattle.he_plan.specs.declared.transcript.Line.{Line}
 use Rattle.he_next.specs.Steps.{action_of, end_tick, late_start}
@@ -19,22 +21,31 @@ attempt_of line = record { place = line.place; tick = line.tick; ip = line.ip }
 abbrev pub AreBelow : ℕ → List Attempt → Type 0
 AreBelow tick xs = IsTrue (list_all (λ x. nat_lt x.tick tick) xs)
 
--- what is written down between two turns leaves what the first race has below a tick, which lies above all attempts that
--- were started: the answers are there, the client may act at the same ticks, and the same attempts have failed
-pub record Grows (tick : ℕ) (old new : Race) (xs : List Attempt) : Type 0 where
-  pub valid_before : IsRace old
-  pub valid : IsRace new
-  pub above : AreBelow tick xs
-  pub agree : AgreeBelow tick old new
-  pub failed : FailAlike tick old new xs
-
--- a turn: the race of the record, behind the pause where the client was late, its transcript, and the tick; what was
--- written down since the turn before happened at `from` or later
-pub record Turn : Type 0 where
-  pub from : ℕ
-  pub now : ℕ
+-- the race of the record so far, and the attempts that were started
+pub record State : Type 0 where
   pub race : Race
-  pub report : Report
+  pub attempts : List Attempt
+
+-- a family's answer, after the last start
+pub record Answers (old : State) (new : Race) : Type 0 where
+  pub family : Family
+  pub reply : Reply
+  pub first : reply_of old.race family ≡ None
+  pub told : new ≡ with_answer old.race family reply
+  pub late : AreBelow reply.tick old.attempts
+
+-- a pause from a tick after the last start on
+pub record Sleeps (old : State) (new : Race) : Type 0 where
+  pub from : ℕ
+  pub to : ℕ
+  pub told : new ≡ with_pause old.race from to
+  pub late : AreBelow from old.attempts
+
+-- something is written down that happened after the last start: an answer, how one of the attempts ended, or a pause
+pub record IsWritten (old new : State) : Type 0 where
+  pub valid : IsRace new.race
+  pub happened : Answers old new.race ⊎ ((x : Attempt) × EndsOne old.race new.race old.attempts x) ⊎ Sleeps old new.race
+  pub same : new.attempts ≡ old.attempts
 
 -- the attempts, with the one that starts
 abbrev pub with_started : List Attempt → Action → List Attempt
@@ -44,20 +55,21 @@ with_started xs (Won place tick) = xs
 with_started xs (Exhausted tick) = xs
 with_started xs (Limit tick) = xs
 
--- from a race with these attempts to a turn and the attempts behind it
-pub record Takes (old : Race) (xs : List Attempt) (turn : Turn) (all : List Attempt) : Type 0 where
-  pub grows : Grows turn.from old turn.race xs
-  pub before : AreBelow turn.now xs
-  pub transcript : IsTranscript turn.race turn.report
-  pub starts : all ≡ with_started xs (action_of turn.report (length xs) turn.now)
+-- the client does what is due, at a tick after the last start
+pub record IsDone (old new : State) : Type 0 where
+  pub now : ℕ
+  pub later : AreBelow now old.attempts
+  pub report : Report
+  pub transcript : IsTranscript old.race report
+  pub starts : new.attempts ≡ with_started old.attempts (action_of report (length old.attempts) now)
+  pub same : new.race ≡ old.race
 
--- a race that is run, turn by turn, the last turn first: what the record has then, and the attempts that were started
-abbrev pub Runs : Race → List Turn → Race → List Attempt → Type 0
-Runs first [] race xs = (race ≡ first) × (xs ≡ [])
-Runs first (turn ∷ turns) race xs =
-    (old : Race) × (before : List Attempt) × Runs first turns old before × Takes old before turn xs × (race ≡ turn.race)
+-- a race that is run: from its beginning over these states, the last first, to this one
+abbrev pub Runs : Race → List State → State → Type 0
+Runs first [] state = state ≡ record { race = first; attempts = [] }
+Runs first (old ∷ earlier) state = Runs first earlier old × (IsWritten old state ⊎ IsDone old state)
 
--- the race has ended by the tick, behind all its attempts, and the client was not late
+-- the race has ended by the tick, after all its starts, and the client was not late
 pub record IsOver (report : Report) (xs : List Attempt) (now : ℕ) : Type 0 where
   pub ended : AreBelow (end_tick report.result) xs
   pub past : IsTrue (nat_le (end_tick report.result) now)
