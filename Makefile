@@ -63,14 +63,7 @@ install: kit
 
 install-library: kit
 	cd crates/he_c && rt lib
-	@work=$$(mktemp -d); trap 'rm -rf "$$work"' EXIT; \
-	scripts/make-library "$$work" "$(PREFIX)" && \
-	install -D -m 644 include/he.h $(PREFIX)/include/he.h && \
-	install -D -m 644 "$$work/libhe.a" $(PREFIX)/lib/libhe.a && \
-	install -D -m 755 "$$work/libhe.so.1.0.0" $(PREFIX)/lib/libhe.so.1.0.0 && \
-	ln -sf libhe.so.1.0.0 $(PREFIX)/lib/libhe.so.1 && ln -sf libhe.so.1 $(PREFIX)/lib/libhe.so && \
-	install -D -m 644 "$$work/he.pc" $(PREFIX)/lib/pkgconfig/he.pc && \
-	install -D -m 644 LICENSE $(PREFIX)/share/doc/he/LICENSE
+	scripts/make-library $(abspath $(PREFIX))
 
 library: kit program
 	cd crates/he_c && rt lib

@@ -1,8 +1,9 @@
 /* he.h: the rules of Happy Eyeballs races (RFC 8305, with the address selection of RFC 6724) for programs in C.
  *
  * The library has no sockets, threads or clocks, and keeps nothing between two calls: bytes in, bytes out. It takes
- * memory from malloc, and gives it back before a call answers. Calls may be made from several threads at once.
- * Texts are bytes with a length, and need no zero behind them. Ticks are milliseconds from the start of a race.
+ * memory from malloc, and gives it back before a call answers. Calls may be made from several threads at once, but not
+ * from a signal handler. Texts are bytes with a length, and need no zero behind them. Ticks are milliseconds from the
+ * start of a race.
  *
  * WHAT IS PROVED of each function is said at it, by definitions that stand beside the library's source. It holds where
  * the caller keeps to this: each pointer is not null, not even where the length beside it is 0, and points to as
@@ -27,8 +28,8 @@
  *     connect 2001:db8:1::1 ok 35     the connection stood so many ticks after its start; `fail 35`: it failed
  *     pause 100 200                   the client slept from tick 100 to tick 199
  *
- * A HOST NEEDS source and route lines: an address without a source to reach it from is tried last, and the addresses of
- * a record without any are tried in the order of their policy table alone.
+ * A HOST NEEDS source and route lines: an address without a source to reach it from is tried last, and the addresses
+ * of a record without any are tried in the order of their policy table alone.
  */
 #ifndef HE_H
 #define HE_H
@@ -77,14 +78,17 @@ struct he_told {
     uint32_t kind;   /* an he_kind */
 };
 
-/* What a text comes to. Each call writes into `room` and tells of it.
+/* What a text comes to: its transcripts, its orders, its explanations; or how many races and lines it has. Each call
+ * writes into `room` and tells of it.
  *
  * Proved: unless it answers HE_NO_MEMORY, the text that is wanted is the one that is defined, in full: of each race
- * up to the text's first fault its transcript, its order, or its explanation, one after the other; `line` and `kind` are
- * that first fault's. It stands at the front of the room, and what is behind it there stays, just where it fits; else
- * the answer is HE_NO_ROOM, and the room stays as it was. The answer is HE_FAULT just where there is a fault, and
+ * up to the text's first fault its transcript, its order, or its explanation, one after the other; `line` and `kind`
+ * are that first fault's. It stands at the front of the room, and what is behind it there stays, just where it fits;
+ * else the answer is HE_NO_ROOM, and the room stays as it was. The answer is HE_FAULT just where there is a fault, and
  * the room is large enough. he_check wants `N races, M lines` where there is no fault.
- * Tested only: what he_check says of a fault.
+ *
+ * Tested only: what he_check says where there is one: its line and kind, the line itself with a mark below the part
+ * that is wrong, and what was expected there.
  */
 uint32_t he_replay(const uint8_t *text, size_t text_length, uint8_t *room, size_t room_length, struct he_told *told);
 uint32_t he_order(const uint8_t *text, size_t text_length, uint8_t *room, size_t room_length, struct he_told *told);
@@ -115,24 +119,26 @@ struct he_step {
  * THE RECORD is the race's text up to what has happened, without its line `end`. Its lines stand in the order above,
  * so keep the answers, the `connect` lines and the `pause` lines apart, and join them for each call.
  *
- * A TURN. Read the clock once, as `now`, later than at the turn before: at least 1 tick. Write what has happened since then
- * into the record: an answer with the tick `now`; how an attempt ended, after `now` less its start. Call he_next. Write the
- * pause, if one is told: the client came late to a start. On HE_START connect, count it in `started`, and call
- * again with the same `now`, having written nothing but that pause. On HE_WAIT sleep up to that tick, or until something
- * happens, which is a new turn. Else the race is over: close all other sockets, and end the record by a line `end`, which
- * makes it a text that he_replay takes.
+ * A TURN. Read the clock once, as `now`, later than at the turn before: at least 1 tick. Write what has happened since
+ * then into the record: an answer with the tick `now`; how an attempt ended, after `now` less its start. Call he_next.
+ * Write the pause, if one is told: the client came late to a start. On HE_START connect, count it in `started`, and
+ * call again with the same `now`, having written nothing but that pause. On HE_WAIT sleep up to that tick, or until
+ * something happens, which is a new turn. Else the race is over: close all other sockets, and end the record by a line
+ * `end`, which makes it a text that he_replay takes.
  *
- * Proved: the step that is told is a replay's of the record and `end` behind it, with the pause that is told as its last
- * line. The attempt at place `started` of that transcript starts at `tick`, or is waited for where it starts later;
- * where there is none, the race's end is waited for; and the race is over where the transcript ends at or before
- * `now`. A pause is told just where that attempt starts before `now`: from there to `now`. A tick past the race's limit
- * counts as the one behind it.
- * Not proved: that the record of a race which was run so has in its transcript the very attempts that were made; that is
- * tried, on each example of the repository.
+ * Proved: the step that is told is a replay's of the record and `end` behind it, with the pause that is told as its
+ * last line. The attempt at place `started` of that transcript starts at `tick`, or is waited for where it starts
+ * later; where there is none, the race's end is waited for; and the race is over where the transcript ends at or
+ * before `now`. A pause is told just where that attempt starts before `now`: from there to `now`. A tick past the
+ * race's limit counts as the one behind it. And of races that are run by such steps, whatever answers, ends and pauses
+ * are written down meanwhile, each after the last start: the attempts that were started are those of the transcript
+ * that the ended record has. (Of records in which `rtt` and `used` lines, if any, stand from the beginning.)
  *
- * Answers HE_DONE; HE_FAULT, where the record, ended, has a fault, or cannot have the pause that it must have; HE_NOT_ONE;
- * or HE_NO_MEMORY. `told` has a fault's line and kind. The record is
- * read anew by each call, so what a call costs grows with it. */
+ * Answers HE_DONE; HE_FAULT, where the record, ended, has a fault, or cannot have the pause that it must have;
+ * HE_NOT_ONE; or HE_NO_MEMORY. `told` has a fault's line and kind, and a length of 0.
+ *
+ * The record is read anew by each call, so what a call costs grows with it: some 10 microseconds for 10 addresses, and
+ * less than 2 milliseconds for the largest record that there may be. */
 uint32_t he_next(const uint8_t *record, size_t record_length, uint64_t started, uint64_t now, struct he_step *step,
                  struct he_told *told);
 

@@ -75,6 +75,11 @@ static void join(const struct race *race, const char *end, struct text *whole)
     append(whole, "%s", end);
 }
 
+static const uint8_t *bytes_of(const struct text *text)
+{
+    return (const uint8_t *)text->bytes;
+}
+
 static uint64_t ticks_since(const struct timespec *begun)
 {
     struct timespec now;
@@ -192,7 +197,7 @@ static struct he_step run(struct race *race)
     struct he_told told;
     for (;;) {
         join(race, "", &record);
-        uint32_t answer = he_next((const uint8_t *)record.bytes, record.length, race->started, race->last, &step, &told);
+        uint32_t answer = he_next(bytes_of(&record), record.length, race->started, race->last, &step, &told);
         if (answer != HE_DONE) {
             fprintf(stderr, "connect: answer %u, line %" PRIu64 ", kind %u\n", answer, told.line, told.kind);
             exit(1);
@@ -211,12 +216,13 @@ static struct he_step run(struct race *race)
 /* Prints the transcript of the record, and keeps the record where RECORD says. */
 static void report(const struct race *race)
 {
-    static struct text record, transcript;
+    static struct text record;
+    static uint8_t transcript[MAX_TEXT];
     struct he_told told;
     join(race, "end\n", &record);
-    if (he_replay((const uint8_t *)record.bytes, record.length, (uint8_t *)transcript.bytes, MAX_TEXT, &told) != HE_DONE)
+    if (he_replay(bytes_of(&record), record.length, transcript, sizeof transcript, &told) != HE_DONE)
         fail("the record does not replay");
-    fwrite(transcript.bytes, 1, told.length, stdout);
+    fwrite(transcript, 1, told.length, stdout);
     const char *name = getenv("RECORD");
     FILE *file = name ? fopen(name, "w") : NULL;
     if (file) {

@@ -1,4 +1,4 @@
-"""open_connection(host, port) for asyncio, by races of IPv6 and IPv4 addresses (RFC 8305) as the library libhe runs them.
+"""open_connection(host, port) for asyncio, by races of IPv6 and IPv4 addresses (RFC 8305) as libhe runs them.
 
 To be used in place of asyncio.open_connection. Both families are asked for at once, and each answer takes part in the
 race when it comes. Once it is over, the function's `Race` has the race's record, a text that `he replay` takes:
@@ -28,8 +28,10 @@ class Told(ctypes.Structure):
 
 class Step(ctypes.Structure):
     _fields_ = [
-        ("action", ctypes.c_uint32), ("family", ctypes.c_uint32), ("place", ctypes.c_uint64), ("tick", ctypes.c_uint64),
-        ("pause_from", ctypes.c_uint64), ("pause_until", ctypes.c_uint64), ("address", ctypes.c_uint8 * 16),
+        ("action", ctypes.c_uint32), ("family", ctypes.c_uint32),
+        ("place", ctypes.c_uint64), ("tick", ctypes.c_uint64),
+        ("pause_from", ctypes.c_uint64), ("pause_until", ctypes.c_uint64),
+        ("address", ctypes.c_uint8 * 16),
     ]
 
     def ip(self):
@@ -113,6 +115,12 @@ async def dial(ip, port):
     return sock
 
 
+def drop(task):
+    """Closes what a task connected that is of no more use."""
+    if not task.cancelled() and isinstance(task.result(), socket.socket):
+        task.result().close()
+
+
 async def run(race, host, port):
     """Runs the race, and answers the socket that won, or None."""
     lookups = {asyncio.create_task(look_up(host, family)): word for word, family in FAMILIES.items()}
@@ -141,15 +149,10 @@ async def run(race, host, port):
                 return sockets.pop(step.place) if step.action == WON else None
     finally:
         for task in [*lookups, *attempts]:
-            task.add_done_callback(lambda task: task.cancelled() or task.result() and close(task.result()))
+            task.add_done_callback(drop)
             task.cancel()
         for sock in filter(None, sockets.values()):
             sock.close()
-
-
-def close(result):
-    if isinstance(result, socket.socket):
-        result.close()
 
 
 async def open_connection(host, port, *, race=None, **streams):
@@ -157,4 +160,6 @@ async def open_connection(host, port, *, race=None, **streams):
     sock = await run(race or Race(), host, port)
     if sock is None:
         raise OSError(f"no connection to {host}, port {port}")
+    if streams.get("ssl"):
+        streams.setdefault("server_hostname", host)
     return await asyncio.open_connection(sock=sock, **streams)

@@ -39,6 +39,10 @@ abbrev pub PausesAs : Option Pause → StepNumbers → Type 0
 PausesAs None step = (step.pause_from ≡ 0) × (step.pause_until ≡ 0)
 PausesAs (Some pause) step = (step.pause_from ≡ pause.from) × (step.pause_until ≡ pause.until)
 
+-- no step is told
+abbrev pub no_step : StepNumbers
+no_step = record { action = 0; family = 0; place = 0; tick = 0; pause_from = 0; pause_until = 0; address = replicate 16 0 }
+
 -- the numbers are those of the record's step
 pub record LeavesStep (record_text : List ℕ) (started now : ℕ) (numbers : StepNumbers) (told : Told) : Type 0 where
   pub step : Step

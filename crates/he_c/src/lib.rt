@@ -7,8 +7,8 @@
 //!
 //! Proved, by the contract of each exported function: the text that it writes is the one that the definitions give of
 //! the input, whole or not at all; the fault that it tells is the input's first one, by its line and kind; and that
-//! the room is too small is told just where it is (`specs/Answers`, `specs/Outputs`, `specs/Checks`). Of `he_next` the step is the one
-//! of `he_next`'s definition, number by number (`specs/Steps`).
+//! the room is too small is told just where it is (`specs/Answers`, `specs/Outputs`, `specs/Checks`). Of `he_next` the
+//! step is the one of the crate he_next's definition, number by number (`specs/Steps`).
 //!
 //! Tested only: what `he_check` says of a fault, and that a call succeeds where memory is granted.
 #![tactic(auto)]

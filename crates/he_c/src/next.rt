@@ -3,8 +3,8 @@
 ghost use Rattle.std.specs.Prelude.{◌≡◌, ◌≢◌, ◌≤◌, Some};
 ghost use Rattle.he_next.specs.Faults.{IsNextFault};
 ghost use Rattle.he_next.specs.declared.fault.NextFault.TheVariants as faults;
-ghost use Rattle.he_c.specs.Answers.{fault_kind, fault_line};
-ghost use Rattle.he_c.specs.Steps.{LeavesFault, LeavesStep};
+ghost use Rattle.he_c.specs.Answers.{fault_kind, fault_line, nothing_told};
+ghost use Rattle.he_c.specs.Steps.{LeavesFault, LeavesStep, no_step};
 ghost use Rattle.he_c.specs.declared.codes.TheConstants.{DONE, FAULT, NOT_ONE, NO_MEMORY, NO_ROOM};
 
 use crate::answer::{NOTHING, Told};
@@ -27,6 +27,8 @@ pub extern "C" fn he_next(
     ensures done { result ≡ DONE → LeavesStep lines.now started now step.new told.new }
     ensures fault { result ≡ FAULT → LeavesFault lines.now started now told.new }
     ensures not_one { result ≡ NOT_ONE → IsNextFault lines.now started now faults.NotOne }
+    ensures none { result ≢ DONE → step.new ≡ no_step }
+    ensures silent { result ≢ FAULT → told.new ≡ nothing_told }
     ensures known { result ≤ NOT_ONE }
     ensures room { result ≢ NO_ROOM }
 {
