@@ -49,6 +49,7 @@ race: kit
 
 test: kit
 	rt ci
+	cd crates/he_c && rt lib
 	scripts/whole crates/he_tool/out/he_tool crates/cases/out/cases
 
 edits: kit
