@@ -1,4 +1,4 @@
-use Rattle.he_next.proofs.RunLaws.{starts_now, waits_later}
+use Rattle.he_next.proofs.StepLaws.{starts_now, waits_later}
 use Rattle.he_next.proofs.laws.in_time.Goals as goal
 
 pub returns-clause-starts : goal.returns-clause-starts
