@@ -1,5 +1,5 @@
 -- What a turn of a race does where the client is in time.
-use Rattle.std.proofs.Common.{ℕ, ◌≡◌, ◌≤◌, ◌<◌, Bool, true, false, Option, Some, None, if◌then◌else◌, nat_le, nat_lt, refl, sym, ◌∙◌, arith, inl, inr}
+use Rattle.std.proofs.Common.{ℕ, ◌≡◌, ◌≤◌, ◌<◌, Bool, true, false, Option, Some, None, nat_le, nat_lt, refl, sym, ◌∙◌, arith, inl, inr}
 use Rattle.std.specs.List.{slice_get}
 use Rattle.std.proofs.lemmas.Bool.{cases_lt}
 use Rattle.he_addr.specs.declared.ip.Ip.{Ip}
@@ -9,8 +9,7 @@ use Rattle.he_plan.specs.declared.transcript.Outcome3.{Outcome3}
 use Rattle.he_plan.specs.declared.transcript.Outcome3.TheVariants as results
 use Rattle.he_plan.proofs.Bools.{above, clash, le_from, lt_test}
 use Rattle.he_next.specs.Steps.{action_of, before_tick, due_action, end_action, end_tick, late_start}
-use Rattle.he_next.specs.declared.step.Action.{Action}
-use Rattle.he_next.specs.declared.step.Action.TheVariants.{Start, Wait, Won, Exhausted, Limit}
+use Rattle.he_next.specs.declared.step.Action.TheVariants.{Start, Wait}
 
 pub lt_past : (m n : ℕ) → nat_lt m n ≡ false → n ≤ m
 lt_past m n h = elim (cases_lt m n) [
