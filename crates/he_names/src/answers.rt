@@ -1,0 +1,73 @@
+//! What is told of a name: the answers as lines of a timeline.
+
+ghost use Rattle.std.specs.Prelude.{◌≡◌, ◌++◌, ◌∷◌, IfOk, OnOk, take};
+ghost use Rattle.std.specs.List.{flat_map};
+ghost use Rattle.he_addr.specs.Printing.{printed};
+ghost use Rattle.he_names.specs.Answers.{answer_line, each_once, told};
+
+use crate::limits::MOST_ADDRESSES;
+use he_addr::{Ip, Memory, write_ip, write_number};
+use std::alloc::Allocator;
+
+/// The addresses each once, at its first place, and of those the first 256: as many as a line of a timeline has.
+///
+/// # Errors
+///
+/// [`Memory`] where an allocation was refused.
+#[tactic(auto, using(crate::proofs::Once::once_step))]
+pub fn clean<A: Allocator + Copy>(alloc: A, ips: &[Ip]) -> Result<Vec<Ip, A>, Memory>
+    ensures { IfOk result (λ kept. kept.items ≡ take 256 (each_once ips.now)) }
+{
+    let mut kept = Vec::new(alloc);
+    for ip in ips {
+        if !kept.contains(ip) {
+            kept.push(*ip)?;
+        }
+    }
+    kept.truncate(MOST_ADDRESSES);
+    Ok(kept)
+}
+
+/// Appends an answer as a line of a timeline: its word, the tick at which it came in milliseconds, and its addresses,
+/// or `none` where it has none.
+///
+/// # Errors
+///
+/// [`Memory`] where an allocation was refused; a part may have been appended.
+pub fn write_answer<A: Allocator + Copy>(
+    word: &[u8],
+    tick: u64,
+    ips: &[Ip],
+    out: &mut Vec<u8, A>,
+) -> Result<(), Memory>
+    ensures { OnOk result (out.new.items ≡ out.old.items ++ answer_line word.now tick ips.now) }
+{
+    out.extend_from_slice(word)?;
+    out.push(b' ')?;
+    write_number(tick, out)?;
+    write_told(ips, out)?;
+    out.push(b'\n')?;
+    Ok(())
+}
+
+// The addresses, or that there are none.
+fn write_told<A: Allocator + Copy>(ips: &[Ip], out: &mut Vec<u8, A>) -> Result<(), Memory>
+    ensures { OnOk result (out.new.items ≡ out.old.items ++ told ips.now) }
+{
+    if ips.is_empty() {
+        out.extend_from_slice(b" none")?;
+        return Ok(());
+    }
+    write_addresses(ips, out)
+}
+
+// The addresses, each behind a space.
+fn write_addresses<A: Allocator + Copy>(ips: &[Ip], out: &mut Vec<u8, A>) -> Result<(), Memory>
+    ensures { OnOk result (out.new.items ≡ out.old.items ++ flat_map (λ ip. 32 ∷ printed ip) ips.now) }
+{
+    for ip in ips {
+        out.push(b' ')?;
+        write_ip(*ip, out)?;
+    }
+    Ok(())
+}
