@@ -1,7 +1,8 @@
 //! What is told of a name: the answers as lines of a timeline.
 
 ghost use Rattle.std.specs.Prelude.{◌≡◌, ◌++◌, ◌∷◌, IfOk, OnOk, take};
-ghost use Rattle.std.specs.List.{flat_map};
+ghost use Rattle.std.specs.List.{flat_map, list_any};
+ghost use Rattle.he_addr.specs.Ip.{same_ip};
 ghost use Rattle.he_addr.specs.Printing.{printed};
 ghost use Rattle.he_names.specs.Answers.{answer_line, each_once, told};
 
@@ -14,18 +15,23 @@ use std::alloc::Allocator;
 /// # Errors
 ///
 /// [`Memory`] where an allocation was refused.
-#[tactic(auto, using(crate::proofs::Once::once_step))]
 pub fn clean<A: Allocator + Copy>(alloc: A, ips: &[Ip]) -> Result<Vec<Ip, A>, Memory>
     ensures { IfOk result (λ kept. kept.items ≡ take 256 (each_once ips.now)) }
 {
     let mut kept = Vec::new(alloc);
     for ip in ips {
-        if !kept.contains(ip) {
+        if !has(&kept, *ip) {
             kept.push(*ip)?;
         }
     }
     kept.truncate(MOST_ADDRESSES);
     Ok(kept)
+}
+
+fn has(ips: &[Ip], ip: Ip) -> bool
+    ensures { result ≡ list_any (λ other. same_ip other ip) ips.now }
+{
+    ips.contains(&ip)
 }
 
 /// Appends an answer as a line of a timeline: its word, the tick at which it came in milliseconds, and its addresses,
