@@ -106,7 +106,7 @@ impl Asking {
         ensures armed { OnPending result (IsArmed cx.new) }
         ensures kept { Keeps cx.old cx.new }
     {
-        let Some(name) = setup.asked.names.get(place) else {
+        let Some(name) = setup.asked.name(place) else {
             self.told = Some(Err(self.lack));
             return Poll::Ready(());
         };
@@ -173,7 +173,7 @@ impl Asking {
     }
 
     fn wait<R: Clock>(&mut self, setup: &Setup<'_, R>, server: SocketAddr, query: Query) {
-        match setup.timers.sleep(setup.rt, setup.asked.timeout) {
+        match setup.timers.sleep(setup.rt, setup.asked.timeout()) {
             Ok(timer) => {
                 self.current = Some(Try {
                     query,
@@ -213,11 +213,13 @@ impl Asking {
         question: Question<'_>,
     ) {
         let server = match &self.current {
-            Some(Try {
-                query: Query::Datagrams(_),
-                server,
-                ..
-            }) => *server,
+            Some(
+                Try {
+                    query: Query::Datagrams(_),
+                    server,
+                    ..
+                },
+            ) => *server,
             _ => return self.fail(NamesFault::ServerFailure),
         };
         match StreamQuery::begin(setup.rt, setup.alloc, setup.reactor, server, question) {
@@ -229,7 +231,10 @@ impl Asking {
 
 // Whether a fault is what the name has, whichever server is asked.
 fn is_answer(fault: NamesFault) -> bool {
-    matches!(fault, NamesFault::NoSuchName | NamesFault::NoAddress | NamesFault::Memory)
+    matches!(
+        fault,
+        NamesFault::NoSuchName | NamesFault::NoAddress | NamesFault::Memory
+    )
 }
 
 // A query that can't be sent isn't answered.

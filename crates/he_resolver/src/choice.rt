@@ -1,8 +1,8 @@
 //! Which resolver is asked.
 
-use crate::setup::server_at;
-use he_addr::read_ip;
-use std::net::SocketAddr;
+use crate::limits::SERVER_PORT;
+use he_addr::{Ip, read_ip};
+use std::net::{IpAddr, Ipv4Addr, Ipv6Addr, SocketAddr};
 
 /// Which resolver is asked.
 #[derive(Clone, Copy)]
@@ -30,4 +30,13 @@ impl Choice {
             Err(_) => None,
         }
     }
+}
+
+// A name server at its usual port.
+pub(crate) fn server_at(ip: Ip) -> SocketAddr {
+    let ip = match ip {
+        Ip::V4(bits) => IpAddr::V4(Ipv4Addr::from_bits(bits)),
+        Ip::V6(bits) => IpAddr::V6(Ipv6Addr::from_bits(bits)),
+    };
+    SocketAddr::new(ip, SERVER_PORT)
 }

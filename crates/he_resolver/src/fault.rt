@@ -83,3 +83,22 @@ impl From<WriteFault> for NamesFault {
         NamesFault::Write
     }
 }
+
+// The faults in the order in which they are told where the families differ. That there is no such name holds for both.
+const FAULTS: [NamesFault; 5] = [
+    NamesFault::Memory,
+    NamesFault::NoSuchName,
+    NamesFault::NoAnswer,
+    NamesFault::ServerFailure,
+    NamesFault::NoAddress,
+];
+
+/// Which fault is told where neither family has an address: of IPv6 and of IPv4.
+pub fn first_fault(v6: NamesFault, v4: NamesFault) -> NamesFault {
+    for fault in FAULTS {
+        if v6 == fault || v4 == fault {
+            return fault;
+        }
+    }
+    v4
+}

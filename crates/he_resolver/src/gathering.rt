@@ -3,8 +3,8 @@
 ghost use Rattle.futures.specs.Poll.{OnPending};
 ghost use Rattle.futures.specs.Task.{IsArmed, Keeps};
 
-use crate::fault::NamesFault;
-use crate::resolver::Resolver;
+use crate::fault::{NamesFault, first_fault};
+use crate::lookup::Lookup;
 use futures::Future;
 use futures::task::{Context, Poll};
 use he_addr::{Family, Ip};
@@ -13,17 +13,11 @@ use std::net::Net;
 use std::random::RandomSource;
 use std::time::{Clock, Instant};
 
-// One family's answer, and the milliseconds since the start at which it came.
+// One family's answer, and the milliseconds since the first poll at which it came.
 #[derive(Drop)]
 pub(crate) struct Answer {
     pub(crate) tick: u64,
     pub(crate) ips: Vec<Ip>,
-}
-
-impl Answer {
-    pub(crate) fn at_once(ips: Vec<Ip>) -> Answer {
-        Answer { tick: 0, ips }
-    }
 }
 
 // Both families' answers.
@@ -33,22 +27,6 @@ pub(crate) struct Found {
     pub(crate) v4: Answer,
 }
 
-impl Found {
-    // The same, come at this tick.
-    pub(crate) fn come_at(self, tick: u64) -> Found {
-        Found {
-            v6: Answer {
-                tick,
-                ips: self.v6.ips,
-            },
-            v4: Answer {
-                tick,
-                ips: self.v4.ips,
-            },
-        }
-    }
-}
-
 // What a family was told, and when.
 #[derive(Drop)]
 struct Told {
@@ -56,54 +34,58 @@ struct Told {
     answer: Result<Vec<Ip>, NamesFault>,
 }
 
+impl Told {
+    fn into_answer(self, alloc: Global) -> Answer {
+        Answer {
+            tick: self.tick,
+            ips: self.answer.unwrap_or(Vec::new(alloc)),
+        }
+    }
+}
+
 // Waits for both answers.
 #[derive(Drop)]
 pub(crate) struct Gathering<'h, R> {
     clock: &'h R,
     alloc: Global,
-    start: Instant,
-    resolver: Resolver<'h, R>,
+    lookup: Lookup<'h, R>,
+    start: Option<Instant>,
     v6: Option<Told>,
     v4: Option<Told>,
 }
 
 impl<'h, R: Net + RandomSource + Clock> Gathering<'h, R> {
-    pub(crate) fn new(
-        clock: &'h R,
-        alloc: Global,
-        start: Instant,
-        resolver: Resolver<'h, R>,
-    ) -> Gathering<'h, R> {
+    pub(crate) fn new(clock: &'h R, alloc: Global, lookup: Lookup<'h, R>) -> Gathering<'h, R> {
         Gathering {
             clock,
             alloc,
-            start,
-            resolver,
+            lookup,
+            start: None,
             v6: None,
             v4: None,
         }
     }
 
-    // What the family is told now.
-    fn poll_told(&mut self, family: Family, cx: &mut Context<'_>) -> Poll<Told>
+    // The whole milliseconds since the first poll; 0 where the clock fails.
+    fn tick(&mut self) -> u64 {
+        let Ok(now) = Instant::now(self.clock) else {
+            return 0;
+        };
+        let start = self.start.unwrap_or(now);
+        self.start = Some(start);
+        let millis = now.saturating_duration_since(start).as_millis();
+        millis.min(u128::from(u64::MAX)) as u64
+    }
+
+    // What the family is told in a poll at this tick.
+    fn poll_told(&mut self, family: Family, tick: u64, cx: &mut Context<'_>) -> Poll<Told>
         ensures armed { OnPending result (IsArmed cx.new) }
         ensures kept { Keeps cx.old cx.new }
     {
-        match self.resolver.poll_answer(family, cx) {
+        match self.lookup.poll_answer(family, cx) {
             Poll::Pending => Poll::Pending,
-            Poll::Ready(answer) => Poll::Ready(Told {
-                tick: ticks_since(self.clock, self.start),
-                answer,
-            }),
+            Poll::Ready(answer) => Poll::Ready(Told { tick, answer }),
         }
-    }
-}
-
-// The whole milliseconds since a time.
-pub(crate) fn ticks_since<K: Clock>(clock: &K, start: Instant) -> u64 {
-    match start.elapsed(clock) {
-        Ok(elapsed) => elapsed.as_millis().min(u128::from(u64::MAX)) as u64,
-        Err(_) => 0,
     }
 }
 
@@ -111,13 +93,14 @@ impl<R: Net + RandomSource + Clock> Future for Gathering<'_, R> {
     type Output = Result<Found, NamesFault>;
 
     fn poll(&mut self, cx: &mut Context<'_>) -> Poll<Result<Found, NamesFault>> {
+        let tick = self.tick();
         let v6 = match self.v6.take() {
             Some(told) => Poll::Ready(told),
-            None => self.poll_told(Family::V6, cx),
+            None => self.poll_told(Family::V6, tick, cx),
         };
         let v4 = match self.v4.take() {
             Some(told) => Poll::Ready(told),
-            None => self.poll_told(Family::V4, cx),
+            None => self.poll_told(Family::V4, tick, cx),
         };
         match (v6, v4) {
             (Poll::Ready(v6), Poll::Ready(v4)) => Poll::Ready(join(self.alloc, v6, v4)),
@@ -143,31 +126,7 @@ fn join(alloc: Global, v6: Told, v4: Told) -> Result<Found, NamesFault> {
         return Err(first_fault(*six, *four));
     }
     Ok(Found {
-        v6: Answer {
-            tick: v6.tick,
-            ips: v6.answer.unwrap_or(Vec::new(alloc)),
-        },
-        v4: Answer {
-            tick: v4.tick,
-            ips: v4.answer.unwrap_or(Vec::new(alloc)),
-        },
+        v6: v6.into_answer(alloc),
+        v4: v4.into_answer(alloc),
     })
-}
-
-// The faults in the order in which they are told where the families differ. That there is no such name holds for both.
-const FAULTS: [NamesFault; 5] = [
-    NamesFault::Memory,
-    NamesFault::NoSuchName,
-    NamesFault::NoAnswer,
-    NamesFault::ServerFailure,
-    NamesFault::NoAddress,
-];
-
-fn first_fault(six: NamesFault, four: NamesFault) -> NamesFault {
-    for fault in FAULTS {
-        if six == fault || four == fault {
-            return fault;
-        }
-    }
-    four
 }

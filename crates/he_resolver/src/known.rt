@@ -1,46 +1,64 @@
 // What is known of a host without asking a name server.
 
+ghost use Rattle.std.specs.Prelude.{◌≡◌, IfOk, filter};
+ghost use Rattle.he_addr.specs.Ip.{is_of};
+ghost use Rattle.he_resolver.specs.Known.{IsKnown, cleaned, known_ips};
+
 use crate::fault::NamesFault;
-use crate::gathering::{Answer, Found};
 use he_addr::{Family, Ip, read_ip};
 use he_names::{clean, read_hosts};
-use std::alloc::{AllocGlobal, Global};
-use std::rt::Files;
-use std::{fs, io};
+use std::alloc::Global;
+use std::mem::replace;
 
-const HOSTS: &str = "/etc/hosts";
+// The addresses of a host, by family.
+#[derive(Drop)]
+pub(crate) struct Known {
+    v6: Vec<Ip>,
+    v4: Vec<Ip>,
+}
 
-// The answers of a host that is an address, or that the file of hosts has an address of.
-pub(crate) fn known_answers<R: Files + AllocGlobal>(
-    rt: &R,
-    alloc: Global,
-    host: &[u8],
-) -> Result<Option<Found>, NamesFault> {
-    if let Some(ip) = read_ip(host) {
-        let own = Vec::from_slice(alloc, &[ip])?;
-        return Ok(Some(by_family(alloc, &own)?));
+impl Known {
+    // Those of a list of both families.
+    pub(crate) fn of_both(alloc: Global, ips: &[Ip]) -> Result<Known, NamesFault> {
+        Ok(Known {
+            v6: clean(alloc, &of_family(alloc, ips, Family::V6)?)?,
+            v4: clean(alloc, &of_family(alloc, ips, Family::V4)?)?,
+        })
     }
-    let text = read_file(rt, alloc, HOSTS)?;
-    let v6 = clean(alloc, &read_hosts(alloc, &text, host, Family::V6)?)?;
-    let v4 = clean(alloc, &read_hosts(alloc, &text, host, Family::V4)?)?;
+
+    // The addresses of the family. They are given away: from then on there are none.
+    pub(crate) fn give(&mut self, alloc: Global, family: Family) -> Vec<Ip> {
+        match family {
+            Family::V6 => replace(&mut self.v6, Vec::new(alloc)),
+            Family::V4 => replace(&mut self.v4, Vec::new(alloc)),
+        }
+    }
+}
+
+// The addresses of a host that is an address, or that this file of hosts has an address of.
+pub(crate) fn known_in(alloc: Global, host: &[u8], text: &[u8]) -> Result<Option<Known>, NamesFault>
+    ensures { IfOk result (IsKnown host.now text.now) }
+{
+    let v6 = known_ips(alloc, host, text, Family::V6)?;
+    let v4 = known_ips(alloc, host, text, Family::V4)?;
     if v6.is_empty() && v4.is_empty() {
         return Ok(None);
     }
-    Ok(Some(Found {
-        v6: Answer::at_once(v6),
-        v4: Answer::at_once(v4),
-    }))
+    Ok(Some(Known { v6, v4 }))
 }
 
-// The addresses as answers that came at once.
-pub(crate) fn by_family(alloc: Global, ips: &[Ip]) -> Result<Found, NamesFault> {
-    Ok(Found {
-        v6: Answer::at_once(clean(alloc, &of_family(alloc, ips, Family::V6)?)?),
-        v4: Answer::at_once(clean(alloc, &of_family(alloc, ips, Family::V4)?)?),
-    })
+fn known_ips(alloc: Global, host: &[u8], text: &[u8], family: Family) -> Result<Vec<Ip>, NamesFault>
+    ensures { IfOk result (λ ips. ips.items ≡ known_ips family host.now text.now) }
+{
+    match read_ip(host) {
+        Some(ip) => of_family(alloc, &[ip], family),
+        None => Ok(clean(alloc, &read_hosts(alloc, text, host, family)?)?),
+    }
 }
 
-fn of_family(alloc: Global, ips: &[Ip], family: Family) -> Result<Vec<Ip>, NamesFault> {
+fn of_family(alloc: Global, ips: &[Ip], family: Family) -> Result<Vec<Ip>, NamesFault>
+    ensures { IfOk result (λ found. found.items ≡ filter (is_of family) ips.now) }
+{
     let mut found = Vec::new(alloc);
     for ip in ips {
         if ip.family() == family {
@@ -48,17 +66,4 @@ fn of_family(alloc: Global, ips: &[Ip], family: Family) -> Result<Vec<Ip>, Names
         }
     }
     Ok(found)
-}
-
-// The bytes of a file; none where it can't be read.
-pub(crate) fn read_file<R: Files + AllocGlobal>(
-    rt: &R,
-    alloc: Global,
-    path: &str,
-) -> Result<Vec<u8>, NamesFault> {
-    match fs::read(rt, path) {
-        Ok(text) => Ok(text),
-        Err(error) if error.kind() == io::ErrorKind::OutOfMemory => Err(NamesFault::Memory),
-        Err(_) => Ok(Vec::new(alloc)),
-    }
 }

@@ -19,22 +19,25 @@
 //! pending, it is woken again. Only tested, on loopback: that queries leave, when, to whom, and what becomes of answers.
 #![tactic(auto)]
 
+mod asked;
 mod asking;
 pub mod choice;
 mod datagrams;
 pub mod fault;
+mod files;
 mod gathering;
 mod known;
 pub mod limits;
+pub mod lookup;
 pub mod naming;
 mod replies;
-pub mod resolver;
-pub mod setup;
+mod resolver;
+mod setup;
 mod streams;
 pub mod system;
 
 pub use choice::Choice;
-pub use fault::NamesFault;
+pub use fault::{NamesFault, first_fault};
+pub use lookup::Lookup;
 pub use naming::write_names;
-pub use resolver::Resolver;
-pub use setup::Asked;
+pub use system::SystemResolver;

@@ -1,12 +1,13 @@
-//! A resolver that is polled.
+// Name servers that are asked for a host.
 
 ghost use Rattle.futures.specs.Poll.{OnPending};
 ghost use Rattle.futures.specs.Task.{IsArmed, Keeps};
 
+use crate::asked::Asked;
 use crate::asking::Asking;
 use crate::fault::NamesFault;
 use crate::limits::MOST_STEPS;
-use crate::setup::{Asked, Setup};
+use crate::setup::Setup;
 use futures::task::{Context, Poll};
 use he_addr::{Family, Ip};
 use he_names::clean;
@@ -16,12 +17,12 @@ use std::random::RandomSource;
 use std::time::Clock;
 use tokio::reactor::Handle;
 
-/// Asks name servers for both families of a name at once, and tells each family's addresses as they come.
-///
-/// Both queries leave at the first poll, that for IPv6 first. Where neither family has an address of a name, the next
-/// name is asked for: so a family without one is told at once only where no other name can follow.
+// Asks name servers for both families of a host at once, and tells each family's addresses as they come.
+//
+// Both queries leave at the first poll, that for IPv6 first. Where neither family has an address of a name, the next
+// name is asked for: so a family without one is told at once only where no other name can follow.
 #[derive(Drop)]
-pub struct Resolver<'h, R> {
+pub(crate) struct Resolver<'h, R> {
     setup: Setup<'h, R>,
     // The name that is asked for, by its place.
     place: usize,
@@ -30,8 +31,8 @@ pub struct Resolver<'h, R> {
 }
 
 impl<'h, R: Net + RandomSource + Clock> Resolver<'h, R> {
-    /// Nothing is sent before the first poll.
-    pub fn new(
+    // Nothing is sent before the first poll.
+    pub(crate) fn new(
         rt: &'h R,
         alloc: Global,
         reactor: &'h Handle,
@@ -52,9 +53,9 @@ impl<'h, R: Net + RandomSource + Clock> Resolver<'h, R> {
         }
     }
 
-    /// The addresses of the family, each once and at most 256, as soon as they are known; or why there are none. They
-    /// are told once: after that there are none.
-    pub fn poll_answer(
+    // The addresses of the family, each once and at most 256, as soon as they are known; or why there are none. They
+    // are told once: after that there are none.
+    pub(crate) fn poll_answer(
         &mut self,
         family: Family,
         cx: &mut Context<'_>,
@@ -109,7 +110,7 @@ impl<'h, R: Net + RandomSource + Clock> Resolver<'h, R> {
     }
 
     fn is_last(&self) -> bool {
-        self.place.saturating_add(1) >= self.setup.asked.names.len()
+        self.setup.asked.is_last(self.place)
     }
 
     // Whether nothing that is still asked can change what the family is told.

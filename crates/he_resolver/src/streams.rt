@@ -65,11 +65,7 @@ impl StreamQuery {
     }
 
     // What the server told.
-    pub(crate) fn poll_reply(
-        &mut self,
-        question: Question<'_>,
-        cx: &mut Context<'_>,
-    ) -> Poll<Reply>
+    pub(crate) fn poll_reply(&mut self, question: Question<'_>, cx: &mut Context<'_>) -> Poll<Reply>
         ensures kept { Keeps cx.old cx.new }
     {
         match self.poll_message(cx) {
@@ -148,7 +144,10 @@ impl Stage {
         match self {
             Stage::Connecting(mut connecting, request) => match connecting.poll(cx) {
                 Poll::Pending => Step::Waits(Stage::Connecting(connecting, request)),
-                Poll::Ready(Ok(stream)) => Step::Goes(Stage::Sending(write_all(stream, Cursor::new(request)))),
+                Poll::Ready(Ok(stream)) => Step::Goes(Stage::Sending(write_all(
+                    stream,
+                    Cursor::new(request),
+                ))),
                 Poll::Ready(Err(error)) => Step::Ends(Err(error)),
             },
             Stage::Sending(mut sending) => match sending.poll(cx) {
