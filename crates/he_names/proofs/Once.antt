@@ -69,6 +69,16 @@ pub once_more : (ips : List Ip) (ip : Ip) → each_once (ips ++ ip ∷ []) ≡ a
 once_more [] ip = refl
 once_more (x ∷ xs) ip = ap (λ ys. x ∷ others x ys) (once_more xs ip) ∙ added_more x ip (each_once xs)
 
--- the step of a loop over the addresses
-pub once_step : (ips : List Ip) (i : ℕ) (d : Ip) → i < length ips → each_once (take (i + 1) ips) ≡ added (each_once (take i ips)) (get_or ips i d)
-once_step ips i d h = rw (add-one, take-suc ips i d h) (once_more (take i ips) (get_or ips i d))
+-- the step of a loop over the addresses: one that is kept already, by a test, is passed over
+pub kept_more : (ips kept : List Ip) (i : ℕ) (d : Ip) (b : Bool) → i < length ips → kept ≡ each_once (take i ips) → b ≡ has kept (get_or ips i d)
+    → cond b kept (kept ++ get_or ips i d ∷ []) ≡ each_once (take (i + 1) ips)
+kept_more ips kept i d b h k e =
+    let ip = get_or ips i d in
+    ap (λ found. cond found kept (kept ++ ip ∷ [])) e
+    ∙ ap (λ ks. added ks ip) k
+    ∙ sym (once_more (take i ips) ip)
+    ∙ sym (rw (add-one, take-suc ips i d h) refl)
+
+-- a test of a list is one of its like
+pub has_alike : (found : Bool) (xs ys : List Ip) (ip : Ip) → found ≡ has xs ip → xs ≡ ys → found ≡ has ys ip
+has_alike found xs ys ip e same = e ∙ ap (λ ips. has ips ip) same

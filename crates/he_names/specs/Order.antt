@@ -1,5 +1,5 @@
 -- The names that are asked for a host, in their order (resolver(5), search and ndots).
-use Rattle.std.specs.Prelude.{ℕ, ◌==◌, ◌-◌, ◌||◌, Bool, List, [], ◌∷◌, ◌++◌, count_by, length, map, nat_le, slice_index, if◌then◌else◌}
+use Rattle.std.specs.Prelude.{ℕ, ◌==◌, ◌-◌, Bool, List, [], ◌∷◌, ◌++◌, count_by, length, map, nat_le, slice_index, if◌then◌else◌}
 
 abbrev pub dots : List ℕ → ℕ
 dots name = count_by (λ byte. byte == 46) name

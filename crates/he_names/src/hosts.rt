@@ -51,7 +51,6 @@ fn read_line<A: Allocator + Copy>(
     Ok(given_by(fields.as_slice(), name, family))
 }
 
-#[tactic(auto, using(crate::proofs::Texts::list_any_texts))]
 fn given_by(fields: &[&[u8]], name: &[u8], family: Family) -> Option<Ip>
     ensures { result ≡ given_by family name.now (texts fields.now) }
 {
@@ -62,7 +61,7 @@ fn given_by(fields: &[&[u8]], name: &[u8], family: Family) -> Option<Ip>
 }
 
 fn has_name(names: &[&[u8]], name: &[u8]) -> bool
-    ensures { result ≡ list_any (λ other. str_eq_ignore_ascii_case name.now other.now) names.now }
+    ensures { result ≡ list_any (str_eq_ignore_ascii_case name.now) (texts names.now) }
 {
     names.iter().any(|other| is_same_name(name, other))
 }

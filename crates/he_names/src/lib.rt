@@ -16,11 +16,13 @@
 pub mod answers;
 pub mod conf;
 mod fields;
+pub mod found;
 pub mod hosts;
 pub mod limits;
 pub mod order;
 
-pub use answers::{clean, write_answer};
+pub use answers::{clean, clean_of, write_answer};
 pub use conf::{read_attempts, read_ndots, read_search, read_servers, read_timeout};
+pub use found::Found;
 pub use hosts::read_hosts;
 pub use order::names_to_ask;

@@ -6,4 +6,5 @@ use Rattle.he_names.proofs.fields.lines.Goals as goal
 
 pub returns : goal.returns
 returns g c = map_from_collect _ c.collect.ensures.ran
-    (YieldsList-from_slice_split _ (λ byte. byte == 10) c.args.text.now cc cc c.split.ensures.closure (λ x b q k. search (rules, tests)))
+    (YieldsList-from_slice_split _ (λ byte. byte == 10) c.args.text.now c.split.ensures.rest c.split.ensures.done c.split.ensures.closure
+    (λ x b q k. search (rules, tests)))
