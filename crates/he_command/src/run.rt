@@ -14,7 +14,7 @@ use he_host::machine::write_machine;
 use he_live::{LiveFault, live};
 use he_plan::Outcome3;
 use he_replay::{ReplayFault, run_action};
-use he_resolver::{Choice, write_names};
+use he_resolver::{Choice, SystemResolver, write_names};
 use he_stream::{InputStream, OutputStream, write_whole};
 use std::alloc::{AllocGlobal, Global};
 use std::fmt::Display;
@@ -55,7 +55,18 @@ pub fn run_words<'a, R, I, O, F>(
     faults: &mut F,
 ) -> u8
 where
-    R: Threads + Wait + Clock + RandomSource + AllocGlobal + Net + Files + Sync,
+    R: Threads
+        + Wait
+        + Clock
+        + RandomSource
+        + AllocGlobal
+        + Net
+        + Files
+        + SystemResolver
+        + Copy
+        + Send
+        + Sync
+        + 'static,
     I: InputStream,
     O: OutputStream,
     F: Write,
@@ -81,7 +92,18 @@ pub fn run_line<R, I, O, F>(
     faults: &mut F,
 ) -> u8
 where
-    R: Threads + Wait + Clock + RandomSource + AllocGlobal + Net + Files + Sync,
+    R: Threads
+        + Wait
+        + Clock
+        + RandomSource
+        + AllocGlobal
+        + Net
+        + Files
+        + SystemResolver
+        + Copy
+        + Send
+        + Sync
+        + 'static,
     I: InputStream,
     O: OutputStream,
     F: Write,
@@ -110,7 +132,18 @@ fn run_request<R, I, O, F>(
     faults: &mut F,
 ) -> u8
 where
-    R: Threads + Wait + Clock + RandomSource + AllocGlobal + Net + Files + Sync,
+    R: Threads
+        + Wait
+        + Clock
+        + RandomSource
+        + AllocGlobal
+        + Net
+        + Files
+        + SystemResolver
+        + Copy
+        + Send
+        + Sync
+        + 'static,
     I: InputStream,
     O: OutputStream,
     F: Write,
@@ -198,7 +231,17 @@ fn run_names<R, O, F>(
     faults: &mut F,
 ) -> u8
 where
-    R: Wait + Clock + RandomSource + AllocGlobal + Net + Files,
+    R: Threads
+        + Wait
+        + Clock
+        + RandomSource
+        + AllocGlobal
+        + Net
+        + Files
+        + SystemResolver
+        + Copy
+        + Send
+        + 'static,
     O: OutputStream,
     F: Write,
     ensures { RunsNames resolver (PutsWhole O.contents O.puts O.flushes output.old output.new)
