@@ -10,7 +10,7 @@ use Rattle.he_live.specs.declared.fault.LiveFault.{LiveFault}
 use Rattle.he_live.specs.Live.{Lives}
 use Rattle.he_resolver.specs.Told.{TellsNames}
 use Rattle.he_resolver.specs.declared.choice.Choice.{Choice}
-use Rattle.he_resolver.specs.declared.fault.NamesFault.{NamesFault}
+use Rattle.he_resolver.specs.declared.fault.TellFault.{TellFault}
 use Rattle.he_plan.specs.declared.transcript.Outcome3.{Outcome3}
 use Rattle.he_plan.specs.declared.transcript.Outcome3.TheVariants as results
 use Rattle.he_replay.specs.Actions.{HasWorkers, RunsAction}
@@ -64,7 +64,7 @@ IsRequest (Names host resolver) = Unit {0}
 abbrev pub RunsNames : Option Choice → (List ℕ → Type 0) → (List ℕ → Type 0) → Type 0 → ℕ → Type 0
 RunsNames None Whole Part Kept status = (status ≡ USAGE) × Kept
 RunsNames (Some choice) Whole Part Kept status =
-    (result : Result (Unit {0}) NamesFault) × TellsNames Whole Part Kept result × (status ≡ status_of result)
+    (result : Result (Unit {0}) TellFault) × TellsNames Whole Part Kept result × (status ≡ status_of result)
 
 -- what was asked for was done, and the status tells how that ended. Given, Taken, Ended, Failed and Put as `RunsAction` has
 -- them: of a text that is put in rounds; Whole, Part and Kept as `Lives` has them: of one text
