@@ -14,6 +14,9 @@
 
 pub mod fault;
 pub mod pumping;
+pub mod relaying;
+pub mod until;
 
-pub use fault::PumpFault;
+pub use fault::{PumpFault, RelayFault};
 pub use pumping::pump;
+pub use relaying::relay;
