@@ -1,8 +1,7 @@
 //! Standard input and an output over a connection.
-ghost use Rattle.std.specs.Prelude.{◌≡◌, ◌<◌, length, List, ℕ};
-ghost use Rattle.std.specs.Io.KnownBytes.{Consumes};
+ghost use Rattle.std.specs.Prelude.{◌≡◌, ◌<◌, length};
 ghost use Rattle.he_stream.specs.Output.{PutsInRounds, PutsRoundsPart};
-ghost use Rattle.he_relay.specs.Relays.{Receives};
+ghost use Rattle.he_relay.specs.Relays.{Receives, Relays, ended};
 
 use crate::fault::{PumpFault, RelayFault};
 use crate::pumping::pump;
@@ -35,8 +34,7 @@ pub fn relay<R: Threads, I: InputStream, O: OutputStream + Send>(
     output: &mut O,
     stream: &TcpStream,
 ) -> Result<(), RelayFault>
-    ensures input { (bytes : List ℕ) × Consumes (I.remaining input.old) (I.remaining input.new) bytes }
-    ensures output { Receives (PutsInRounds O.contents O.puts O.flushes output.old output.new)
+    ensures { Relays (PutsInRounds O.contents O.puts O.flushes output.old output.new)
         (PutsRoundsPart O.contents O.puts O.flushes output.old output.new) (output.new ≡ output.old) result }
 {
     let mut there = vec![in alloc; 0u8; ROOM]?;
@@ -48,8 +46,20 @@ pub fn relay<R: Threads, I: InputStream, O: OutputStream + Send>(
         &mut || receive(stream, output, back_room),
         &mut || send(input, stream, there_room),
     );
-    received?;
-    sent
+    end_of(received, sent)
+}
+
+// How the relay ended: the output's way counts first.
+fn end_of(received: Result<(), PumpFault>, sent: Result<(), PumpFault>) -> Result<(), RelayFault>
+    ensures { result ≡ ended received sent }
+{
+    match (received, sent) {
+        (Err(PumpFault::Output), _) => Err(RelayFault::Output),
+        (Err(PumpFault::Input), _) => Err(RelayFault::Received),
+        (Ok(()), Err(PumpFault::Output)) => Err(RelayFault::Sent),
+        (Ok(()), Err(PumpFault::Input)) => Err(RelayFault::Input),
+        (Ok(()), Ok(())) => Ok(()),
+    }
 }
 
 // What the connection gives, put into the output.
@@ -57,40 +67,28 @@ fn receive<O: OutputStream>(
     stream: &TcpStream,
     output: &mut O,
     room: &mut [u8],
-) -> Result<(), RelayFault>
+) -> Result<(), PumpFault>
     requires { 0 < length room.old }
     ensures { Receives (PutsInRounds O.contents O.puts O.flushes output.old output.new)
-        (PutsRoundsPart O.contents O.puts O.flushes output.old output.new) (output.new ≡ output.old) result }
+        (PutsRoundsPart O.contents O.puts O.flushes output.old output.new) result }
 {
-    let mut from = FromReader::new(stream);
-    match pump(&mut from, output, room) {
-        Ok(()) => Ok(()),
-        Err(fault) => {
-            let _ = stream.shutdown(Shutdown::Both);
-            Err(match fault {
-                PumpFault::Input => RelayFault::Received,
-                PumpFault::Output => RelayFault::Output,
-            })
-        }
+    let end = pump(&mut FromReader::new(stream), output, room);
+    if end.is_err() {
+        let _ = stream.shutdown(Shutdown::Both);
     }
+    end
 }
 
 // What the input gives, put into the connection, which is then shut down for sending.
-fn send<I: InputStream>(
-    input: &mut I,
-    stream: &TcpStream,
-    room: &mut [u8],
-) -> Result<(), RelayFault>
+fn send<I: InputStream>(input: &mut I, stream: &TcpStream, room: &mut [u8]) -> Result<(), PumpFault>
     requires { 0 < length room.old }
-    ensures { (bytes : List ℕ) × Consumes (I.remaining input.old) (I.remaining input.new) bytes }
 {
     let mut from = UntilEnd::new(input, stream);
     let end = pump(&mut from, &mut ToWriter::new(stream), room);
     let _ = stream.shutdown(Shutdown::Write);
-    match end {
-        Ok(()) => Ok(()),
-        Err(PumpFault::Input) if from.is_cut() => Ok(()),
-        Err(PumpFault::Input) => Err(RelayFault::Input),
-        Err(PumpFault::Output) => Err(RelayFault::Sent),
+    if from.is_cut() {
+        Ok(())
+    } else {
+        end
     }
 }

@@ -35,7 +35,11 @@ pub struct UntilEnd<'a, I> {
 #[derive(Clone, Copy)]
 enum Came {
     Input,
+    // The remote has ended its way.
+    RemoteEnd,
+    // The connection has ended both ways, or nothing came for as long as the input is waited for.
     End,
+    // The wait was interrupted.
     Nothing,
 }
 
@@ -56,7 +60,7 @@ impl<'a, I> UntilEnd<'a, I> {
     }
 
     // Waits until the input can be read or the connection has ended.
-    fn wait(&mut self) -> Came {
+    fn wait(&self) -> Came {
         let (events, timeout) = if self.has_ended {
             (0, PATIENCE)
         } else {
@@ -74,8 +78,7 @@ impl<'a, I> UntilEnd<'a, I> {
         } else if count == 0 || watched[1].revents & BROKEN != 0 {
             Came::End
         } else {
-            self.has_ended = true;
-            Came::Nothing
+            Came::RemoteEnd
         }
     }
 }
@@ -95,6 +98,10 @@ impl<'a, I: InputStream> InputStream for UntilEnd<'a, I> {
         match self.wait() {
             Came::Input => self.input.take(buffer),
             Came::Nothing => Taken::Interrupted,
+            Came::RemoteEnd => {
+                self.has_ended = true;
+                Taken::Interrupted
+            }
             Came::End => {
                 self.is_cut = true;
                 Taken::Failed
