@@ -1,0 +1,42 @@
+//! What a connection is asked for.
+
+use he_addr::Family;
+use he_plan::Settings;
+use std::string::String;
+
+/// The address families that are tried.
+#[derive(Clone, Copy, Debug, PartialEq, Eq)]
+pub enum Families {
+    Both,
+    Only(Family),
+}
+
+/// Where the `source`, `route` and `policy` lines of a race come from.
+#[derive(Drop)]
+pub enum Lines {
+    /// Of this machine.
+    Machine,
+    /// A file has them.
+    File(String),
+}
+
+/// A connection that is asked for.
+#[derive(Drop)]
+pub struct Asked {
+    /// A name or an address.
+    pub host: String,
+    /// 1 to 65,535.
+    pub port: u16,
+    pub families: Families,
+    /// The settings of the race.
+    pub settings: Settings,
+    pub lines: Lines,
+    /// The file that the record is written to.
+    pub record: Option<String>,
+    /// Whether the race is explained.
+    pub explains: bool,
+    /// Whether each step is told as it happens.
+    pub tells_steps: bool,
+    /// Whether the connection is closed once it is made.
+    pub only_tries: bool,
+}

@@ -1,0 +1,79 @@
+//! A connection that is made and relayed.
+ghost use Rattle.std.specs.Prelude.{◌≡◌, IfErr};
+ghost use Rattle.he_stream.specs.Output.{PutsInRounds, PutsRoundsPart};
+ghost use Rattle.he_connect.specs.Connects.{Connects, IsBefore};
+
+use crate::asked::Asked;
+use crate::fault::ConnectFault;
+use crate::racing::run_race;
+use he_relay::relay;
+use he_stream::{InputStream, OutputStream};
+use std::alloc::{AllocGlobal, Global};
+use std::io::Write;
+use std::net::Net;
+use std::random::RandomSource;
+use std::rt::Files;
+use std::sync::Wait;
+use std::thread::Threads;
+use std::time::Clock;
+use std::{fs, io};
+
+/// How a connection that was asked for ended.
+#[derive(Clone, Copy, Debug, PartialEq, Eq)]
+pub enum Ended {
+    /// It was made, and relayed to its end.
+    Relayed,
+    /// It was made and closed, as asked for.
+    Connected,
+    /// No address could be connected to.
+    NoConnection,
+}
+
+/// Makes the connection, as RFC 8305 says, and puts what the input gives into it, and what it gives into the output.
+///
+/// The input is to be standard input (`he_relay::relay`). The record is written to its file before anything is relayed,
+/// also where nothing connected. What is told of the race goes to `faults`, and what cannot be written there is passed
+/// over.
+///
+/// # Errors
+///
+/// Those of [`ConnectFault`]; `Relay` alone comes after something was relayed.
+pub fn connect<R, I, O, F>(
+    rt: &R,
+    alloc: Global,
+    asked: &Asked,
+    input: &mut I,
+    output: &mut O,
+    faults: &mut F,
+) -> Result<Ended, ConnectFault>
+where
+    R: Threads + Wait + Clock + RandomSource + AllocGlobal + Net + Files,
+    I: InputStream,
+    O: OutputStream + Send,
+    F: Write,
+    ensures { Connects (PutsInRounds O.contents O.puts O.flushes output.old output.new)
+        (PutsRoundsPart O.contents O.puts O.flushes output.old output.new) (output.new ≡ output.old) result }
+{
+    let run = run_race(rt, alloc, asked)?;
+    let _ = faults.write_all(run.told.as_slice());
+    if let Some(path) = &asked.record {
+        write_record(rt, path.as_str(), run.record.as_slice())?;
+    }
+    match run.winner {
+        None => Ok(Ended::NoConnection),
+        Some(_) if asked.only_tries => Ok(Ended::Connected),
+        Some(stream) => {
+            relay(rt, alloc, input, output, &stream)?;
+            Ok(Ended::Relayed)
+        }
+    }
+}
+
+fn write_record<R: Files>(rt: &R, path: &str, record: &[u8]) -> Result<(), ConnectFault>
+    ensures { IfErr result IsBefore }
+{
+    match fs::write(rt, path, record) {
+        Ok(()) => Ok(()),
+        Err(_) => Err(ConnectFault::Record),
+    }
+}

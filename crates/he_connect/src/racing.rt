@@ -1,0 +1,130 @@
+//! The race of a connection that is asked for, on real sockets.
+ghost use Rattle.std.specs.Prelude.{◌≡◌, IfOk, IfErr, is_some};
+ghost use Rattle.he_text.specs.Written.{timeline_text};
+ghost use Rattle.he_connect.specs.Connects.{IsBefore, IsRun, RunsFrom};
+
+use crate::asked::Asked;
+use crate::fault::ConnectFault;
+use crate::lines::read_lines_of;
+use crate::source::Found;
+use crate::start::start_race;
+use crate::tried::write_tried;
+use he_explain::write_explanation;
+use he_live::{Quiet, Steps, resolving_race_on};
+use he_plan::Timeline;
+use he_race::Raced;
+use he_text::write_timeline;
+use std::alloc::{AllocGlobal, Global};
+use std::mem::drop;
+use std::net::{Net, TcpStream};
+use std::random::RandomSource;
+use std::rt::Files;
+use std::sync::Wait;
+use std::time::Clock;
+use tokio::runtime::LocalRuntime;
+
+/// A race that was run.
+#[derive(Drop)]
+pub(crate) struct Run {
+    /// The text of its record.
+    pub record: Vec<u8>,
+    /// What is told of it: its explanation, where that is asked for, and where nothing connected what was tried.
+    pub told: Vec<u8>,
+    /// The connection.
+    pub winner: Option<TcpStream>,
+}
+
+// The texts of a race that was run.
+#[derive(Drop)]
+struct Texts {
+    record: Vec<u8>,
+    told: Vec<u8>,
+}
+
+pub(crate) fn run_race<R>(rt: &R, alloc: Global, asked: &Asked) -> Result<Run, ConnectFault>
+where
+    R: Wait + Clock + RandomSource + AllocGlobal + Net + Files,
+    ensures run { IfOk result (λ run. IsRun asked.now.settings asked.now.families run.record.items (is_some run.winner)) }
+    ensures fault { IfErr result IsBefore }
+{
+    let lines = read_lines_of(rt, alloc, &asked.lines)?;
+    let start = start_race(alloc, asked.settings, asked.families, &lines)?;
+    let run = run_from(rt, alloc, asked, &start);
+    drop(start);
+    run
+}
+
+// Runs the race that begins so.
+fn run_from<R>(
+    rt: &R,
+    alloc: Global,
+    asked: &Asked,
+    start: &Timeline,
+) -> Result<Run, ConnectFault>
+where
+    R: Wait + Clock + RandomSource + AllocGlobal + Net,
+    ensures run { IfOk result (λ run. RunsFrom start.now run.record.items (is_some run.winner)) }
+    ensures fault { IfErr result IsBefore }
+{
+    let mut runtime = LocalRuntime::new(rt)?;
+    let source = Found::new(rt, alloc, asked.host.as_str())?;
+    let steps = Steps::new(alloc)?;
+    let raced = resolving_race_on(
+        rt,
+        alloc,
+        &mut runtime,
+        start,
+        source,
+        asked.port,
+        &steps,
+        &Quiet,
+    )?;
+    let texts = texts_of(alloc, asked, &raced, &steps);
+    end_with(texts, raced)
+}
+
+// The texts of the race, with its connection.
+fn end_with(
+    texts: Result<Texts, ConnectFault>,
+    raced: Raced<TcpStream>,
+) -> Result<Run, ConnectFault>
+    requires { IfErr texts IsBefore }
+    ensures record { IfOk result (λ run. IfOk texts (λ texts. run.record.items ≡ texts.record.items)) }
+    ensures winner { IfOk result (λ run. is_some run.winner ≡ is_some raced.winner) }
+    ensures fault { IfErr result IsBefore }
+{
+    let Raced {
+        transcript,
+        recorded,
+        winner,
+    } = raced;
+    drop(transcript);
+    drop(recorded);
+    let Texts { record, told } = texts?;
+    Ok(Run {
+        record,
+        told,
+        winner,
+    })
+}
+
+fn texts_of(
+    alloc: Global,
+    asked: &Asked,
+    raced: &Raced<TcpStream>,
+    steps: &Steps,
+) -> Result<Texts, ConnectFault>
+    ensures record { IfOk result (λ texts. texts.record.items ≡ timeline_text raced.now.recorded) }
+    ensures fault { IfErr result IsBefore }
+{
+    let mut record = Vec::new(alloc);
+    write_timeline(&raced.recorded, &mut record)?;
+    let mut told = Vec::new(alloc);
+    if asked.explains {
+        write_explanation(alloc, &raced.recorded, &mut told)?;
+    }
+    if raced.winner.is_none() {
+        write_tried(asked, &raced.recorded, &raced.transcript, steps, &mut told)?;
+    }
+    Ok(Texts { record, told })
+}
