@@ -1,5 +1,8 @@
 //! A connection that is being made, to be taken out of the event loop.
 
+ghost use Rattle.futures.specs.Poll.{OnPending};
+ghost use Rattle.futures.specs.Task.{IsArmed, Keeps};
+
 use futures::task::{Context, Poll};
 use std::io;
 use std::net::{Net, SocketAddr, TcpStream};
@@ -30,7 +33,10 @@ impl Dialing {
     // Before the event loop has seen a socket it counts as writable. A send of no byte tells: while the connection is being
     // made it would block, so that the loop waits for its end, and where it failed it tells the fault, which the system
     // tells once. The peer's address is asked for besides, since a socket has one only where it is connected.
-    pub(crate) fn poll_connected(&mut self, cx: &mut Context<'_>) -> Poll<io::Result<()>> {
+    pub(crate) fn poll_connected(&mut self, cx: &mut Context<'_>) -> Poll<io::Result<()>>
+        ensures waits { OnPending result (IsArmed cx.new) }
+        ensures kept { Keeps cx.old cx.new }
+    {
         match self.watched.poll_write(cx, &[]) {
             Poll::Pending => return Poll::Pending,
             Poll::Ready(Err(error)) => return Poll::Ready(Err(error)),
