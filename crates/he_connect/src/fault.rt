@@ -8,7 +8,7 @@ use he_live::LiveFault;
 use he_plan::BuildFault;
 use he_relay::RelayFault;
 use he_text::{InputFault, NotOneRace, TextFault};
-use std::alloc::AllocError;
+use std::alloc::{AllocError, AllocFailed};
 use std::io;
 use thiserror::Error;
 
@@ -48,6 +48,14 @@ impl From<AllocError> for ConnectFault {
     ghost from_gives = { λ _ fault. IsBefore fault };
 
     fn from(_refused: AllocError) -> ConnectFault {
+        ConnectFault::Memory
+    }
+}
+
+impl<T: Drop> From<AllocFailed<T>> for ConnectFault {
+    ghost from_gives = { λ _ fault. IsBefore fault };
+
+    fn from(_refused: AllocFailed<T>) -> ConnectFault {
         ConnectFault::Memory
     }
 }

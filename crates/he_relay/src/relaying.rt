@@ -43,7 +43,11 @@ pub fn relay<R: Threads, I: InputStream, O: OutputStream + Send>(
     let back_room = back.as_mut_slice();
     let (received, sent) = join_mut(
         rt,
-        &mut || receive(stream, output, back_room),
+        &mut || -> Result<(), PumpFault>
+            requires { 0 < length back_room.now }
+            ensures { Receives (PutsInRounds O.contents O.puts O.flushes output.entry.now output.exit.now)
+                (PutsRoundsPart O.contents O.puts O.flushes output.entry.now output.exit.now) result }
+        { receive(stream, output, back_room) },
         &mut || send(input, stream, there_room),
     );
     end_of(received, sent)
