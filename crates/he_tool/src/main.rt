@@ -1,5 +1,5 @@
 //! The program `he`: it reads timelines of races and writes what a Happy Eyeballs client does in them, or runs one on
-//! real sockets.
+//! real sockets; and it finds the addresses of a host.
 //!
 //! The crate `he_command` says what each command line does. Here are the program's words, its standard streams and its
 //! exit status.

@@ -1,0 +1,72 @@
+//! What a name has, found and told.
+
+ghost use Rattle.std.specs.Prelude.{◌≡◌, IfOk};
+ghost use Rattle.he_stream.specs.Output.{PutsPart, PutsWhole};
+ghost use Rattle.he_resolver.specs.Told.{TellsNames, answers_text};
+
+use crate::choice::Choice;
+use crate::fault::NamesFault;
+use crate::gathering::{Found, Gathering};
+use crate::lookup::Lookup;
+use crate::system::SystemResolver;
+use he_names::write_answer;
+use he_stream::{OutputStream, write_whole};
+use std::alloc::{AllocGlobal, Global};
+use std::net::Net;
+use std::random::RandomSource;
+use std::rt::Files;
+use std::sync::Wait;
+use std::thread::Threads;
+use std::time::Clock;
+use tokio::runtime::LocalRuntime;
+
+/// Finds the addresses of a host and writes them as the two answers of a timeline, each with the tick at which it came,
+/// in milliseconds since the host was asked for.
+///
+/// # Errors
+///
+/// `NoSuchName`, `NoAddress`, `NoAnswer`, `ServerFailure` and `System` where the host has no address of either family,
+/// `Name` where it is no host name; `Runtime`, `Memory`; and `Write`, after which a first part was written. After any
+/// other fault nothing was.
+pub fn write_names<R, O>(
+    rt: &R,
+    alloc: Global,
+    output: &mut O,
+    host: &str,
+    choice: Choice,
+) -> Result<(), NamesFault>
+where
+    R: Wait + Clock + RandomSource + AllocGlobal + Net + Files + Threads,
+    R: SystemResolver + Copy + Send + 'static,
+    O: OutputStream,
+    ensures { TellsNames (PutsWhole O.contents O.puts O.flushes output.old output.new)
+        (PutsPart O.contents O.puts O.flushes output.old output.new) (output.new ≡ output.old) result }
+{
+    let found = find(rt, alloc, host, choice)?;
+    let text = text_of(alloc, &found)?;
+    write_whole(output, text.as_slice())?;
+    Ok(())
+}
+
+// The two lines.
+fn text_of(alloc: Global, found: &Found) -> Result<Vec<u8>, NamesFault>
+    ensures { IfOk result (λ text. text.items ≡ answers_text found.now.v6.tick found.now.v6.ips.items found.now.v4.tick found.now.v4.ips.items) }
+{
+    let mut text = Vec::new(alloc);
+    write_answer(b"aaaa", found.v6.tick, &found.v6.ips, &mut text)?;
+    write_answer(b"a", found.v4.tick, &found.v4.ips, &mut text)?;
+    Ok(text)
+}
+
+// Asks, and waits for both answers.
+fn find<R>(rt: &R, alloc: Global, host: &str, choice: Choice) -> Result<Found, NamesFault>
+where
+    R: Wait + Clock + RandomSource + AllocGlobal + Net + Files + Threads,
+    R: SystemResolver + Copy + Send + 'static,
+{
+    let mut runtime = LocalRuntime::new(rt)?;
+    let handle = runtime.handle().clone()?;
+    let lookup = Lookup::new(rt, alloc, handle.reactor(), handle.time(), host, choice)?;
+    let gathering = Gathering::new(rt, alloc, lookup);
+    runtime.block_on(rt, gathering)?
+}
