@@ -7,6 +7,7 @@ use crate::asked::Asked;
 use crate::fault::ConnectFault;
 use crate::racing::run_race;
 use he_relay::relay;
+use he_resolver::SystemResolver;
 use he_stream::{InputStream, OutputStream};
 use std::alloc::{AllocGlobal, Global};
 use std::io::Write;
@@ -41,13 +42,24 @@ pub enum Ended {
 pub fn connect<R, I, O, F>(
     rt: &R,
     alloc: Global,
-    asked: &Asked,
+    asked: &Asked<'_>,
     input: &mut I,
     output: &mut O,
     faults: &mut F,
 ) -> Result<Ended, ConnectFault>
 where
-    R: Threads + Wait + Clock + RandomSource + AllocGlobal + Net + Files,
+    R: Threads
+        + Wait
+        + Clock
+        + RandomSource
+        + AllocGlobal
+        + Net
+        + Files
+        + SystemResolver
+        + Copy
+        + Send
+        + Sync
+        + 'static,
     I: InputStream,
     O: OutputStream + Send,
     F: Write,
@@ -56,11 +68,14 @@ where
 {
     let run = run_race(rt, alloc, asked)?;
     let _ = faults.write_all(run.told.as_slice());
-    if let Some(path) = &asked.record {
-        write_record(rt, path.as_str(), run.record.as_slice())?;
+    if let Some(path) = asked.record {
+        write_record(rt, path, run.record.as_slice())?;
     }
     match run.winner {
-        None => Ok(Ended::NoConnection),
+        None => match run.nameless {
+            Some(fault) => Err(ConnectFault::Name(fault)),
+            None => Ok(Ended::NoConnection),
+        },
         Some(_) if asked.only_tries => Ok(Ended::Connected),
         Some(stream) => {
             relay(rt, alloc, input, output, &stream)?;

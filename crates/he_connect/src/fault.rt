@@ -7,6 +7,7 @@ use he_host::machine::MachineFault;
 use he_live::LiveFault;
 use he_plan::BuildFault;
 use he_relay::RelayFault;
+use he_resolver::NamesFault;
 use he_text::{InputFault, NotOneRace, TextFault};
 use std::alloc::{AllocError, AllocFailed};
 use std::io;
@@ -27,9 +28,9 @@ pub enum ConnectFault {
     /// The file of lines has others than source, route and policy lines.
     #[error("the file of --host may have source, route and policy lines alone")]
     OtherLines,
-    /// The name has no address, or cannot be looked up.
-    #[error("the name has no address")]
-    NoAddress,
+    /// The host has no address, or it cannot be looked up.
+    #[error("{0}")]
+    Name(NamesFault),
     /// The sockets' event loop could not be made or failed, or the clock did.
     #[error("cannot run the sockets")]
     Runtime,
@@ -37,7 +38,7 @@ pub enum ConnectFault {
     #[error("cannot write the file of --record")]
     Record,
     /// The relay ended before both ways did.
-    #[error(transparent)]
+    #[error("{0}")]
     Relay(RelayFault),
     /// An allocation was refused.
     #[error("out of memory")]
@@ -104,6 +105,14 @@ impl From<BuildFault> for ConnectFault {
             BuildFault::Memory => ConnectFault::Memory,
             _ => ConnectFault::OtherLines,
         }
+    }
+}
+
+impl From<NamesFault> for ConnectFault {
+    ghost from_gives = { λ _ fault. IsBefore fault };
+
+    fn from(fault: NamesFault) -> ConnectFault {
+        ConnectFault::Name(fault)
     }
 }
 

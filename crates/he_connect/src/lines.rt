@@ -14,7 +14,7 @@ use std::{fs, io};
 pub(crate) fn read_lines_of<R: Files + Net + AllocGlobal>(
     rt: &R,
     alloc: Global,
-    lines: &Lines,
+    lines: Lines<'_>,
 ) -> Result<Vec<u8>, ConnectFault>
     ensures { IfErr result IsBefore }
 {
@@ -26,7 +26,7 @@ pub(crate) fn read_lines_of<R: Files + Net + AllocGlobal>(
             Ok(text)
         }
         Lines::File(path) => {
-            let mut text = read_file(rt, path.as_str())?;
+            let mut text = read_file(rt, path)?;
             if text.last().is_some_and(|byte| *byte != b'\n') {
                 text.push(b'\n')?;
             }

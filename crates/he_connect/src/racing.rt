@@ -6,13 +6,14 @@ ghost use Rattle.he_connect.specs.Connects.{IsBefore, IsRun, RunsFrom};
 use crate::asked::Asked;
 use crate::fault::ConnectFault;
 use crate::lines::read_lines_of;
-use crate::source::Found;
+use crate::source::{HostAnswers, WhyNone};
 use crate::start::start_race;
 use crate::tried::write_tried;
 use he_explain::write_explanation;
 use he_live::{Quiet, Steps, resolving_race_on};
 use he_plan::Timeline;
 use he_race::Raced;
+use he_resolver::{Lookup, NamesFault, SystemResolver};
 use he_text::write_timeline;
 use std::alloc::{AllocGlobal, Global};
 use std::mem::drop;
@@ -20,6 +21,7 @@ use std::net::{Net, TcpStream};
 use std::random::RandomSource;
 use std::rt::Files;
 use std::sync::Wait;
+use std::thread::Threads;
 use std::time::Clock;
 use tokio::runtime::LocalRuntime;
 
@@ -30,6 +32,8 @@ pub(crate) struct Run {
     pub record: Vec<u8>,
     /// What is told of it: its explanation, where that is asked for, and where nothing connected what was tried.
     pub told: Vec<u8>,
+    /// Why there was no address to connect to, where a look-up found none.
+    pub nameless: Option<NamesFault>,
     /// The connection.
     pub winner: Option<TcpStream>,
 }
@@ -41,13 +45,24 @@ struct Texts {
     told: Vec<u8>,
 }
 
-pub(crate) fn run_race<R>(rt: &R, alloc: Global, asked: &Asked) -> Result<Run, ConnectFault>
+pub(crate) fn run_race<R>(rt: &R, alloc: Global, asked: &Asked<'_>) -> Result<Run, ConnectFault>
 where
-    R: Wait + Clock + RandomSource + AllocGlobal + Net + Files,
+    R: Threads
+        + Wait
+        + Clock
+        + RandomSource
+        + AllocGlobal
+        + Net
+        + Files
+        + SystemResolver
+        + Copy
+        + Send
+        + Sync
+        + 'static,
     ensures run { IfOk result (λ run. IsRun asked.now.settings asked.now.families run.record.items (is_some run.winner)) }
     ensures fault { IfErr result IsBefore }
 {
-    let lines = read_lines_of(rt, alloc, &asked.lines)?;
+    let lines = read_lines_of(rt, alloc, asked.lines)?;
     let start = start_race(alloc, asked.settings, asked.families, &lines)?;
     let run = run_from(rt, alloc, asked, &start);
     drop(start);
@@ -58,16 +73,37 @@ where
 fn run_from<R>(
     rt: &R,
     alloc: Global,
-    asked: &Asked,
+    asked: &Asked<'_>,
     start: &Timeline,
 ) -> Result<Run, ConnectFault>
 where
-    R: Wait + Clock + RandomSource + AllocGlobal + Net,
+    R: Threads
+        + Wait
+        + Clock
+        + RandomSource
+        + AllocGlobal
+        + Net
+        + Files
+        + SystemResolver
+        + Copy
+        + Send
+        + Sync
+        + 'static,
     ensures run { IfOk result (λ run. RunsFrom start.now run.record.items (is_some run.winner)) }
     ensures fault { IfErr result IsBefore }
 {
     let mut runtime = LocalRuntime::new(rt)?;
-    let source = Found::new(rt, alloc, asked.host.as_str())?;
+    let handle = runtime.handle().clone()?;
+    let lookup = Lookup::new(
+        rt,
+        alloc,
+        handle.reactor(),
+        handle.time(),
+        asked.host,
+        asked.resolver,
+    )?;
+    let why = WhyNone::new();
+    let source = HostAnswers::new(alloc, lookup, &why);
     let steps = Steps::new(alloc)?;
     let raced = resolving_race_on(
         rt,
@@ -79,13 +115,15 @@ where
         &steps,
         &Quiet,
     )?;
-    let texts = texts_of(alloc, asked, &raced, &steps);
-    end_with(texts, raced)
+    let nameless = why.fault(asked.families);
+    let texts = texts_of(alloc, asked, &raced, nameless, &steps);
+    end_with(texts, nameless, raced)
 }
 
 // The texts of the race, with its connection.
 fn end_with(
     texts: Result<Texts, ConnectFault>,
+    nameless: Option<NamesFault>,
     raced: Raced<TcpStream>,
 ) -> Result<Run, ConnectFault>
     requires { IfErr texts IsBefore }
@@ -104,14 +142,16 @@ fn end_with(
     Ok(Run {
         record,
         told,
+        nameless,
         winner,
     })
 }
 
 fn texts_of(
     alloc: Global,
-    asked: &Asked,
+    asked: &Asked<'_>,
     raced: &Raced<TcpStream>,
+    nameless: Option<NamesFault>,
     steps: &Steps,
 ) -> Result<Texts, ConnectFault>
     ensures record { IfOk result (λ texts. texts.record.items ≡ timeline_text raced.now.recorded) }
@@ -123,7 +163,7 @@ fn texts_of(
     if asked.explains {
         write_explanation(alloc, &raced.recorded, &mut told)?;
     }
-    if raced.winner.is_none() {
+    if raced.winner.is_none() && nameless.is_none() {
         write_tried(asked, &raced.recorded, &raced.transcript, steps, &mut told)?;
     }
     Ok(Texts { record, told })

@@ -1,46 +1,79 @@
 //! Where the answers of a connection's race come from.
 
+use crate::asked::Families;
 use futures::task::{Context, Poll};
 use he_addr::{Family, Ip};
 use he_race::AnswerSource;
-use std::alloc::{AllocError, Global};
-use std::mem::replace;
-use std::net::{IpAddr, Net, ToSocketAddrs};
+use he_resolver::{Lookup, NamesFault, first_fault};
+use std::alloc::Global;
+use std::cell::Cell;
+use std::net::Net;
+use std::random::RandomSource;
+use std::time::Clock;
 
-// The addresses of a host, all of them found before the race.
+// Why each family has no address.
 #[derive(Drop)]
-pub(crate) struct Found {
-    alloc: Global,
-    six: Vec<Ip>,
-    four: Vec<Ip>,
+pub(crate) struct WhyNone {
+    six: Cell<Option<NamesFault>>,
+    four: Cell<Option<NamesFault>>,
 }
 
-impl Found {
-    // By the system's resolver; none where it finds none.
-    pub(crate) fn new<N: Net>(net: &N, alloc: Global, host: &str) -> Result<Found, AllocError> {
-        let mut six = Vec::new(alloc);
-        let mut four = Vec::new(alloc);
-        if let Ok(found) = (host, 0u16).to_socket_addrs(net) {
-            for address in found {
-                match address.ip() {
-                    IpAddr::V4(ip) => four.push(Ip::V4(ip.to_bits()))?,
-                    IpAddr::V6(ip) => six.push(Ip::V6(ip.to_bits()))?,
-                }
-            }
+impl WhyNone {
+    pub(crate) fn new() -> WhyNone {
+        WhyNone {
+            six: Cell::new(None),
+            four: Cell::new(None),
         }
-        Ok(Found { alloc, six, four })
+    }
+
+    // Why there is no address of those that are tried; None where a family that is tried has some, or none yet.
+    pub(crate) fn fault(&self, families: Families) -> Option<NamesFault> {
+        match families {
+            Families::Only(Family::V6) => self.six.get(),
+            Families::Only(Family::V4) => self.four.get(),
+            Families::Both => Some(first_fault(self.six.get()?, self.four.get()?)),
+        }
+    }
+
+    fn note(&self, family: Family, fault: NamesFault) {
+        match family {
+            Family::V6 => self.six.set(Some(fault)),
+            Family::V4 => self.four.set(Some(fault)),
+        }
     }
 }
 
-impl AnswerSource for Found {
+// The answers of a look-up, which are polled while a race runs. A family that has none is told without addresses.
+#[derive(Drop)]
+pub(crate) struct HostAnswers<'h, R> {
+    alloc: Global,
+    lookup: Lookup<'h, R>,
+    why: &'h WhyNone,
+}
+
+impl<'h, R> HostAnswers<'h, R> {
+    pub(crate) fn new(
+        alloc: Global,
+        lookup: Lookup<'h, R>,
+        why: &'h WhyNone,
+    ) -> HostAnswers<'h, R> {
+        HostAnswers { alloc, lookup, why }
+    }
+}
+
+impl<'h, R: Net + RandomSource + Clock> AnswerSource for HostAnswers<'h, R> {
     ghost use Rattle.std.specs.Prelude.{⊤};
 
     ghost hears = { λ _ _ _ _ _. ⊤ };
 
-    fn poll_answer(&mut self, family: Family, _now: u64, _cx: &mut Context<'_>) -> Poll<Vec<Ip>> {
-        match family {
-            Family::V6 => Poll::Ready(replace(&mut self.six, Vec::new(self.alloc))),
-            Family::V4 => Poll::Ready(replace(&mut self.four, Vec::new(self.alloc))),
+    fn poll_answer(&mut self, family: Family, _now: u64, cx: &mut Context<'_>) -> Poll<Vec<Ip>> {
+        match self.lookup.poll_answer(family, cx) {
+            Poll::Pending => Poll::Pending,
+            Poll::Ready(Ok(ips)) => Poll::Ready(ips),
+            Poll::Ready(Err(fault)) => {
+                self.why.note(family, fault);
+                Poll::Ready(Vec::new(self.alloc))
+            }
         }
     }
 }

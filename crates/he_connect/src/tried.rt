@@ -13,7 +13,7 @@ use std::alloc::Global;
 ///
 /// `Memory` where an allocation was refused; a part of the line may be there.
 pub(crate) fn write_tried(
-    asked: &Asked,
+    asked: &Asked<'_>,
     recorded: &Timeline,
     transcript: &Transcript,
     steps: &Steps,

@@ -1,0 +1,6 @@
+//! Try.
+#![tactic(auto)]
+
+pub mod asked;
+pub mod fault;
+pub mod start;
