@@ -2,6 +2,7 @@
 
 use crate::example::Counts;
 use he_command::run_words;
+use he_resolver::SystemResolver;
 use he_stream::{FromReader, ToWriter};
 use std::alloc::{AllocGlobal, Global};
 use std::io;
@@ -540,7 +541,18 @@ fn writer_of(alloc: Global, streams: Streams) -> FakeWriter {
 // Whether the line of this row ends as it must, with a writer of faults that takes so many bytes.
 fn is_right<R>(rt: &HostRuntime, lender: &R, row: &Row, faults_room: usize) -> bool
 where
-    R: Threads + Wait + Clock + RandomSource + AllocGlobal + Net + Files + Sync,
+    R: Threads
+        + Wait
+        + Clock
+        + RandomSource
+        + AllocGlobal
+        + Net
+        + Files
+        + SystemResolver
+        + Copy
+        + Send
+        + Sync
+        + 'static,
 {
     let (words, text, streams, status, output, fault) = row;
     let mut input = FromReader::new(reader_of(text, *streams));
@@ -571,7 +583,18 @@ where
 /// A line that cannot be written.
 pub fn run_command_lines<R>(rt: &HostRuntime, lender: &R) -> io::Result<Counts>
 where
-    R: Threads + Wait + Clock + RandomSource + AllocGlobal + Net + Files + Sync,
+    R: Threads
+        + Wait
+        + Clock
+        + RandomSource
+        + AllocGlobal
+        + Net
+        + Files
+        + SystemResolver
+        + Copy
+        + Send
+        + Sync
+        + 'static,
 {
     let mut counts = Counts { ran: 0, differ: 0 };
     for (at, row) in ROWS.iter().enumerate() {

@@ -5,7 +5,6 @@ ghost use Rattle.he_connect.specs.Connects.{IsBefore};
 
 use he_host::machine::MachineFault;
 use he_live::LiveFault;
-use he_plan::BuildFault;
 use he_relay::RelayFault;
 use he_resolver::NamesFault;
 use he_text::{InputFault, NotOneRace, TextFault};
@@ -93,17 +92,6 @@ impl From<NotOneRace> for ConnectFault {
             NotOneRace::Fault(InputFault::Read) => ConnectFault::File,
             NotOneRace::Count => ConnectFault::OtherLines,
             NotOneRace::Memory => ConnectFault::Memory,
-        }
-    }
-}
-
-impl From<BuildFault> for ConnectFault {
-    ghost from_gives = { λ _ fault. IsBefore fault };
-
-    fn from(fault: BuildFault) -> ConnectFault {
-        match fault {
-            BuildFault::Memory => ConnectFault::Memory,
-            _ => ConnectFault::OtherLines,
         }
     }
 }

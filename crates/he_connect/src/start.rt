@@ -51,8 +51,12 @@ fn start_with(
     let mut builder = TimelineBuilder::new(alloc, settings, policy, host);
     match families {
         Families::Both => {}
-        Families::Only(Family::V6) => builder.answer(Family::V4, 0, &[])?,
-        Families::Only(Family::V4) => builder.answer(Family::V6, 0, &[])?,
+        Families::Only(Family::V6) => builder
+            .answer(Family::V4, 0, &[])
+            .map_err(|_| ConnectFault::Memory)?,
+        Families::Only(Family::V4) => builder
+            .answer(Family::V6, 0, &[])
+            .map_err(|_| ConnectFault::Memory)?,
     }
     Ok(builder.finish())
 }

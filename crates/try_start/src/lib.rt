@@ -1,6 +1,0 @@
-//! Try.
-#![tactic(auto)]
-
-pub mod asked;
-pub mod fault;
-pub mod start;
