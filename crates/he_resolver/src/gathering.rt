@@ -8,39 +8,17 @@ use crate::lookup::Lookup;
 use futures::Future;
 use futures::task::{Context, Poll};
 use he_addr::{Family, Ip};
+use he_names::Found;
 use std::alloc::Global;
 use std::net::Net;
 use std::random::RandomSource;
 use std::time::{Clock, Instant};
 
-// One family's answer, and the milliseconds since the first poll at which it came.
-#[derive(Drop)]
-pub(crate) struct Answer {
-    pub(crate) tick: u64,
-    pub(crate) ips: Vec<Ip>,
-}
-
-// Both families' answers.
-#[derive(Drop)]
-pub(crate) struct Found {
-    pub(crate) v6: Answer,
-    pub(crate) v4: Answer,
-}
-
-// What a family was told, and when.
+// What a family was told, and the milliseconds since the first poll at which that came.
 #[derive(Drop)]
 struct Told {
     tick: u64,
     answer: Result<Vec<Ip>, NamesFault>,
-}
-
-impl Told {
-    fn into_answer(self, alloc: Global) -> Answer {
-        Answer {
-            tick: self.tick,
-            ips: self.answer.unwrap_or(Vec::new(alloc)),
-        }
-    }
 }
 
 // Waits for both answers.
@@ -125,8 +103,10 @@ fn join(alloc: Global, v6: Told, v4: Told) -> Result<Found, NamesFault> {
     if let (Err(six), Err(four)) = (&v6.answer, &v4.answer) {
         return Err(first_fault(*six, *four));
     }
-    Ok(Found {
-        v6: v6.into_answer(alloc),
-        v4: v4.into_answer(alloc),
-    })
+    let six = v6.answer.unwrap_or(Vec::new(alloc));
+    let four = v4.answer.unwrap_or(Vec::new(alloc));
+    match Found::new(alloc, v6.tick, &six, v4.tick, &four)? {
+        Some(found) => Ok(found),
+        None => Err(NamesFault::NoAddress),
+    }
 }

@@ -1,17 +1,20 @@
 //! A look-up of a host's addresses that is polled, as a race polls it.
 
-ghost use Rattle.futures.specs.Poll.{OnPending};
+ghost use Rattle.std.specs.Prelude.{IfOk};
+ghost use Rattle.futures.specs.Poll.{IfReady, OnPending};
 ghost use Rattle.futures.specs.Task.{IsArmed, Keeps};
+ghost use Rattle.he_names.specs.Answers.{IsAnswer};
 
 use crate::asked::asked_in;
 use crate::choice::Choice;
 use crate::fault::NamesFault;
 use crate::files::{HOSTS, SETTINGS, read_file};
-use crate::known::{Known, known_in};
+use crate::known::known_in;
 use crate::resolver::Resolver;
 use crate::system::{SystemQuery, SystemResolver};
 use futures::task::{Context, Poll};
 use he_addr::{Family, Ip};
+use he_names::clean_of;
 use std::alloc::{AllocGlobal, Global};
 use std::net::Net;
 use std::random::RandomSource;
@@ -31,7 +34,7 @@ pub struct Lookup<'h, R> {
 // Where the addresses come from.
 #[derive(Drop)]
 enum Source<'h, R> {
-    Known(Result<Known, NamesFault>),
+    Known(Result<Vec<Ip>, NamesFault>),
     Servers(Resolver<'h, R>),
     System(SystemQuery),
 }
@@ -69,8 +72,8 @@ impl<'h, R: Net + RandomSource + Clock> Lookup<'h, R> {
         Ok(Lookup { alloc, source })
     }
 
-    /// The addresses of the family, each once and at most 256, or why it has none. Each family is told once: after that
-    /// it has none.
+    /// The addresses of the family, each once and at most 256, or why it has none. Each family is to be polled until it is
+    /// told, and not after that.
     ///
     /// Both families are asked for at the first poll, that of IPv6 first. Each server has its time for an answer, and is
     /// asked a number of times, by the file of resolver settings; after that no server answers. The system's resolver
@@ -84,17 +87,21 @@ impl<'h, R: Net + RandomSource + Clock> Lookup<'h, R> {
         family: Family,
         cx: &mut Context<'_>,
     ) -> Poll<Result<Vec<Ip>, NamesFault>>
+        ensures answer { IfReady result (λ told. IfOk told (λ ips. IsAnswer family ips.items)) }
         ensures armed { OnPending result (IsArmed cx.new) }
         ensures kept { Keeps cx.old cx.new }
     {
         match &mut self.source {
-            Source::Known(known) => Poll::Ready(give(known, self.alloc, family)),
-            Source::Servers(resolver) => resolver.poll_answer(family, cx),
-            Source::System(query) => match query.poll_found(self.alloc, cx) {
+            Source::Known(found) => Poll::Ready(answer_of(self.alloc, family, found)),
+            Source::Servers(resolver) => match resolver.poll_answer(family, cx) {
                 Poll::Pending => Poll::Pending,
-                Poll::Ready(mut known) => {
-                    let answer = give(&mut known, self.alloc, family);
-                    self.source = Source::Known(known);
+                Poll::Ready(found) => Poll::Ready(answer_of(self.alloc, family, &found)),
+            },
+            Source::System(query) => match query.poll_found(cx) {
+                Poll::Pending => Poll::Pending,
+                Poll::Ready(found) => {
+                    let answer = answer_of(self.alloc, family, &found);
+                    self.source = Source::Known(found);
                     Poll::Ready(answer)
                 }
             },
@@ -102,13 +109,16 @@ impl<'h, R: Net + RandomSource + Clock> Lookup<'h, R> {
     }
 }
 
-fn give(
-    known: &mut Result<Known, NamesFault>,
+// The family's part of what was found.
+fn answer_of(
     alloc: Global,
     family: Family,
-) -> Result<Vec<Ip>, NamesFault> {
-    match known {
-        Ok(known) => Ok(known.give(alloc, family)),
+    found: &Result<Vec<Ip>, NamesFault>,
+) -> Result<Vec<Ip>, NamesFault>
+    ensures { IfOk result (λ ips. IsAnswer family ips.items) }
+{
+    match found {
+        Ok(ips) => Ok(clean_of(alloc, family, ips)?),
         Err(fault) => Err(*fault),
     }
 }

@@ -2,14 +2,14 @@
 
 ghost use Rattle.std.specs.Prelude.{◌≡◌, IfOk};
 ghost use Rattle.he_stream.specs.Output.{PutsPart, PutsWhole};
-ghost use Rattle.he_resolver.specs.Told.{TellsNames, answers_text};
+ghost use Rattle.he_resolver.specs.Told.{IsNamesText, TellsNames};
 
 use crate::choice::Choice;
 use crate::fault::NamesFault;
-use crate::gathering::{Found, Gathering};
+use crate::gathering::Gathering;
 use crate::lookup::Lookup;
 use crate::system::SystemResolver;
-use he_names::write_answer;
+use he_names::Found;
 use he_stream::{OutputStream, write_whole};
 use std::alloc::{AllocGlobal, Global};
 use std::net::Net;
@@ -50,11 +50,10 @@ where
 
 // The two lines.
 fn text_of(alloc: Global, found: &Found) -> Result<Vec<u8>, NamesFault>
-    ensures { IfOk result (λ text. text.items ≡ answers_text found.now.v6.tick found.now.v6.ips.items found.now.v4.tick found.now.v4.ips.items) }
+    ensures { IfOk result (λ text. IsNamesText text.items) }
 {
     let mut text = Vec::new(alloc);
-    write_answer(b"aaaa", found.v6.tick, &found.v6.ips, &mut text)?;
-    write_answer(b"a", found.v4.tick, &found.v4.ips, &mut text)?;
+    found.write(&mut text)?;
     Ok(text)
 }
 

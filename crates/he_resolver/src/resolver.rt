@@ -10,7 +10,6 @@ use crate::limits::MOST_STEPS;
 use crate::setup::Setup;
 use futures::task::{Context, Poll};
 use he_addr::{Family, Ip};
-use he_names::clean;
 use std::alloc::Global;
 use std::net::Net;
 use std::random::RandomSource;
@@ -53,8 +52,8 @@ impl<'h, R: Net + RandomSource + Clock> Resolver<'h, R> {
         }
     }
 
-    // The addresses of the family, each once and at most 256, as soon as they are known; or why there are none. They
-    // are told once: after that there are none.
+    // The addresses of the family as soon as they are known; or why there are none. They are told once: after that
+    // there are none.
     pub(crate) fn poll_answer(
         &mut self,
         family: Family,
@@ -124,11 +123,10 @@ impl<'h, R: Net + RandomSource + Clock> Resolver<'h, R> {
 
     fn give(&mut self, family: Family) -> Result<Vec<Ip>, NamesFault> {
         let alloc = self.setup.alloc;
-        let found = match family {
+        match family {
             Family::V6 => self.v6.give(alloc),
             Family::V4 => self.v4.give(alloc),
-        };
-        Ok(clean(alloc, &found?)?)
+        }
     }
 }
 

@@ -4,7 +4,6 @@ ghost use Rattle.futures.specs.Poll.{OnPending};
 ghost use Rattle.futures.specs.Task.{IsArmed, Keeps};
 
 use crate::fault::NamesFault;
-use crate::known::Known;
 use futures::Future;
 use futures::channel::oneshot::{self, Receiver};
 use futures::task::{Context, Poll};
@@ -67,19 +66,14 @@ impl SystemQuery {
         }
     }
 
-    // What the system has of the host.
-    pub(crate) fn poll_found(
-        &mut self,
-        alloc: Global,
-        cx: &mut Context<'_>,
-    ) -> Poll<Result<Known, NamesFault>>
+    // The addresses that the system has of the host, once.
+    pub(crate) fn poll_found(&mut self, cx: &mut Context<'_>) -> Poll<Result<Vec<Ip>, NamesFault>>
         ensures armed { OnPending result (IsArmed cx.new) }
         ensures kept { Keeps cx.old cx.new }
     {
         match self.found.poll(cx) {
             Poll::Pending => Poll::Pending,
-            Poll::Ready(Ok(Ok(ips))) => Poll::Ready(Known::of_both(alloc, &ips)),
-            Poll::Ready(Ok(Err(fault))) => Poll::Ready(Err(fault)),
+            Poll::Ready(Ok(found)) => Poll::Ready(found),
             Poll::Ready(Err(_)) => Poll::Ready(Err(NamesFault::System)),
         }
     }
