@@ -541,18 +541,8 @@ fn writer_of(alloc: Global, streams: Streams) -> FakeWriter {
 // Whether the line of this row ends as it must, with a writer of faults that takes so many bytes.
 fn is_right<R>(rt: &HostRuntime, lender: &R, row: &Row, faults_room: usize) -> bool
 where
-    R: Threads
-        + Wait
-        + Clock
-        + RandomSource
-        + AllocGlobal
-        + Net
-        + Files
-        + SystemResolver
-        + Copy
-        + Send
-        + Sync
-        + 'static,
+    R: Threads + Wait + Clock + RandomSource + AllocGlobal + Net + Files + Sync,
+    R: SystemResolver + Copy + Send + 'static,
 {
     let (words, text, streams, status, output, fault) = row;
     let mut input = FromReader::new(reader_of(text, *streams));
@@ -583,18 +573,8 @@ where
 /// A line that cannot be written.
 pub fn run_command_lines<R>(rt: &HostRuntime, lender: &R) -> io::Result<Counts>
 where
-    R: Threads
-        + Wait
-        + Clock
-        + RandomSource
-        + AllocGlobal
-        + Net
-        + Files
-        + SystemResolver
-        + Copy
-        + Send
-        + Sync
-        + 'static,
+    R: Threads + Wait + Clock + RandomSource + AllocGlobal + Net + Files + Sync,
+    R: SystemResolver + Copy + Send + 'static,
 {
     let mut counts = Counts { ran: 0, differ: 0 };
     for (at, row) in ROWS.iter().enumerate() {

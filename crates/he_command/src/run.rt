@@ -58,18 +58,8 @@ pub fn run_words<'a, R, I, O, F>(
     faults: &mut F,
 ) -> u8
 where
-    R: Threads
-        + Wait
-        + Clock
-        + RandomSource
-        + AllocGlobal
-        + Net
-        + Files
-        + SystemResolver
-        + Copy
-        + Send
-        + Sync
-        + 'static,
+    R: Threads + Wait + Clock + RandomSource + AllocGlobal + Net + Files + Sync,
+    R: SystemResolver + Copy + Send + 'static,
     I: InputStream,
     O: OutputStream + Send,
     F: Write,
@@ -95,18 +85,8 @@ pub fn run_line<R, I, O, F>(
     faults: &mut F,
 ) -> u8
 where
-    R: Threads
-        + Wait
-        + Clock
-        + RandomSource
-        + AllocGlobal
-        + Net
-        + Files
-        + SystemResolver
-        + Copy
-        + Send
-        + Sync
-        + 'static,
+    R: Threads + Wait + Clock + RandomSource + AllocGlobal + Net + Files + Sync,
+    R: SystemResolver + Copy + Send + 'static,
     I: InputStream,
     O: OutputStream + Send,
     F: Write,
@@ -135,18 +115,8 @@ fn run_request<R, I, O, F>(
     faults: &mut F,
 ) -> u8
 where
-    R: Threads
-        + Wait
-        + Clock
-        + RandomSource
-        + AllocGlobal
-        + Net
-        + Files
-        + SystemResolver
-        + Copy
-        + Send
-        + Sync
-        + 'static,
+    R: Threads + Wait + Clock + RandomSource + AllocGlobal + Net + Files + Sync,
+    R: SystemResolver + Copy + Send + 'static,
     I: InputStream,
     O: OutputStream + Send,
     F: Write,
@@ -243,7 +213,8 @@ fn run_names<R, O, F>(
     faults: &mut F,
 ) -> u8
 where
-    R: Wait + Clock + RandomSource + AllocGlobal + Net + Files,
+    R: Wait + Clock + RandomSource + AllocGlobal + Net + Files + Threads,
+    R: SystemResolver + Copy + Send + 'static,
     O: OutputStream,
     F: Write,
     ensures { RunsNames resolver (PutsWhole O.contents O.puts O.flushes output.old output.new)
@@ -268,18 +239,8 @@ fn run_connect<R, I, O, F>(
     faults: &mut F,
 ) -> u8
 where
-    R: Threads
-        + Wait
-        + Clock
-        + RandomSource
-        + AllocGlobal
-        + Net
-        + Files
-        + SystemResolver
-        + Copy
-        + Send
-        + Sync
-        + 'static,
+    R: Threads + Wait + Clock + RandomSource + AllocGlobal + Net + Files + Sync,
+    R: SystemResolver + Copy + Send + 'static,
     I: InputStream,
     O: OutputStream + Send,
     F: Write,

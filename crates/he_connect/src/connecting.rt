@@ -48,18 +48,8 @@ pub fn connect<R, I, O, F>(
     faults: &mut F,
 ) -> Result<Ended, ConnectFault>
 where
-    R: Threads
-        + Wait
-        + Clock
-        + RandomSource
-        + AllocGlobal
-        + Net
-        + Files
-        + SystemResolver
-        + Copy
-        + Send
-        + Sync
-        + 'static,
+    R: Threads + Wait + Clock + RandomSource + AllocGlobal + Net + Files + Sync,
+    R: SystemResolver + Copy + Send + 'static,
     I: InputStream,
     O: OutputStream + Send,
     F: Write,

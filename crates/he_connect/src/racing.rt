@@ -47,18 +47,8 @@ struct Texts {
 
 pub(crate) fn run_race<R>(rt: &R, alloc: Global, asked: &Asked<'_>) -> Result<Run, ConnectFault>
 where
-    R: Threads
-        + Wait
-        + Clock
-        + RandomSource
-        + AllocGlobal
-        + Net
-        + Files
-        + SystemResolver
-        + Copy
-        + Send
-        + Sync
-        + 'static,
+    R: Threads + Wait + Clock + RandomSource + AllocGlobal + Net + Files + Sync,
+    R: SystemResolver + Copy + Send + 'static,
     ensures run { IfOk result (λ run. IsRun asked.now.settings asked.now.families run.record.items (is_some run.winner)) }
     ensures fault { IfErr result IsBefore }
 {
@@ -77,18 +67,8 @@ fn run_from<R>(
     start: &Timeline,
 ) -> Result<Run, ConnectFault>
 where
-    R: Threads
-        + Wait
-        + Clock
-        + RandomSource
-        + AllocGlobal
-        + Net
-        + Files
-        + SystemResolver
-        + Copy
-        + Send
-        + Sync
-        + 'static,
+    R: Threads + Wait + Clock + RandomSource + AllocGlobal + Net + Files + Sync,
+    R: SystemResolver + Copy + Send + 'static,
     ensures run { IfOk result (λ run. RunsFrom start.now run.record.items (is_some run.winner)) }
     ensures fault { IfErr result IsBefore }
 {
@@ -103,7 +83,7 @@ where
         asked.resolver,
     )?;
     let why = WhyNone::new();
-    let source = HostAnswers::new(alloc, lookup, &why);
+    let source = HostAnswers::new(rt, alloc, handle.time(), lookup, &why)?;
     let steps = Steps::new(alloc)?;
     let raced = resolving_race_on(
         rt,
