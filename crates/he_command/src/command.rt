@@ -73,7 +73,8 @@ const WORKERS_HELP: &str =
 
 const EXIT_STATUS: &str = "\
 Exit status: 0 when all is done; 1 after a fault, which standard error tells; 2 for a
-command line that is refused; 3 where `live --must-connect` made no connection.";
+command line that is refused; 3 where `connect` or `live --must-connect` made no
+connection.";
 
 const REPLAY_EXAMPLE: &str = "\
 Standard input is a timeline text: for each race the host's addresses and routes, the

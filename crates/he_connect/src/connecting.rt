@@ -17,7 +17,7 @@ use std::rt::Files;
 use std::sync::Wait;
 use std::thread::Threads;
 use std::time::Clock;
-use std::{fs, io};
+use std::fs;
 
 /// How a connection that was asked for ended.
 #[derive(Clone, Copy, Debug, PartialEq, Eq)]
@@ -56,7 +56,7 @@ where
     ensures { Connects (PutsInRounds O.contents O.puts O.flushes output.old output.new)
         (PutsRoundsPart O.contents O.puts O.flushes output.old output.new) (output.new ≡ output.old) result }
 {
-    let run = run_race(rt, alloc, asked)?;
+    let run = run_race(rt, alloc, asked, faults)?;
     let _ = faults.write_all(run.told.as_slice());
     if let Some(path) = asked.record {
         write_record(rt, path, run.record.as_slice())?;

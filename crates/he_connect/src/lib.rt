@@ -8,6 +8,7 @@ mod lines;
 mod racing;
 mod source;
 pub mod start;
+mod telling;
 mod tried;
 
 pub use asked::{Asked, Families, Lines};

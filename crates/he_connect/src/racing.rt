@@ -8,14 +8,16 @@ use crate::fault::ConnectFault;
 use crate::lines::read_lines_of;
 use crate::source::{HostAnswers, WhyNone};
 use crate::start::start_race;
+use crate::telling::Telling;
 use crate::tried::write_tried;
 use he_explain::write_explanation;
-use he_live::{Quiet, Steps, resolving_race_on};
+use he_live::{Steps, resolving_race_on};
 use he_plan::Timeline;
 use he_race::Raced;
 use he_resolver::{Lookup, NamesFault, SystemResolver};
 use he_text::write_timeline;
 use std::alloc::{AllocGlobal, Global};
+use std::io::Write;
 use std::mem::drop;
 use std::net::{Net, TcpStream};
 use std::random::RandomSource;
@@ -23,7 +25,7 @@ use std::rt::Files;
 use std::sync::Wait;
 use std::thread::Threads;
 use std::time::Clock;
-use tokio::runtime::LocalRuntime;
+use tokio::runtime::{Handle, LocalRuntime};
 
 /// A race that was run.
 #[derive(Drop)]
@@ -45,8 +47,15 @@ struct Texts {
     told: Vec<u8>,
 }
 
-pub(crate) fn run_race<R>(rt: &R, alloc: Global, asked: &Asked<'_>) -> Result<Run, ConnectFault>
+/// Runs the race that is asked for. Each step is told to `faults` as it happens, where that is asked for.
+pub(crate) fn run_race<R, F>(
+    rt: &R,
+    alloc: Global,
+    asked: &Asked<'_>,
+    faults: &mut F,
+) -> Result<Run, ConnectFault>
 where
+    F: Write,
     R: Threads + Wait + Clock + RandomSource + AllocGlobal + Net + Files + Sync,
     R: SystemResolver + Copy + Send + 'static,
     ensures run { IfOk result (λ run. IsRun asked.now.settings asked.now.families run.record.items (is_some run.winner)) }
@@ -54,19 +63,21 @@ where
 {
     let lines = read_lines_of(rt, alloc, asked.lines)?;
     let start = start_race(alloc, asked.settings, asked.families, &lines)?;
-    let run = run_from(rt, alloc, asked, &start);
+    let run = run_from(rt, alloc, asked, &start, faults);
     drop(start);
     run
 }
 
 // Runs the race that begins so.
-fn run_from<R>(
+fn run_from<R, F>(
     rt: &R,
     alloc: Global,
     asked: &Asked<'_>,
     start: &Timeline,
+    faults: &mut F,
 ) -> Result<Run, ConnectFault>
 where
+    F: Write,
     R: Threads + Wait + Clock + RandomSource + AllocGlobal + Net + Files + Sync,
     R: SystemResolver + Copy + Send + 'static,
     ensures run { IfOk result (λ run. RunsFrom start.now run.record.items (is_some run.winner)) }
@@ -74,17 +85,10 @@ where
 {
     let mut runtime = LocalRuntime::new(rt)?;
     let handle = runtime.handle().clone()?;
-    let lookup = Lookup::new(
-        rt,
-        alloc,
-        handle.reactor(),
-        handle.time(),
-        asked.host,
-        asked.resolver,
-    )?;
     let why = WhyNone::new();
-    let source = HostAnswers::new(rt, alloc, handle.time(), lookup, &why)?;
+    let source = answers_of(rt, alloc, &handle, asked, &why)?;
     let steps = Steps::new(alloc)?;
+    let telling = Telling::new(alloc, faults, asked.tells_steps);
     let raced = resolving_race_on(
         rt,
         alloc,
@@ -93,11 +97,29 @@ where
         source,
         asked.port,
         &steps,
-        &Quiet,
+        &telling,
     )?;
     let nameless = why.fault(asked.families);
     let texts = texts_of(alloc, asked, &raced, nameless, &steps);
     end_with(texts, nameless, raced)
+}
+
+// The answers of a look-up of the host, which waits in the event loop.
+fn answers_of<'h, R>(
+    rt: &'h R,
+    alloc: Global,
+    handle: &'h Handle,
+    asked: &Asked<'_>,
+    why: &'h WhyNone,
+) -> Result<HostAnswers<'h, R>, ConnectFault>
+where
+    R: Threads + Wait + Clock + RandomSource + AllocGlobal + Net + Files + Sync,
+    R: SystemResolver + Copy + Send + 'static,
+    ensures fault { IfErr result IsBefore }
+{
+    let (reactor, timers) = (handle.reactor(), handle.time());
+    let lookup = Lookup::new(rt, alloc, reactor, timers, asked.host, asked.resolver)?;
+    Ok(HostAnswers::new(rt, alloc, timers, lookup, why)?)
 }
 
 // The texts of the race, with its connection.

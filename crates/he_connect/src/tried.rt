@@ -82,7 +82,7 @@ fn write_attempt(attempt: Line, steps: &Steps, out: &mut Vec<u8>) -> Result<(), 
     Ok(())
 }
 
-fn write_reason(reason: Reason, out: &mut Vec<u8>) -> Result<(), Memory> {
+pub(crate) fn write_reason(reason: Reason, out: &mut Vec<u8>) -> Result<(), Memory> {
     out.extend_from_slice(reason.words())?;
     if let Reason::Other(number) = reason {
         write_number(u64::from(number), out)?;
