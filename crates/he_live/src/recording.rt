@@ -60,8 +60,10 @@ where
     drop(timeline);
     let told = told?;
     *failed = told.failed;
-    write_whole(output, told.text.as_slice())?;
-    Ok(told.ended)
+    match write_whole(output, told.text.as_slice()) {
+        Ok(()) => Ok(told.ended),
+        Err(_) => Err(LiveFault::Write),
+    }
 }
 
 // Reads the race of an input to its end.
