@@ -80,7 +80,7 @@ type Row = (
     &'static [u8],
 );
 
-static ROWS: [Row; 59] = [
+static ROWS: [Row; 67] = [
     (&["he", "replay"], TEXT, Streams::Whole, 0, TRANSCRIPT, b""),
     (
         &["he", "replay", "--workers", "1"],
@@ -516,6 +516,63 @@ static ROWS: [Row; 59] = [
         Streams::Whole,
         0,
         b"Writes the addresses and routes of this machine",
+        b"",
+    ),
+    (
+        &["he", "names", "192.0.2.1"],
+        TEXT,
+        Streams::Whole,
+        0,
+        b"aaaa 0 none\na 0 192.0.2.1\n",
+        b"",
+    ),
+    (
+        &["he", "names", "--resolver", "system", "2001:db8::1"],
+        TEXT,
+        Streams::Whole,
+        0,
+        b"aaaa ",
+        b"",
+    ),
+    (
+        &["he", "names", "192.0.2.1"],
+        TEXT,
+        Streams::Room(3),
+        1,
+        b"aaa",
+        WRITE_LINE,
+    ),
+    (
+        &["he", "names", "192.0.2.1"],
+        TEXT,
+        Streams::FailsToFlush,
+        1,
+        b"aaaa 0 none\na 0 192.0.2.1\n",
+        WRITE_LINE,
+    ),
+    (
+        &["he", "names", "two..dots"],
+        TEXT,
+        Streams::Whole,
+        1,
+        b"",
+        b"he: not a host name: ",
+    ),
+    (&["he", "names"], TEXT, Streams::Whole, 2, b"", b"error: "),
+    (
+        &["he", "names", "--resolver", "none", "192.0.2.1"],
+        TEXT,
+        Streams::Whole,
+        2,
+        b"",
+        b"error: ",
+    ),
+    (
+        &["he", "names", "--help"],
+        TEXT,
+        Streams::Whole,
+        0,
+        b"Finds the addresses of a host",
         b"",
     ),
 ];
