@@ -6,7 +6,7 @@ use Rattle.clap.specs.declared.error.kind.ErrorKind.{ErrorKind}
 use Rattle.clap.specs.declared.error.kind.ErrorKind.TheVariants as kinds
 use Rattle.he_check.specs.declared.fault.CheckFault.{CheckFault}
 use Rattle.he_check.specs.Stream.{Checks}
-use Rattle.he_connect.specs.Connects.{Connects}
+use Rattle.he_connect.specs.Connects.{Connects, Ran}
 use Rattle.he_connect.specs.declared.asked.Asked.{Asked}
 use Rattle.he_connect.specs.declared.connecting.Ended.{Ended}
 use Rattle.he_connect.specs.declared.connecting.Ended.TheVariants as ends
@@ -86,7 +86,7 @@ RunsNames (Some choice) Whole Part Kept status =
 abbrev pub RunsConnect : Result Asked OptionFault → (List ℕ → Type 0) → (List ℕ → Type 0) → Type 0 → ℕ → Type 0
 RunsConnect (Err fault) Put PutPart Kept status = (status ≡ USAGE) × Kept
 RunsConnect (Ok asked) Put PutPart Kept status =
-    (result : Result Ended ConnectFault) × Connects Put PutPart Kept result × (status ≡ status_of_connection result)
+    (result : Result Ended ConnectFault) × Connects (Ran asked.settings asked.families) Put PutPart Kept result × (status ≡ status_of_connection result)
 
 -- what was asked for was done, and the status tells how that ended. Given, Taken, Ended, Failed and Put as `RunsAction` has
 -- them: of a text that is put in rounds; Whole, Part and Kept as `Lives` has them: of one text

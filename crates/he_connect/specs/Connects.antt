@@ -36,10 +36,14 @@ pub record IsRun (settings : SettingValues) (families : Families) (text : List �
   pub starts : Starts lines settings families start
   pub runs : RunsFrom start text won
 
--- Put, PutPart and Kept as `Relays` has them
-abbrev pub Connects : (List ℕ → Type 0) → (List ℕ → Type 0) → Type 0 → Result Ended ConnectFault → Type 0
-Connects Put PutPart Kept (Ok ends.Relayed) = (bytes : List ℕ) × Put bytes
-Connects Put PutPart Kept (Ok ends.Connected) = Kept
-Connects Put PutPart Kept (Ok ends.NoConnection) = Kept
-Connects Put PutPart Kept (Err (faults.Relay fault)) = Relays Put PutPart Kept (Err fault)
-Connects Put PutPart Kept (Err fault) = Kept
+-- such a race was run
+abbrev pub Ran : SettingValues → Families → Bool → Type 0
+Ran settings families won = (text : List ℕ) × IsRun settings families text won
+
+-- RanTo: a race was run, and won or not; Put, PutPart and Kept as `Relays` has them
+abbrev pub Connects : (Bool → Type 0) → (List ℕ → Type 0) → (List ℕ → Type 0) → Type 0 → Result Ended ConnectFault → Type 0
+Connects RanTo Put PutPart Kept (Ok ends.Relayed) = RanTo true × (bytes : List ℕ) × Put bytes
+Connects RanTo Put PutPart Kept (Ok ends.Connected) = RanTo true × Kept
+Connects RanTo Put PutPart Kept (Ok ends.NoConnection) = RanTo false × Kept
+Connects RanTo Put PutPart Kept (Err (faults.Relay fault)) = RanTo true × Relays Put PutPart Kept (Err fault)
+Connects RanTo Put PutPart Kept (Err fault) = Kept

@@ -1,11 +1,11 @@
 //! A connection that is made and relayed.
-ghost use Rattle.std.specs.Prelude.{◌≡◌, IfErr};
+ghost use Rattle.std.specs.Prelude.{◌≡◌, IfErr, is_some};
 ghost use Rattle.he_stream.specs.Output.{PutsInRounds, PutsRoundsPart};
-ghost use Rattle.he_connect.specs.Connects.{Connects, IsBefore};
+ghost use Rattle.he_connect.specs.Connects.{Connects, IsBefore, Ran};
 
 use crate::asked::Asked;
 use crate::fault::ConnectFault;
-use crate::racing::run_race;
+use crate::racing::{Run, run_race};
 use he_relay::relay;
 use he_resolver::SystemResolver;
 use he_stream::{InputStream, OutputStream};
@@ -53,7 +53,8 @@ where
     I: InputStream,
     O: OutputStream + Send,
     F: Write,
-    ensures { Connects (PutsInRounds O.contents O.puts O.flushes output.old output.new)
+    ensures { Connects (Ran asked.now.settings asked.now.families)
+        (PutsInRounds O.contents O.puts O.flushes output.old output.new)
         (PutsRoundsPart O.contents O.puts O.flushes output.old output.new) (output.new ≡ output.old) result }
 {
     let run = run_race(rt, alloc, asked, faults)?;
@@ -61,12 +62,32 @@ where
     if let Some(path) = asked.record {
         write_record(rt, path, run.record.as_slice())?;
     }
+    end_with(rt, alloc, asked.only_tries, run, input, output)
+}
+
+// What comes behind a race: its connection is relayed where there is one, or let go where it was only tried.
+fn end_with<R, I, O>(
+    rt: &R,
+    alloc: Global,
+    only_tries: bool,
+    run: Run,
+    input: &mut I,
+    output: &mut O,
+) -> Result<Ended, ConnectFault>
+where
+    R: Threads,
+    I: InputStream,
+    O: OutputStream + Send,
+    ensures { Connects (λ won. won ≡ is_some run.winner)
+        (PutsInRounds O.contents O.puts O.flushes output.old output.new)
+        (PutsRoundsPart O.contents O.puts O.flushes output.old output.new) (output.new ≡ output.old) result }
+{
     match run.winner {
         None => match run.nameless {
             Some(fault) => Err(ConnectFault::Name(fault)),
             None => Ok(Ended::NoConnection),
         },
-        Some(_) if asked.only_tries => Ok(Ended::Connected),
+        Some(_) if only_tries => Ok(Ended::Connected),
         Some(stream) => {
             relay(rt, alloc, input, output, &stream)?;
             Ok(Ended::Relayed)
