@@ -79,7 +79,7 @@ type Row = (
     &'static [u8],
 );
 
-static ROWS: [Row; 57] = [
+static ROWS: [Row; 59] = [
     (&["he", "replay"], TEXT, Streams::Whole, 0, TRANSCRIPT, b""),
     (
         &["he", "replay", "--workers", "1"],
@@ -340,6 +340,22 @@ static ROWS: [Row; 57] = [
         3,
         b"exhausted ",
         b"",
+    ),
+    (
+        &["he", "live", "-v", "--port", "1"],
+        NO_ADDRESS,
+        Streams::Whole,
+        0,
+        b"exhausted ",
+        b"",
+    ),
+    (
+        &["he", "replay", "-v"],
+        TEXT,
+        Streams::Whole,
+        2,
+        b"",
+        b"error: ",
     ),
     (
         &["he", "live", "--must-connect", "--port", "1"],

@@ -16,8 +16,12 @@ pub enum Request {
     /// To check the input, and to explain its first fault.
     Check,
     /// To run the race of the input on real sockets, each address at this port, 1 to 65,535. The status tells no
-    /// connection where `must_connect`.
-    Live { port: u16, must_connect: bool },
+    /// connection where `must_connect`, and standard error each attempt that failed where `verbose`.
+    Live {
+        port: u16,
+        must_connect: bool,
+        verbose: bool,
+    },
     /// To write the lines of this machine's addresses and routes.
     Host,
 }
@@ -41,6 +45,9 @@ const PORT_HELP: &str = "The TCP port at which each address is connected to, 1 t
 
 const MUST_CONNECT_HELP: &str =
     "Ends with status 3 where no connection was made: the race was exhausted, or met its limit";
+
+const VERBOSE_HELP: &str =
+    "Tells on standard error each attempt that failed, and why, once the race has ended";
 
 const WORKERS_HELP: &str =
     "The most workers that share the races, 1 to 64; the output is the same for each number";
@@ -190,6 +197,18 @@ To keep the record, and to replay it:
   he live --port 8080 < race.txt | sed -n '/^race /,$p' > record.txt
   he replay < record.txt
 
+With -v standard error has a line for each attempt that failed, with the system's
+words, once the race has ended:
+
+  he: attempt 0 at 127.0.0.1 failed: connection refused
+
+An attempt that this host itself could not begin (no descriptor, no memory, no
+permission, no sockets of the address's family) is told as
+
+  he: attempt 0 at 127.0.0.1 could not begin: too many open files
+
+Without -v only the first of these is told. Neither changes the exit status.
+
 Exit status: 0 when all is done, whether a connection was made or not; 3 in place of
 that with --must-connect where none was made; 1 after a fault, with one line on
 standard error; 2 for a command line that is refused.";
@@ -251,7 +270,8 @@ fn command<'a>(alloc: Global) -> Result<Command<'a>, AllocError> {
         .about(LIVE_ABOUT)
         .after_help(LIVE_EXAMPLE)
         .arg(port(alloc))?
-        .arg(must_connect(alloc))?;
+        .arg(must_connect(alloc))?
+        .arg(verbose(alloc))?;
     let host = Command::new(alloc, "host")
         .about(HOST_ABOUT)
         .after_help(HOST_EXAMPLE);
@@ -287,6 +307,15 @@ fn must_connect<'a>(alloc: Global) -> Arg<'a> {
         .help(MUST_CONNECT_HELP)
 }
 
+// Whether `he live` tells each attempt that failed.
+fn verbose<'a>(alloc: Global) -> Arg<'a> {
+    Arg::new(alloc, "verbose")
+        .short('v')
+        .long("verbose")
+        .action(ArgAction::SetTrue)
+        .help(VERBOSE_HELP)
+}
+
 /// Reads the words of a command line, of which the first is the program's name.
 ///
 /// # Errors
@@ -303,6 +332,7 @@ pub fn read_words<'a>(alloc: Global, words: &'a [&'a str]) -> Result<Request, Er
         Some(("live", live)) => Request::Live {
             port: port_of(live),
             must_connect: live.get_flag("must-connect"),
+            verbose: live.get_flag("verbose"),
         },
         Some(("host", _)) => Request::Host,
         Some((_, replay)) => Request::Action(Action::Replay {
