@@ -1,5 +1,5 @@
 # What a newcomer needs. README.md and CONTRIBUTING.md say what each is for and how long it takes.
-.PHONY: help race test edits install deb examples documents explained hostile refused hosts captures live fuzz manual kit program
+.PHONY: help race test edits install install-library library deb examples documents explained hostile refused hosts captures live fuzz manual kit program
 
 PREFIX ?= /usr/local
 RACE ?= crates/cases/data/ipv6-late-but-within-delay-leads.timeline
@@ -17,6 +17,10 @@ help:
 	@echo 'make install PREFIX=DIR    proves and builds the program, and puts it at DIR/bin/he, its manual page,'
 	@echo '                           completions and licence below DIR/share'
 	@echo 'make deb HE=FILE           makes he.deb, a Debian package of a built program'
+	@echo 'make install-library PREFIX=DIR'
+	@echo '                           proves and builds the library for C, and puts it at DIR/lib, its header at'
+	@echo '                           DIR/include'
+	@echo 'make library HE=FILE       builds the library for C and the examples in C and Python, and tries them'
 	@echo 'make examples HE=FILE      runs a built program over all examples'
 	@echo 'make documents HE=FILE     runs the command lines of the documents, and compares what stands below them'
 	@echo 'make hostile HE=FILE       runs a built program over streams that fail, open pipes, too little memory'
@@ -46,6 +50,7 @@ race: kit
 
 test: kit
 	rt ci
+	cd crates/he_c && rt lib
 	scripts/whole crates/he_tool/out/he_tool crates/cases/out/cases
 
 edits: kit
@@ -62,6 +67,14 @@ install: kit
 
 deb: program
 	scripts/make-deb $(HE) he.deb
+
+install-library: kit
+	cd crates/he_c && rt lib
+	scripts/make-library $(abspath $(PREFIX))
+
+library: kit program
+	cd crates/he_c && rt lib
+	scripts/c-library $(HE)
 
 examples: program
 	scripts/examples $(HE)

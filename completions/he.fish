@@ -16,3 +16,4 @@ complete -c he -n '__fish_seen_subcommand_from help' -a "$commands"
 complete -c he -n '__fish_seen_subcommand_from replay' -l workers -x -d 'Most workers, 1 to 64'
 complete -c he -n '__fish_seen_subcommand_from live' -l port -x -d 'TCP port, 1 to 65535'
 complete -c he -n '__fish_seen_subcommand_from live' -l must-connect -d 'Status 3 where no connection was made'
+complete -c he -n '__fish_seen_subcommand_from live' -s v -l verbose -d 'Tell each attempt that failed'
