@@ -88,7 +88,7 @@ struct he_told {
  * the room is large enough. he_check wants `N races, M lines` where there is no fault.
  *
  * Tested only: what he_check says where there is one: its line and kind, the line itself with a mark below the part
- * that is wrong, and what was expected there.
+ * that is wrong, and what was expected there. The slips of which `he check` warns are not told.
  */
 uint32_t he_replay(const uint8_t *text, size_t text_length, uint8_t *room, size_t room_length, struct he_told *told);
 uint32_t he_order(const uint8_t *text, size_t text_length, uint8_t *room, size_t room_length, struct he_told *told);

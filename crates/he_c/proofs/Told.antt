@@ -1,5 +1,5 @@
 -- One race more of an input that is told, and how its walk ends.
-use Rattle.std.proofs.Common.{ℕ, ◌≡◌, List, [], ◌∷◌, ◌++◌, Option, Some, None, Bool, false, sym, subst}
+use Rattle.std.proofs.Common.{ℕ, List, [], ◌∷◌, ◌++◌, Some, None, false, sym, subst}
 use Rattle.he_plan.specs.Race.{Race}
 use Rattle.he_text.specs.declared.inputs.InputFault.{InputFault}
 use Rattle.he_text.specs.declared.walks.Walk.{Walk}

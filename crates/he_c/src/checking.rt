@@ -15,7 +15,7 @@ pub(crate) fn check_of(alloc: Global, input: &[u8]) -> Result<Output, Memory>
     ensures { IfOk result (λ output. IsCheckOf input.now output.text.items output.fault) }
 {
     match check_input(alloc, input, false) {
-        Ok(checked) => Ok(Output {
+        Ok((checked, _warnings)) => Ok(Output {
             text: report_of(alloc, checked)?,
             fault: None,
         }),

@@ -1,12 +1,10 @@
 -- Races that are run by what is due: the attempts that are started are those of the transcript.
-use Rattle.std.proofs.Common.{ℕ, zero, suc, ◌≡◌, ◌≤◌, ◌<◌, ◌++◌, ◌&&◌, Bool, true, false, List, [], ◌∷◌, if◌then◌else◌, length, map, filter, max, take, Option, Some, None, option_map, nat_le, nat_lt, refl, sym, ◌∙◌, ap, subst, arith, inl, inr}
+use Rattle.std.proofs.Common.{ℕ, zero, suc, ◌≡◌, ◌≤◌, ◌<◌, ◌++◌, ◌&&◌, Bool, true, false, List, [], ◌∷◌, length, map, filter, max, take, Option, Some, None, option_map, nat_le, nat_lt, refl, sym, ◌∙◌, ap, subst, arith, inl, inr}
 use Rattle.std.specs.List.{list_all, slice_get}
-use Rattle.std.proofs.lemmas.Bool.{cases_lt}
 use Rattle.std.proofs.lemmas.List.{append-nil, length-map, map-append}
 use Rattle.std.proofs.lemmas.List.Elements.{filter-append}
 use Rattle.std.proofs.lemmas.Option.{slice_get-map}
 use Rattle.std.proofs.Math.Seq.{take-append_seam}
-use Rattle.he_addr.specs.declared.ip.Ip.{Ip}
 use Rattle.he_plan.specs.Agreement.{AgreeBelow, FailAlike}
 use Rattle.he_plan.specs.Attempts.{AreNextInTurn, IsNext, MayStart, seen}
 use Rattle.he_plan.specs.Building.{with_pause}
@@ -22,7 +20,7 @@ use Rattle.he_plan.specs.declared.transcript.Line.{Line}
 use Rattle.he_plan.specs.declared.transcript.Outcome3.{Outcome3}
 use Rattle.he_plan.specs.declared.transcript.Outcome3.TheVariants as results
 use Rattle.he_plan.proofs.Agreeing.{alike-below, in_turn-below}
-use Rattle.he_plan.proofs.Bools.{and_both, and_left, and_right, clash, le_from, le_test, lt_from, lt_test, not_le, not_lt, above}
+use Rattle.he_plan.proofs.Bools.{and_both, and_left, and_right, le_from, lt_from, lt_test, above}
 use Rattle.he_plan.proofs.Ends.{ends-in_turn}
 use Rattle.he_plan.proofs.Finishing.{failure-in_range}
 use Rattle.he_plan.proofs.Growing.{pause-below}
@@ -32,9 +30,7 @@ use Rattle.he_plan.proofs.Stopping.{none_before}
 use Rattle.he_race.proofs.Later.{attempts-before}
 use Rattle.he_next_laws.specs.Runs.{AreBelow, IsOver, IsWritten, Runs, Sleeps, State, attempt_of, with_started}
 use Rattle.he_next.proofs.StepLaws.{lt_past, not_late}
-use Rattle.he_next.specs.Steps.{action_of, before_tick, due_action, end_action, end_tick, late_start}
-use Rattle.he_next.specs.declared.step.Action.{Action}
-use Rattle.he_next.specs.declared.step.Action.TheVariants.{Start, Wait, Won, Exhausted, Limit}
+use Rattle.he_next.specs.Steps.{action_of, before_tick, due_action, end_action, end_tick}
 
 -- a list all of which passes is kept
 all_kept : (stop : ℕ) (xs : List Attempt) → list_all (λ (x : Attempt). nat_lt x.tick stop) xs ≡ true → filter (λ (x : Attempt). nat_lt x.tick stop) xs ≡ xs
