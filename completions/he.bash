@@ -13,7 +13,7 @@ _he() {
         order) options='--help -h' ;;
         explain) options='--help -h' ;;
         check) options='--help -h' ;;
-        live) options='--port --must-connect --help -h' ;;
+        live) options='--port --must-connect --verbose -v --help -h' ;;
         host) options='--help -h' ;;
         help) options=$commands ;;
     esac

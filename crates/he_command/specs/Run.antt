@@ -6,6 +6,7 @@ use Rattle.clap.specs.declared.error.kind.ErrorKind.{ErrorKind}
 use Rattle.clap.specs.declared.error.kind.ErrorKind.TheVariants as kinds
 use Rattle.he_check.specs.declared.fault.CheckFault.{CheckFault}
 use Rattle.he_check.specs.Stream.{Checks}
+use Rattle.he_live.specs.declared.failures.FailedAttempt.{FailedAttempt}
 use Rattle.he_live.specs.declared.fault.LiveFault.{LiveFault}
 use Rattle.he_live.specs.Live.{Lives}
 use Rattle.he_plan.specs.declared.transcript.Outcome3.{Outcome3}
@@ -53,7 +54,7 @@ pub record AnswersLine (kind : ErrorKind) (Whole Part : List ℕ → Type 0) (Ke
 abbrev pub IsRequest : Request → Type 0
 IsRequest (Action action) = HasWorkers action
 IsRequest Check = Unit {0}
-IsRequest (Live port must) = LEAST_PORT ≤ port
+IsRequest (Live port must verbose) = LEAST_PORT ≤ port
 IsRequest Host = Unit {0}
 
 -- what was asked for was done, and the status tells how that ended. Given, Taken, Ended, Failed and Put as `RunsAction` has
@@ -63,8 +64,8 @@ RunsRequest (Action action) Given Taken Ended Failed Put Whole Part Kept status 
     (result : Result (Unit {0}) ReplayFault) × RunsAction action Given Taken Ended Failed Put result × (status ≡ status_of result)
 RunsRequest Check Given Taken Ended Failed Put Whole Part Kept status =
     (result : Result (Unit {0}) CheckFault) × Checks Given Whole Part Kept result × (status ≡ status_of result)
-RunsRequest (Live port must) Given Taken Ended Failed Put Whole Part Kept status =
-    (result : Result Outcome3 LiveFault) × Lives Given Whole Part Kept result × (status ≡ status_of_live must result)
+RunsRequest (Live port must verbose) Given Taken Ended Failed Put Whole Part Kept status =
+    (result : Result Outcome3 LiveFault) × (failed : List FailedAttempt) × Lives Given Whole Part Kept failed result × (status ≡ status_of_live must result)
 RunsRequest Host Given Taken Ended Failed Put Whole Part Kept status = Shows Whole Part Kept status
 
 -- what comes of a line: what it asks for was done; or it asks for nothing that is done, and the input is Unread

@@ -13,11 +13,15 @@ use std::alloc::{AllocError, Global};
 pub enum Request {
     /// Something to do with the races of the input.
     Action(Action),
-    /// To check the input, and to explain its first fault.
+    /// To check the input, and to explain its first fault or to warn of its slips.
     Check,
     /// To run the race of the input on real sockets, each address at this port, 1 to 65,535. The status tells no
-    /// connection where `must_connect`.
-    Live { port: u16, must_connect: bool },
+    /// connection where `must_connect`, and standard error each attempt that failed where `verbose`.
+    Live {
+        port: u16,
+        must_connect: bool,
+        verbose: bool,
+    },
     /// To write the lines of this machine's addresses and routes.
     Host,
 }
@@ -31,7 +35,8 @@ const ORDER_ABOUT: &str = "Reads timelines of races and writes the order of thei
 
 const EXPLAIN_ABOUT: &str = "Reads timelines of races and writes why they went as they did";
 
-const CHECK_ABOUT: &str = "Checks timelines of races, and explains the first fault";
+const CHECK_ABOUT: &str =
+    "Checks timelines of races, and explains the first fault or warns of slips";
 
 const LIVE_ABOUT: &str = "Races real connections, and writes what happened and a record of it";
 
@@ -41,6 +46,9 @@ const PORT_HELP: &str = "The TCP port at which each address is connected to, 1 t
 
 const MUST_CONNECT_HELP: &str =
     "Ends with status 3 where no connection was made: the race was exhausted, or met its limit";
+
+const VERBOSE_HELP: &str =
+    "Tells on standard error each attempt that failed, and why, once the race has ended";
 
 const WORKERS_HELP: &str =
     "The most workers that share the races, 1 to 64; the output is the same for each number";
@@ -139,8 +147,10 @@ standard output has one line, as
 
   3 races, 27 lines
 
-Else standard output has nothing, and standard error the first fault: its line by number
-and by its text, a mark below what is wrong there, and what was expected.
+and standard error a warning of what is allowed and surely not meant, as a race without an
+`aaaa` line, which can't be exhausted. Else standard output has nothing, and standard error
+the first fault: its line by number and by its text, a mark below what is wrong there, and
+what was expected.
 
 Example input:
 
@@ -189,6 +199,18 @@ To keep the record, and to replay it:
 
   he live --port 8080 < race.txt | sed -n '/^race /,$p' > record.txt
   he replay < record.txt
+
+With -v standard error has a line for each attempt that failed, with the system's
+words, once the race has ended:
+
+  he: attempt 0 at 127.0.0.1 failed: connection refused
+
+An attempt that this host itself could not begin (no descriptor, no memory, no
+permission, no sockets of the address's family) is told as
+
+  he: attempt 0 at 127.0.0.1 could not begin: too many open files
+
+Without -v only the first of these is told. Neither changes the exit status.
 
 Exit status: 0 when all is done, whether a connection was made or not; 3 in place of
 that with --must-connect where none was made; 1 after a fault, with one line on
@@ -251,7 +273,8 @@ fn command<'a>(alloc: Global) -> Result<Command<'a>, AllocError> {
         .about(LIVE_ABOUT)
         .after_help(LIVE_EXAMPLE)
         .arg(port(alloc))?
-        .arg(must_connect(alloc))?;
+        .arg(must_connect(alloc))?
+        .arg(verbose(alloc))?;
     let host = Command::new(alloc, "host")
         .about(HOST_ABOUT)
         .after_help(HOST_EXAMPLE);
@@ -287,6 +310,15 @@ fn must_connect<'a>(alloc: Global) -> Arg<'a> {
         .help(MUST_CONNECT_HELP)
 }
 
+// Whether `he live` tells each attempt that failed.
+fn verbose<'a>(alloc: Global) -> Arg<'a> {
+    Arg::new(alloc, "verbose")
+        .short('v')
+        .long("verbose")
+        .action(ArgAction::SetTrue)
+        .help(VERBOSE_HELP)
+}
+
 /// Reads the words of a command line, of which the first is the program's name.
 ///
 /// # Errors
@@ -303,6 +335,7 @@ pub fn read_words<'a>(alloc: Global, words: &'a [&'a str]) -> Result<Request, Er
         Some(("live", live)) => Request::Live {
             port: port_of(live),
             must_connect: live.get_flag("must-connect"),
+            verbose: live.get_flag("verbose"),
         },
         Some(("host", _)) => Request::Host,
         Some((_, replay)) => Request::Action(Action::Replay {

@@ -11,13 +11,14 @@ use clap::Error;
 use clap::error::ErrorKind;
 use he_check::check;
 use he_host::machine::write_machine;
-use he_live::{LiveFault, live};
+use he_live::{FailedAttempt, LiveFault, first_local, live, write_failures};
 use he_plan::Outcome3;
 use he_replay::{ReplayFault, run_action};
 use he_stream::{InputStream, OutputStream, write_whole};
 use std::alloc::{AllocGlobal, Global};
 use std::fmt::Display;
 use std::io::Write;
+use std::mem::drop;
 use std::net::Net;
 use std::random::RandomSource;
 use std::rt::Files;
@@ -122,14 +123,22 @@ where
             report_end(run_action(rt, alloc, action, input, output), faults)
         }
         Request::Check => run_check(alloc, input, output, faults),
-        Request::Live { port, must_connect } => {
-            report_race(live(rt, alloc, input, output, port), must_connect, faults)
+        Request::Live {
+            port,
+            must_connect,
+            verbose,
+        } => {
+            let mut failed = Vec::new(alloc);
+            let end = live(rt, alloc, input, output, port, &mut failed);
+            report_failures(alloc, &failed, verbose, faults);
+            drop(failed);
+            report_race(end, must_connect, faults)
         }
         Request::Host => run_host(rt, alloc, output, faults),
     }
 }
 
-// Checks the input, and explains its first fault behind the line that tells it.
+// Checks the input, and explains its first fault behind the line that tells it, or warns of its slips.
 fn run_check<I: InputStream, O: OutputStream, F: Write>(
     alloc: Global,
     input: &mut I,
@@ -229,6 +238,19 @@ fn report_end<E: Display + Drop, F: Write>(end: Result<(), E>, faults: &mut F) -
     match end {
         Ok(()) => DONE,
         Err(fault) => report(fault, faults),
+    }
+}
+
+// Says which attempts of a live race failed, and why: all, or the first that this host itself could not begin.
+fn report_failures<F: Write>(alloc: Global, failed: &[FailedAttempt], all: bool, faults: &mut F) {
+    let mut text = Vec::new(alloc);
+    let written = if all {
+        write_failures(failed, &mut text)
+    } else {
+        write_failures(first_local(failed).as_slice(), &mut text)
+    };
+    if written.is_ok() {
+        let _ = faults.write_all(text.as_slice());
     }
 }
 

@@ -1,9 +1,8 @@
 //! Why a live race gave nothing.
 ghost use Rattle.std.specs.Prelude.{◌≡◌};
-ghost use Rattle.he_live.specs.declared.fault.LiveFault.TheVariants.{Memory, Write};
+ghost use Rattle.he_live.specs.declared.fault.LiveFault.TheVariants.{Memory};
 ghost use Rattle.he_live.specs.Live.{IsRunFault, fault_of_input};
 
-use he_stream::WriteFault;
 use he_text::{InputFault, NotOneRace, TextFault};
 use std::alloc::AllocError;
 use std::io;
@@ -56,14 +55,6 @@ impl From<io::Error> for LiveFault {
             io::ErrorKind::OutOfMemory => LiveFault::Memory,
             _ => LiveFault::Runtime,
         }
-    }
-}
-
-impl From<WriteFault> for LiveFault {
-    ghost from_gives = { λ _ fault. fault ≡ Write };
-
-    fn from(_fault: WriteFault) -> LiveFault {
-        LiveFault::Write
     }
 }
 

@@ -1,19 +1,20 @@
 //! A race on real sockets.
 ghost use Rattle.std.specs.Prelude.{IfErr, IfOk};
+ghost use Rattle.he_race.specs.Resolving.{ReplaysGiven};
 ghost use Rattle.he_race.specs.Turns.{Replays};
 ghost use Rattle.he_live.specs.Live.{IsRunFault};
 
 use crate::clock::LiveTicker;
 use crate::fault::LiveFault;
 use crate::sockets::TcpConnector;
+use crate::steps::{Quiet, Steps, Watcher};
 use he_plan::Timeline;
-use he_race::{RaceFault, RaceFuture, Raced};
+use he_race::{AnswerSource, RaceFault, RaceFuture, Raced, ResolvingRace};
 use std::alloc::{AllocGlobal, Allocator, Global};
-use std::net::Net;
+use std::net::{Net, TcpStream};
 use std::random::RandomSource;
 use std::sync::Wait;
 use std::time::{Clock, Instant};
-use tokio::net::TcpStream;
 use tokio::runtime::LocalRuntime;
 
 /// Races the addresses of the timeline's answers at the port, each connected to by TCP when the rules of a race say so
@@ -22,11 +23,10 @@ use tokio::runtime::LocalRuntime;
 /// A tick is a millisecond since the call. An answer counts as come at its tick; one that is there already has tick 0.
 /// Of the timeline its settings, policy, host, answers and what is known of addresses from earlier are looked at alone:
 /// what each address does, and where the client was late, is what the record says. Replayed, the record gives the
-/// transcript.
+/// transcript. What happens to attempts is noted in `steps`, which is new for each race.
 ///
-/// The losers are closed before the call returns. The winner's stream belongs to an event loop that has ended: it is
-/// non-blocking, and its calls of `try_read`, `try_write`, `peer_addr` and such serve. A program that wants to wait
-/// for it keeps an event loop of its own, and calls [`live_race_on`].
+/// The losers are closed before the call returns. The winner's stream is the caller's as if `TcpStream::connect` had
+/// made it: its reads and writes wait.
 ///
 /// # Errors
 ///
@@ -40,6 +40,7 @@ pub fn live_race<R, A>(
     alloc: Global,
     timeline: &Timeline<A>,
     port: u16,
+    steps: &Steps,
 ) -> Result<Raced<TcpStream>, LiveFault>
 where
     R: Wait + Clock + RandomSource + AllocGlobal + Net,
@@ -50,11 +51,10 @@ where
     // The timers count milliseconds from when the event loop is made, so a start just before makes both tick as one.
     let start = Instant::now(rt)?;
     let mut runtime = LocalRuntime::new(rt)?;
-    race_from(start, rt, alloc, &mut runtime, timeline, port)
+    race_from(start, rt, alloc, &mut runtime, timeline, port, steps)
 }
 
-/// The same over an event loop of the caller's, to which the winner's stream belongs: it can be read and written there
-/// as any other.
+/// The same over an event loop of the caller's.
 ///
 /// # Errors
 ///
@@ -65,6 +65,7 @@ pub fn live_race_on<R, A>(
     runtime: &mut LocalRuntime,
     timeline: &Timeline<A>,
     port: u16,
+    steps: &Steps,
 ) -> Result<Raced<TcpStream>, LiveFault>
 where
     R: Wait + Clock + RandomSource + AllocGlobal + Net,
@@ -73,7 +74,7 @@ where
     ensures fault { IfErr result IsRunFault }
 {
     let start = Instant::now(rt)?;
-    race_from(start, rt, alloc, runtime, timeline, port)
+    race_from(start, rt, alloc, runtime, timeline, port, steps)
 }
 
 // The race of which `start` is tick 0.
@@ -84,6 +85,7 @@ fn race_from<R, A>(
     runtime: &mut LocalRuntime,
     timeline: &Timeline<A>,
     port: u16,
+    steps: &Steps,
 ) -> Result<Raced<TcpStream>, LiveFault>
 where
     R: Wait + Clock + RandomSource + AllocGlobal + Net,
@@ -93,12 +95,58 @@ where
 {
     // A handle of its own, since the run borrows the event loop.
     let handle = runtime.handle().clone()?;
-    let connector = TcpConnector::new(rt, handle.reactor(), port);
-    let ticker = LiveTicker::new(rt, handle.time(), start);
+    let connector = TcpConnector::new(rt, handle.reactor(), port, steps.share()?);
+    let ticker = LiveTicker::new(rt, handle.time(), start, steps, &Quiet);
     let race = RaceFuture::new(alloc, timeline, connector, ticker)?;
     match runtime.block_on(rt, race)? {
         Ok(raced) => Ok(raced),
-        Err(RaceFault::Memory) => Err(LiveFault::Memory),
-        Err(_) => Err(LiveFault::Runtime),
+        Err(fault) => Err(fault_of(fault)),
+    }
+}
+
+/// The same where answers come while the race runs (RFC 8305 section 3): a family that has no answer in the timeline is
+/// the source's to answer. What the source tells counts as come at the tick of the turn in which it does, and stands so
+/// in the record. A source that waits for sockets or timers has those of this event loop. The watcher is told each step.
+///
+/// # Errors
+///
+/// As those of [`live_race`].
+pub fn resolving_race_on<R, A, S, W>(
+    rt: &R,
+    alloc: Global,
+    runtime: &mut LocalRuntime,
+    timeline: &Timeline<A>,
+    source: S,
+    port: u16,
+    steps: &Steps,
+    watcher: &W,
+) -> Result<Raced<TcpStream>, LiveFault>
+where
+    R: Wait + Clock + RandomSource + AllocGlobal + Net,
+    A: Allocator,
+    S: AnswerSource,
+    W: Watcher,
+    ensures replays { IfOk result (ReplaysGiven timeline.now) }
+    ensures fault { IfErr result IsRunFault }
+{
+    let start = Instant::now(rt)?;
+    let handle = runtime.handle().clone()?;
+    let connector = TcpConnector::new(rt, handle.reactor(), port, steps.share()?);
+    let ticker = LiveTicker::new(rt, handle.time(), start, steps, watcher);
+    let race = ResolvingRace::new(alloc, timeline, connector, source, ticker)?;
+    let ended = runtime.block_on(rt, race);
+    steps.tell_new(watcher);
+    match ended? {
+        Ok(raced) => Ok(raced),
+        Err(fault) => Err(fault_of(fault)),
+    }
+}
+
+fn fault_of(fault: RaceFault) -> LiveFault
+    ensures { IsRunFault result }
+{
+    match fault {
+        RaceFault::Memory => LiveFault::Memory,
+        _ => LiveFault::Runtime,
     }
 }

@@ -3,29 +3,31 @@ ghost use Rattle.std.specs.Prelude.{◌≡◌, ◌++◌, IfErr, IfOk};
 ghost use Rattle.he_stream.specs.Input.{Gives};
 ghost use Rattle.he_stream.specs.Output.{PutsPart, PutsWhole};
 ghost use Rattle.he_text.specs.Written.{timeline_text, transcript_text};
-ghost use Rattle.he_live.specs.Live.{IsLiveText, IsRunFault, Lives};
-ghost use Rattle.he_live.specs.Reading.{ReadsOne};
+ghost use Rattle.he_live.specs.Live.{IsLiveText, IsRunFault, KeepsFailed, Lives};
+ghost use Rattle.he_live.specs.Reading.{IsTold, ReadsOne};
 
+use crate::failures::{FailedAttempt, failed_attempts};
 use crate::fault::LiveFault;
 use crate::racing::live_race;
+use crate::steps::Steps;
 use he_plan::{Outcome3, Timeline};
 use he_race::Raced;
 use he_stream::{InputStream, OutputStream, take_input, write_whole};
 use he_text::{NotOneRace, read_one_race, write_timeline, write_transcript};
 use std::alloc::{AllocGlobal, Global};
 use std::mem::drop;
-use std::net::Net;
+use std::net::{Net, TcpStream};
 use std::random::RandomSource;
 use std::sync::Wait;
 use std::time::Clock;
-use tokio::net::TcpStream;
 
 /// Reads one race to the end of the input, runs it on real sockets at the port ([`live_race`]), and writes its
 /// transcript and then its record, a timeline that replays to this transcript. Answers how the race ended.
 ///
 /// Of the input's race the settings, policy, host, answers and what is known of addresses from earlier are looked at
 /// alone. The whole output is made before the first byte of it is written: after `Write` a first part was written,
-/// after any other fault nothing. It is flushed at the end.
+/// after any other fault nothing. It is flushed at the end. Where the race was run, also if it could not be written,
+/// `failed` is then its attempts that failed, by place, with why; else it is as it was.
 ///
 /// # Errors
 ///
@@ -42,21 +44,26 @@ pub fn live<R, I, O>(
     input: &mut I,
     output: &mut O,
     port: u16,
+    failed: &mut Vec<FailedAttempt>,
 ) -> Result<Outcome3, LiveFault>
 where
     R: Wait + Clock + RandomSource + AllocGlobal + Net,
     I: InputStream,
     O: OutputStream,
-    ensures { Lives (Gives I.remaining I.takes input.old input.new)
+    ensures done { Lives (Gives I.remaining I.takes input.old input.new)
         (PutsWhole O.contents O.puts O.flushes output.old output.new)
-        (PutsPart O.contents O.puts O.flushes output.old output.new) (output.new ≡ output.old) result }
+        (PutsPart O.contents O.puts O.flushes output.old output.new) (output.new ≡ output.old) failed.new.items result }
+    ensures quiet { KeepsFailed failed.old.items failed.new.items result }
 {
     let timeline = take_race(alloc, input)?;
     let told = race_text(rt, alloc, &timeline, port);
     drop(timeline);
-    let (text, ended) = told?;
-    write_whole(output, text.as_slice())?;
-    Ok(ended)
+    let told = told?;
+    *failed = told.failed;
+    match write_whole(output, told.text.as_slice()) {
+        Ok(()) => Ok(told.ended),
+        Err(_) => Err(LiveFault::Write),
+    }
 }
 
 // Reads the race of an input to its end.
@@ -69,23 +76,37 @@ fn take_race<I: InputStream>(alloc: Global, input: &mut I) -> Result<Timeline, N
     }
 }
 
-// Runs the race, and answers what is written of it, and how it ended.
-fn race_text<R>(
-    rt: &R,
-    alloc: Global,
-    timeline: &Timeline,
-    port: u16,
-) -> Result<(Vec<u8>, Outcome3), LiveFault>
+// What is told of a race: the transcript and the record, the attempts that failed, and how it ended.
+#[derive(Drop)]
+struct Told {
+    text: Vec<u8>,
+    failed: Vec<FailedAttempt>,
+    ended: Outcome3,
+}
+
+// Runs the race, and answers what is told of it.
+fn race_text<R>(rt: &R, alloc: Global, timeline: &Timeline, port: u16) -> Result<Told, LiveFault>
 where
     R: Wait + Clock + RandomSource + AllocGlobal + Net,
-    ensures text { IfOk result (λ told. IsLiveText timeline.now told.0.items told.1) }
+    ensures text { IfOk result (λ told. IsLiveText timeline.now told.text.items told.failed.items told.ended) }
     ensures fault { IfErr result IsRunFault }
 {
-    let raced = live_race(rt, alloc, timeline, port)?;
-    let ended = raced.transcript.result();
-    let text = raced_text(alloc, &raced);
+    let steps = Steps::new(alloc)?;
+    let raced = live_race(rt, alloc, timeline, port, &steps)?;
+    let told = tell_race(alloc, &raced, &steps);
     drop(raced);
-    Ok((text?, ended))
+    told
+}
+
+fn tell_race(alloc: Global, raced: &Raced<TcpStream>, steps: &Steps) -> Result<Told, LiveFault>
+    ensures text { IfOk result (λ told. IsTold raced.now.transcript raced.now.recorded told) }
+    ensures fault { IfErr result IsRunFault }
+{
+    Ok(Told {
+        text: raced_text(alloc, raced)?,
+        failed: failed_attempts(alloc, raced.transcript.attempts(), steps)?,
+        ended: raced.transcript.result(),
+    })
 }
 
 // The transcript and then the record.

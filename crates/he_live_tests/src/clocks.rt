@@ -1,6 +1,6 @@
 // Races whose clock fails on the way.
 
-use he_live::{LiveFault, live_race};
+use he_live::{LiveFault, Steps, live_race};
 use he_plan::{Outcome3, Timeline};
 use he_text::read_one_race;
 use std::alloc::{Alloc, AllocGlobal, Global};
@@ -87,7 +87,9 @@ fn ends_at_limit<R>(rt: &R, timeline: &Timeline) -> Result<bool, LiveFault>
 where
     R: Wait + Clock + RandomSource + AllocGlobal + Net,
 {
-    let raced = live_race(rt, rt.alloc(), timeline, 1)?;
+    let steps = Steps::new(rt.alloc())?;
+    let raced = live_race(rt, rt.alloc(), timeline, 1, &steps)?;
+    drop(steps);
     let is_limit = is_limit(raced.transcript.result());
     drop(raced);
     Ok(is_limit)

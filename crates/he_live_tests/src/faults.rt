@@ -1,7 +1,7 @@
 // What each fault leaves, and what is written of a race that is read and run.
 
-use crate::homes::{Lender, ONE, REFUSED, race_on};
-use he_live::{LiveFault, live};
+use crate::homes::{Lender, ONE, REFUSED, Wanted, race_on};
+use he_live::{LiveFault, Reason, live};
 use he_stream::{FromReader, ToWriter};
 use he_text::{TextFault, TextKind};
 use std::fs::File;
@@ -108,7 +108,9 @@ fn is_right<R: Lender + Net>(rt: &R, row: &Row) -> bool {
     };
     let mut input = FromReader::new(reader);
     let mut output = ToWriter::new(writer);
-    let told = live(rt, rt.alloc(), &mut input, &mut output, 1);
+    let mut failed = Vec::new(rt.alloc());
+    let told = live(rt, rt.alloc(), &mut input, &mut output, 1, &mut failed);
+    drop(failed);
     let held = output.writer().held();
     let is_written = held.starts_with(begins) && held.len() <= *most;
     drop(input);
@@ -139,6 +141,12 @@ fn used_up(rt: &HostRuntime) -> Result<Option<Vec<File>>, Fail> {
 // Where no event loop can be made, `live` says so, and writes nothing.
 const NO_RUNTIME: Row = (EXHAUSTED, Streams::Whole, Err(LiveFault::Runtime), b"", 0);
 
+// An attempt that gets no descriptor.
+const NOT_BEGUN: Wanted<'static> = Wanted {
+    reason: Reason::TooManyFiles,
+    ..REFUSED
+};
+
 #[test]
 fn without_descriptors_attempts_fail(rt: HostRuntime) -> Result<(), Fail> {
     let mut runtime = LocalRuntime::new(&rt)?;
@@ -146,7 +154,7 @@ fn without_descriptors_attempts_fail(rt: HostRuntime) -> Result<(), Fail> {
         println!(rt; "this process may open more descriptors than the test does: not run")?;
         return Ok(());
     };
-    let is_failed = race_on(&rt, &mut runtime, ONE, 1, &REFUSED)?;
+    let is_failed = race_on(&rt, &mut runtime, ONE, 1, &NOT_BEGUN)?;
     let is_told = is_right(&rt, &NO_RUNTIME);
     drop(files);
     drop(runtime);

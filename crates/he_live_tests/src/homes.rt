@@ -1,6 +1,6 @@
 // Races on real sockets, and what is wanted of them.
 
-use he_live::{LiveFault, live_race, live_race_on};
+use he_live::{LiveFault, Reason, Steps, live_race, live_race_on};
 use he_plan::{Mark, Outcome3, Transcript};
 use he_race::Raced;
 use he_replay::replay;
@@ -8,7 +8,7 @@ use he_stream::{FromReader, ToWriter};
 use he_text::{read_one_race, write_timeline, write_transcript};
 use std::alloc::AllocGlobal;
 use std::mem::drop;
-use std::net::Net;
+use std::net::{IpAddr, Ipv4Addr, Net, SocketAddr, TcpListener, TcpStream};
 use std::random::RandomSource;
 use std::sync::Wait;
 use std::test::Fail;
@@ -16,7 +16,6 @@ use std::thread::Threads;
 use std::time::Clock;
 use std::{fs, io};
 use stream_fakes::FakeReader;
-use tokio::net::TcpStream;
 use tokio::runtime::LocalRuntime;
 
 /// What races and their replays are lent, beside the network.
@@ -47,6 +46,8 @@ pub struct Wanted<'a> {
     pub attempts: &'a [(u64, End)],
     pub result: Result3,
     pub least: u64,
+    // why each attempt that fails does so
+    pub reason: Reason,
 }
 
 fn end_of(mark: Mark) -> End {
@@ -90,7 +91,8 @@ pub fn replays<R: Lender>(rt: &R, transcript: &[u8], record: &[u8]) -> Result<bo
     Ok(is_same)
 }
 
-fn is_right<R: Lender>(
+/// Whether the race came to what is wanted, and its record replays.
+pub fn is_right<R: Lender>(
     rt: &R,
     raced: &Raced<TcpStream>,
     wanted: &Wanted<'_>,
@@ -107,11 +109,24 @@ fn is_right_of<R: Lender>(
     rt: &R,
     raced: Result<Raced<TcpStream>, LiveFault>,
     wanted: &Wanted<'_>,
+    steps: &Steps,
 ) -> Result<bool, Fail> {
     let raced = raced?;
     let is_right = is_right(rt, &raced, wanted);
+    let is_told = is_told(&raced.transcript, wanted.reason, steps);
     drop(raced);
-    is_right
+    Ok(is_right? && is_told)
+}
+
+/// Whether each attempt that failed did so for this reason.
+pub fn is_told(transcript: &Transcript, wanted: Reason, steps: &Steps) -> bool {
+    let mut is_told = true;
+    for line in transcript.attempts() {
+        if let Mark::Failed(_) = line.mark {
+            is_told = is_told && steps.reason_of(line.place) == wanted;
+        }
+    }
+    is_told
 }
 
 /// Whether the race comes to what is wanted at the port, and its record replays.
@@ -122,9 +137,10 @@ pub fn race<R: Lender + Net>(
     wanted: &Wanted<'_>,
 ) -> Result<bool, Fail> {
     let timeline = read_one_race(rt.alloc(), text, false)?;
-    let raced = live_race(rt, rt.alloc(), &timeline, port);
+    let steps = Steps::new(rt.alloc())?;
+    let raced = live_race(rt, rt.alloc(), &timeline, port, &steps);
     drop(timeline);
-    is_right_of(rt, raced, wanted)
+    is_right_of(rt, raced, wanted, &steps)
 }
 
 /// The same over an event loop that was made before.
@@ -136,9 +152,10 @@ pub fn race_on<R: Lender + Net>(
     wanted: &Wanted<'_>,
 ) -> Result<bool, Fail> {
     let timeline = read_one_race(rt.alloc(), text, false)?;
-    let raced = live_race_on(rt, rt.alloc(), runtime, &timeline, port);
+    let steps = Steps::new(rt.alloc())?;
+    let raced = live_race_on(rt, rt.alloc(), runtime, &timeline, port, &steps);
     drop(timeline);
-    is_right_of(rt, raced, wanted)
+    is_right_of(rt, raced, wanted, &steps)
 }
 
 /// A host with a source and a route of loopback, and an address of it that is known at once.
@@ -154,7 +171,28 @@ pub const REFUSED: Wanted<'static> = Wanted {
     attempts: &[(0, End::Failed)],
     result: Result3::Exhausted,
     least: 0,
+    reason: Reason::Refused,
 };
+
+/// A listener at the address, at a free port where none is given, and its port.
+pub fn listen<R: Lender + Net<Listener = TcpListener, Stream = TcpStream>>(
+    rt: &R,
+    ip: IpAddr,
+    port: u16,
+) -> Result<(TcpListener, u16), Fail> {
+    let listener = TcpListener::bind(rt, SocketAddr::new(ip, port))?;
+    let port = listener.local_addr()?.port();
+    Ok((listener, port))
+}
+
+/// A port at which nobody listens.
+pub fn free_port<R: Lender + Net<Listener = TcpListener, Stream = TcpStream>>(
+    rt: &R,
+) -> Result<u16, Fail> {
+    let (listener, port) = listen(rt, IpAddr::V4(Ipv4Addr::LOCALHOST), 0)?;
+    drop(listener);
+    Ok(port)
+}
 
 /// How many descriptors the process has.
 pub fn descriptors(rt: &HostRuntime) -> io::Result<usize> {

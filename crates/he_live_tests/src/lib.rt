@@ -1,6 +1,6 @@
 //! Tests of `he_live` on real sockets, of loopback alone: what races come to with servers that listen, refuse or stay
-//! silent, that their records replay, that no socket of a race is left, what each fault leaves, and what a clock that
-//! fails comes to.
+//! silent, or whose addresses come while they run, that their records replay, that no socket of a race is left but the
+//! winner's, what each fault leaves, and what a clock that fails comes to.
 #![tactic(auto)]
 
 #[cfg(test)]
@@ -11,3 +11,5 @@ mod faults;
 mod homes;
 #[cfg(test)]
 mod races;
+#[cfg(test)]
+mod resolving;

@@ -1,7 +1,10 @@
 // Races against servers on loopback.
 
-use crate::homes::{End, Lender, ONE, REFUSED, Result3, Wanted, descriptors, race, replays};
-use he_live::live;
+use crate::homes::{
+    End, Lender, ONE, REFUSED, Result3, Wanted, descriptors, free_port, listen, race, replays,
+};
+use he_addr::Ip;
+use he_live::{FailedAttempt, Reason, live};
 use he_plan::Outcome3;
 use he_stream::{FromReader, ToWriter};
 use std::io::Read;
@@ -57,61 +60,47 @@ const WON: Wanted<'static> = Wanted {
     attempts: &[(0, End::Won)],
     result: Result3::Won(0),
     least: 0,
+    reason: Reason::Refused,
 };
 
 const SECOND_WON: Wanted<'static> = Wanted {
     attempts: &[(0, End::Failed), (20, End::Won)],
     result: Result3::Won(1),
     least: 20,
+    reason: Reason::Refused,
 };
 
 const BOTH_REFUSED: Wanted<'static> = Wanted {
     attempts: &[(0, End::Failed), (20, End::Failed)],
     result: Result3::Exhausted,
     least: 20,
+    reason: Reason::Refused,
 };
 
 const LEFT_BEHIND: Wanted<'static> = Wanted {
     attempts: &[(0, End::Cancelled), (100, End::Won)],
     result: Result3::Won(1),
     least: 100,
+    reason: Reason::Refused,
 };
 
 const CUT_OFF: Wanted<'static> = Wanted {
     attempts: &[(0, End::Cancelled)],
     result: Result3::Limit,
     least: 300,
+    reason: Reason::Refused,
 };
 
 const NOBODY: Wanted<'static> = Wanted {
     attempts: &[],
     result: Result3::Limit,
     least: 300,
+    reason: Reason::Refused,
 };
 
 // The address of the server that is silent: its listener's queue is full.
 fn dead_ip() -> IpAddr {
     IpAddr::V4(Ipv4Addr::new(127, 0, 0, 2))
-}
-
-// A listener at the address, at a free port where none is given, and its port.
-fn listen<R: Lender + Net<Listener = TcpListener, Stream = StdStream>>(
-    rt: &R,
-    ip: IpAddr,
-    port: u16,
-) -> Result<(TcpListener, u16), Fail> {
-    let listener = TcpListener::bind(rt, SocketAddr::new(ip, port))?;
-    let port = listener.local_addr()?.port();
-    Ok((listener, port))
-}
-
-// A port at which nobody listens.
-fn free_port<R: Lender + Net<Listener = TcpListener, Stream = StdStream>>(
-    rt: &R,
-) -> Result<u16, Fail> {
-    let (listener, port) = listen(rt, IpAddr::V4(OPEN), 0)?;
-    drop(listener);
-    Ok(port)
 }
 
 fn races_with_a_listener<R: Lender + Net<Listener = TcpListener, Stream = StdStream>>(
@@ -221,6 +210,13 @@ fn a_hundred_races_leave_no_socket(rt: HostRuntime) -> Result<(), Fail> {
     Ok(())
 }
 
+// The failure at a port at which nobody listens.
+const FIRST_REFUSED: FailedAttempt = FailedAttempt {
+    place: 0,
+    ip: Ip::V4(0x7f00_0001),
+    reason: Reason::Refused,
+};
+
 // Whether `live` tells that the race was won where it is to be, and writes a transcript with an attempt, and a record that
 // replays to it.
 fn is_told<R: Lender + Net<Listener = TcpListener, Stream = StdStream>>(
@@ -230,9 +226,18 @@ fn is_told<R: Lender + Net<Listener = TcpListener, Stream = StdStream>>(
 ) -> Result<bool, Fail> {
     let mut input = FromReader::new(FakeReader::new(ONE, 7));
     let mut output = ToWriter::new(Vec::new(rt.alloc()));
-    let ended = live(rt, rt.alloc(), &mut input, &mut output, port)?;
-    let is_won = matches!(ended, Outcome3::Won(..));
-    Ok(is_won == wins && is_recorded(rt, output.writer(), b"attempt 0 ")?)
+    let mut failed = Vec::new(rt.alloc());
+    let ended = live(rt, rt.alloc(), &mut input, &mut output, port, &mut failed);
+    let is_one = failed.as_slice() == [FIRST_REFUSED].as_slice();
+    let is_none = failed.is_empty();
+    drop(failed);
+    let is_won = matches!(ended?, Outcome3::Won(..));
+    let is_told = if wins {
+        is_won && is_none
+    } else {
+        !is_won && is_one
+    };
+    Ok(is_told && is_recorded(rt, output.writer(), b"attempt 0 ")?)
 }
 
 fn is_recorded<R: Lender>(rt: &R, written: &[u8], begins: &[u8]) -> Result<bool, Fail> {

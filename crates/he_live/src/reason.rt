@@ -1,0 +1,106 @@
+//! Why attempts of a live race failed, in the system's words.
+ghost use Rattle.std.specs.Prelude.{◌≡◌};
+ghost use Rattle.he_live.specs.Reasons.{is_local, reason_of, reason_of_number, words_of};
+
+use std::io;
+
+/// Why an attempt failed, as the system tells it.
+#[derive(Clone, Copy, Debug, PartialEq, Eq)]
+pub enum Reason {
+    Refused,
+    Reset,
+    Aborted,
+    TimedOut,
+    /// No route to the host.
+    NoRoute,
+    NetworkUnreachable,
+    NetworkDown,
+    /// The host has no address or no port for the connection.
+    AddressNotAvailable,
+    /// The host has no sockets of the address's family.
+    NoFamily,
+    /// The process has no descriptor left.
+    TooManyFiles,
+    /// The system has no descriptor left.
+    TooManyFilesInSystem,
+    OutOfMemory,
+    NoBuffers,
+    NotPermitted,
+    /// Another one, by the system's number; 0 where it has none.
+    Other(u32),
+}
+
+impl Reason {
+    /// Why an attempt failed with this error.
+    pub fn of(error: &io::Error) -> Reason
+        ensures { result ≡ reason_of error.now }
+    {
+        match (error.raw_os_error(), error.kind()) {
+            (Some(number), _) => Reason::of_number(number.unsigned_abs()),
+            (None, io::ErrorKind::OutOfMemory) => Reason::OutOfMemory,
+            (None, _) => Reason::Other(0),
+        }
+    }
+
+    // By Linux's number of an error, on x86-64 and aarch64.
+    fn of_number(number: u32) -> Reason
+        ensures { result ≡ reason_of_number number }
+    {
+        match number {
+            1 | 13 => Reason::NotPermitted,
+            12 => Reason::OutOfMemory,
+            23 => Reason::TooManyFilesInSystem,
+            24 => Reason::TooManyFiles,
+            97 => Reason::NoFamily,
+            99 => Reason::AddressNotAvailable,
+            100 => Reason::NetworkDown,
+            101 => Reason::NetworkUnreachable,
+            103 => Reason::Aborted,
+            104 => Reason::Reset,
+            105 => Reason::NoBuffers,
+            110 => Reason::TimedOut,
+            111 => Reason::Refused,
+            113 => Reason::NoRoute,
+            _ => Reason::Other(number),
+        }
+    }
+
+    /// Whether the host could make no socket, which says nothing of the address: no descriptor, no memory, no
+    /// permission, or no sockets of the family.
+    pub fn is_local(self) -> bool
+        ensures { result ≡ is_local self }
+    {
+        matches!(
+            self,
+            Reason::NoFamily
+                | Reason::TooManyFiles
+                | Reason::TooManyFilesInSystem
+                | Reason::OutOfMemory
+                | Reason::NoBuffers
+                | Reason::NotPermitted
+        )
+    }
+
+    /// The words for it, without the number of another one.
+    pub fn words(self) -> &'static [u8]
+        ensures { result.now ≡ words_of self }
+    {
+        match self {
+            Reason::Refused => b"connection refused",
+            Reason::Reset => b"connection reset",
+            Reason::Aborted => b"connection aborted",
+            Reason::TimedOut => b"timed out",
+            Reason::NoRoute => b"no route to host",
+            Reason::NetworkUnreachable => b"network unreachable",
+            Reason::NetworkDown => b"network down",
+            Reason::AddressNotAvailable => b"address not available",
+            Reason::NoFamily => b"address family not supported",
+            Reason::TooManyFiles => b"too many open files",
+            Reason::TooManyFilesInSystem => b"too many open files in system",
+            Reason::OutOfMemory => b"out of memory",
+            Reason::NoBuffers => b"no buffer space",
+            Reason::NotPermitted => b"permission denied",
+            Reason::Other(_) => b"system error ",
+        }
+    }
+}
