@@ -1,10 +1,11 @@
 -- What a connection that is asked for did.
-use Rattle.std.specs.Prelude.{ℕ, ◌≡◌, ⊤, List, Bool, true, false, is_some, Option, Result, Ok, Err}
+use Rattle.std.specs.Prelude.{ℕ, ◌≡◌, ◌⊎◌, List, Bool, true, false, Result, Ok, Err}
 use Rattle.he_plan.specs.Race.{Race}
 use Rattle.he_plan.specs.Settings.{SettingValues}
 use Rattle.he_plan.specs.Transcript.{IsTranscript, Report}
 use Rattle.he_race.specs.Recording.{is_won}
 use Rattle.he_race.specs.Resolving.{KeepsGiven}
+use Rattle.he_relay.specs.declared.fault.RelayFault.{RelayFault}
 use Rattle.he_relay.specs.Relays.{Relays}
 use Rattle.he_text.specs.Written.{timeline_text}
 use Rattle.he_connect.specs.declared.asked.Families.{Families}
@@ -45,5 +46,5 @@ abbrev pub Connects : (Bool → Type 0) → (List ℕ → Type 0) → (List ℕ 
 Connects RanTo Put PutPart Kept (Ok ends.Relayed) = RanTo true × (bytes : List ℕ) × Put bytes
 Connects RanTo Put PutPart Kept (Ok ends.Connected) = RanTo true × Kept
 Connects RanTo Put PutPart Kept (Ok ends.NoConnection) = RanTo false × Kept
-Connects RanTo Put PutPart Kept (Err (faults.Relay fault)) = RanTo true × Relays Put PutPart Kept (Err fault)
-Connects RanTo Put PutPart Kept (Err fault) = Kept
+Connects RanTo Put PutPart Kept (Err fault) =
+    (IsBefore fault × Kept) ⊎ ((broken : RelayFault) × (fault ≡ faults.Relay broken) × RanTo true × Relays Put PutPart Kept (Err broken))

@@ -60,7 +60,7 @@ where
     let run = run_race(rt, alloc, asked, faults)?;
     let _ = faults.write_all(run.told.as_slice());
     if let Some(path) = asked.record {
-        write_record(rt, path, run.record.as_slice())?;
+        write_record(rt, path, run.text.as_slice())?;
     }
     end_with(rt, alloc, asked.only_tries, run, input, output)
 }

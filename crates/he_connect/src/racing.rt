@@ -31,7 +31,7 @@ use tokio::runtime::{Handle, LocalRuntime};
 #[derive(Drop)]
 pub(crate) struct Run {
     /// The text of its record.
-    pub record: Vec<u8>,
+    pub text: Vec<u8>,
     /// What is told of it: its explanation, where that is asked for, and where nothing connected what was tried.
     pub told: Vec<u8>,
     /// Why there was no address to connect to, where a look-up found none.
@@ -43,11 +43,12 @@ pub(crate) struct Run {
 // The texts of a race that was run.
 #[derive(Drop)]
 struct Texts {
-    record: Vec<u8>,
+    text: Vec<u8>,
     told: Vec<u8>,
 }
 
 /// Runs the race that is asked for. Each step is told to `faults` as it happens, where that is asked for.
+#[tactic(auto, using(crate::proofs::Runs::began_so))]
 pub(crate) fn run_race<R, F>(
     rt: &R,
     alloc: Global,
@@ -58,7 +59,7 @@ where
     F: Write,
     R: Threads + Wait + Clock + RandomSource + AllocGlobal + Net + Files + Sync,
     R: SystemResolver + Copy + Send + 'static,
-    ensures run { IfOk result (λ run. IsRun asked.now.settings asked.now.families run.record.items (is_some run.winner)) }
+    ensures run { IfOk result (λ run. IsRun asked.now.settings asked.now.families run.text.items (is_some run.winner)) }
     ensures fault { IfErr result IsBefore }
 {
     let lines = read_lines_of(rt, alloc, asked.lines)?;
@@ -69,6 +70,7 @@ where
 }
 
 // Runs the race that begins so.
+#[tactic(auto, using(crate::proofs::Runs::ran_so))]
 fn run_from<R, F>(
     rt: &R,
     alloc: Global,
@@ -80,7 +82,7 @@ where
     F: Write,
     R: Threads + Wait + Clock + RandomSource + AllocGlobal + Net + Files + Sync,
     R: SystemResolver + Copy + Send + 'static,
-    ensures run { IfOk result (λ run. RunsFrom start.now run.record.items (is_some run.winner)) }
+    ensures run { IfOk result (λ run. RunsFrom start.now run.text.items (is_some run.winner)) }
     ensures fault { IfErr result IsBefore }
 {
     let mut runtime = LocalRuntime::new(rt)?;
@@ -99,9 +101,7 @@ where
         &steps,
         &telling,
     )?;
-    let nameless = why.fault(asked.families);
-    let texts = texts_of(alloc, asked, &raced, nameless, &steps);
-    end_with(texts, nameless, raced)
+    end_with(alloc, asked, why.fault(asked.families), &steps, raced)
 }
 
 // The answers of a look-up of the host, which waits in the event loop.
@@ -122,17 +122,19 @@ where
     Ok(HostAnswers::new(rt, alloc, timers, lookup, why)?)
 }
 
-// The texts of the race, with its connection.
+// What is told of the race, with its connection.
 fn end_with(
-    texts: Result<Texts, ConnectFault>,
+    alloc: Global,
+    asked: &Asked<'_>,
     nameless: Option<NamesFault>,
+    steps: &Steps,
     raced: Raced<TcpStream>,
 ) -> Result<Run, ConnectFault>
-    requires { IfErr texts IsBefore }
-    ensures record { IfOk result (λ run. IfOk texts (λ texts. run.record.items ≡ texts.record.items)) }
+    ensures text { IfOk result (λ run. run.text.items ≡ timeline_text raced.recorded) }
     ensures winner { IfOk result (λ run. is_some run.winner ≡ is_some raced.winner) }
     ensures fault { IfErr result IsBefore }
 {
+    let texts = texts_of(alloc, asked, nameless, steps, &raced);
     let Raced {
         transcript,
         recorded,
@@ -140,9 +142,9 @@ fn end_with(
     } = raced;
     drop(transcript);
     drop(recorded);
-    let Texts { record, told } = texts?;
+    let Texts { text, told } = texts?;
     Ok(Run {
-        record,
+        text,
         told,
         nameless,
         winner,
@@ -152,15 +154,15 @@ fn end_with(
 fn texts_of(
     alloc: Global,
     asked: &Asked<'_>,
-    raced: &Raced<TcpStream>,
     nameless: Option<NamesFault>,
     steps: &Steps,
+    raced: &Raced<TcpStream>,
 ) -> Result<Texts, ConnectFault>
-    ensures record { IfOk result (λ texts. texts.record.items ≡ timeline_text raced.now.recorded) }
+    ensures text { IfOk result (λ texts. texts.text.items ≡ timeline_text raced.now.recorded) }
     ensures fault { IfErr result IsBefore }
 {
-    let mut record = Vec::new(alloc);
-    write_timeline(&raced.recorded, &mut record)?;
+    let mut text = Vec::new(alloc);
+    write_timeline(&raced.recorded, &mut text)?;
     let mut told = Vec::new(alloc);
     if asked.explains {
         write_explanation(alloc, &raced.recorded, &mut told)?;
@@ -168,5 +170,5 @@ fn texts_of(
     if raced.winner.is_none() && nameless.is_none() {
         write_tried(asked, &raced.recorded, &raced.transcript, steps, &mut told)?;
     }
-    Ok(Texts { record, told })
+    Ok(Texts { text, told })
 }

@@ -49,16 +49,18 @@ fn start_with(
     let policy = base.policy().copy(alloc)?;
     let host = base.host().copy(alloc)?;
     let mut builder = TimelineBuilder::new(alloc, settings, policy, host);
-    match families {
-        Families::Both => {}
-        Families::Only(Family::V6) => builder
-            .answer(Family::V4, 0, &[])
-            .map_err(|_| ConnectFault::Memory)?,
-        Families::Only(Family::V4) => builder
-            .answer(Family::V6, 0, &[])
-            .map_err(|_| ConnectFault::Memory)?,
+    let without = match families {
+        Families::Both => return Ok(builder.finish()),
+        Families::Only(Family::V6) => Family::V4,
+        Families::Only(Family::V4) => Family::V6,
+    };
+    match builder.answer(without, 0, &[]) {
+        Ok(()) => Ok(builder.finish()),
+        Err(_) => {
+            drop(builder);
+            Err(ConnectFault::Memory)
+        }
     }
-    Ok(builder.finish())
 }
 
 // The race of which these are the lines.

@@ -8,6 +8,7 @@ use std::cell::Cell;
 use std::io::Write;
 
 // Tells each step in a line, where that is asked for. What cannot be written is passed over.
+#[derive(Drop)]
 pub(crate) struct Telling<'f, F> {
     alloc: Global,
     faults: Cell<Option<&'f mut F>>,
