@@ -57,12 +57,12 @@ where
         (PutsInRounds O.contents O.puts O.flushes output.old output.new)
         (PutsRoundsPart O.contents O.puts O.flushes output.old output.new) (output.new ≡ output.old) result }
 {
-    let run = run_race(rt, alloc, asked, faults)?;
-    let _ = faults.write_all(run.told.as_slice());
+    let ran = run_race(rt, alloc, asked, faults)?;
+    let _ = faults.write_all(ran.told.as_slice());
     if let Some(path) = asked.record {
-        write_record(rt, path, run.text.as_slice())?;
+        write_record(rt, path, ran.text.as_slice())?;
     }
-    end_with(rt, alloc, asked.only_tries, run, input, output)
+    end_with(rt, alloc, asked.only_tries, ran, input, output)
 }
 
 // What comes behind a race: its connection is relayed where there is one, or let go where it was only tried.

@@ -59,7 +59,7 @@ where
     F: Write,
     R: Threads + Wait + Clock + RandomSource + AllocGlobal + Net + Files + Sync,
     R: SystemResolver + Copy + Send + 'static,
-    ensures run { IfOk result (λ run. IsRun asked.now.settings asked.now.families run.text.items (is_some run.winner)) }
+    ensures race { IfOk result (λ run. IsRun asked.now.settings asked.now.families run.text.items (is_some run.winner)) }
     ensures fault { IfErr result IsBefore }
 {
     let lines = read_lines_of(rt, alloc, asked.lines)?;
@@ -70,7 +70,6 @@ where
 }
 
 // Runs the race that begins so.
-#[tactic(auto, using(crate::proofs::Runs::ran_so))]
 fn run_from<R, F>(
     rt: &R,
     alloc: Global,
@@ -82,7 +81,7 @@ where
     F: Write,
     R: Threads + Wait + Clock + RandomSource + AllocGlobal + Net + Files + Sync,
     R: SystemResolver + Copy + Send + 'static,
-    ensures run { IfOk result (λ run. RunsFrom start.now run.text.items (is_some run.winner)) }
+    ensures race { IfOk result (λ run. RunsFrom start.now run.text.items (is_some run.winner)) }
     ensures fault { IfErr result IsBefore }
 {
     let mut runtime = LocalRuntime::new(rt)?;
