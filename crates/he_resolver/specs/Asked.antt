@@ -1,5 +1,5 @@
 -- Which server is asked at which try: each in its turn, and all of them so many times.
-use Rattle.std.specs.Prelude.{ℕ, ◌/◌, ◌%◌, List, Option, Some, None, length, nat_lt, if◌then◌else◌}
+use Rattle.std.specs.Prelude.{ℕ, ◌/◌, ◌%◌, List, Option, None, length, nat_lt, if◌then◌else◌}
 use Rattle.std.specs.List.{slice_get}
 
 -- the server of the try with this number, from 0 on
