@@ -16,7 +16,7 @@ use Rattle.he_live.specs.declared.fault.LiveFault.{LiveFault}
 use Rattle.he_live.specs.Live.{Lives}
 use Rattle.he_resolver.specs.Told.{TellsNames}
 use Rattle.he_resolver.specs.declared.choice.Choice.{Choice}
-use Rattle.he_resolver.specs.declared.fault.NamesFault.{NamesFault}
+use Rattle.he_resolver.specs.declared.fault.TellFault.{TellFault}
 use Rattle.he_plan.specs.declared.transcript.Outcome3.{Outcome3}
 use Rattle.he_plan.specs.declared.transcript.Outcome3.TheVariants as results
 use Rattle.he_replay.specs.Actions.{HasWorkers, RunsAction}
@@ -80,7 +80,7 @@ IsRequest (Connect (Err fault)) = Unit {0}
 abbrev pub RunsNames : Option Choice → (List ℕ → Type 0) → (List ℕ → Type 0) → Type 0 → ℕ → Type 0
 RunsNames None Whole Part Kept status = (status ≡ USAGE) × Kept
 RunsNames (Some choice) Whole Part Kept status =
-    (result : Result (Unit {0}) NamesFault) × TellsNames Whole Part Kept result × (status ≡ status_of result)
+    (result : Result (Unit {0}) TellFault) × TellsNames Whole Part Kept result × (status ≡ status_of result)
 
 -- what comes of a connection that is asked for: it was made and relayed, or not, or an option has no value that it may have
 abbrev pub RunsConnect : Result Asked OptionFault → (List ℕ → Type 0) → (List ℕ → Type 0) → Type 0 → ℕ → Type 0

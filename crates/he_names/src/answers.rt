@@ -1,4 +1,4 @@
-//! What is told of a name: the answers as lines of a timeline.
+//! What is told of a name: a family's addresses, and the line of a timeline that tells them.
 
 ghost use Rattle.std.specs.Prelude.{◌≡◌, ◌++◌, ◌∷◌, IfOk, OnOk, filter, take};
 ghost use Rattle.std.specs.List.{flat_map, list_any};
@@ -51,12 +51,8 @@ fn is_of(family: Family, ip: Ip) -> bool
     ip.family() == family
 }
 
-/// The addresses each once, at its first place, and of those the first 256: as many as a line of a timeline has.
-///
-/// # Errors
-///
-/// [`Memory`] where an allocation was refused.
-pub fn clean<A: Allocator + Copy>(alloc: A, ips: &[Ip]) -> Result<Vec<Ip, A>, Memory>
+// The addresses each once, and of those the first 256.
+fn clean<A: Allocator + Copy>(alloc: A, ips: &[Ip]) -> Result<Vec<Ip, A>, Memory>
     ensures { IfOk result (λ kept. kept.items ≡ take 256 (each_once ips.now)) }
 {
     let mut kept = Vec::new(alloc);
@@ -75,13 +71,9 @@ fn has(ips: &[Ip], ip: Ip) -> bool
     ips.contains(&ip)
 }
 
-/// Appends an answer as a line of a timeline: its word, the tick at which it came in milliseconds, and its addresses,
-/// or `none` where it has none.
-///
-/// # Errors
-///
-/// [`Memory`] where an allocation was refused; a part may have been appended.
-pub fn write_answer<A: Allocator + Copy>(
+// Appends an answer as a line of a timeline: its word, the tick at which it came, and its addresses, or that there are
+// none.
+pub(crate) fn write_answer<A: Allocator + Copy>(
     word: &[u8],
     tick: u64,
     ips: &[Ip],

@@ -1,5 +1,10 @@
 // What is asked for a host, and of whom.
 
+ghost use Rattle.std.specs.Prelude.{◌≡◌, ◌*◌, IfOk, codes};
+ghost use Rattle.std.specs.Duration.{as_nanos};
+ghost use Rattle.he_names.specs.Conf.{option_in};
+ghost use Rattle.he_resolver.specs.Asked.{server_of_try};
+
 use crate::choice::{Choice, server_at};
 use crate::fault::NamesFault;
 use he_dns::{Name, NameFault};
@@ -29,7 +34,9 @@ impl Asked {
     }
 
     // The server of this try, where there are so many.
-    pub(crate) fn server(&self, tries: usize) -> Option<SocketAddr> {
+    pub(crate) fn server(&self, tries: usize) -> Option<SocketAddr>
+        ensures { result ≡ server_of_try self.now.servers.items self.now.attempts tries }
+    {
         let servers = self.servers.as_slice();
         if servers.is_empty() || tries / servers.len() >= self.attempts {
             return None;
@@ -48,7 +55,10 @@ pub(crate) fn asked_in(
     host: &[u8],
     settings: &[u8],
     choice: Choice,
-) -> Result<Asked, NamesFault> {
+) -> Result<Asked, NamesFault>
+    ensures timeout { IfOk result (λ asked. as_nanos asked.timeout ≡ option_in (codes "timeout:") 1 5 30 settings.now * 1_000_000_000) }
+    ensures attempts { IfOk result (λ asked. asked.attempts ≡ option_in (codes "attempts:") 1 2 5 settings.now) }
+{
     Ok(Asked {
         names: names_of(alloc, host, settings)?,
         servers: servers_of(alloc, settings, choice)?,

@@ -1,7 +1,8 @@
 //! Why a name has no addresses.
 
 ghost use Rattle.std.specs.Prelude.{◌≡◌, ◌⊎◌};
-ghost use Rattle.he_resolver.specs.declared.fault.NamesFault.TheVariants.{Memory, Runtime, Write};
+ghost use Rattle.he_resolver.specs.declared.fault.NamesFault.TheVariants.{Memory, Runtime};
+ghost use Rattle.he_resolver.specs.declared.fault.TellFault.TheVariants.{Names, Write};
 
 use he_dns::NameFault;
 use he_stream::WriteFault;
@@ -33,9 +34,6 @@ pub enum NamesFault {
     /// The event loop could not be made or failed, or the clock did.
     #[error("cannot run the sockets")]
     Runtime,
-    /// A step of the output failed or took no byte, the flush failed, or the bound of steps was reached.
-    #[error("cannot write the output")]
-    Write,
     /// An allocation was refused.
     #[error("out of memory")]
     Memory,
@@ -76,11 +74,30 @@ impl From<io::Error> for NamesFault {
     }
 }
 
-impl From<WriteFault> for NamesFault {
+/// Why the addresses of a name were not written.
+#[derive(Clone, Copy, Debug, PartialEq, Eq, Error)]
+pub enum TellFault {
+    /// There are none to write.
+    #[error(transparent)]
+    Names(NamesFault),
+    /// A step of the output failed or took no byte, the flush failed, or the bound of steps was reached.
+    #[error("cannot write the output")]
+    Write,
+}
+
+impl From<NamesFault> for TellFault {
+    ghost from_gives = { λ names fault. fault ≡ Names names };
+
+    fn from(fault: NamesFault) -> TellFault {
+        TellFault::Names(fault)
+    }
+}
+
+impl From<WriteFault> for TellFault {
     ghost from_gives = { λ _ fault. fault ≡ Write };
 
-    fn from(_fault: WriteFault) -> NamesFault {
-        NamesFault::Write
+    fn from(_fault: WriteFault) -> TellFault {
+        TellFault::Write
     }
 }
 

@@ -37,7 +37,7 @@ mod streams;
 pub mod system;
 
 pub use choice::Choice;
-pub use fault::{NamesFault, first_fault};
+pub use fault::{NamesFault, TellFault, first_fault};
 pub use lookup::Lookup;
 pub use naming::write_names;
 pub use system::SystemResolver;

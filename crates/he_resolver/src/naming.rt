@@ -5,7 +5,7 @@ ghost use Rattle.he_stream.specs.Output.{PutsPart, PutsWhole};
 ghost use Rattle.he_resolver.specs.Told.{IsNamesText, TellsNames};
 
 use crate::choice::Choice;
-use crate::fault::NamesFault;
+use crate::fault::{NamesFault, TellFault};
 use crate::gathering::Gathering;
 use crate::lookup::Lookup;
 use crate::system::SystemResolver;
@@ -25,16 +25,16 @@ use tokio::runtime::LocalRuntime;
 ///
 /// # Errors
 ///
-/// `NoSuchName`, `NoAddress`, `NoAnswer`, `ServerFailure` and `System` where the host has no address of either family,
-/// `Name` where it is no host name; `Runtime`, `Memory`; and `Write`, after which a first part was written. After any
-/// other fault nothing was.
+/// `Names` where the host has no address of either family (`NoSuchName`, `NoAddress`, `NoAnswer`, `ServerFailure`,
+/// `System`), is no host name (`Name`), or could not be asked for (`Runtime`, `Memory`): then nothing was written. After
+/// `Write` a first part was.
 pub fn write_names<R, O>(
     rt: &R,
     alloc: Global,
     output: &mut O,
     host: &str,
     choice: Choice,
-) -> Result<(), NamesFault>
+) -> Result<(), TellFault>
 where
     R: Wait + Clock + RandomSource + AllocGlobal + Net + Files + Threads,
     R: SystemResolver + Copy + Send + 'static,
