@@ -20,9 +20,14 @@ gives_given None race raced is gives = absurd gives
 gives_given {C} {Conn} {Run} (Some live) race raced is gives =
     let of : ReplaysGiven (unrecorded race) raced = subst (λ (r : Race). ReplaysGiven {Conn = Conn} r raced) is gives in
     record {
-        kept = record {
-            settings = of.kept.settings; policy = of.kept.policy; host = of.kept.host; history = of.kept.history;
-            aaaa = of.kept.aaaa; a = of.kept.a
-        };
-        transcript = of.transcript; winner = of.winner
+      kept = record {
+        settings = of.kept.settings;
+        policy = of.kept.policy;
+        host = of.kept.host;
+        history = of.kept.history;
+        aaaa = of.kept.aaaa;
+        a = of.kept.a;
+      };
+      transcript = of.transcript;
+      winner = of.winner;
     }
