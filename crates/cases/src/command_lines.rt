@@ -80,7 +80,7 @@ type Row = (
     &'static [u8],
 );
 
-static ROWS: [Row; 67] = [
+static ROWS: [Row; 70] = [
     (&["he", "replay"], TEXT, Streams::Whole, 0, TRANSCRIPT, b""),
     (
         &["he", "replay", "--workers", "1"],
@@ -573,6 +573,30 @@ static ROWS: [Row; 67] = [
         Streams::Whole,
         0,
         b"Finds the addresses of a host",
+        b"",
+    ),
+    (
+        &["he", "connect", "192.0.2.1"],
+        TEXT,
+        Streams::Whole,
+        2,
+        b"",
+        b"error: ",
+    ),
+    (
+        &["he", "connect", "--set", "attempt=5", "192.0.2.1", "80"],
+        TEXT,
+        Streams::Whole,
+        2,
+        b"",
+        b"error: invalid value for '--set <NAME=N>'",
+    ),
+    (
+        &["he", "connect", "--help"],
+        TEXT,
+        Streams::Whole,
+        0,
+        b"Connects to a host by RFC 8305",
         b"",
     ),
 ];
