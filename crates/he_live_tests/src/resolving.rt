@@ -282,7 +282,7 @@ fn the_winner_outlives_its_loop(rt: HostRuntime) -> Result<(), Fail> {
     let Some(mut winner) = winner else {
         return Err(Fail::new("nothing has won"));
     };
-    assert_eq!(rt; descriptors(&rt)?, before + 1);
+    assert_eq!(rt; descriptors(&rt)?, before.saturating_add(1));
     assert!(rt; is_right && is_connection(&rt, &mut winner, &listener)?);
     assert_eq!(rt;
         (watcher.count.get(), watcher.are_right.get()),
