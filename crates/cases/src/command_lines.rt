@@ -2,6 +2,7 @@
 
 use crate::example::Counts;
 use he_command::run_words;
+use he_resolver::SystemResolver;
 use he_stream::{FromReader, ToWriter};
 use std::alloc::{AllocGlobal, Global};
 use std::io;
@@ -86,7 +87,7 @@ type Row = (
     &'static [u8],
 );
 
-static ROWS: [Row; 59] = [
+static ROWS: [Row; 67] = [
     (&["he", "replay"], TEXT, Streams::Whole, 0, TRANSCRIPT, b""),
     (
         &["he", "replay", "--workers", "1"],
@@ -524,6 +525,63 @@ static ROWS: [Row; 59] = [
         b"Writes the addresses and routes of this machine",
         b"",
     ),
+    (
+        &["he", "names", "192.0.2.1"],
+        TEXT,
+        Streams::Whole,
+        0,
+        b"aaaa 0 none\na 0 192.0.2.1\n",
+        b"",
+    ),
+    (
+        &["he", "names", "--resolver", "system", "2001:db8::1"],
+        TEXT,
+        Streams::Whole,
+        0,
+        b"aaaa ",
+        b"",
+    ),
+    (
+        &["he", "names", "192.0.2.1"],
+        TEXT,
+        Streams::Room(3),
+        1,
+        b"aaa",
+        WRITE_LINE,
+    ),
+    (
+        &["he", "names", "192.0.2.1"],
+        TEXT,
+        Streams::FailsToFlush,
+        1,
+        b"aaaa 0 none\na 0 192.0.2.1\n",
+        WRITE_LINE,
+    ),
+    (
+        &["he", "names", "two..dots"],
+        TEXT,
+        Streams::Whole,
+        1,
+        b"",
+        b"he: not a host name: ",
+    ),
+    (&["he", "names"], TEXT, Streams::Whole, 2, b"", b"error: "),
+    (
+        &["he", "names", "--resolver", "none", "192.0.2.1"],
+        TEXT,
+        Streams::Whole,
+        2,
+        b"",
+        b"error: ",
+    ),
+    (
+        &["he", "names", "--help"],
+        TEXT,
+        Streams::Whole,
+        0,
+        b"Finds the addresses of a host",
+        b"",
+    ),
 ];
 
 // A reader of the text that breaks behind it where the streams do.
@@ -547,7 +605,18 @@ fn writer_of(alloc: Global, streams: Streams) -> FakeWriter {
 // Whether the line of this row ends as it must, with a writer of faults that takes so many bytes.
 fn is_right<R>(rt: &HostRuntime, lender: &R, row: &Row, faults_room: usize) -> bool
 where
-    R: Threads + Wait + Clock + RandomSource + AllocGlobal + Net + Files + Sync,
+    R: Threads
+        + Wait
+        + Clock
+        + RandomSource
+        + AllocGlobal
+        + Net
+        + Files
+        + SystemResolver
+        + Copy
+        + Send
+        + Sync
+        + 'static,
 {
     let (words, text, streams, status, output, fault) = row;
     let mut input = FromReader::new(reader_of(text, *streams));
@@ -578,7 +647,18 @@ where
 /// A line that cannot be written.
 pub fn run_command_lines<R>(rt: &HostRuntime, lender: &R) -> io::Result<Counts>
 where
-    R: Threads + Wait + Clock + RandomSource + AllocGlobal + Net + Files + Sync,
+    R: Threads
+        + Wait
+        + Clock
+        + RandomSource
+        + AllocGlobal
+        + Net
+        + Files
+        + SystemResolver
+        + Copy
+        + Send
+        + Sync
+        + 'static,
 {
     let mut counts = Counts { ran: 0, differ: 0 };
     for (at, row) in ROWS.iter().enumerate() {

@@ -1,5 +1,5 @@
 -- What a run of the program has done, by its exit status.
-use Rattle.std.specs.Prelude.{◌≡◌, ◌≢◌, ◌≤◌, ◌⊎◌, ℕ, Bool, true, List, Result, Ok, Err}
+use Rattle.std.specs.Prelude.{◌≡◌, ◌≢◌, ◌≤◌, ◌⊎◌, ℕ, Bool, true, List, Option, Some, None, Result, Ok, Err}
 use Rattle.clap.specs.Values.{kind_of}
 use Rattle.clap.specs.declared.error.Error.{Error}
 use Rattle.clap.specs.declared.error.kind.ErrorKind.{ErrorKind}
@@ -9,12 +9,15 @@ use Rattle.he_check.specs.Stream.{Checks}
 use Rattle.he_live.specs.declared.failures.FailedAttempt.{FailedAttempt}
 use Rattle.he_live.specs.declared.fault.LiveFault.{LiveFault}
 use Rattle.he_live.specs.Live.{Lives}
+use Rattle.he_resolver.specs.Told.{TellsNames}
+use Rattle.he_resolver.specs.declared.choice.Choice.{Choice}
+use Rattle.he_resolver.specs.declared.fault.TellFault.{TellFault}
 use Rattle.he_plan.specs.declared.transcript.Outcome3.{Outcome3}
 use Rattle.he_plan.specs.declared.transcript.Outcome3.TheVariants as results
 use Rattle.he_replay.specs.Actions.{HasWorkers, RunsAction}
 use Rattle.he_replay.specs.declared.fault.ReplayFault.{ReplayFault}
 use Rattle.he_command.specs.declared.command.Request.{Request}
-use Rattle.he_command.specs.declared.command.Request.TheVariants.{Action, Check, Host, Live}
+use Rattle.he_command.specs.declared.command.Request.TheVariants.{Action, Check, Host, Live, Names}
 use Rattle.he_command.specs.declared.limits.TheConstants.{LEAST_PORT}
 use Rattle.he_command.specs.declared.run.TheConstants.{DONE, FAULT, NO_CONNECTION, USAGE}
 
@@ -56,6 +59,13 @@ IsRequest (Action action) = HasWorkers action
 IsRequest Check = Unit {0}
 IsRequest (Live port must verbose) = LEAST_PORT ≤ port
 IsRequest Host = Unit {0}
+IsRequest (Names host resolver) = Unit {0}
+
+-- what comes of a search for names: they were told, or the line names a resolver that is none
+abbrev pub RunsNames : Option Choice → (List ℕ → Type 0) → (List ℕ → Type 0) → Type 0 → ℕ → Type 0
+RunsNames None Whole Part Kept status = (status ≡ USAGE) × Kept
+RunsNames (Some choice) Whole Part Kept status =
+    (result : Result (Unit {0}) TellFault) × TellsNames Whole Part Kept result × (status ≡ status_of result)
 
 -- what was asked for was done, and the status tells how that ended. Given, Taken, Ended, Failed and Put as `RunsAction` has
 -- them: of a text that is put in rounds; Whole, Part and Kept as `Lives` has them: of one text
@@ -67,6 +77,7 @@ RunsRequest Check Given Taken Ended Failed Put Whole Part Kept status =
 RunsRequest (Live port must verbose) Given Taken Ended Failed Put Whole Part Kept status =
     (result : Result Outcome3 LiveFault) × (failed : List FailedAttempt) × Lives Given Whole Part Kept failed result × (status ≡ status_of_live must result)
 RunsRequest Host Given Taken Ended Failed Put Whole Part Kept status = Shows Whole Part Kept status
+RunsRequest (Names host resolver) Given Taken Ended Failed Put Whole Part Kept status = RunsNames resolver Whole Part Kept status
 
 -- what comes of a line: what it asks for was done; or it asks for nothing that is done, and the input is Unread
 abbrev pub RunsLine : Result Request Error → (List ℕ → Bool → Type 0) → (List ℕ → Type 0) → Type 0 → (List ℕ → Type 0) → (List ℕ → Type 0) → (List ℕ → Type 0) → (List ℕ → Type 0) → (List ℕ → Type 0) → Type 0 → ℕ → Type 0

@@ -4,7 +4,7 @@ ghost use Rattle.clap.specs.Values.{kind_of};
 ghost use Rattle.he_stream.specs.Input.{Gives, GivesSoFar};
 ghost use Rattle.he_stream.specs.Output.{PutsAndEnds, PutsInRounds, PutsPart, PutsRoundsPart, PutsWhole};
 ghost use Rattle.he_command.specs.declared.command.Request.TheVariants.{Check};
-ghost use Rattle.he_command.specs.Run.{AnswersLine, IsRequest, RunsLine, RunsRequest, Shows, status_of, status_of_live};
+ghost use Rattle.he_command.specs.Run.{AnswersLine, IsRequest, RunsLine, RunsNames, RunsRequest, Shows, status_of, status_of_live};
 
 use crate::command::{Request, read_words};
 use clap::Error;
@@ -14,6 +14,7 @@ use he_host::machine::write_machine;
 use he_live::{FailedAttempt, LiveFault, first_local, live, write_failures};
 use he_plan::Outcome3;
 use he_replay::{ReplayFault, run_action};
+use he_resolver::{Choice, SystemResolver, write_names};
 use he_stream::{InputStream, OutputStream, write_whole};
 use std::alloc::{AllocGlobal, Global};
 use std::fmt::Display;
@@ -38,6 +39,11 @@ pub const USAGE: u8 = 2;
 /// The exit status of a live race that had to make a connection and made none.
 pub const NO_CONNECTION: u8 = 3;
 
+const NO_RESOLVER: &str = "\
+error: invalid value for '--resolver <RESOLVER>': neither an address, nor an address and a port, nor `system`
+
+For more information, try '--help'.";
+
 /// Runs the command line `words`, of which the first is the program's name, and answers the exit
 /// status. Output and help that was asked for go to `output`; what is wrong goes to `faults`. What
 /// cannot be written to `faults` leaves the status as it is.
@@ -50,7 +56,18 @@ pub fn run_words<'a, R, I, O, F>(
     faults: &mut F,
 ) -> u8
 where
-    R: Threads + Wait + Clock + RandomSource + AllocGlobal + Net + Files + Sync,
+    R: Threads
+        + Wait
+        + Clock
+        + RandomSource
+        + AllocGlobal
+        + Net
+        + Files
+        + SystemResolver
+        + Copy
+        + Send
+        + Sync
+        + 'static,
     I: InputStream,
     O: OutputStream,
     F: Write,
@@ -70,13 +87,24 @@ where
 pub fn run_line<R, I, O, F>(
     rt: &R,
     alloc: Global,
-    line: Result<Request, Error>,
+    line: Result<Request<'_>, Error>,
     input: &mut I,
     output: &mut O,
     faults: &mut F,
 ) -> u8
 where
-    R: Threads + Wait + Clock + RandomSource + AllocGlobal + Net + Files + Sync,
+    R: Threads
+        + Wait
+        + Clock
+        + RandomSource
+        + AllocGlobal
+        + Net
+        + Files
+        + SystemResolver
+        + Copy
+        + Send
+        + Sync
+        + 'static,
     I: InputStream,
     O: OutputStream,
     F: Write,
@@ -99,13 +127,24 @@ where
 fn run_request<R, I, O, F>(
     rt: &R,
     alloc: Global,
-    request: Request,
+    request: Request<'_>,
     input: &mut I,
     output: &mut O,
     faults: &mut F,
 ) -> u8
 where
-    R: Threads + Wait + Clock + RandomSource + AllocGlobal + Net + Files + Sync,
+    R: Threads
+        + Wait
+        + Clock
+        + RandomSource
+        + AllocGlobal
+        + Net
+        + Files
+        + SystemResolver
+        + Copy
+        + Send
+        + Sync
+        + 'static,
     I: InputStream,
     O: OutputStream,
     F: Write,
@@ -135,6 +174,9 @@ where
             report_race(end, must_connect, faults)
         }
         Request::Host => run_host(rt, alloc, output, faults),
+        Request::Names { host, resolver } => {
+            run_names(rt, alloc, host, resolver, output, faults)
+        }
     }
 }
 
@@ -186,6 +228,41 @@ fn put_lines<O: OutputStream>(lines: &[u8], output: &mut O) -> Result<(), Replay
         (PutsPart O.contents O.puts O.flushes output.old output.new) (output.new ≡ output.old) (status_of result) }
 {
     write_whole(output, lines).map_err(|_| ReplayFault::Write)
+}
+
+// Finds the addresses of a host. A resolver that is none is a line that is refused.
+fn run_names<R, O, F>(
+    rt: &R,
+    alloc: Global,
+    host: &str,
+    resolver: Option<Choice>,
+    output: &mut O,
+    faults: &mut F,
+) -> u8
+where
+    R: Threads
+        + Wait
+        + Clock
+        + RandomSource
+        + AllocGlobal
+        + Net
+        + Files
+        + SystemResolver
+        + Copy
+        + Send
+        + 'static,
+    O: OutputStream,
+    F: Write,
+    ensures { RunsNames resolver (PutsWhole O.contents O.puts O.flushes output.old output.new)
+        (PutsPart O.contents O.puts O.flushes output.old output.new) (output.new ≡ output.old) result }
+{
+    match resolver {
+        Some(choice) => report_end(write_names(rt, alloc, output, host, choice), faults),
+        None => {
+            let _ = writeln!(faults, "{NO_RESOLVER}");
+            USAGE
+        }
+    }
 }
 
 // Answers a line that asks for no action.
