@@ -1,5 +1,5 @@
 # What a newcomer needs. README.md and CONTRIBUTING.md say what each is for and how long it takes.
-.PHONY: help race test edits install examples documents explained hostile refused hosts captures live connect fuzz manual kit program
+.PHONY: help race test edits install install-library library deb examples documents explained hostile refused hosts captures live connect fuzz manual kit program
 
 PREFIX ?= /usr/local
 RACE ?= crates/cases/data/ipv6-late-but-within-delay-leads.timeline
@@ -12,10 +12,16 @@ help:
 	@echo 'make race                  replays an example race, with the program unproved: the fastest way to see a transcript'
 	@echo 'make race RACE=FILE        replays the races of a file the same way'
 	@echo 'make test                  the gate (proves every crate, tries the wrong edits, runs the tests), and then tries the'
-	@echo '                           built program as a whole: all of examples to fuzz below, in two minutes'
+	@echo '                           built program as a whole: all of examples to fuzz below, in three minutes'
 	@echo 'make edits                 tries the wrong edits that the gate leaves out: each must be refused'
 	@echo 'make install PREFIX=DIR    proves and builds the program, and puts it at DIR/bin/he, its manual page,'
-	@echo '                           completion and licence below DIR/share'
+	@echo '                           completions and licence below DIR/share'
+	@echo 'make deb HE=FILE           makes he.deb, a Debian package of a built program'
+	@echo 'make install-library PREFIX=DIR'
+	@echo '                           proves and builds the library for C, and puts it at DIR/lib, its header at'
+	@echo '                           DIR/include'
+	@echo 'make library HE=FILE       proves and builds the library for C and the examples in C and Python, and tries them,'
+	@echo '                           beside a built program'
 	@echo 'make examples HE=FILE      runs a built program over all examples'
 	@echo 'make documents HE=FILE     runs the command lines of the documents, and compares what stands below them'
 	@echo 'make hostile HE=FILE       runs a built program over streams that fail, open pipes, too little memory'
@@ -29,7 +35,7 @@ help:
 	@echo 'make fuzz SECONDS=60 SEED=1 HE=FILE'
 	@echo '                           compares a built program with a plain reading of the rules, on texts that are drawn'
 	@echo 'make explained HE=FILE     compares what a built program explains with its transcripts and orders'
-	@echo 'make manual HE=FILE        compares the help of a built program with its manual page and its completion'
+	@echo 'make manual HE=FILE        compares the help of a built program with its manual page and its completions'
 
 # What a target needs, each told in one line where it lacks.
 kit:
@@ -46,6 +52,7 @@ race: kit
 
 test: kit
 	rt ci
+	cd crates/he_c && rt lib
 	scripts/whole crates/he_tool/out/he_tool crates/cases/out/cases
 
 edits: kit
@@ -56,7 +63,20 @@ install: kit
 	install -D -m 755 crates/he_tool/out/he_tool $(PREFIX)/bin/he
 	install -D -m 644 docs/he.1 $(PREFIX)/share/man/man1/he.1
 	install -D -m 644 completions/he.bash $(PREFIX)/share/bash-completion/completions/he
+	install -D -m 644 completions/_he $(PREFIX)/share/zsh/site-functions/_he
+	install -D -m 644 completions/he.fish $(PREFIX)/share/fish/vendor_completions.d/he.fish
 	install -D -m 644 LICENSE $(PREFIX)/share/doc/he/LICENSE
+
+deb: program
+	scripts/make-deb $(HE) he.deb
+
+install-library: kit
+	cd crates/he_c && rt lib
+	scripts/make-library $(abspath $(PREFIX))
+
+library: kit program
+	cd crates/he_c && rt lib
+	scripts/c-library $(HE)
 
 examples: program
 	scripts/examples $(HE)

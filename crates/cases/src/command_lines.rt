@@ -53,6 +53,13 @@ const NO_TIME: &[u8] = b"race 1\nset limit 1\nend\n";
 
 const TWO_RACES: &[u8] = b"race 1\nend\nrace 1\nend\n";
 
+const TWO_RACES_WARNED: &[u8] =
+    b"he: line 1: warning: this race has no aaaa line, so it can't be exhausted: for an answer without an address write `aaaa TICK none`
+he: line 1: warning: this race has no a line, so it can't be exhausted: for an answer without an address write `a TICK none`
+he: line 3: warning: this race has no aaaa line, so it can't be exhausted: for an answer without an address write `aaaa TICK none`
+he: line 3: warning: this race has no a line, so it can't be exhausted: for an answer without an address write `a TICK none`
+";
+
 const READ_LINE: &[u8] = b"he: cannot read the input\n";
 
 const WRITE_LINE: &[u8] = b"he: cannot write the output\n";
@@ -70,7 +77,7 @@ enum Streams {
     FailsToFlush,
 }
 
-// Words, input and streams of a run; its status, what its output begins with, and what is said of a fault.
+// Words, input and streams of a run; its status, what its output begins with, and what its faults begin with.
 type Row = (
     &'static [&'static str],
     &'static [u8],
@@ -444,7 +451,7 @@ static ROWS: [Row; 70] = [
         Streams::Whole,
         0,
         b"2 races, 4 lines\n",
-        b"",
+        TWO_RACES_WARNED,
     ),
     (
         &["he", "check"],
@@ -638,7 +645,7 @@ where
         &mut faults,
     );
     let is_told = faults_room == 0 || faults.held().starts_with(fault);
-    let is_quiet = *status != 0 || faults.calls() == 0;
+    let is_quiet = !fault.is_empty() || faults.calls() == 0;
     let is_written = written.writer().held().starts_with(output);
     drop(input);
     drop(written);

@@ -219,7 +219,7 @@ fn run_asked<R: Threads + Sync>(
 }
 
 // Runs the text through `check`, which tells the same fault and writes nothing to the output then. What it says of the
-// fault is what stands beside the example, if that does.
+// fault, or warns of, is what stands beside the example, if that does.
 fn run_check(rt: &HostRuntime, example: Example<'_>, counts: &mut Counts) -> io::Result<()> {
     let Example { name, text, fault } = example;
     let told = read_beside(rt, name, "check")?;
@@ -240,12 +240,12 @@ fn run_check(rt: &HostRuntime, example: Example<'_>, counts: &mut Counts) -> io:
     Ok(())
 }
 
-// Whether this is said of a fault behind its line: what stands in the file, or, where there is none, something just
-// where there is a fault.
+// Whether this is said of a fault behind its line, or of the text's slips: what stands in the file, or, where there is
+// none, something where there is a fault.
 fn explains(explanation: &[u8], fault: &[u8], told: Option<&Vec<u8>>) -> bool {
     match told {
         Some(told) => told.strip_prefix(fault) == Some(explanation),
-        None => explanation.is_empty() == fault.is_empty(),
+        None => fault.is_empty() || !explanation.is_empty(),
     }
 }
 

@@ -1,3 +1,5 @@
 pub mod Checked
+pub mod Sentences
+pub mod Slips
 pub mod Steps
 pub mod Stream

@@ -1,9 +1,13 @@
 -- What is taken from an input that is checked, and put into an output.
 use Rattle.std.specs.Prelude.{ℕ, ◌≡◌, ◌==◌, ⊤, Bool, List, [], ◌∷◌, ◌++◌, if◌then◌else◌, decimal, codes, Result, Ok, Err}
+use Rattle.std.specs.List.{flat_map}
 use Rattle.he_check.specs.Checked.{IsRight, IsWrong}
+use Rattle.he_check.specs.Sentences.{warning_text}
+use Rattle.he_check.specs.Slips.{HasWarnings}
 use Rattle.he_check.specs.declared.fault.CheckFault.{CheckFault}
 use Rattle.he_check.specs.declared.fault.CheckFault.TheVariants.{Text, Read, Write, Memory}
 use Rattle.he_check.specs.declared.input.Checked.{Checked}
+use Rattle.he_check.specs.declared.slips.Warning.{Warning}
 
 -- a number of things, by the words for one and for any other number
 abbrev pub counted : ℕ → List ℕ → List ℕ → List ℕ
@@ -37,7 +41,18 @@ Checks Given Whole Part Kept (Err Read) = FindsWrong Given Read × Kept
 Checks Given Whole Part Kept (Err Write) = (checked : Checked) × FindsRight Given checked × Part (report_text checked)
 Checks Given Whole Part Kept (Err Memory) = Kept
 
--- where no fault of the text is told, nothing is explained
-abbrev pub ExplainsText : List ℕ → List ℕ → Result (Unit {0}) CheckFault → Type 0
-ExplainsText old new (Err (Text fault)) = ⊤
-ExplainsText old new _ = new ≡ old
+-- the input was given, whole or up to where it broke off, and its warnings are told behind what stood there
+pub record TellsWarnings (Given : List ℕ → Bool → Type 0) (old new : List ℕ) : Type 0 where
+  pub input : List ℕ
+  pub is_broken : Bool
+  pub given : Given input is_broken
+  pub warnings : List Warning
+  pub are : HasWarnings input warnings
+  pub told : new ≡ old ++ flat_map warning_text warnings
+
+-- where nothing is wrong with the input, its warnings are told; where no fault of the text is told, nothing is explained
+abbrev pub ExplainsText : (List ℕ → Bool → Type 0) → List ℕ → List ℕ → Result (Unit {0}) CheckFault → Type 0
+ExplainsText Given old new (Ok done) = TellsWarnings Given old new
+ExplainsText Given old new (Err (Text fault)) = ⊤
+ExplainsText Given old new (Err Write) = TellsWarnings Given old new
+ExplainsText Given old new _ = new ≡ old

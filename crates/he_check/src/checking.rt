@@ -8,6 +8,7 @@ ghost use Rattle.he_check.specs.Stream.{Checks, ExplainsText, counted, report_te
 use crate::explaining::explain_fault;
 use crate::fault::CheckFault;
 use crate::input::{Checked, check_input};
+use crate::telling::tell_warnings;
 use he_addr::{Memory, write_number};
 use he_stream::{InputStream, OutputStream, take_input, write_whole};
 use std::alloc::Allocator;
@@ -25,7 +26,8 @@ use std::alloc::Allocator;
 /// - `Memory` where an allocation was refused.
 ///
 /// After `Text`, `Read` and `Memory` nothing was written to the output, after `Write` a first part of the text. After
-/// `Text` what [`explain_fault`] says of the fault stands behind what `explanation` held; else it is as it was.
+/// `Text` what [`explain_fault`] says of the fault stands behind what `explanation` held. Where nothing is wrong, after
+/// `Write` too, it is a line for each [`Warning`](crate::Warning), as `he: line 1: warning: ..`. Else it is as it was.
 pub fn check<A: Allocator + Copy, I: InputStream, O: OutputStream>(
     alloc: A,
     input: &mut I,
@@ -36,12 +38,14 @@ pub fn check<A: Allocator + Copy, I: InputStream, O: OutputStream>(
         (PutsWhole O.contents O.puts O.flushes output.old output.new)
         (PutsPart O.contents O.puts O.flushes output.old output.new) (output.new ≡ output.old) result }
     ensures stays { StartsWith explanation.new.items explanation.old.items }
-    ensures quiet { ExplainsText explanation.old.items explanation.new.items result }
+    ensures quiet { ExplainsText (Gives I.remaining I.takes input.old input.new) explanation.old.items explanation.new.items result }
 {
     let given = take_input(alloc, input)?;
     match check_input(alloc, given.bytes.as_slice(), given.is_broken) {
-        Ok(checked) => {
+        Ok((checked, warnings)) => {
             let report = report_of(alloc, checked)?;
+            let told = tell_warnings(alloc, warnings.as_slice())?;
+            explanation.extend_from_slice(told.as_slice())?;
             write_whole(output, report.as_slice())?;
             Ok(())
         }

@@ -1,8 +1,10 @@
 //! What an input has: races and lines, or a fault.
 ghost use Rattle.std.specs.Prelude.{IfErr, IfOk};
 ghost use Rattle.he_check.specs.Checked.{IsRight, IsWrong};
+ghost use Rattle.he_check.specs.Slips.{HasWarnings};
 
 use crate::fault::CheckFault;
+use crate::slips::{Warning, add_warnings};
 use he_text::{Ending, Walk};
 use std::alloc::Allocator;
 use std::mem::drop;
@@ -16,8 +18,8 @@ pub struct Checked {
     pub lines: u64,
 }
 
-/// Reads the races of an input one by one, and counts them and the input's lines. `is_broken` tells that the input
-/// broke off after these bytes.
+/// Reads the races of an input one by one, counts them and the input's lines, and warns of each slip of a race, in the
+/// order of the races. `is_broken` tells that the input broke off after these bytes.
 ///
 /// # Errors
 ///
@@ -29,17 +31,24 @@ pub fn check_input<A: Allocator + Copy>(
     alloc: A,
     input: &[u8],
     is_broken: bool,
-) -> Result<Checked, CheckFault>
-    ensures right { IfOk result (IsRight input.now is_broken) }
+) -> Result<(Checked, Vec<Warning, A>), CheckFault>
+    ensures right { IfOk result (λ found. IsRight input.now is_broken found.0) }
+    ensures warned { IfOk result (λ found. HasWarnings input.now found.1.items) }
     ensures wrong { IfErr result (IsWrong input.now is_broken) }
 {
     let ending = Ending::of(is_broken);
     let mut walk = Walk::START;
+    let mut warnings = Vec::new(alloc);
+    let mut line = 1;
     while let Some(race) = walk.next(alloc, input, ending)? {
+        let added = add_warnings(&race, line, &mut warnings);
         drop(race);
+        added?;
+        line = walk.lines + 1;
     }
-    Ok(Checked {
+    let checked = Checked {
         races: walk.races as u64,
         lines: walk.lines,
-    })
+    };
+    Ok((checked, warnings))
 }

@@ -1,15 +1,17 @@
 //! Checks of timeline texts, with an explanation of the first fault.
 //!
-//! [`check_input`] counts the races and lines of an input, or answers its first fault. [`check`] does so for a stream,
-//! and writes the numbers to an output. [`explain_fault`] says of a fault what a compiler would: the line, a mark
-//! below the part that is wrong, and what was expected there.
+//! [`check_input`] counts the races and lines of an input, and warns of what is allowed in them and surely not meant
+//! ([`Slip`]), or answers the input's first fault. [`check`] does so for a stream, writes the numbers to an output, and
+//! tells each warning in a line. [`explain_fault`] says of a fault what a compiler would: the line, a mark below the
+//! part that is wrong, and what was expected there.
 //!
 //! Proved: a check tells the input's first fault, by kind and line (`HasRaces` of he_text's `specs/Inputs`), and
-//! where there is none the number of its races and lines (`specs/Checked`). A replay goes through its input by the
-//! same definition, so both tell one fault. Over streams, whatever they do (`specs/Stream`): the whole input is read,
-//! the numbers are written and flushed where nothing is wrong, and else nothing is written; after a write or flush
-//! that failed, a first part. What is explained stands behind what the vector held, and a refused growth leaves it as
-//! it was.
+//! where there is none the number of its races and lines (`specs/Checked`), and exactly the slips of its races as
+//! warnings, each with the race's first line (`specs/Slips`) and its sentence (`specs/Sentences`). A replay goes
+//! through its input by the same definition, so both tell one fault. Over streams, whatever they do (`specs/Stream`):
+//! the whole input is read, the numbers are written and flushed where nothing is wrong, and else nothing is written;
+//! after a write or flush that failed, a first part. What is explained stands behind what the vector held, and a
+//! refused growth leaves it as it was.
 //!
 //! Only tested: what an explanation says. The line is looked at again for it, by checks of its own (`finding.rt`), so
 //! a wrong one would mislead, but leaves the fault's line and kind as they are. Of a fault whose cause these checks
@@ -28,8 +30,11 @@ mod place;
 mod repeats;
 mod sentence;
 mod showing;
+pub mod slips;
+mod telling;
 
 pub use checking::check;
 pub use explaining::explain_fault;
 pub use fault::CheckFault;
 pub use input::{Checked, check_input};
+pub use slips::{Slip, Warning};

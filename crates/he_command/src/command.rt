@@ -16,7 +16,7 @@ use std::alloc::{AllocError, Global};
 pub enum Request<'a> {
     /// Something to do with the races of the input.
     Action(Action),
-    /// To check the input, and to explain its first fault.
+    /// To check the input, and to explain its first fault or to warn of its slips.
     Check,
     /// To run the race of the input on real sockets, each address at this port, 1 to 65,535. The status tells no
     /// connection where `must_connect`, and standard error each attempt that failed where `verbose`.
@@ -45,7 +45,8 @@ const ORDER_ABOUT: &str = "Reads timelines of races and writes the order of thei
 
 const EXPLAIN_ABOUT: &str = "Reads timelines of races and writes why they went as they did";
 
-const CHECK_ABOUT: &str = "Checks timelines of races, and explains the first fault";
+const CHECK_ABOUT: &str =
+    "Checks timelines of races, and explains the first fault or warns of slips";
 
 const LIVE_ABOUT: &str = "Races real connections, and writes what happened and a record of it";
 
@@ -166,8 +167,10 @@ standard output has one line, as
 
   3 races, 27 lines
 
-Else standard output has nothing, and standard error the first fault: its line by number
-and by its text, a mark below what is wrong there, and what was expected.
+and standard error a warning of what is allowed and surely not meant, as a race without an
+`aaaa` line, which can't be exhausted. Else standard output has nothing, and standard error
+the first fault: its line by number and by its text, a mark below what is wrong there, and
+what was expected.
 
 Example input:
 

@@ -153,7 +153,7 @@ where
     }
 }
 
-// Checks the input, and explains its first fault behind the line that tells it.
+// Checks the input, and explains its first fault behind the line that tells it, or warns of its slips.
 fn run_check<I: InputStream, O: OutputStream, F: Write>(
     alloc: Global,
     input: &mut I,

@@ -1,0 +1,19 @@
+# Completion of the command line of he in fish. Installed as PREFIX/share/fish/vendor_completions.d/he.fish.
+set -l commands replay order explain check live host help
+
+complete -c he -f
+complete -c he -n __fish_use_subcommand -a replay -d 'Write what happens in races'
+complete -c he -n __fish_use_subcommand -a order -d 'Write the order of addresses'
+complete -c he -n __fish_use_subcommand -a explain -d 'Write why races went as they did'
+complete -c he -n __fish_use_subcommand -a check -d 'Check timelines, and explain the first fault'
+complete -c he -n __fish_use_subcommand -a live -d 'Race real connections'
+complete -c he -n __fish_use_subcommand -a host -d 'Write the lines of this machine'
+complete -c he -n __fish_use_subcommand -a help -d 'Tell what a command does'
+complete -c he -n __fish_use_subcommand -s V -l version -d 'Tell the version'
+complete -c he -n "not __fish_seen_subcommand_from help" -s h -l help -d 'Tell what it does'
+complete -c he -n '__fish_seen_subcommand_from help' -a "$commands"
+
+complete -c he -n '__fish_seen_subcommand_from replay' -l workers -x -d 'Most workers, 1 to 64'
+complete -c he -n '__fish_seen_subcommand_from live' -l port -x -d 'TCP port, 1 to 65535'
+complete -c he -n '__fish_seen_subcommand_from live' -l must-connect -d 'Status 3 where no connection was made'
+complete -c he -n '__fish_seen_subcommand_from live' -s v -l verbose -d 'Tell each attempt that failed'

@@ -1,0 +1,76 @@
+-- What a call leaves to its caller: the text in the caller's room, what is told of it, and the answer.
+use Rattle.std.specs.Prelude.{ℕ, ◌≡◌, ◌++◌, List, length, drop, if◌then◌else◌, nat_le, Option, Some, None}
+use Rattle.he_c.specs.declared.answer.Told.{Told}
+use Rattle.he_c.specs.declared.codes.TheConstants.{DONE, FAULT, NO_ROOM, HEADER, WORD, NUMBER, ADDRESS, PREFIX, REPEATED, RANGE, TOO_MANY, UNFINISHED, NO_DEFAULT_ROW, NO_MAPPED_ROW, SHARED_PRECEDENCE, OTHER_POLICY, MEMORY}
+use Rattle.he_select.specs.declared.policy.PolicyFault.{PolicyFault}
+use Rattle.he_select.specs.declared.policy.PolicyFault.TheVariants as policies
+use Rattle.he_text.specs.declared.fault.TextKind.{TextKind}
+use Rattle.he_text.specs.declared.fault.TextKind.TheVariants as kinds
+use Rattle.he_text.specs.declared.inputs.InputFault.{InputFault}
+use Rattle.he_text.specs.declared.inputs.InputFault.TheVariants.{Text, Read}
+
+-- the number of why rows are no policy table; no text has one of the other causes as a fault of this kind
+abbrev pub policy_code : PolicyFault → ℕ
+policy_code policies.NoDefault = NO_DEFAULT_ROW
+policy_code policies.NoMapped = NO_MAPPED_ROW
+policy_code (policies.SharedPrecedence row later) = SHARED_PRECEDENCE
+policy_code policies.Size = OTHER_POLICY
+policy_code (policies.Repeated row) = OTHER_POLICY
+policy_code policies.Memory = OTHER_POLICY
+
+-- the number of a kind of fault
+abbrev pub kind_code : TextKind → ℕ
+kind_code kinds.Header = HEADER
+kind_code kinds.Word = WORD
+kind_code kinds.Number = NUMBER
+kind_code kinds.Address = ADDRESS
+kind_code kinds.Prefix = PREFIX
+kind_code kinds.Repeated = REPEATED
+kind_code kinds.Range = RANGE
+kind_code kinds.TooMany = TOO_MANY
+kind_code kinds.Unfinished = UNFINISHED
+kind_code (kinds.Policy fault) = policy_code fault
+kind_code kinds.Memory = MEMORY
+
+-- the number of the kind, 0 where nothing is wrong. An input in memory doesn't break off
+abbrev pub fault_kind : Option InputFault → ℕ
+fault_kind None = 0
+fault_kind (Some Read) = UNFINISHED
+fault_kind (Some (Text fault)) = kind_code fault.kind
+
+-- the line, 0 where nothing is wrong
+abbrev pub fault_line : Option InputFault → ℕ
+fault_line None = 0
+fault_line (Some Read) = 0
+fault_line (Some (Text fault)) = fault.line
+
+-- what is told of a text and a fault: how long the text is, and the fault's line and kind
+abbrev pub told_of : List ℕ → Option InputFault → Told
+told_of text fault = record { length = length text; line = fault_line fault; kind = fault_kind fault }
+
+-- nothing is told
+abbrev pub nothing_told : Told
+nothing_told = record { length = 0; line = 0; kind = 0 }
+
+abbrev pub answer_by : Option InputFault → ℕ
+answer_by None = DONE
+answer_by (Some fault) = FAULT
+
+-- that the room is too small goes before a fault
+abbrev pub answer_of : List ℕ → List ℕ → Option InputFault → ℕ
+answer_of room text fault = if nat_le (length text) (length room) then answer_by fault else NO_ROOM
+
+-- the room with the text at its front, or as it was where the text doesn't fit
+abbrev pub put_front : List ℕ → List ℕ → List ℕ
+put_front text room = if nat_le (length text) (length room) then text ++ drop (length text) room else room
+
+-- the text was put into the room, and told with its fault
+pub record Leaves (text : List ℕ) (fault : Option InputFault) (old new : List ℕ) (told : Told) (answer : ℕ) : Type 0 where
+  pub put : new ≡ put_front text old
+  pub tells : told ≡ told_of text fault
+  pub answers : answer ≡ answer_of old text fault
+
+-- nothing was done
+pub record LeavesNothing (old new : List ℕ) (told : Told) : Type 0 where
+  pub same : new ≡ old
+  pub tells : told ≡ nothing_told

@@ -1,0 +1,5 @@
+pub mod Answers
+pub mod Checks
+pub mod Outputs
+pub mod Steps
+pub mod Telling

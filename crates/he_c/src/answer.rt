@@ -1,0 +1,53 @@
+// What a call leaves to its caller.
+
+ghost use Rattle.std.specs.Prelude.{◌≡◌, ◌≢◌};
+ghost use Rattle.he_c.specs.Answers.{Leaves, answer_by, nothing_told, told_of};
+ghost use Rattle.he_c.specs.declared.codes.TheConstants.{NO_MEMORY};
+
+use crate::codes::{DONE, FAULT, NO_ROOM, fault_kind, fault_line};
+use he_text::InputFault;
+
+/// What is told of a call, besides its answer: `struct he_told` of `he.h`.
+#[repr(C)]
+#[derive(Clone, Copy)]
+pub struct Told {
+    /// How many bytes the whole text has.
+    pub length: u64,
+    /// The line of the fault, counted from 1, or 0.
+    pub line: u64,
+    /// The kind of the fault, or 0.
+    pub kind: u32,
+}
+
+// Nothing is told.
+pub(crate) const NOTHING: Told = Told {
+    length: 0,
+    line: 0,
+    kind: 0,
+};
+
+fn answer_by(fault: Option<InputFault>) -> u32
+    ensures { result ≡ answer_by fault }
+{
+    match fault {
+        None => DONE,
+        Some(_) => FAULT,
+    }
+}
+
+// Puts the text at the front of the room, and tells of it and of the fault.
+pub(crate) fn leave(text: &[u8], fault: Option<InputFault>, room: &mut [u8], told: &mut Told) -> u32
+    ensures left { Leaves text.now fault room.old room.new told.new result }
+    ensures done { result ≢ NO_MEMORY }
+{
+    *told = Told {
+        length: text.len() as u64,
+        line: fault_line(fault),
+        kind: fault_kind(fault),
+    };
+    if text.len() > room.len() {
+        return NO_ROOM;
+    }
+    room[..text.len()].copy_from_slice(text);
+    answer_by(fault)
+}

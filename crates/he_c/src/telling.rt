@@ -1,0 +1,87 @@
+// The races of an input, told one after the other.
+
+ghost use Rattle.std.specs.Prelude.{◌≡◌, ◌++◌, IfOk, OnOk};
+ghost use Rattle.he_explain.specs.Course.{IsExplanation};
+ghost use Rattle.he_text.specs.Written.{transcript_text};
+ghost use Rattle.he_c.specs.Outputs.{IsOrderText, IsOutput, IsTextOf, IsTranscriptText};
+ghost use Rattle.he_c.specs.Telling.{WritesRace};
+
+use he_addr::Memory;
+use he_explain::write_explanation;
+use he_plan::{Timeline, Transcript, transcript_of};
+use he_text::{Ending, InputFault, Walk, WalkFault, write_order, write_transcript};
+use std::alloc::Global;
+
+// What is written of a race.
+#[derive(Clone, Copy)]
+pub(crate) enum Content {
+    Transcript,
+    Order,
+    Explanation,
+}
+
+// What is written of an input, and what is wrong with it.
+#[derive(Drop)]
+pub(crate) struct Output {
+    pub(crate) text: Vec<u8>,
+    pub(crate) fault: Option<InputFault>,
+}
+
+// The texts that are asked for of the input's races, up to its first fault.
+pub(crate) fn output_of(alloc: Global, input: &[u8], content: Content) -> Result<Output, Memory>
+    ensures { IfOk result (λ output. IsOutput (IsTextOf content) input.now output.text.items output.fault) }
+{
+    let mut text = Vec::new(alloc);
+    let mut walk = Walk::START;
+    loop {
+        match walk.next(alloc, input, Ending::Whole) {
+            Ok(Some(race)) => content.write(alloc, &race, &mut text)?,
+            Ok(None) => return Ok(Output { text, fault: None }),
+            Err(WalkFault::Input(fault)) => {
+                return Ok(Output {
+                    text,
+                    fault: Some(fault),
+                });
+            }
+            Err(WalkFault::Memory) => return Err(Memory),
+        }
+    }
+}
+
+impl Content {
+    // Appends the text that the race has of it.
+    fn write(self, alloc: Global, race: &Timeline, text: &mut Vec<u8>) -> Result<(), Memory>
+        ensures { OnOk result (WritesRace (IsTextOf self) race.now text.old.items text.new.items) }
+    {
+        match self {
+            Content::Transcript => append_transcript(alloc, race, text),
+            Content::Order => append_order(alloc, race, text),
+            Content::Explanation => append_explanation(alloc, race, text),
+        }
+    }
+}
+
+fn append_transcript(alloc: Global, race: &Timeline, text: &mut Vec<u8>) -> Result<(), Memory>
+    ensures { OnOk result (WritesRace IsTranscriptText race.now text.old.items text.new.items) }
+{
+    let transcript = transcript_of(alloc, race)?;
+    append_text(&transcript, text)
+}
+
+fn append_text(transcript: &Transcript, text: &mut Vec<u8>) -> Result<(), Memory>
+    ensures { OnOk result (text.new.items ≡ text.old.items ++ transcript_text transcript.now) }
+{
+    write_transcript(transcript, text)
+}
+
+fn append_order(alloc: Global, race: &Timeline, text: &mut Vec<u8>) -> Result<(), Memory>
+    ensures { OnOk result (WritesRace IsOrderText race.now text.old.items text.new.items) }
+{
+    write_order(alloc, race, text)
+}
+
+fn append_explanation(alloc: Global, race: &Timeline, text: &mut Vec<u8>) -> Result<(), Memory>
+    ensures { OnOk result (WritesRace IsExplanation race.now text.old.items text.new.items) }
+{
+    write_explanation(alloc, race, text)
+}

@@ -1,0 +1,69 @@
+// The exported functions that write what an input comes to.
+
+ghost use Rattle.std.specs.Prelude.{◌≡◌, ◌≢◌};
+ghost use Rattle.he_explain.specs.Course.{IsExplanation};
+ghost use Rattle.he_c.specs.Answers.{LeavesNothing};
+ghost use Rattle.he_c.specs.Checks.{LeavesCheck};
+ghost use Rattle.he_c.specs.Outputs.{IsOrderText, IsTextOf, IsTranscriptText, LeavesOutput};
+ghost use Rattle.he_c.specs.declared.codes.TheConstants.{NO_MEMORY};
+
+use crate::answer::{NOTHING, Told, leave};
+use crate::checking::check_of;
+use crate::codes::NO_MEMORY;
+use crate::telling::{Content, output_of};
+use std::alloc::Global;
+
+/// Writes the transcripts of the races of the text, up to its first fault.
+#[unsafe(no_mangle)]
+pub extern "C" fn he_replay(alloc: Global, text: &[u8], room: &mut [u8], told: &mut Told) -> u32
+    ensures left { result ≢ NO_MEMORY → LeavesOutput IsTranscriptText text.now room.old room.new told.new result }
+    ensures memory { result ≡ NO_MEMORY → LeavesNothing room.old room.new told.new }
+{
+    tell(alloc, text, Content::Transcript, room, told)
+}
+
+/// Writes the orders of the addresses of the races of the text, up to its first fault.
+#[unsafe(no_mangle)]
+pub extern "C" fn he_order(alloc: Global, text: &[u8], room: &mut [u8], told: &mut Told) -> u32
+    ensures left { result ≢ NO_MEMORY → LeavesOutput IsOrderText text.now room.old room.new told.new result }
+    ensures memory { result ≡ NO_MEMORY → LeavesNothing room.old room.new told.new }
+{
+    tell(alloc, text, Content::Order, room, told)
+}
+
+/// Writes why the races of the text went as they did, up to its first fault.
+#[unsafe(no_mangle)]
+pub extern "C" fn he_explain(alloc: Global, text: &[u8], room: &mut [u8], told: &mut Told) -> u32
+    ensures left { result ≢ NO_MEMORY → LeavesOutput IsExplanation text.now room.old room.new told.new result }
+    ensures memory { result ≡ NO_MEMORY → LeavesNothing room.old room.new told.new }
+{
+    tell(alloc, text, Content::Explanation, room, told)
+}
+
+/// Writes how many races and lines the text has, or what is said of its first fault.
+#[unsafe(no_mangle)]
+pub extern "C" fn he_check(alloc: Global, text: &[u8], room: &mut [u8], told: &mut Told) -> u32
+    ensures left { result ≢ NO_MEMORY → LeavesCheck text.now room.old room.new told.new result }
+    ensures memory { result ≡ NO_MEMORY → LeavesNothing room.old room.new told.new }
+{
+    match check_of(alloc, text) {
+        Ok(output) => leave(output.text.as_slice(), output.fault, room, told),
+        Err(_) => {
+            *told = NOTHING;
+            NO_MEMORY
+        }
+    }
+}
+
+fn tell(alloc: Global, input: &[u8], content: Content, room: &mut [u8], told: &mut Told) -> u32
+    ensures left { result ≢ NO_MEMORY → LeavesOutput (IsTextOf content) input.now room.old room.new told.new result }
+    ensures memory { result ≡ NO_MEMORY → LeavesNothing room.old room.new told.new }
+{
+    match output_of(alloc, input, content) {
+        Ok(output) => leave(output.text.as_slice(), output.fault, room, told),
+        Err(_) => {
+            *told = NOTHING;
+            NO_MEMORY
+        }
+    }
+}

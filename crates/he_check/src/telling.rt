@@ -1,0 +1,58 @@
+// What is said of the slips of an input.
+ghost use Rattle.std.specs.Prelude.{◌≡◌, ◌++◌, IfOk, OnOk};
+ghost use Rattle.std.specs.List.{flat_map};
+ghost use Rattle.he_check.specs.Sentences.{sentence_of, warning_text};
+
+use crate::slips::{Slip, Warning};
+use he_addr::{Family, Memory, write_number};
+use std::alloc::Allocator;
+
+// A line for each of the warnings.
+pub(crate) fn tell_warnings<A: Allocator + Copy>(
+    alloc: A,
+    warnings: &[Warning],
+) -> Result<Vec<u8, A>, Memory>
+    ensures { IfOk result (λ text. text.items ≡ flat_map warning_text warnings.now) }
+{
+    let mut text = Vec::new(alloc);
+    for warning in warnings {
+        append_warning(*warning, &mut text)?;
+    }
+    Ok(text)
+}
+
+fn append_warning<A: Allocator + Copy>(
+    warning: Warning,
+    text: &mut Vec<u8, A>,
+) -> Result<(), Memory>
+    ensures { OnOk result (text.new.items ≡ text.old.items ++ warning_text warning) }
+{
+    text.extend_from_slice(b"he: line ")?;
+    write_number(warning.line, text)?;
+    text.extend_from_slice(b": warning: ")?;
+    text.extend_from_slice(sentence(warning.slip))?;
+    text.push(b'\n')?;
+    Ok(())
+}
+
+// What the slip comes to, and what to do.
+fn sentence(slip: Slip) -> &'static [u8]
+    ensures { result.now ≡ sentence_of slip }
+{
+    match slip {
+        Slip::IdleFloor =>
+            b"the floor of this race is its attempt delay, so it changes nothing: set a lower one, or none",
+        Slip::NoAnswer(Family::V6) =>
+            b"this race has no aaaa line, so it can't be exhausted: for an answer without an address write `aaaa TICK none`",
+        Slip::NoAnswer(Family::V4) =>
+            b"this race has no a line, so it can't be exhausted: for an answer without an address write `a TICK none`",
+        Slip::LateAnswer(Family::V6) =>
+            b"the aaaa answer of this race comes after its limit and is never seen: set a higher limit, or an earlier tick",
+        Slip::LateAnswer(Family::V4) =>
+            b"the a answer of this race comes after its limit and is never seen: set a higher limit, or an earlier tick",
+        Slip::UnusableAnswer(Family::V6) =>
+            b"no address of this race's aaaa line may be tried, as each is unspecified, multicast or in ::ffff:0:0/96: write others, or `none`",
+        Slip::UnusableAnswer(Family::V4) =>
+            b"no address of this race's a line may be tried, as each is unspecified or multicast: write others, or `none`",
+    }
+}
