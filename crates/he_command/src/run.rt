@@ -271,7 +271,10 @@ fn report_connection<F: Write>(end: Result<Ended, ConnectFault>, faults: &mut F)
 fn refuse_option<F: Write>(fault: OptionFault, faults: &mut F) -> u8
     ensures { result ≡ USAGE }
 {
-    let _ = writeln!(faults, "error: {fault}\n\nFor more information, try '--help'.");
+    let _ = writeln!(
+        faults,
+        "error: {fault}\n\nFor more information, try '--help'."
+    );
     USAGE
 }
 
