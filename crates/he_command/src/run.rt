@@ -91,7 +91,7 @@ where
     O: OutputStream + Send,
     F: Write,
     requires { IfOk line IsRequest }
-    ensures { RunsLine line (Gives I.remaining I.takes input.old input.new)
+    ensures { RunsLine line.entry (Gives I.remaining I.takes input.old input.new)
         (GivesSoFar I.remaining I.takes input.old input.new) (input.new ≡ input.old)
         (PutsAndEnds O.contents O.puts O.flushes output.old output.new)
         (PutsRoundsPart O.contents O.puts O.flushes output.old output.new)
@@ -121,7 +121,7 @@ where
     O: OutputStream + Send,
     F: Write,
     requires { IsRequest request }
-    ensures { RunsRequest request (Gives I.remaining I.takes input.old input.new)
+    ensures { RunsRequest request.entry (Gives I.remaining I.takes input.old input.new)
         (GivesSoFar I.remaining I.takes input.old input.new)
         (PutsAndEnds O.contents O.puts O.flushes output.old output.new)
         (PutsRoundsPart O.contents O.puts O.flushes output.old output.new)
