@@ -17,13 +17,9 @@ use thiserror::Error;
 /// Which option of `he connect` has no value that it may have.
 #[derive(Clone, Copy, Debug, PartialEq, Eq, Error)]
 pub enum OptionFault {
-    #[error(
-        "invalid value for '--resolver <RESOLVER>': neither an address, nor an address and a port, nor `system`"
-    )]
+    #[error("invalid value for '--resolver <RESOLVER>': neither an address, nor an address and a port, nor `system`")]
     Resolver,
-    #[error(
-        "invalid value for '--set <NAME=N>' or '--timeout <MS>': attempt=10 to 2000, resolution=0 to 1000, count=1 to 8, floor=10 to the attempt delay, and a timeout of 1 to 3600000"
-    )]
+    #[error("invalid value for '--set <NAME=N>' or '--timeout <MS>': attempt=10 to 2000, resolution=0 to 1000, count=1 to 8, floor=10 to the attempt delay, and a timeout of 1 to 3600000")]
     Setting,
 }
 
@@ -46,8 +42,7 @@ const TIMEOUT_HELP: &str =
 const SET_HELP: &str =
     "A setting of the race: attempt=250, resolution=50, count=1 or floor=10, with another number";
 
-const LINES_HELP: &str =
-    "A file of source, route and policy lines, in place of this machine's own";
+const LINES_HELP: &str = "A file of source, route and policy lines, in place of this machine's own";
 
 const RECORD_HELP: &str = "Writes the race as a timeline text to the file, for `he replay`";
 
@@ -234,8 +229,7 @@ impl Numbers {
     }
 
     fn settings(self) -> Option<Settings> {
-        let settings =
-            Settings::new(self.resolution, self.attempt, self.count, self.limit).ok()?;
+        let settings = Settings::new(self.resolution, self.attempt, self.count, self.limit).ok()?;
         settings.with_floor(self.floor).ok()
     }
 }

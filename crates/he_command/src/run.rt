@@ -91,7 +91,7 @@ where
     O: OutputStream + Send,
     F: Write,
     requires { IfOk line IsRequest }
-    ensures { RunsLine line (Gives I.remaining I.takes input.old input.new)
+    ensures { RunsLine line.entry (Gives I.remaining I.takes input.old input.new)
         (GivesSoFar I.remaining I.takes input.old input.new) (input.new ≡ input.old)
         (PutsAndEnds O.contents O.puts O.flushes output.old output.new)
         (PutsRoundsPart O.contents O.puts O.flushes output.old output.new)
@@ -121,7 +121,7 @@ where
     O: OutputStream + Send,
     F: Write,
     requires { IsRequest request }
-    ensures { RunsRequest request (Gives I.remaining I.takes input.old input.new)
+    ensures { RunsRequest request.entry (Gives I.remaining I.takes input.old input.new)
         (GivesSoFar I.remaining I.takes input.old input.new)
         (PutsAndEnds O.contents O.puts O.flushes output.old output.new)
         (PutsRoundsPart O.contents O.puts O.flushes output.old output.new)
@@ -271,7 +271,10 @@ fn report_connection<F: Write>(end: Result<Ended, ConnectFault>, faults: &mut F)
 fn refuse_option<F: Write>(fault: OptionFault, faults: &mut F) -> u8
     ensures { result ≡ USAGE }
 {
-    let _ = writeln!(faults, "error: {fault}\n\nFor more information, try '--help'.");
+    let _ = writeln!(
+        faults,
+        "error: {fault}\n\nFor more information, try '--help'."
+    );
     USAGE
 }
 

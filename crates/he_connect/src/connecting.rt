@@ -10,6 +10,7 @@ use he_relay::relay;
 use he_resolver::SystemResolver;
 use he_stream::{InputStream, OutputStream};
 use std::alloc::{AllocGlobal, Global};
+use std::fs;
 use std::io::Write;
 use std::net::Net;
 use std::random::RandomSource;
@@ -17,7 +18,6 @@ use std::rt::Files;
 use std::sync::Wait;
 use std::thread::Threads;
 use std::time::Clock;
-use std::fs;
 
 /// How a connection that was asked for ended.
 #[derive(Clone, Copy, Debug, PartialEq, Eq)]

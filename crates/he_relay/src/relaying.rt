@@ -90,9 +90,5 @@ fn send<I: InputStream>(input: &mut I, stream: &TcpStream, room: &mut [u8]) -> R
     let mut from = UntilEnd::new(input, stream);
     let end = pump(&mut from, &mut ToWriter::new(stream), room);
     let _ = stream.shutdown(Shutdown::Write);
-    if from.is_cut() {
-        Ok(())
-    } else {
-        end
-    }
+    if from.is_cut() { Ok(()) } else { end }
 }
