@@ -1,16 +1,17 @@
 //! The words of `he connect`.
-ghost use Rattle.std.specs.Prelude.{◌≤◌, IfOk};
+ghost use Rattle.std.specs.Prelude.{◌≤◌};
 ghost use Rattle.he_command.specs.declared.limits.TheConstants.{LEAST_PORT};
 
 use crate::command::{port_of, resolver, resolver_of};
 use crate::limits::LEAST_PORT;
 use clap::{Arg, ArgAction, ArgMatches, Command, value_parser};
 use he_addr::{Family, read_number};
-use he_connect::{Asked, Families, Lines};
+use he_connect::{Families, Lines};
 use he_plan::Settings;
 use he_plan::limits::{
     DEFAULT_ATTEMPT, DEFAULT_COUNT, DEFAULT_LIMIT, DEFAULT_RESOLUTION, MIN_FLOOR,
 };
+use he_resolver::Choice;
 use std::alloc::{AllocError, Global};
 use thiserror::Error;
 
@@ -147,30 +148,52 @@ fn file<'a>(alloc: Global, id: &'a str) -> Arg<'a> {
     Arg::new(alloc, id).value_name("FILE")
 }
 
-// What the line asks for.
-pub(crate) fn asked_of<'a>(matches: &ArgMatches<'a>) -> Result<Asked<'a>, OptionFault>
-    ensures { IfOk result (λ asked. LEAST_PORT ≤ asked.port) }
-{
-    let port = port_of(matches);
-    let settings = settings_of(matches)?;
-    let Some(resolver) = resolver_of(matches) else {
-        return Err(OptionFault::Resolver);
-    };
-    Ok(Asked {
-        host: matches.get_str("host").unwrap_or(""),
-        port,
-        families: families_of(matches),
-        settings,
-        lines: match matches.get_str("lines") {
+/// What a line of `he connect` asks for.
+#[derive(Clone, Copy)]
+pub struct Options<'a> {
+    pub host: &'a str,
+    /// 1 to 65,535.
+    pub port: u16,
+    pub families: Families,
+    /// The numbers of the settings; None where one isn't a number, or has a name that there isn't.
+    pub numbers: Option<Numbers>,
+    /// The resolver; None where the line names none that there is.
+    pub resolver: Option<Choice>,
+    /// The file of lines in place of this machine's.
+    pub lines: Option<&'a str>,
+    /// The file of the record.
+    pub record: Option<&'a str>,
+    pub explains: bool,
+    pub tells_steps: bool,
+    pub only_tries: bool,
+}
+
+impl<'a> Options<'a> {
+    // The lines that say the host of the race.
+    pub(crate) fn lines(&self) -> Lines<'a> {
+        match self.lines {
             Some(path) => Lines::File(path),
             None => Lines::Machine,
-        },
-        resolver,
+        }
+    }
+}
+
+// What the line asks for.
+pub(crate) fn options_of<'a>(matches: &ArgMatches<'a>) -> Options<'a>
+    ensures { LEAST_PORT ≤ result.port }
+{
+    Options {
+        host: matches.get_str("host").unwrap_or(""),
+        port: port_of(matches),
+        families: families_of(matches),
+        numbers: numbers_of(matches),
+        resolver: resolver_of(matches),
+        lines: matches.get_str("lines"),
         record: matches.get_str("record"),
         explains: matches.get_flag("explain"),
         tells_steps: matches.get_flag("verbose"),
         only_tries: matches.get_flag("try"),
-    })
+    }
 }
 
 fn families_of(matches: &ArgMatches<'_>) -> Families {
@@ -183,14 +206,14 @@ fn families_of(matches: &ArgMatches<'_>) -> Families {
     }
 }
 
-// The numbers of the settings that are given.
-#[derive(Clone, Copy)]
-struct Numbers {
-    resolution: u64,
-    attempt: u64,
-    count: u64,
-    limit: u64,
-    floor: u64,
+/// The numbers of the settings of a race, whatever they are.
+#[derive(Clone, Copy, Debug, PartialEq, Eq)]
+pub struct Numbers {
+    pub resolution: u64,
+    pub attempt: u64,
+    pub count: u64,
+    pub limit: u64,
+    pub floor: u64,
 }
 
 // Those of RFC 8305 section 8, and a floor, where none are given.
@@ -228,20 +251,14 @@ impl Numbers {
         }
     }
 
-    fn settings(self) -> Option<Settings> {
+    // The settings; None where a number is out of its range.
+    pub(crate) fn settings(self) -> Option<Settings> {
         let settings = Settings::new(self.resolution, self.attempt, self.count, self.limit).ok()?;
         settings.with_floor(self.floor).ok()
     }
 }
 
-// The settings of the race. Of two for one name the later counts.
-fn settings_of(matches: &ArgMatches<'_>) -> Result<Settings, OptionFault> {
-    match numbers_of(matches) {
-        Some(numbers) => numbers.settings().ok_or(OptionFault::Setting),
-        None => Err(OptionFault::Setting),
-    }
-}
-
+// The numbers of the line, those of `DEFAULTS` where none are given. Of two for one name the later counts.
 fn numbers_of(matches: &ArgMatches<'_>) -> Option<Numbers> {
     let mut numbers = DEFAULTS;
     if let Some(text) = matches.get_str("timeout") {

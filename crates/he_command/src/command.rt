@@ -2,10 +2,9 @@
 ghost use Rattle.std.specs.Prelude.{◌≤◌, IfOk};
 ghost use Rattle.he_command.specs.Run.{IsRequest};
 
-use crate::asking::{OptionFault, asked_of, connect_command};
+use crate::asking::{Options, connect_command, options_of};
 use crate::limits::{DEFAULT_WORKERS, DEFAULT_WORKERS_TEXT, LEAST_PORT};
 use clap::{Arg, ArgAction, ArgMatches, Command, Error, value_parser};
-use he_connect::Asked;
 use he_replay::Action;
 use he_replay::limits::{LEAST_WORKERS, MOST_WORKERS};
 use he_resolver::Choice;
@@ -32,8 +31,8 @@ pub enum Request<'a> {
         host: &'a str,
         resolver: Option<Choice>,
     },
-    /// To connect, and to relay standard input and output; or what is wrong with the options.
-    Connect(Result<Asked<'a>, OptionFault>),
+    /// To connect, and to relay standard input and output.
+    Connect(Options<'a>),
 }
 
 const ABOUT: &str =
@@ -405,7 +404,7 @@ pub fn read_words<'a>(alloc: Global, words: &'a [&'a str]) -> Result<Request<'a>
             host: names.get_str("host").unwrap_or(""),
             resolver: resolver_of(names),
         },
-        Some(("connect", connect)) => Request::Connect(asked_of(connect)),
+        Some(("connect", connect)) => Request::Connect(options_of(connect)),
         Some((_, replay)) => Request::Action(Action::Replay {
             workers: workers_of(replay),
         }),

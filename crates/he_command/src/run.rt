@@ -6,7 +6,7 @@ ghost use Rattle.he_stream.specs.Output.{PutsAndEnds, PutsInRounds, PutsPart, Pu
 ghost use Rattle.he_command.specs.declared.command.Request.TheVariants.{Check};
 ghost use Rattle.he_command.specs.Run.{AnswersLine, IsRequest, RunsConnect, RunsLine, RunsNames, RunsRequest, Shows, status_of, status_of_connection, status_of_live};
 
-use crate::asking::OptionFault;
+use crate::asking::{OptionFault, Options};
 use crate::command::{Request, read_words};
 use clap::Error;
 use clap::error::ErrorKind;
@@ -14,7 +14,7 @@ use he_check::check;
 use he_connect::{Asked, ConnectFault, Ended, connect};
 use he_host::machine::write_machine;
 use he_live::{FailedAttempt, LiveFault, first_local, live, write_failures};
-use he_plan::Outcome3;
+use he_plan::{Outcome3, Settings};
 use he_replay::{ReplayFault, run_action};
 use he_resolver::{Choice, SystemResolver, write_names};
 use he_stream::{InputStream, OutputStream, write_whole};
@@ -149,7 +149,7 @@ where
         Request::Names { host, resolver } => {
             run_names(rt, alloc, host, resolver, output, faults)
         }
-        Request::Connect(line) => run_connect(rt, alloc, line, input, output, faults),
+        Request::Connect(options) => run_connect(rt, alloc, &options, input, output, faults),
     }
 }
 
@@ -233,7 +233,7 @@ where
 fn run_connect<R, I, O, F>(
     rt: &R,
     alloc: Global,
-    line: Result<Asked<'_>, OptionFault>,
+    options: &Options<'_>,
     input: &mut I,
     output: &mut O,
     faults: &mut F,
@@ -244,16 +244,32 @@ where
     I: InputStream,
     O: OutputStream + Send,
     F: Write,
-    ensures { RunsConnect line (PutsInRounds O.contents O.puts O.flushes output.old output.new)
+    ensures { RunsConnect options.now (PutsInRounds O.contents O.puts O.flushes output.old output.new)
         (PutsRoundsPart O.contents O.puts O.flushes output.old output.new) (output.new ≡ output.old) result }
 {
-    match line {
-        Ok(asked) => {
-            let end = connect(rt, alloc, &asked, input, output, faults);
-            report_connection(end, faults)
-        }
-        Err(fault) => refuse_option(fault, faults),
-    }
+    let Some(resolver) = options.resolver else {
+        return refuse_option(OptionFault::Resolver, faults);
+    };
+    let Some(settings) = settings_of(options) else {
+        return refuse_option(OptionFault::Setting, faults);
+    };
+    let asked = Asked {
+        host: options.host,
+        port: options.port,
+        families: options.families,
+        settings,
+        lines: options.lines(),
+        resolver,
+        record: options.record,
+        explains: options.explains,
+        tells_steps: options.tells_steps,
+        only_tries: options.only_tries,
+    };
+    report_connection(connect(rt, alloc, &asked, input, output, faults), faults)
+}
+
+fn settings_of(options: &Options<'_>) -> Option<Settings> {
+    options.numbers?.settings()
 }
 
 // Says how a connection ended, and answers the exit status.
