@@ -6,7 +6,7 @@ use crate::command::{port_of, resolver, resolver_of};
 use crate::limits::LEAST_PORT;
 use clap::{Arg, ArgAction, ArgMatches, Command, value_parser};
 use he_addr::{Family, read_number};
-use he_connect::{Families, Lines};
+use he_connect::Families;
 use he_plan::Settings;
 use he_plan::limits::{
     DEFAULT_ATTEMPT, DEFAULT_COUNT, DEFAULT_LIMIT, DEFAULT_RESOLUTION, MIN_FLOOR,
@@ -166,16 +166,6 @@ pub struct Options<'a> {
     pub explains: bool,
     pub tells_steps: bool,
     pub only_tries: bool,
-}
-
-impl<'a> Options<'a> {
-    // The lines that say the host of the race.
-    pub(crate) fn lines(&self) -> Lines<'a> {
-        match self.lines {
-            Some(path) => Lines::File(path),
-            None => Lines::Machine,
-        }
-    }
 }
 
 // What the line asks for.

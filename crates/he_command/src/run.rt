@@ -11,7 +11,7 @@ use crate::command::{Request, read_words};
 use clap::Error;
 use clap::error::ErrorKind;
 use he_check::check;
-use he_connect::{Asked, ConnectFault, Ended, connect};
+use he_connect::{Asked, ConnectFault, Ended, Lines, connect};
 use he_host::machine::write_machine;
 use he_live::{FailedAttempt, LiveFault, first_local, live, write_failures};
 use he_plan::{Outcome3, Settings};
@@ -258,7 +258,10 @@ where
         port: options.port,
         families: options.families,
         settings,
-        lines: options.lines(),
+        lines: match options.lines {
+            Some(path) => Lines::File(path),
+            None => Lines::Machine,
+        },
         resolver,
         record: options.record,
         explains: options.explains,
