@@ -109,7 +109,7 @@ where
     O: OutputStream,
     F: Write,
     requires { IfOk line IsRequest }
-    ensures { RunsLine line (Gives I.remaining I.takes input.old input.new)
+    ensures { RunsLine line.entry (Gives I.remaining I.takes input.old input.new)
         (GivesSoFar I.remaining I.takes input.old input.new) (input.new ≡ input.old)
         (PutsAndEnds O.contents O.puts O.flushes output.old output.new)
         (PutsRoundsPart O.contents O.puts O.flushes output.old output.new)
@@ -149,7 +149,7 @@ where
     O: OutputStream,
     F: Write,
     requires { IsRequest request }
-    ensures { RunsRequest request (Gives I.remaining I.takes input.old input.new)
+    ensures { RunsRequest request.entry (Gives I.remaining I.takes input.old input.new)
         (GivesSoFar I.remaining I.takes input.old input.new)
         (PutsAndEnds O.contents O.puts O.flushes output.old output.new)
         (PutsRoundsPart O.contents O.puts O.flushes output.old output.new)
