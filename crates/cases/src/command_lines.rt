@@ -87,7 +87,7 @@ type Row = (
     &'static [u8],
 );
 
-static ROWS: [Row; 67] = [
+static ROWS: [Row; 70] = [
     (&["he", "replay"], TEXT, Streams::Whole, 0, TRANSCRIPT, b""),
     (
         &["he", "replay", "--workers", "1"],
@@ -582,6 +582,30 @@ static ROWS: [Row; 67] = [
         b"Finds the addresses of a host",
         b"",
     ),
+    (
+        &["he", "connect", "192.0.2.1"],
+        TEXT,
+        Streams::Whole,
+        2,
+        b"",
+        b"error: ",
+    ),
+    (
+        &["he", "connect", "--set", "attempt=5", "192.0.2.1", "80"],
+        TEXT,
+        Streams::Whole,
+        2,
+        b"",
+        b"error: invalid value for '--set <NAME=N>'",
+    ),
+    (
+        &["he", "connect", "--help"],
+        TEXT,
+        Streams::Whole,
+        0,
+        b"Connects to a host by RFC 8305",
+        b"",
+    ),
 ];
 
 // A reader of the text that breaks behind it where the streams do.
@@ -605,18 +629,8 @@ fn writer_of(alloc: Global, streams: Streams) -> FakeWriter {
 // Whether the line of this row ends as it must, with a writer of faults that takes so many bytes.
 fn is_right<R>(rt: &HostRuntime, lender: &R, row: &Row, faults_room: usize) -> bool
 where
-    R: Threads
-        + Wait
-        + Clock
-        + RandomSource
-        + AllocGlobal
-        + Net
-        + Files
-        + SystemResolver
-        + Copy
-        + Send
-        + Sync
-        + 'static,
+    R: Threads + Wait + Clock + RandomSource + AllocGlobal + Net + Files + Sync,
+    R: SystemResolver + Copy + Send + 'static,
 {
     let (words, text, streams, status, output, fault) = row;
     let mut input = FromReader::new(reader_of(text, *streams));
@@ -647,18 +661,8 @@ where
 /// A line that cannot be written.
 pub fn run_command_lines<R>(rt: &HostRuntime, lender: &R) -> io::Result<Counts>
 where
-    R: Threads
-        + Wait
-        + Clock
-        + RandomSource
-        + AllocGlobal
-        + Net
-        + Files
-        + SystemResolver
-        + Copy
-        + Send
-        + Sync
-        + 'static,
+    R: Threads + Wait + Clock + RandomSource + AllocGlobal + Net + Files + Sync,
+    R: SystemResolver + Copy + Send + 'static,
 {
     let mut counts = Counts { ran: 0, differ: 0 };
     for (at, row) in ROWS.iter().enumerate() {

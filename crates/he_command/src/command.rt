@@ -2,8 +2,10 @@
 ghost use Rattle.std.specs.Prelude.{◌≤◌, IfOk};
 ghost use Rattle.he_command.specs.Run.{IsRequest};
 
+use crate::asking::{OptionFault, asked_of, connect_command};
 use crate::limits::{DEFAULT_WORKERS, DEFAULT_WORKERS_TEXT, LEAST_PORT};
 use clap::{Arg, ArgAction, ArgMatches, Command, Error, value_parser};
+use he_connect::Asked;
 use he_replay::Action;
 use he_replay::limits::{LEAST_WORKERS, MOST_WORKERS};
 use he_resolver::Choice;
@@ -30,6 +32,8 @@ pub enum Request<'a> {
         host: &'a str,
         resolver: Option<Choice>,
     },
+    /// To connect, and to relay standard input and output; or what is wrong with the options.
+    Connect(Result<Asked<'a>, OptionFault>),
 }
 
 const ABOUT: &str =
@@ -70,7 +74,8 @@ const WORKERS_HELP: &str =
 
 const EXIT_STATUS: &str = "\
 Exit status: 0 when all is done; 1 after a fault, which standard error tells; 2 for a
-command line that is refused; 3 where `live --must-connect` made no connection.";
+command line that is refused; 3 where `connect` or `live --must-connect` made no
+connection.";
 
 const REPLAY_EXAMPLE: &str = "\
 Standard input is a timeline text: for each race the host's addresses and routes, the
@@ -317,6 +322,7 @@ fn command<'a>(alloc: Global) -> Result<Command<'a>, AllocError> {
         .after_help(NAMES_EXAMPLE)
         .arg(host_name(alloc))?
         .arg(resolver(alloc))?;
+    let connect = connect_command(alloc)?;
     Command::new(alloc, "he")
         .bin_name("he")?
         .version("1.0.0")
@@ -329,7 +335,8 @@ fn command<'a>(alloc: Global) -> Result<Command<'a>, AllocError> {
         .subcommand(check)?
         .subcommand(live)?
         .subcommand(host)?
-        .subcommand(names)
+        .subcommand(names)?
+        .subcommand(connect)
 }
 
 // The port of `he live`.
@@ -368,7 +375,7 @@ fn host_name<'a>(alloc: Global) -> Arg<'a> {
 }
 
 // The resolver of `he names`.
-fn resolver<'a>(alloc: Global) -> Arg<'a> {
+pub(crate) fn resolver<'a>(alloc: Global) -> Arg<'a> {
     Arg::new(alloc, "resolver")
         .long("resolver")
         .value_name("RESOLVER")
@@ -398,6 +405,7 @@ pub fn read_words<'a>(alloc: Global, words: &'a [&'a str]) -> Result<Request<'a>
             host: names.get_str("host").unwrap_or(""),
             resolver: resolver_of(names),
         },
+        Some(("connect", connect)) => Request::Connect(asked_of(connect)),
         Some((_, replay)) => Request::Action(Action::Replay {
             workers: workers_of(replay),
         }),
@@ -408,7 +416,7 @@ pub fn read_words<'a>(alloc: Global, words: &'a [&'a str]) -> Result<Request<'a>
 }
 
 // The resolver that the line names: that of the system's settings where it names none.
-fn resolver_of(matches: &ArgMatches<'_>) -> Option<Choice> {
+pub(crate) fn resolver_of(matches: &ArgMatches<'_>) -> Option<Choice> {
     match matches.get_str("resolver") {
         Some(text) => Choice::read(text.as_bytes()),
         None => Some(Choice::Configured),
@@ -416,7 +424,7 @@ fn resolver_of(matches: &ArgMatches<'_>) -> Option<Choice> {
 }
 
 // The port. clap has tested that it is there, and its range, but has no clause on a subcommand's arguments.
-fn port_of(matches: &ArgMatches<'_>) -> u16
+pub(crate) fn port_of(matches: &ArgMatches<'_>) -> u16
     ensures { LEAST_PORT ≤ result }
 {
     matches

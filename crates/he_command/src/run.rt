@@ -4,12 +4,14 @@ ghost use Rattle.clap.specs.Values.{kind_of};
 ghost use Rattle.he_stream.specs.Input.{Gives, GivesSoFar};
 ghost use Rattle.he_stream.specs.Output.{PutsAndEnds, PutsInRounds, PutsPart, PutsRoundsPart, PutsWhole};
 ghost use Rattle.he_command.specs.declared.command.Request.TheVariants.{Check};
-ghost use Rattle.he_command.specs.Run.{AnswersLine, IsRequest, RunsLine, RunsNames, RunsRequest, Shows, status_of, status_of_live};
+ghost use Rattle.he_command.specs.Run.{AnswersLine, IsRequest, RunsConnect, RunsLine, RunsNames, RunsRequest, Shows, status_of, status_of_connection, status_of_live};
 
+use crate::asking::OptionFault;
 use crate::command::{Request, read_words};
 use clap::Error;
 use clap::error::ErrorKind;
 use he_check::check;
+use he_connect::{Asked, ConnectFault, Ended, connect};
 use he_host::machine::write_machine;
 use he_live::{FailedAttempt, LiveFault, first_local, live, write_failures};
 use he_plan::Outcome3;
@@ -56,20 +58,10 @@ pub fn run_words<'a, R, I, O, F>(
     faults: &mut F,
 ) -> u8
 where
-    R: Threads
-        + Wait
-        + Clock
-        + RandomSource
-        + AllocGlobal
-        + Net
-        + Files
-        + SystemResolver
-        + Copy
-        + Send
-        + Sync
-        + 'static,
+    R: Threads + Wait + Clock + RandomSource + AllocGlobal + Net + Files + Sync,
+    R: SystemResolver + Copy + Send + 'static,
     I: InputStream,
-    O: OutputStream,
+    O: OutputStream + Send,
     F: Write,
     ensures { (line : Result Request Error) × IfOk line IsRequest
         × RunsLine line (Gives I.remaining I.takes input.old input.new)
@@ -93,20 +85,10 @@ pub fn run_line<R, I, O, F>(
     faults: &mut F,
 ) -> u8
 where
-    R: Threads
-        + Wait
-        + Clock
-        + RandomSource
-        + AllocGlobal
-        + Net
-        + Files
-        + SystemResolver
-        + Copy
-        + Send
-        + Sync
-        + 'static,
+    R: Threads + Wait + Clock + RandomSource + AllocGlobal + Net + Files + Sync,
+    R: SystemResolver + Copy + Send + 'static,
     I: InputStream,
-    O: OutputStream,
+    O: OutputStream + Send,
     F: Write,
     requires { IfOk line IsRequest }
     ensures { RunsLine line.entry (Gives I.remaining I.takes input.old input.new)
@@ -133,20 +115,10 @@ fn run_request<R, I, O, F>(
     faults: &mut F,
 ) -> u8
 where
-    R: Threads
-        + Wait
-        + Clock
-        + RandomSource
-        + AllocGlobal
-        + Net
-        + Files
-        + SystemResolver
-        + Copy
-        + Send
-        + Sync
-        + 'static,
+    R: Threads + Wait + Clock + RandomSource + AllocGlobal + Net + Files + Sync,
+    R: SystemResolver + Copy + Send + 'static,
     I: InputStream,
-    O: OutputStream,
+    O: OutputStream + Send,
     F: Write,
     requires { IsRequest request }
     ensures { RunsRequest request.entry (Gives I.remaining I.takes input.old input.new)
@@ -177,6 +149,7 @@ where
         Request::Names { host, resolver } => {
             run_names(rt, alloc, host, resolver, output, faults)
         }
+        Request::Connect(line) => run_connect(rt, alloc, line, input, output, faults),
     }
 }
 
@@ -240,17 +213,8 @@ fn run_names<R, O, F>(
     faults: &mut F,
 ) -> u8
 where
-    R: Threads
-        + Wait
-        + Clock
-        + RandomSource
-        + AllocGlobal
-        + Net
-        + Files
-        + SystemResolver
-        + Copy
-        + Send
-        + 'static,
+    R: Wait + Clock + RandomSource + AllocGlobal + Net + Files + Threads,
+    R: SystemResolver + Copy + Send + 'static,
     O: OutputStream,
     F: Write,
     ensures { RunsNames resolver (PutsWhole O.contents O.puts O.flushes output.old output.new)
@@ -263,6 +227,55 @@ where
             USAGE
         }
     }
+}
+
+// Connects, and relays to the end. An option without a value that it may have is a line that is refused.
+fn run_connect<R, I, O, F>(
+    rt: &R,
+    alloc: Global,
+    line: Result<Asked<'_>, OptionFault>,
+    input: &mut I,
+    output: &mut O,
+    faults: &mut F,
+) -> u8
+where
+    R: Threads + Wait + Clock + RandomSource + AllocGlobal + Net + Files + Sync,
+    R: SystemResolver + Copy + Send + 'static,
+    I: InputStream,
+    O: OutputStream + Send,
+    F: Write,
+    ensures { RunsConnect line (PutsInRounds O.contents O.puts O.flushes output.old output.new)
+        (PutsRoundsPart O.contents O.puts O.flushes output.old output.new) (output.new ≡ output.old) result }
+{
+    match line {
+        Ok(asked) => {
+            let end = connect(rt, alloc, &asked, input, output, faults);
+            report_connection(end, faults)
+        }
+        Err(fault) => refuse_option(fault, faults),
+    }
+}
+
+// Says how a connection ended, and answers the exit status.
+fn report_connection<F: Write>(end: Result<Ended, ConnectFault>, faults: &mut F) -> u8
+    ensures { result ≡ status_of_connection end }
+{
+    match end {
+        Ok(Ended::NoConnection) => NO_CONNECTION,
+        Ok(Ended::Connected | Ended::Relayed) => DONE,
+        Err(fault) => report(fault, faults),
+    }
+}
+
+// Says which option has no value that it may have.
+fn refuse_option<F: Write>(fault: OptionFault, faults: &mut F) -> u8
+    ensures { result ≡ USAGE }
+{
+    let _ = writeln!(
+        faults,
+        "error: {fault}\n\nFor more information, try '--help'."
+    );
+    USAGE
 }
 
 // Answers a line that asks for no action.

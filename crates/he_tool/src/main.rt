@@ -27,18 +27,8 @@ fn main(rt: HostRuntime) -> ExitCode {
 // sockets and waiting in `main` alone, so `main` hands it on as what lends them too.
 fn run_program<R>(rt: &HostRuntime, lender: &R) -> u8
 where
-    R: Threads
-        + Wait
-        + Clock
-        + RandomSource
-        + AllocGlobal
-        + Net
-        + Files
-        + SystemResolver
-        + Copy
-        + Send
-        + Sync
-        + 'static,
+    R: Threads + Wait + Clock + RandomSource + AllocGlobal + Net + Files + Sync,
+    R: SystemResolver + Copy + Send + 'static,
 {
     match words_of(rt) {
         Ok(words) => run_texts(rt, lender, words.as_slice()),
@@ -57,18 +47,8 @@ fn words_of(rt: &HostRuntime) -> io::Result<Vec<String>> {
 
 fn run_texts<R>(rt: &HostRuntime, lender: &R, words: &[String]) -> u8
 where
-    R: Threads
-        + Wait
-        + Clock
-        + RandomSource
-        + AllocGlobal
-        + Net
-        + Files
-        + SystemResolver
-        + Copy
-        + Send
-        + Sync
-        + 'static,
+    R: Threads + Wait + Clock + RandomSource + AllocGlobal + Net + Files + Sync,
+    R: SystemResolver + Copy + Send + 'static,
 {
     let texts = words
         .iter()
