@@ -87,7 +87,8 @@ type Row = (
     &'static [u8],
 );
 
-static ROWS: [Row; 70] = [
+// Commands that read a text.
+static TEXT_ROWS: [Row; 57] = [
     (&["he", "replay"], TEXT, Streams::Whole, 0, TRANSCRIPT, b""),
     (
         &["he", "replay", "--workers", "1"],
@@ -509,6 +510,10 @@ static ROWS: [Row; 70] = [
         b"Checks timelines of races",
         b"",
     ),
+];
+
+// Commands that are about this host, or others.
+static HOST_ROWS: [Row; 13] = [
     (
         &["he", "host", "more"],
         TEXT,
@@ -653,8 +658,8 @@ where
     got == *status && is_written && is_told && is_quiet
 }
 
-/// Runs each command line of the table, once more with a writer of faults that takes nothing, and counts the runs. A
-/// line is printed for each that ends otherwise than it must, with its place in the table, from 0 on.
+/// Runs each command line of the tables, once more with a writer of faults that takes nothing, and counts the runs. A
+/// line is printed for each that ends otherwise than it must, with its place in its table, from 0 on.
 ///
 /// # Errors
 ///
@@ -665,12 +670,28 @@ where
     R: SystemResolver + Copy + Send + 'static,
 {
     let mut counts = Counts { ran: 0, differ: 0 };
-    for (at, row) in ROWS.iter().enumerate() {
-        let name = format!(in rt.alloc(); "command line {at}")?;
+    run_rows(rt, lender, "text", &TEXT_ROWS, &mut counts)?;
+    run_rows(rt, lender, "host", &HOST_ROWS, &mut counts)?;
+    Ok(counts)
+}
+
+fn run_rows<R>(
+    rt: &HostRuntime,
+    lender: &R,
+    table: &str,
+    rows: &[Row],
+    counts: &mut Counts,
+) -> io::Result<()>
+where
+    R: Threads + Wait + Clock + RandomSource + AllocGlobal + Net + Files + Sync,
+    R: SystemResolver + Copy + Send + 'static,
+{
+    for (at, row) in rows.iter().enumerate() {
+        let name = format!(in rt.alloc(); "command line {at} of {table}")?;
         for faults_room in [usize::MAX, 0] {
             let is_same = is_right(rt, lender, row, faults_room);
             counts.count(rt, name.as_str(), "it ends otherwise", is_same)?;
         }
     }
-    Ok(counts)
+    Ok(())
 }
