@@ -1,5 +1,5 @@
 # What a newcomer needs. README.md and CONTRIBUTING.md say what each is for and how long it takes.
-.PHONY: help race test edits install install-library library deb examples documents explained hostile refused hosts captures live fuzz manual kit program
+.PHONY: help race test edits install install-library library deb examples documents explained hostile refused hosts captures live names connect fuzz manual kit program
 
 PREFIX ?= /usr/local
 RACE ?= crates/cases/data/ipv6-late-but-within-delay-leads.timeline
@@ -31,6 +31,8 @@ help:
 	@echo '                           and tries the command line of tools/race-text'
 	@echo 'make captures HE=FILE      tries tools/from-capture and tools/compare-done on packet captures; needs tshark'
 	@echo 'make live HE=FILE          runs live races of a built program, and looks from the other side at what it did'
+	@echo 'make names HE=FILE         looks names up by a built program, from name servers of its own, right ones and wrong ones'
+	@echo 'make connect HE=FILE       connects by a built program in full: transfers of 100 MB, 1,000 connections under faults'
 	@echo 'make fuzz SECONDS=60 SEED=1 HE=FILE'
 	@echo '                           compares a built program with a plain reading of the rules, on texts that are drawn'
 	@echo 'make explained HE=FILE     compares what a built program explains with its transcripts and orders'
@@ -94,6 +96,12 @@ captures: program
 
 live: program
 	scripts/live $(HE)
+
+names: program
+	scripts/names $(HE)
+
+connect: program
+	scripts/connect $(HE) --full
 
 fuzz: program
 	scripts/fuzz $(HE) --large --seed $(SEED)

@@ -2,10 +2,10 @@
 # hand: . completions/he.bash
 _he() {
     local word=${COMP_WORDS[COMP_CWORD]} before=${COMP_WORDS[COMP_CWORD - 1]} command=
-    local commands='replay order explain check live host help' options=
+    local commands='replay order explain check live host names connect help' options=
     [ "$COMP_CWORD" -gt 1 ] && command=${COMP_WORDS[1]}
     case $before in
-        --workers | --port) COMPREPLY=(); return ;;
+        --workers | --port | --resolver | --timeout | --set) COMPREPLY=(); return ;;
     esac
     case $command in
         '') options="$commands --help --version -h -V" ;;
@@ -15,6 +15,8 @@ _he() {
         check) options='--help -h' ;;
         live) options='--port --must-connect --verbose -v --help -h' ;;
         host) options='--help -h' ;;
+        names) options='--resolver --help -h' ;;
+        connect) options='-4 -6 -z --timeout --set --host --resolver --record --explain --verbose -v --help -h' ;;
         help) options=$commands ;;
     esac
     mapfile -t COMPREPLY < <(compgen -W "$options" -- "$word")

@@ -1,5 +1,5 @@
 # Completion of the command line of he in fish. Installed as PREFIX/share/fish/vendor_completions.d/he.fish.
-set -l commands replay order explain check live host help
+set -l commands replay order explain check live host names connect help
 
 complete -c he -f
 complete -c he -n __fish_use_subcommand -a replay -d 'Write what happens in races'
@@ -8,6 +8,8 @@ complete -c he -n __fish_use_subcommand -a explain -d 'Write why races went as t
 complete -c he -n __fish_use_subcommand -a check -d 'Check timelines, and explain the first fault'
 complete -c he -n __fish_use_subcommand -a live -d 'Race real connections'
 complete -c he -n __fish_use_subcommand -a host -d 'Write the lines of this machine'
+complete -c he -n __fish_use_subcommand -a names -d 'Look up the addresses of a host'
+complete -c he -n __fish_use_subcommand -a connect -d 'Connect to a host'
 complete -c he -n __fish_use_subcommand -a help -d 'Tell what a command does'
 complete -c he -n __fish_use_subcommand -s V -l version -d 'Tell the version'
 complete -c he -n "not __fish_seen_subcommand_from help" -s h -l help -d 'Tell what it does'
@@ -17,3 +19,14 @@ complete -c he -n '__fish_seen_subcommand_from replay' -l workers -x -d 'Most wo
 complete -c he -n '__fish_seen_subcommand_from live' -l port -x -d 'TCP port, 1 to 65535'
 complete -c he -n '__fish_seen_subcommand_from live' -l must-connect -d 'Status 3 where no connection was made'
 complete -c he -n '__fish_seen_subcommand_from live' -s v -l verbose -d 'Tell each attempt that failed'
+complete -c he -n '__fish_seen_subcommand_from names connect' -l resolver -x -a system -d 'Name server to ask'
+complete -c he -n '__fish_seen_subcommand_from names connect' -a '(__fish_print_hostnames)'
+complete -c he -n '__fish_seen_subcommand_from connect' -s 4 -d 'IPv4 addresses alone'
+complete -c he -n '__fish_seen_subcommand_from connect' -s 6 -d 'IPv6 addresses alone'
+complete -c he -n '__fish_seen_subcommand_from connect' -s z -d 'End once the connection is made'
+complete -c he -n '__fish_seen_subcommand_from connect' -l timeout -x -d 'Milliseconds to give up after'
+complete -c he -n '__fish_seen_subcommand_from connect' -l set -x -a 'attempt= resolution= count= floor=' -d 'A setting of the race'
+complete -c he -n '__fish_seen_subcommand_from connect' -l host -r -F -d 'Lines in place of this machine'
+complete -c he -n '__fish_seen_subcommand_from connect' -l record -r -F -d 'File for the record'
+complete -c he -n '__fish_seen_subcommand_from connect' -l explain -d 'Explain the race on standard error'
+complete -c he -n '__fish_seen_subcommand_from connect' -s v -l verbose -d 'Tell each step of the race'

@@ -2,6 +2,7 @@
 
 use crate::example::Counts;
 use he_command::run_words;
+use he_resolver::SystemResolver;
 use he_stream::{FromReader, ToWriter};
 use std::alloc::{AllocGlobal, Global};
 use std::io;
@@ -86,7 +87,8 @@ type Row = (
     &'static [u8],
 );
 
-static ROWS: [Row; 59] = [
+// Commands that read a text.
+static TEXT_ROWS: [Row; 57] = [
     (&["he", "replay"], TEXT, Streams::Whole, 0, TRANSCRIPT, b""),
     (
         &["he", "replay", "--workers", "1"],
@@ -508,6 +510,10 @@ static ROWS: [Row; 59] = [
         b"Checks timelines of races",
         b"",
     ),
+];
+
+// Commands that are about this host, or others.
+static HOST_ROWS: [Row; 13] = [
     (
         &["he", "host", "more"],
         TEXT,
@@ -522,6 +528,87 @@ static ROWS: [Row; 59] = [
         Streams::Whole,
         0,
         b"Writes the addresses and routes of this machine",
+        b"",
+    ),
+    (
+        &["he", "names", "192.0.2.1"],
+        TEXT,
+        Streams::Whole,
+        0,
+        b"aaaa 0 none\na 0 192.0.2.1\n",
+        b"",
+    ),
+    (
+        &["he", "names", "--resolver", "system", "2001:db8::1"],
+        TEXT,
+        Streams::Whole,
+        0,
+        b"aaaa ",
+        b"",
+    ),
+    (
+        &["he", "names", "192.0.2.1"],
+        TEXT,
+        Streams::Room(3),
+        1,
+        b"aaa",
+        WRITE_LINE,
+    ),
+    (
+        &["he", "names", "192.0.2.1"],
+        TEXT,
+        Streams::FailsToFlush,
+        1,
+        b"aaaa 0 none\na 0 192.0.2.1\n",
+        WRITE_LINE,
+    ),
+    (
+        &["he", "names", "two..dots"],
+        TEXT,
+        Streams::Whole,
+        1,
+        b"",
+        b"he: not a host name: ",
+    ),
+    (&["he", "names"], TEXT, Streams::Whole, 2, b"", b"error: "),
+    (
+        &["he", "names", "--resolver", "none", "192.0.2.1"],
+        TEXT,
+        Streams::Whole,
+        2,
+        b"",
+        b"error: ",
+    ),
+    (
+        &["he", "names", "--help"],
+        TEXT,
+        Streams::Whole,
+        0,
+        b"Finds the addresses of a host",
+        b"",
+    ),
+    (
+        &["he", "connect", "192.0.2.1"],
+        TEXT,
+        Streams::Whole,
+        2,
+        b"",
+        b"error: ",
+    ),
+    (
+        &["he", "connect", "--set", "attempt=5", "192.0.2.1", "80"],
+        TEXT,
+        Streams::Whole,
+        2,
+        b"",
+        b"error: invalid value for '--set <NAME=N>'",
+    ),
+    (
+        &["he", "connect", "--help"],
+        TEXT,
+        Streams::Whole,
+        0,
+        b"Connects to a host by RFC 8305",
         b"",
     ),
 ];
@@ -548,6 +635,7 @@ fn writer_of(alloc: Global, streams: Streams) -> FakeWriter {
 fn is_right<R>(rt: &HostRuntime, lender: &R, row: &Row, faults_room: usize) -> bool
 where
     R: Threads + Wait + Clock + RandomSource + AllocGlobal + Net + Files + Sync,
+    R: SystemResolver + Copy + Send + 'static,
 {
     let (words, text, streams, status, output, fault) = row;
     let mut input = FromReader::new(reader_of(text, *streams));
@@ -570,8 +658,8 @@ where
     got == *status && is_written && is_told && is_quiet
 }
 
-/// Runs each command line of the table, once more with a writer of faults that takes nothing, and counts the runs. A
-/// line is printed for each that ends otherwise than it must, with its place in the table, from 0 on.
+/// Runs each command line of the tables, once more with a writer of faults that takes nothing, and counts the runs. A
+/// line is printed for each that ends otherwise than it must, with its place in its table, from 0 on.
 ///
 /// # Errors
 ///
@@ -579,14 +667,31 @@ where
 pub fn run_command_lines<R>(rt: &HostRuntime, lender: &R) -> io::Result<Counts>
 where
     R: Threads + Wait + Clock + RandomSource + AllocGlobal + Net + Files + Sync,
+    R: SystemResolver + Copy + Send + 'static,
 {
     let mut counts = Counts { ran: 0, differ: 0 };
-    for (at, row) in ROWS.iter().enumerate() {
-        let name = format!(in rt.alloc(); "command line {at}")?;
+    run_rows(rt, lender, "text", &TEXT_ROWS, &mut counts)?;
+    run_rows(rt, lender, "host", &HOST_ROWS, &mut counts)?;
+    Ok(counts)
+}
+
+fn run_rows<R>(
+    rt: &HostRuntime,
+    lender: &R,
+    table: &str,
+    rows: &[Row],
+    counts: &mut Counts,
+) -> io::Result<()>
+where
+    R: Threads + Wait + Clock + RandomSource + AllocGlobal + Net + Files + Sync,
+    R: SystemResolver + Copy + Send + 'static,
+{
+    for (at, row) in rows.iter().enumerate() {
+        let name = format!(in rt.alloc(); "command line {at} of {table}")?;
         for faults_room in [usize::MAX, 0] {
             let is_same = is_right(rt, lender, row, faults_room);
             counts.count(rt, name.as_str(), "it ends otherwise", is_same)?;
         }
     }
-    Ok(counts)
+    Ok(())
 }

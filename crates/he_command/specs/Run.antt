@@ -1,20 +1,29 @@
 -- What a run of the program has done, by its exit status.
-use Rattle.std.specs.Prelude.{◌≡◌, ◌≢◌, ◌≤◌, ◌⊎◌, ℕ, Bool, true, List, Result, Ok, Err}
+use Rattle.std.specs.Prelude.{◌≡◌, ◌≢◌, ◌≤◌, ◌⊎◌, ℕ, Bool, true, List, Option, Some, None, Result, Ok, Err}
 use Rattle.clap.specs.Values.{kind_of}
 use Rattle.clap.specs.declared.error.Error.{Error}
 use Rattle.clap.specs.declared.error.kind.ErrorKind.{ErrorKind}
 use Rattle.clap.specs.declared.error.kind.ErrorKind.TheVariants as kinds
 use Rattle.he_check.specs.declared.fault.CheckFault.{CheckFault}
 use Rattle.he_check.specs.Stream.{Checks}
+use Rattle.he_connect.specs.Connects.{Connects, Ran}
+use Rattle.he_connect.specs.declared.connecting.Ended.{Ended}
+use Rattle.he_connect.specs.declared.connecting.Ended.TheVariants as ends
+use Rattle.he_connect.specs.declared.fault.ConnectFault.{ConnectFault}
 use Rattle.he_live.specs.declared.failures.FailedAttempt.{FailedAttempt}
 use Rattle.he_live.specs.declared.fault.LiveFault.{LiveFault}
 use Rattle.he_live.specs.Live.{Lives}
+use Rattle.he_resolver.specs.Told.{TellsNames}
+use Rattle.he_resolver.specs.declared.choice.Choice.{Choice}
+use Rattle.he_resolver.specs.declared.fault.TellFault.{TellFault}
+use Rattle.he_plan.specs.Settings.{SettingValues}
 use Rattle.he_plan.specs.declared.transcript.Outcome3.{Outcome3}
 use Rattle.he_plan.specs.declared.transcript.Outcome3.TheVariants as results
 use Rattle.he_replay.specs.Actions.{HasWorkers, RunsAction}
 use Rattle.he_replay.specs.declared.fault.ReplayFault.{ReplayFault}
+use Rattle.he_command.specs.declared.asking.Options.{Options}
 use Rattle.he_command.specs.declared.command.Request.{Request}
-use Rattle.he_command.specs.declared.command.Request.TheVariants.{Action, Check, Host, Live}
+use Rattle.he_command.specs.declared.command.Request.TheVariants.{Action, Check, Connect, Host, Live, Names}
 use Rattle.he_command.specs.declared.limits.TheConstants.{LEAST_PORT}
 use Rattle.he_command.specs.declared.run.TheConstants.{DONE, FAULT, NO_CONNECTION, USAGE}
 
@@ -29,6 +38,13 @@ status_of_live must (Err fault) = FAULT
 status_of_live true (Ok (results.Exhausted tick)) = NO_CONNECTION
 status_of_live true (Ok (results.Limit tick)) = NO_CONNECTION
 status_of_live must (Ok result) = DONE
+
+-- the status of a connection that was asked for
+abbrev pub status_of_connection : Result Ended ConnectFault → ℕ
+status_of_connection (Ok ends.NoConnection) = NO_CONNECTION
+status_of_connection (Ok ends.Connected) = DONE
+status_of_connection (Ok ends.Relayed) = DONE
+status_of_connection (Err fault) = FAULT
 
 -- help or the version was asked for
 abbrev pub IsHelp : ErrorKind → Type 0
@@ -56,6 +72,20 @@ IsRequest (Action action) = HasWorkers action
 IsRequest Check = Unit {0}
 IsRequest (Live port must verbose) = LEAST_PORT ≤ port
 IsRequest Host = Unit {0}
+IsRequest (Names host resolver) = Unit {0}
+IsRequest (Connect options) = LEAST_PORT ≤ options.port
+
+-- what comes of a search for names: they were told, or the line names a resolver that is none
+abbrev pub RunsNames : Option Choice → (List ℕ → Type 0) → (List ℕ → Type 0) → Type 0 → ℕ → Type 0
+RunsNames None Whole Part Kept status = (status ≡ USAGE) × Kept
+RunsNames (Some choice) Whole Part Kept status =
+    (result : Result (Unit {0}) TellFault) × TellsNames Whole Part Kept result × (status ≡ status_of result)
+
+-- what comes of a connection that is asked for: it was made and relayed, or not; or an option has no value that it may have
+abbrev pub RunsConnect : Options → (List ℕ → Type 0) → (List ℕ → Type 0) → Type 0 → ℕ → Type 0
+RunsConnect options Put PutPart Kept status =
+    ((status ≡ USAGE) × Kept)
+    ⊎ ((settings : SettingValues) × (result : Result Ended ConnectFault) × Connects (Ran settings options.families) Put PutPart Kept result × (status ≡ status_of_connection result))
 
 -- what was asked for was done, and the status tells how that ended. Given, Taken, Ended, Failed and Put as `RunsAction` has
 -- them: of a text that is put in rounds; Whole, Part and Kept as `Lives` has them: of one text
@@ -67,6 +97,8 @@ RunsRequest Check Given Taken Ended Failed Put Whole Part Kept status =
 RunsRequest (Live port must verbose) Given Taken Ended Failed Put Whole Part Kept status =
     (result : Result Outcome3 LiveFault) × (failed : List FailedAttempt) × Lives Given Whole Part Kept failed result × (status ≡ status_of_live must result)
 RunsRequest Host Given Taken Ended Failed Put Whole Part Kept status = Shows Whole Part Kept status
+RunsRequest (Names host resolver) Given Taken Ended Failed Put Whole Part Kept status = RunsNames resolver Whole Part Kept status
+RunsRequest (Connect options) Given Taken Ended Failed Put Whole Part Kept status = RunsConnect options Put Failed Kept status
 
 -- what comes of a line: what it asks for was done; or it asks for nothing that is done, and the input is Unread
 abbrev pub RunsLine : Result Request Error → (List ℕ → Bool → Type 0) → (List ℕ → Type 0) → Type 0 → (List ℕ → Type 0) → (List ℕ → Type 0) → (List ℕ → Type 0) → (List ℕ → Type 0) → (List ℕ → Type 0) → Type 0 → ℕ → Type 0

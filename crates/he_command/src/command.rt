@@ -2,15 +2,17 @@
 ghost use Rattle.std.specs.Prelude.{◌≤◌, IfOk};
 ghost use Rattle.he_command.specs.Run.{IsRequest};
 
+use crate::asking::{Options, connect_command, options_of};
 use crate::limits::{DEFAULT_WORKERS, DEFAULT_WORKERS_TEXT, LEAST_PORT};
 use clap::{Arg, ArgAction, ArgMatches, Command, Error, value_parser};
 use he_replay::Action;
 use he_replay::limits::{LEAST_WORKERS, MOST_WORKERS};
+use he_resolver::Choice;
 use std::alloc::{AllocError, Global};
 
 /// What a command line asks for.
 #[derive(Clone, Copy)]
-pub enum Request {
+pub enum Request<'a> {
     /// Something to do with the races of the input.
     Action(Action),
     /// To check the input, and to explain its first fault or to warn of its slips.
@@ -24,6 +26,13 @@ pub enum Request {
     },
     /// To write the lines of this machine's addresses and routes.
     Host,
+    /// To find the addresses of a host, by this resolver; None where the line names none that there is.
+    Names {
+        host: &'a str,
+        resolver: Option<Choice>,
+    },
+    /// To connect, and to relay standard input and output.
+    Connect(Options<'a>),
 }
 
 const ABOUT: &str =
@@ -42,6 +51,15 @@ const LIVE_ABOUT: &str = "Races real connections, and writes what happened and a
 
 const HOST_ABOUT: &str = "Writes the addresses and routes of this machine as lines of a race";
 
+const NAMES_ABOUT: &str =
+    "Finds the addresses of a host, and writes them as the answers of a timeline";
+
+const HOST_NAME_HELP: &str = "A host name, as www.example.com, or an address";
+
+const RESOLVER_HELP: &str =
+    "A name server in place of those of /etc/resolv.conf: ADDRESS or ADDRESS:PORT, IPv6 with a port as [ADDRESS]:PORT; \
+or `system`, the system's own resolver";
+
 const PORT_HELP: &str = "The TCP port at which each address is connected to, 1 to 65535";
 
 const MUST_CONNECT_HELP: &str =
@@ -55,7 +73,8 @@ const WORKERS_HELP: &str =
 
 const EXIT_STATUS: &str = "\
 Exit status: 0 when all is done; 1 after a fault, which standard error tells; 2 for a
-command line that is refused; 3 where `live --must-connect` made no connection.";
+command line that is refused; 3 where `connect` or `live --must-connect` made no
+connection.";
 
 const REPLAY_EXAMPLE: &str = "\
 Standard input is a timeline text: for each race the host's addresses and routes, the
@@ -248,6 +267,25 @@ To make a race of it, and to run that:
 Exit status: 0 when all is done, whether something was left out or not; 1 after a fault,
 with one line on standard error; 2 for a command line that is refused.";
 
+const NAMES_EXAMPLE: &str = "\
+Standard output has the two answers that a timeline wants, each with the tick
+(millisecond since the start) at which it came; `none` where a family has no address.
+
+Example: `he names www.example.com` may write
+
+  aaaa 31 2001:db8:1::1 2001:db8:1::2
+  a 12 198.51.100.1
+
+An address is its own answer, and a name of /etc/hosts has the addresses there. Any
+other is asked of the name servers of /etc/resolv.conf, both families at once, over UDP,
+and over TCP where an answer is cut off; `search` and the options ndots, timeout and
+attempts count as resolver(5) has them. With `--resolver system` all of it is left to
+the system (getaddrinfo), which gives both families at once.
+
+Exit status: 0 when an address was found; 1 after a fault, with one line on standard
+error (`he: no such name`, `he: no name server answers`); 2 for a command line that is
+refused.";
+
 // The whole command line of the program.
 fn command<'a>(alloc: Global) -> Result<Command<'a>, AllocError> {
     let workers = Arg::new(alloc, "workers")
@@ -278,6 +316,12 @@ fn command<'a>(alloc: Global) -> Result<Command<'a>, AllocError> {
     let host = Command::new(alloc, "host")
         .about(HOST_ABOUT)
         .after_help(HOST_EXAMPLE);
+    let names = Command::new(alloc, "names")
+        .about(NAMES_ABOUT)
+        .after_help(NAMES_EXAMPLE)
+        .arg(host_name(alloc))?
+        .arg(resolver(alloc))?;
+    let connect = connect_command(alloc)?;
     Command::new(alloc, "he")
         .bin_name("he")?
         .version("1.0.0")
@@ -289,7 +333,9 @@ fn command<'a>(alloc: Global) -> Result<Command<'a>, AllocError> {
         .subcommand(explain)?
         .subcommand(check)?
         .subcommand(live)?
-        .subcommand(host)
+        .subcommand(host)?
+        .subcommand(names)?
+        .subcommand(connect)
 }
 
 // The port of `he live`.
@@ -319,12 +365,28 @@ fn verbose<'a>(alloc: Global) -> Arg<'a> {
         .help(VERBOSE_HELP)
 }
 
+// The host of `he names`.
+fn host_name<'a>(alloc: Global) -> Arg<'a> {
+    Arg::new(alloc, "host")
+        .value_name("HOST")
+        .required(true)
+        .help(HOST_NAME_HELP)
+}
+
+// The resolver of `he names`.
+pub(crate) fn resolver<'a>(alloc: Global) -> Arg<'a> {
+    Arg::new(alloc, "resolver")
+        .long("resolver")
+        .value_name("RESOLVER")
+        .help(RESOLVER_HELP)
+}
+
 /// Reads the words of a command line, of which the first is the program's name.
 ///
 /// # Errors
 ///
 /// The crate clap's error: a refused line, a request for help or the version, or want of memory.
-pub fn read_words<'a>(alloc: Global, words: &'a [&'a str]) -> Result<Request, Error>
+pub fn read_words<'a>(alloc: Global, words: &'a [&'a str]) -> Result<Request<'a>, Error>
     ensures { IfOk result IsRequest }
 {
     let matches = command(alloc)?.try_get_matches_from(words)?;
@@ -338,6 +400,11 @@ pub fn read_words<'a>(alloc: Global, words: &'a [&'a str]) -> Result<Request, Er
             verbose: live.get_flag("verbose"),
         },
         Some(("host", _)) => Request::Host,
+        Some(("names", names)) => Request::Names {
+            host: names.get_str("host").unwrap_or(""),
+            resolver: resolver_of(names),
+        },
+        Some(("connect", connect)) => Request::Connect(options_of(connect)),
         Some((_, replay)) => Request::Action(Action::Replay {
             workers: workers_of(replay),
         }),
@@ -347,8 +414,16 @@ pub fn read_words<'a>(alloc: Global, words: &'a [&'a str]) -> Result<Request, Er
     })
 }
 
+// The resolver that the line names: that of the system's settings where it names none.
+pub(crate) fn resolver_of(matches: &ArgMatches<'_>) -> Option<Choice> {
+    match matches.get_str("resolver") {
+        Some(text) => Choice::read(text.as_bytes()),
+        None => Some(Choice::Configured),
+    }
+}
+
 // The port. clap has tested that it is there, and its range, but has no clause on a subcommand's arguments.
-fn port_of(matches: &ArgMatches<'_>) -> u16
+pub(crate) fn port_of(matches: &ArgMatches<'_>) -> u16
     ensures { LEAST_PORT ≤ result }
 {
     matches

@@ -16,6 +16,7 @@
 //! Only tested: which words ask for what, and what help, usage, faults and their explanations say.
 #![tactic(auto)]
 
+pub mod asking;
 pub mod command;
 pub mod limits;
 pub mod run;

@@ -4,16 +4,19 @@ ghost use Rattle.clap.specs.Values.{kind_of};
 ghost use Rattle.he_stream.specs.Input.{Gives, GivesSoFar};
 ghost use Rattle.he_stream.specs.Output.{PutsAndEnds, PutsInRounds, PutsPart, PutsRoundsPart, PutsWhole};
 ghost use Rattle.he_command.specs.declared.command.Request.TheVariants.{Check};
-ghost use Rattle.he_command.specs.Run.{AnswersLine, IsRequest, RunsLine, RunsRequest, Shows, status_of, status_of_live};
+ghost use Rattle.he_command.specs.Run.{AnswersLine, IsRequest, RunsConnect, RunsLine, RunsNames, RunsRequest, Shows, status_of, status_of_connection, status_of_live};
 
+use crate::asking::{OptionFault, Options};
 use crate::command::{Request, read_words};
 use clap::Error;
 use clap::error::ErrorKind;
 use he_check::check;
+use he_connect::{Asked, ConnectFault, Ended, Lines, connect};
 use he_host::machine::write_machine;
 use he_live::{FailedAttempt, LiveFault, first_local, live, write_failures};
-use he_plan::Outcome3;
+use he_plan::{Outcome3, Settings};
 use he_replay::{ReplayFault, run_action};
+use he_resolver::{Choice, SystemResolver, write_names};
 use he_stream::{InputStream, OutputStream, write_whole};
 use std::alloc::{AllocGlobal, Global};
 use std::fmt::Display;
@@ -38,6 +41,11 @@ pub const USAGE: u8 = 2;
 /// The exit status of a live race that had to make a connection and made none.
 pub const NO_CONNECTION: u8 = 3;
 
+const NO_RESOLVER: &str = "\
+error: invalid value for '--resolver <RESOLVER>': neither an address, nor an address and a port, nor `system`
+
+For more information, try '--help'.";
+
 /// Runs the command line `words`, of which the first is the program's name, and answers the exit
 /// status. Output and help that was asked for go to `output`; what is wrong goes to `faults`. What
 /// cannot be written to `faults` leaves the status as it is.
@@ -51,8 +59,9 @@ pub fn run_words<'a, R, I, O, F>(
 ) -> u8
 where
     R: Threads + Wait + Clock + RandomSource + AllocGlobal + Net + Files + Sync,
+    R: SystemResolver + Copy + Send + 'static,
     I: InputStream,
-    O: OutputStream,
+    O: OutputStream + Send,
     F: Write,
     ensures { (line : Result Request Error) × IfOk line IsRequest
         × RunsLine line (Gives I.remaining I.takes input.old input.new)
@@ -70,18 +79,19 @@ where
 pub fn run_line<R, I, O, F>(
     rt: &R,
     alloc: Global,
-    line: Result<Request, Error>,
+    line: Result<Request<'_>, Error>,
     input: &mut I,
     output: &mut O,
     faults: &mut F,
 ) -> u8
 where
     R: Threads + Wait + Clock + RandomSource + AllocGlobal + Net + Files + Sync,
+    R: SystemResolver + Copy + Send + 'static,
     I: InputStream,
-    O: OutputStream,
+    O: OutputStream + Send,
     F: Write,
     requires { IfOk line IsRequest }
-    ensures { RunsLine line (Gives I.remaining I.takes input.old input.new)
+    ensures { RunsLine line.entry (Gives I.remaining I.takes input.old input.new)
         (GivesSoFar I.remaining I.takes input.old input.new) (input.new ≡ input.old)
         (PutsAndEnds O.contents O.puts O.flushes output.old output.new)
         (PutsRoundsPart O.contents O.puts O.flushes output.old output.new)
@@ -99,18 +109,19 @@ where
 fn run_request<R, I, O, F>(
     rt: &R,
     alloc: Global,
-    request: Request,
+    request: Request<'_>,
     input: &mut I,
     output: &mut O,
     faults: &mut F,
 ) -> u8
 where
     R: Threads + Wait + Clock + RandomSource + AllocGlobal + Net + Files + Sync,
+    R: SystemResolver + Copy + Send + 'static,
     I: InputStream,
-    O: OutputStream,
+    O: OutputStream + Send,
     F: Write,
     requires { IsRequest request }
-    ensures { RunsRequest request (Gives I.remaining I.takes input.old input.new)
+    ensures { RunsRequest request.entry (Gives I.remaining I.takes input.old input.new)
         (GivesSoFar I.remaining I.takes input.old input.new)
         (PutsAndEnds O.contents O.puts O.flushes output.old output.new)
         (PutsRoundsPart O.contents O.puts O.flushes output.old output.new)
@@ -135,6 +146,10 @@ where
             report_race(end, must_connect, faults)
         }
         Request::Host => run_host(rt, alloc, output, faults),
+        Request::Names { host, resolver } => {
+            run_names(rt, alloc, host, resolver, output, faults)
+        }
+        Request::Connect(options) => run_connect(rt, alloc, &options, input, output, faults),
     }
 }
 
@@ -186,6 +201,100 @@ fn put_lines<O: OutputStream>(lines: &[u8], output: &mut O) -> Result<(), Replay
         (PutsPart O.contents O.puts O.flushes output.old output.new) (output.new ≡ output.old) (status_of result) }
 {
     write_whole(output, lines).map_err(|_| ReplayFault::Write)
+}
+
+// Finds the addresses of a host. A resolver that is none is a line that is refused.
+fn run_names<R, O, F>(
+    rt: &R,
+    alloc: Global,
+    host: &str,
+    resolver: Option<Choice>,
+    output: &mut O,
+    faults: &mut F,
+) -> u8
+where
+    R: Wait + Clock + RandomSource + AllocGlobal + Net + Files + Threads,
+    R: SystemResolver + Copy + Send + 'static,
+    O: OutputStream,
+    F: Write,
+    ensures { RunsNames resolver (PutsWhole O.contents O.puts O.flushes output.old output.new)
+        (PutsPart O.contents O.puts O.flushes output.old output.new) (output.new ≡ output.old) result }
+{
+    match resolver {
+        Some(choice) => report_end(write_names(rt, alloc, output, host, choice), faults),
+        None => {
+            let _ = writeln!(faults, "{NO_RESOLVER}");
+            USAGE
+        }
+    }
+}
+
+// Connects, and relays to the end. An option without a value that it may have is a line that is refused.
+fn run_connect<R, I, O, F>(
+    rt: &R,
+    alloc: Global,
+    options: &Options<'_>,
+    input: &mut I,
+    output: &mut O,
+    faults: &mut F,
+) -> u8
+where
+    R: Threads + Wait + Clock + RandomSource + AllocGlobal + Net + Files + Sync,
+    R: SystemResolver + Copy + Send + 'static,
+    I: InputStream,
+    O: OutputStream + Send,
+    F: Write,
+    ensures { RunsConnect options.now (PutsInRounds O.contents O.puts O.flushes output.old output.new)
+        (PutsRoundsPart O.contents O.puts O.flushes output.old output.new) (output.new ≡ output.old) result }
+{
+    let Some(resolver) = options.resolver else {
+        return refuse_option(OptionFault::Resolver, faults);
+    };
+    let Some(settings) = settings_of(options) else {
+        return refuse_option(OptionFault::Setting, faults);
+    };
+    let asked = Asked {
+        host: options.host,
+        port: options.port,
+        families: options.families,
+        settings,
+        lines: match options.lines {
+            Some(path) => Lines::File(path),
+            None => Lines::Machine,
+        },
+        resolver,
+        record: options.record,
+        explains: options.explains,
+        tells_steps: options.tells_steps,
+        only_tries: options.only_tries,
+    };
+    report_connection(connect(rt, alloc, &asked, input, output, faults), faults)
+}
+
+fn settings_of(options: &Options<'_>) -> Option<Settings> {
+    options.numbers?.settings()
+}
+
+// Says how a connection ended, and answers the exit status.
+fn report_connection<F: Write>(end: Result<Ended, ConnectFault>, faults: &mut F) -> u8
+    ensures { result ≡ status_of_connection end }
+{
+    match end {
+        Ok(Ended::NoConnection) => NO_CONNECTION,
+        Ok(Ended::Connected | Ended::Relayed) => DONE,
+        Err(fault) => report(fault, faults),
+    }
+}
+
+// Says which option has no value that it may have.
+fn refuse_option<F: Write>(fault: OptionFault, faults: &mut F) -> u8
+    ensures { result ≡ USAGE }
+{
+    let _ = writeln!(
+        faults,
+        "error: {fault}\n\nFor more information, try '--help'."
+    );
+    USAGE
 }
 
 // Answers a line that asks for no action.

@@ -1,5 +1,5 @@
 //! The program `he`: it reads timelines of races and writes what a Happy Eyeballs client does in them, or runs one on
-//! real sockets.
+//! real sockets; and it finds the addresses of a host.
 //!
 //! The crate `he_command` says what each command line does. Here are the program's words, its standard streams and its
 //! exit status.
@@ -7,6 +7,7 @@
 
 use he_command::{report, report_not_text, run_words};
 use he_replay::ReplayFault;
+use he_resolver::SystemResolver;
 use he_stream::{FromReader, ToWriter};
 use std::alloc::AllocGlobal;
 use std::net::Net;
@@ -27,6 +28,7 @@ fn main(rt: HostRuntime) -> ExitCode {
 fn run_program<R>(rt: &HostRuntime, lender: &R) -> u8
 where
     R: Threads + Wait + Clock + RandomSource + AllocGlobal + Net + Files + Sync,
+    R: SystemResolver + Copy + Send + 'static,
 {
     match words_of(rt) {
         Ok(words) => run_texts(rt, lender, words.as_slice()),
@@ -46,6 +48,7 @@ fn words_of(rt: &HostRuntime) -> io::Result<Vec<String>> {
 fn run_texts<R>(rt: &HostRuntime, lender: &R, words: &[String]) -> u8
 where
     R: Threads + Wait + Clock + RandomSource + AllocGlobal + Net + Files + Sync,
+    R: SystemResolver + Copy + Send + 'static,
 {
     let texts = words
         .iter()

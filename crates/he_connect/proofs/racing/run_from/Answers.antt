@@ -1,0 +1,6 @@
+use Rattle.he_connect.proofs.Runs.{ran_so}
+use Rattle.he_connect.proofs.racing.run_from.Goals as goal
+
+pub returns-clause-race : goal.returns-clause-race
+returns-clause-race g c =
+    ran_so c.args.start.now c.in_ok-raced.raced c.end_with.result c.in_ok-raced.ensures.replays c.end_with.ensures.text c.end_with.ensures.winner

@@ -1,0 +1,173 @@
+//! The race of a connection that is asked for, on real sockets.
+ghost use Rattle.std.specs.Prelude.{◌≡◌, IfOk, IfErr, is_some};
+ghost use Rattle.he_text.specs.Written.{timeline_text};
+ghost use Rattle.he_connect.specs.Connects.{IsBefore, IsRun, RunsFrom};
+
+use crate::asked::Asked;
+use crate::fault::ConnectFault;
+use crate::lines::read_lines_of;
+use crate::source::{HostAnswers, WhyNone};
+use crate::start::start_race;
+use crate::telling::Telling;
+use crate::tried::write_tried;
+use he_explain::write_explanation;
+use he_live::{Steps, resolving_race_on};
+use he_plan::Timeline;
+use he_race::Raced;
+use he_resolver::{Lookup, NamesFault, SystemResolver};
+use he_text::write_timeline;
+use std::alloc::{AllocGlobal, Global};
+use std::io::Write;
+use std::mem::drop;
+use std::net::{Net, TcpStream};
+use std::random::RandomSource;
+use std::rt::Files;
+use std::sync::Wait;
+use std::thread::Threads;
+use std::time::Clock;
+use tokio::runtime::{Handle, LocalRuntime};
+
+/// A race that was run.
+#[derive(Drop)]
+pub(crate) struct Run {
+    /// The text of its record.
+    pub text: Vec<u8>,
+    /// What is told of it: its explanation, where that is asked for, and where nothing connected what was tried.
+    pub told: Vec<u8>,
+    /// Why there was no address to connect to, where a look-up found none.
+    pub nameless: Option<NamesFault>,
+    /// The connection.
+    pub winner: Option<TcpStream>,
+}
+
+// The texts of a race that was run.
+#[derive(Drop)]
+struct Texts {
+    text: Vec<u8>,
+    told: Vec<u8>,
+}
+
+/// Runs the race that is asked for. Each step is told to `faults` as it happens, where that is asked for.
+#[tactic(auto, using(crate::proofs::Runs::began_so))]
+pub(crate) fn run_race<R, F>(
+    rt: &R,
+    alloc: Global,
+    asked: &Asked<'_>,
+    faults: &mut F,
+) -> Result<Run, ConnectFault>
+where
+    F: Write,
+    R: Threads + Wait + Clock + RandomSource + AllocGlobal + Net + Files + Sync,
+    R: SystemResolver + Copy + Send + 'static,
+    ensures race { IfOk result (λ run. IsRun asked.now.settings asked.now.families run.text.items (is_some run.winner)) }
+    ensures fault { IfErr result IsBefore }
+{
+    let lines = read_lines_of(rt, alloc, asked.lines)?;
+    let start = start_race(alloc, asked.settings, asked.families, &lines)?;
+    let run = run_from(rt, alloc, asked, &start, faults);
+    drop(start);
+    run
+}
+
+// Runs the race that begins so.
+fn run_from<R, F>(
+    rt: &R,
+    alloc: Global,
+    asked: &Asked<'_>,
+    start: &Timeline,
+    faults: &mut F,
+) -> Result<Run, ConnectFault>
+where
+    F: Write,
+    R: Threads + Wait + Clock + RandomSource + AllocGlobal + Net + Files + Sync,
+    R: SystemResolver + Copy + Send + 'static,
+    ensures race { IfOk result (λ run. RunsFrom start.now run.text.items (is_some run.winner)) }
+    ensures fault { IfErr result IsBefore }
+{
+    let mut runtime = LocalRuntime::new(rt)?;
+    let handle = runtime.handle().clone()?;
+    let why = WhyNone::new();
+    let source = answers_of(rt, alloc, &handle, asked, &why)?;
+    let steps = Steps::new(alloc)?;
+    let telling = Telling::new(alloc, faults, asked.tells_steps);
+    let raced = resolving_race_on(
+        rt,
+        alloc,
+        &mut runtime,
+        start,
+        source,
+        asked.port,
+        &steps,
+        &telling,
+    )?;
+    end_with(alloc, asked, why.fault(asked.families), &steps, raced)
+}
+
+// The answers of a look-up of the host, which waits in the event loop.
+fn answers_of<'h, R>(
+    rt: &'h R,
+    alloc: Global,
+    handle: &'h Handle,
+    asked: &Asked<'_>,
+    why: &'h WhyNone,
+) -> Result<HostAnswers<'h, R>, ConnectFault>
+where
+    R: Threads + Wait + Clock + RandomSource + AllocGlobal + Net + Files + Sync,
+    R: SystemResolver + Copy + Send + 'static,
+    ensures fault { IfErr result IsBefore }
+{
+    let (reactor, timers) = (handle.reactor(), handle.time());
+    let lookup = Lookup::new(rt, alloc, reactor, timers, asked.host, asked.resolver)?;
+    Ok(HostAnswers::new(rt, alloc, timers, lookup, why)?)
+}
+
+// What is told of the race, with its connection.
+fn end_with(
+    alloc: Global,
+    asked: &Asked<'_>,
+    nameless: Option<NamesFault>,
+    steps: &Steps,
+    raced: Raced<TcpStream>,
+) -> Result<Run, ConnectFault>
+    ensures text { IfOk result (λ run. run.text.items ≡ timeline_text raced.recorded) }
+    ensures winner { IfOk result (λ run. is_some run.winner ≡ is_some raced.winner) }
+    ensures fault { IfErr result IsBefore }
+{
+    let texts = texts_of(alloc, asked, nameless, steps, &raced);
+    let Raced {
+        transcript,
+        recorded,
+        winner,
+    } = raced;
+    drop(transcript);
+    drop(recorded);
+    let Texts { text, told } = texts?;
+    Ok(Run {
+        text,
+        told,
+        nameless,
+        winner,
+    })
+}
+
+fn texts_of(
+    alloc: Global,
+    asked: &Asked<'_>,
+    nameless: Option<NamesFault>,
+    steps: &Steps,
+    raced: &Raced<TcpStream>,
+) -> Result<Texts, ConnectFault>
+    ensures text { IfOk result (λ texts. texts.text.items ≡ timeline_text raced.now.recorded) }
+    ensures fault { IfErr result IsBefore }
+{
+    let mut text = Vec::new(alloc);
+    write_timeline(&raced.recorded, &mut text)?;
+    let mut told = Vec::new(alloc);
+    if asked.explains {
+        write_explanation(alloc, &raced.recorded, &mut told)?;
+    }
+    if raced.winner.is_none() && nameless.is_none() {
+        write_tried(asked, &raced.recorded, &raced.transcript, steps, &mut told)?;
+    }
+    Ok(Texts { text, told })
+}

@@ -1,0 +1,95 @@
+//! The race of a connection before anything has happened in it.
+ghost use Rattle.std.specs.Prelude.{◌≡◌, ◌++◌, ◌∷◌, [], IfOk, IfErr, None, codes, false};
+ghost use Rattle.he_plan.specs.Building.{empty_race};
+ghost use Rattle.he_text.specs.Inputs.{HasRaces};
+ghost use Rattle.he_connect.specs.Connects.{IsBefore};
+ghost use Rattle.he_connect.specs.Start.{Starts, lines_text, with_families};
+
+use crate::asked::Families;
+use crate::fault::ConnectFault;
+use he_addr::Family;
+use he_plan::limits::{DEFAULT_ATTEMPT, DEFAULT_COUNT, DEFAULT_LIMIT, DEFAULT_RESOLUTION};
+use he_plan::{Settings, Timeline, TimelineBuilder};
+use he_text::read_one_race;
+use std::alloc::Global;
+use std::mem::drop;
+
+/// The race that has these settings, the sources, routes and policy rows of the lines, the standard policy table where
+/// there are no policy rows, and for a family that isn't tried an answer without addresses at tick 0.
+///
+/// # Errors
+///
+/// `Lines` with the first line that is wrong, `OtherLines` where there are others than source, route and policy lines,
+/// `Memory`.
+pub fn start_race(
+    alloc: Global,
+    settings: Settings,
+    families: Families,
+    lines: &[u8],
+) -> Result<Timeline, ConnectFault>
+    ensures race { IfOk result (Starts lines.now settings families) }
+    ensures fault { IfErr result IsBefore }
+{
+    let base = read_lines(alloc, lines)?;
+    let started = start_with(alloc, settings, families, &base);
+    drop(base);
+    started
+}
+
+// The race that has the host and the policy of another one.
+fn start_with(
+    alloc: Global,
+    settings: Settings,
+    families: Families,
+    base: &Timeline,
+) -> Result<Timeline, ConnectFault>
+    ensures race { IfOk result (λ race. race ≡ with_families families (empty_race settings base.now.policy base.now.host)) }
+    ensures fault { IfErr result IsBefore }
+{
+    let policy = base.policy().copy(alloc)?;
+    let host = base.host().copy(alloc)?;
+    let mut builder = TimelineBuilder::new(alloc, settings, policy, host);
+    let without = match families {
+        Families::Both => return Ok(builder.finish()),
+        Families::Only(Family::V6) => Family::V4,
+        Families::Only(Family::V4) => Family::V6,
+    };
+    match builder.answer(without, 0, &[]) {
+        Ok(()) => Ok(builder.finish()),
+        Err(_) => {
+            drop(builder);
+            Err(ConnectFault::Memory)
+        }
+    }
+}
+
+// The race of which these are the lines.
+fn read_lines(alloc: Global, lines: &[u8]) -> Result<Timeline, ConnectFault>
+    ensures race { IfOk result (λ base. HasRaces (lines_text lines.now) false (base ∷ []) None) }
+    ensures fault { IfErr result IsBefore }
+{
+    let mut text = Vec::new(alloc);
+    text.extend_from_slice(b"race 1\n")?;
+    text.extend_from_slice(lines)?;
+    text.extend_from_slice(b"end\n")?;
+    let base = read_one_race(alloc, &text, false)?;
+    if has_others(&base) {
+        drop(base);
+        Err(ConnectFault::OtherLines)
+    } else {
+        Ok(base)
+    }
+}
+
+// Whether the lines of a race say more than its host and its policy. Outcomes and what is known from earlier stand with an
+// answer alone.
+fn has_others(base: &Timeline) -> bool {
+    let settings = base.settings();
+    settings.resolution() != DEFAULT_RESOLUTION
+        || settings.attempt() != DEFAULT_ATTEMPT
+        || settings.count() != DEFAULT_COUNT
+        || settings.limit() != DEFAULT_LIMIT
+        || base.answer(Family::V6).is_some()
+        || base.answer(Family::V4).is_some()
+        || !base.pauses().is_empty()
+}

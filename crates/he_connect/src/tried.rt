@@ -1,0 +1,91 @@
+//! The line that tells what was tried where nothing connected.
+
+use crate::asked::Asked;
+use he_addr::{Family, Memory, write_ip, write_number};
+use he_live::{Reason, Steps};
+use he_plan::{Line, Mark, Timeline, Transcript};
+use std::alloc::Global;
+
+/// Appends the line, as `he: no connection to example.org port 443: 2 addresses tried: 2001:db8::1 connection refused
+/// after 12 ms, 198.51.100.1 no answer in 30000 ms`.
+///
+/// # Errors
+///
+/// `Memory` where an allocation was refused; a part of the line may be there.
+pub(crate) fn write_tried(
+    asked: &Asked<'_>,
+    recorded: &Timeline,
+    transcript: &Transcript,
+    steps: &Steps,
+    out: &mut Vec<u8>,
+) -> Result<(), Memory> {
+    out.extend_from_slice(b"he: no connection to ")?;
+    out.extend_from_slice(asked.host.as_bytes())?;
+    out.extend_from_slice(b" port ")?;
+    write_number(u64::from(asked.port), out)?;
+    write_attempts(recorded, transcript.attempts(), steps, out)?;
+    out.push(b'\n')?;
+    Ok(())
+}
+
+fn write_attempts(
+    recorded: &Timeline,
+    attempts: &[Line],
+    steps: &Steps,
+    out: &mut Vec<u8>,
+) -> Result<(), Memory> {
+    if attempts.is_empty() {
+        return write_none(recorded, out);
+    }
+    out.extend_from_slice(b": ")?;
+    write_number(attempts.len() as u64, out)?;
+    out.extend_from_slice(if attempts.len() == 1 {
+        b" address tried"
+    } else {
+        b" addresses tried"
+    })?;
+    let mut parting: &[u8] = b": ";
+    for attempt in attempts {
+        out.extend_from_slice(parting)?;
+        write_attempt(*attempt, steps, out)?;
+        parting = b", ";
+    }
+    Ok(())
+}
+
+// That no address was tried: none came in time, or none that came can be.
+fn write_none(recorded: &Timeline, out: &mut Vec<u8>) -> Result<(), Memory> {
+    if recorded.answer(Family::V6).is_some() && recorded.answer(Family::V4).is_some() {
+        out.extend_from_slice(b": no usable address")?;
+        return Ok(());
+    }
+    out.extend_from_slice(b": no address came in ")?;
+    write_number(recorded.settings().limit(), out)?;
+    out.extend_from_slice(b" ms")?;
+    Ok(())
+}
+
+fn write_attempt(attempt: Line, steps: &Steps, out: &mut Vec<u8>) -> Result<(), Memory> {
+    write_ip(attempt.ip, out)?;
+    out.push(b' ')?;
+    let (words, end): (&[u8], u64) = match attempt.mark {
+        Mark::Failed(end) => {
+            write_reason(steps.reason_of(attempt.place), out)?;
+            (b" after ", end)
+        }
+        Mark::Won(end) => (b"connected after ", end),
+        Mark::Cancelled(end) => (b"no answer in ", end),
+    };
+    out.extend_from_slice(words)?;
+    write_number(end.saturating_sub(attempt.tick), out)?;
+    out.extend_from_slice(b" ms")?;
+    Ok(())
+}
+
+pub(crate) fn write_reason(reason: Reason, out: &mut Vec<u8>) -> Result<(), Memory> {
+    out.extend_from_slice(reason.words())?;
+    if let Reason::Other(number) = reason {
+        write_number(u64::from(number), out)?;
+    }
+    Ok(())
+}

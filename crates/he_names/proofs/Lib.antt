@@ -1,0 +1,3 @@
+pub mod Cleaned
+pub mod Once
+pub mod Texts

@@ -1,0 +1,20 @@
+-- The lines of a file of the system, and the fields of a line. Texts are lists of bytes.
+use Rattle.std.specs.Prelude.{ℕ, ◌==◌, ◌||◌, Bool, List, filter, length, map, nat_lt}
+use Rattle.std.specs.List.{slice_split}
+use Rattle.std.specs.Borrow.{Bor}
+
+-- the texts that references point to
+abbrev pub texts : List (Bor (List ℕ)) → List (List ℕ)
+texts references = map (λ reference. reference.now) references
+
+-- a space or a tab
+abbrev pub is_blank : ℕ → Bool
+is_blank byte = (byte == 32) || (byte == 9)
+
+-- the lines, parted by line feeds
+abbrev pub lines_of : List ℕ → List (List ℕ)
+lines_of text = slice_split (λ byte. byte == 10) text
+
+-- the fields of a line: what stands between its blanks
+unfoldable pub fields_of : List ℕ → List (List ℕ)
+fields_of line = filter (λ field. nat_lt 0 (length field)) (slice_split is_blank line)

@@ -1,0 +1,5 @@
+pub mod Answers
+pub mod Conf
+pub mod Fields
+pub mod Hosts
+pub mod Order

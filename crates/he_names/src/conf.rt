@@ -1,0 +1,200 @@
+//! The file of resolver settings.
+
+ghost use Rattle.std.specs.Prelude.{◌≡◌, IfOk, codes};
+ghost use Rattle.std.specs.Option.{option_to_list};
+ghost use Rattle.std.specs.Str.{bytes_eq};
+ghost use Rattle.he_names.specs.Fields.{texts};
+ghost use Rattle.he_names.specs.Conf.{domains_of, entry_of, last_of, number_behind, numbers_behind, numbers_in, numbers_of, option_in, search_in, server_of, servers_in};
+
+use crate::fields::{fields, is_blank, lines};
+use crate::limits::{
+    DEFAULT_ATTEMPTS, DEFAULT_NDOTS, DEFAULT_TIMEOUT, LEAST_ATTEMPTS, LEAST_TIMEOUT, MOST_ATTEMPTS,
+    MOST_NDOTS, MOST_SERVERS, MOST_TIMEOUT,
+};
+use he_addr::{Ip, Memory, read_ip, read_number};
+use std::alloc::{AllocError, Allocator};
+
+const OWN_SERVER: Ip = Ip::V4(0x7f00_0001);
+
+/// The name servers of a file of resolver settings: the first three of them, or 127.0.0.1 where it has none. A line
+/// that is not understood is passed over, and so is an address with a zone.
+///
+/// # Errors
+///
+/// [`Memory`] where an allocation was refused.
+pub fn read_servers<A: Allocator + Copy>(alloc: A, text: &[u8]) -> Result<Vec<Ip, A>, Memory>
+    ensures { IfOk result (λ servers. servers.items ≡ servers_in text.now) }
+{
+    let lines = lines(alloc, text)?;
+    let mut servers = Vec::new(alloc);
+    for line in &lines {
+        let entry = entry(alloc, line)?;
+        if let Some(server) = server_of(entry.as_slice()) {
+            servers.push(server)?;
+        }
+    }
+    servers.truncate(MOST_SERVERS);
+    if servers.is_empty() {
+        servers.push(OWN_SERVER)?;
+    }
+    Ok(servers)
+}
+
+/// The search list of a file of resolver settings: the last `search` or `domain` line of the file counts.
+///
+/// # Errors
+///
+/// [`Memory`] where an allocation was refused.
+pub fn read_search<'t, A: Allocator + Copy>(
+    alloc: A,
+    text: &'t [u8],
+) -> Result<Vec<&'t [u8], A>, Memory>
+    ensures { IfOk result (λ domains. texts domains.items ≡ search_in text.now) }
+{
+    let lines = lines(alloc, text)?;
+    let mut search = Vec::new(alloc);
+    for line in &lines {
+        let entry = entry(alloc, line)?;
+        let domains = domains_of(entry.as_slice());
+        if !domains.is_empty() {
+            search.clear();
+            search.extend_from_slice(domains)?;
+        }
+    }
+    Ok(search)
+}
+
+/// How many dots a name has to have to be asked for as it is first, 0 to 15; 1 where the file doesn't say it.
+///
+/// # Errors
+///
+/// [`Memory`] where an allocation was refused.
+pub fn read_ndots<A: Allocator + Copy>(alloc: A, text: &[u8]) -> Result<u64, Memory>
+    ensures { IfOk result (λ ndots. ndots ≡ option_in (codes "ndots:") 0 1 15 text.now) }
+{
+    let ndots = last_option(alloc, text, b"ndots:", DEFAULT_NDOTS)?;
+    Ok(ndots.min(MOST_NDOTS))
+}
+
+/// The seconds that a server has for its answer, 1 to 30; 5 where the file doesn't say it.
+///
+/// # Errors
+///
+/// [`Memory`] where an allocation was refused.
+pub fn read_timeout<A: Allocator + Copy>(alloc: A, text: &[u8]) -> Result<u64, Memory>
+    ensures { IfOk result (λ seconds. seconds ≡ option_in (codes "timeout:") 1 5 30 text.now) }
+{
+    let seconds = last_option(alloc, text, b"timeout:", DEFAULT_TIMEOUT)?;
+    Ok(seconds.min(MOST_TIMEOUT).max(LEAST_TIMEOUT))
+}
+
+/// How often the servers are gone through, 1 to 5; 2 where the file doesn't say it.
+///
+/// # Errors
+///
+/// [`Memory`] where an allocation was refused.
+pub fn read_attempts<A: Allocator + Copy>(alloc: A, text: &[u8]) -> Result<u64, Memory>
+    ensures { IfOk result (λ attempts. attempts ≡ option_in (codes "attempts:") 1 2 5 text.now) }
+{
+    let attempts = last_option(alloc, text, b"attempts:", DEFAULT_ATTEMPTS)?;
+    Ok(attempts.min(MOST_ATTEMPTS).max(LEAST_ATTEMPTS))
+}
+
+// The last number of the file that an option of this name has.
+fn last_option<A: Allocator + Copy>(
+    alloc: A,
+    text: &[u8],
+    name: &[u8],
+    default: u64,
+) -> Result<u64, Memory>
+    ensures { IfOk result (λ number. number ≡ last_of default (numbers_in name.now text.now)) }
+{
+    let lines = lines(alloc, text)?;
+    let mut number = default;
+    for line in &lines {
+        let entry = entry(alloc, line)?;
+        number = last_number(entry.as_slice(), name, number);
+    }
+    Ok(number)
+}
+
+// The fields of a line: none where a blank begins it.
+#[tactic(auto, unfolding(crate::specs::Conf::entry_of))]
+fn entry<A: Allocator>(alloc: A, line: &[u8]) -> Result<Vec<&[u8], A>, AllocError>
+    ensures { IfOk result (λ entry. texts entry.items ≡ entry_of line.now) }
+{
+    match line {
+        [] => Ok(Vec::new(alloc)),
+        [byte, ..] if is_blank(*byte) => Ok(Vec::new(alloc)),
+        _ => fields(alloc, line),
+    }
+}
+
+fn server_of(entry: &[&[u8]]) -> Option<Ip>
+    ensures { result ≡ server_of (texts entry.now) }
+{
+    match entry {
+        [keyword, address, ..] if is_text(keyword, b"nameserver") => read_ip(address),
+        _ => None,
+    }
+}
+
+fn domains_of<'e, 't>(entry: &'e [&'t [u8]]) -> &'e [&'t [u8]]
+    ensures { texts result.now ≡ domains_of (texts entry.now) }
+{
+    match entry {
+        [keyword, _, ..] => {
+            if is_text(keyword, b"search") {
+                &entry[1..]
+            } else if is_text(keyword, b"domain") {
+                &entry[1..2]
+            } else {
+                &[]
+            }
+        }
+        _ => &[],
+    }
+}
+
+// The last number that an entry of options has for the name, or else the one before.
+fn last_number(entry: &[&[u8]], name: &[u8], before: u64) -> u64
+    ensures { result ≡ last_of before (numbers_of name.now (texts entry.now)) }
+{
+    match entry {
+        [keyword, options @ ..] if is_text(keyword, b"options") => {
+            last_behind(options, name, before)
+        }
+        _ => before,
+    }
+}
+
+fn last_behind(options: &[&[u8]], name: &[u8], before: u64) -> u64
+    ensures { result ≡ last_of before (numbers_behind name.now (texts options.now)) }
+{
+    let mut last = before;
+    for option in options {
+        last = later(number_behind(option, name), last);
+    }
+    last
+}
+
+fn later(number: Option<u64>, before: u64) -> u64
+    ensures { result ≡ last_of before (option_to_list number) }
+{
+    match number {
+        Some(number) => number,
+        None => before,
+    }
+}
+
+fn number_behind(option: &[u8], name: &[u8]) -> Option<u64>
+    ensures { result ≡ number_behind name.now option.now }
+{
+    read_number(option.strip_prefix(name)?)
+}
+
+fn is_text(a: &[u8], b: &[u8]) -> bool
+    ensures { result ≡ bytes_eq a.now b.now }
+{
+    a == b
+}

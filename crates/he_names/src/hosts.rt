@@ -1,0 +1,89 @@
+//! The file of hosts.
+
+ghost use Rattle.std.specs.Prelude.{◌≡◌, ◌==◌, IfOk, position};
+ghost use Rattle.std.specs.List.{list_any};
+ghost use Rattle.std.specs.Str.{str_eq_ignore_ascii_case};
+ghost use Rattle.he_names.specs.Fields.{texts};
+ghost use Rattle.he_names.specs.Hosts.{given_by, hosts_in, line_gives, uncommented};
+
+use crate::fields::{fields, lines};
+use he_addr::{Family, Ip, Memory, read_ip_of};
+use std::alloc::Allocator;
+
+const COMMENT: u8 = b'#';
+
+/// The addresses of the family that a file of hosts has for a name, line by line (hosts(5)): an address stands first on
+/// its line, then the names that it has, and a number sign begins a comment. Names are compared without case. A line
+/// that is none is passed over, and so is an address with a zone.
+///
+/// # Errors
+///
+/// [`Memory`] where an allocation was refused.
+pub fn read_hosts<A: Allocator + Copy>(
+    alloc: A,
+    text: &[u8],
+    name: &[u8],
+    family: Family,
+) -> Result<Vec<Ip, A>, Memory>
+    ensures { IfOk result (λ found. found.items ≡ hosts_in family name.now text.now) }
+{
+    let lines = lines(alloc, text)?;
+    let mut found = Vec::new(alloc);
+    for line in &lines {
+        if let Some(ip) = read_line(alloc, line, name, family)? {
+            found.push(ip)?;
+        }
+    }
+    Ok(found)
+}
+
+// The address that a line gives to the name.
+#[tactic(auto, unfolding(crate::specs::Hosts::line_gives))]
+fn read_line<A: Allocator + Copy>(
+    alloc: A,
+    line: &[u8],
+    name: &[u8],
+    family: Family,
+) -> Result<Option<Ip>, Memory>
+    ensures { IfOk result (λ found. found ≡ line_gives family name.now line.now) }
+{
+    let fields = fields(alloc, without_comment(line))?;
+    Ok(given_by(fields.as_slice(), name, family))
+}
+
+fn given_by(fields: &[&[u8]], name: &[u8], family: Family) -> Option<Ip>
+    ensures { result ≡ given_by family name.now (texts fields.now) }
+{
+    match fields {
+        [address, names @ ..] if has_name(names, name) => read_ip_of(family, address),
+        _ => None,
+    }
+}
+
+fn has_name(names: &[&[u8]], name: &[u8]) -> bool
+    ensures { result ≡ list_any (str_eq_ignore_ascii_case name.now) (texts names.now) }
+{
+    names.iter().any(|other| is_same_name(name, other))
+}
+
+fn is_same_name(name: &[u8], other: &[u8]) -> bool
+    ensures { result ≡ str_eq_ignore_ascii_case name.now other.now }
+{
+    name.eq_ignore_ascii_case(other)
+}
+
+fn find(text: &[u8], mark: u8) -> Option<usize>
+    ensures { result ≡ position (λ byte. byte == mark) text.now }
+{
+    text.iter().position(|byte| *byte == mark)
+}
+
+// The line up to its comment.
+fn without_comment(line: &[u8]) -> &[u8]
+    ensures { result.now ≡ uncommented line.now }
+{
+    match find(line, COMMENT) {
+        Some(at) => &line[..at],
+        None => line,
+    }
+}

@@ -1,0 +1,28 @@
+//! What the files of the system say of names, without sockets: addresses of the file of hosts (hosts(5)), and the
+//! settings of a resolver (resolver(5)); which names are asked for a host; and the answers as lines of a timeline.
+//!
+//! Proved, for all bytes:
+//!
+//! - [`read_hosts`]: the addresses that a file of hosts has for a name (`specs/Hosts`).
+//! - [`read_servers`], [`read_search`], [`read_ndots`], [`read_timeout`], [`read_attempts`]: the servers, the search list
+//!   and the numbers of a file of settings, with their defaults and bounds (`specs/Conf`).
+//! - [`names_to_ask`]: which names are asked for a host, and in which order (`specs/Order`).
+//! - [`clean_of`]: a family's addresses, none of them twice, at most 256; [`Found`]: both families' answers, of which
+//!   one has an address, and the two lines of a timeline that tell them (`specs/Answers`).
+//!
+//! Only tested: that a call succeeds where memory is granted.
+#![tactic(auto)]
+
+pub mod answers;
+pub mod conf;
+mod fields;
+pub mod found;
+pub mod hosts;
+pub mod limits;
+pub mod order;
+
+pub use answers::clean_of;
+pub use conf::{read_attempts, read_ndots, read_search, read_servers, read_timeout};
+pub use found::Found;
+pub use hosts::read_hosts;
+pub use order::names_to_ask;

@@ -1,0 +1,2 @@
+pub mod Pumped
+pub mod Relayed

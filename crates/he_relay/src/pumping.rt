@@ -1,0 +1,38 @@
+//! What a stream gives, put into another.
+ghost use Rattle.std.specs.Prelude.{◌<◌, length};
+ghost use Rattle.he_stream.specs.Input.{Gives, GivesSoFar};
+ghost use Rattle.he_stream.specs.Output.{PutsInRounds, PutsRoundsPart};
+ghost use Rattle.he_relay.specs.Pumps.{Pumps};
+
+use crate::fault::PumpFault;
+use he_stream::limits::MOST_READS;
+use he_stream::{InputStream, OutputStream, Taken, write_whole};
+
+/// Takes what the input gives, a piece of at most the room's length at a time, and puts each piece into the output,
+/// flushed, before the next one is taken; until the input ends. It waits as long as the input and the output do.
+///
+/// # Errors
+///
+/// - `Input` where a step of the input failed, or 4,294,967,296 steps did not reach its end. What was taken before is put.
+/// - `Output` where a write or a flush failed, or a write took no byte. Of what was taken a first part is put.
+pub fn pump<I: InputStream, O: OutputStream>(
+    input: &mut I,
+    output: &mut O,
+    room: &mut [u8],
+) -> Result<(), PumpFault>
+    requires { 0 < length room.old }
+    ensures { Pumps (Gives I.remaining I.takes input.old input.new)
+        (GivesSoFar I.remaining I.takes input.old input.new)
+        (PutsInRounds O.contents O.puts O.flushes output.old output.new)
+        (PutsRoundsPart O.contents O.puts O.flushes output.old output.new) result }
+{
+    for _steps in 0..MOST_READS {
+        match input.take(room) {
+            Taken::Bytes(count) => write_whole(output, &room[..count])?,
+            Taken::Interrupted => {}
+            Taken::End => return Ok(()),
+            Taken::Failed => return Err(PumpFault::Input),
+        }
+    }
+    Err(PumpFault::Input)
+}

@@ -1,0 +1,92 @@
+// A query over UDP (RFC 1035 section 4.2.1).
+
+ghost use Rattle.futures.specs.Task.{Keeps};
+
+use crate::fault::NamesFault;
+use crate::limits::{DATAGRAM_ROOM, DATAGRAMS_IN_A_ROW};
+use crate::replies::{Question, Reply, read_reply};
+use futures::task::{Context, Poll};
+use he_dns::write_query;
+use std::alloc::Global;
+use std::io;
+use std::net::{Net, SocketAddr, UdpSocket};
+use std::os::fd::OwnedFd;
+use std::random::RandomSource;
+use tokio::net::TcpStream;
+use tokio::reactor::Handle;
+
+// A query that was sent, and the socket at which its answer comes.
+#[derive(Drop)]
+pub(crate) struct Datagrams {
+    socket: TcpStream,
+    id: u16,
+    room: Vec<u8>,
+}
+
+impl Datagrams {
+    // Sends the query from a port that the kernel chooses. The socket is connected, so no datagram of another peer is
+    // seen. The event loop has no UDP of its own: its stream reads by `recv`, which serves a connected socket as well.
+    pub(crate) fn send<R: Net + RandomSource>(
+        rt: &R,
+        alloc: Global,
+        reactor: &Handle,
+        server: SocketAddr,
+        question: Question<'_>,
+    ) -> Result<Datagrams, NamesFault> {
+        let id = random_id(rt)?;
+        let query = write_query(alloc, id, question.name, question.family)?;
+        let socket = UdpSocket::bind(rt, unspecified(server))?;
+        socket.connect(server)?;
+        socket.send(&query)?;
+        let socket = std::net::TcpStream::from(OwnedFd::from(socket));
+        Ok(Datagrams {
+            socket: TcpStream::from_std(socket, reactor)?,
+            id,
+            room: vec![in alloc; 0; DATAGRAM_ROOM]?,
+        })
+    }
+
+    // What the server told. Any other datagram is passed over, and looked behind at once: one event may stand for
+    // several of them.
+    pub(crate) fn poll_reply(
+        &mut self,
+        alloc: Global,
+        question: Question<'_>,
+        cx: &mut Context<'_>,
+    ) -> Poll<Reply>
+        ensures kept { Keeps cx.old cx.new }
+    {
+        for _ in 0..DATAGRAMS_IN_A_ROW {
+            match self.socket.try_read(&mut self.room) {
+                Ok(len) => {
+                    if let Some(reply) = read_reply(alloc, &self.room[..len], self.id, question) {
+                        return Poll::Ready(reply);
+                    }
+                }
+                Err(error) if error.kind() == io::ErrorKind::WouldBlock => {
+                    match self.socket.poll_read_ready(cx) {
+                        Poll::Pending => return Poll::Pending,
+                        Poll::Ready(_) => {}
+                    }
+                }
+                Err(_) => return Poll::Ready(Reply::Fault(NamesFault::NoAnswer)),
+            }
+        }
+        cx.yield_now()
+    }
+}
+
+// An id that no other can guess.
+pub(crate) fn random_id<R: RandomSource>(rt: &R) -> io::Result<u16> {
+    let mut id = [0u8; 2];
+    rt.fill_bytes(&mut id)?;
+    Ok(u16::from_be_bytes(id))
+}
+
+// Any address and port of this host, of the server's family.
+fn unspecified(server: SocketAddr) -> SocketAddr {
+    match server {
+        SocketAddr::V4(_) => SocketAddr::from(([0u8, 0, 0, 0], 0u16)),
+        SocketAddr::V6(_) => SocketAddr::from(([0u16, 0, 0, 0, 0, 0, 0, 0], 0u16)),
+    }
+}

@@ -1,0 +1,124 @@
+//! A look-up of a host's addresses that is polled, as a race polls it.
+
+ghost use Rattle.std.specs.Prelude.{IfOk};
+ghost use Rattle.futures.specs.Poll.{IfReady, OnPending};
+ghost use Rattle.futures.specs.Task.{IsArmed, Keeps};
+ghost use Rattle.he_names.specs.Answers.{IsAnswer};
+
+use crate::asked::asked_in;
+use crate::choice::Choice;
+use crate::fault::NamesFault;
+use crate::files::{HOSTS, SETTINGS, read_file};
+use crate::known::known_in;
+use crate::resolver::Resolver;
+use crate::system::{SystemQuery, SystemResolver};
+use futures::task::{Context, Poll};
+use he_addr::{Family, Ip};
+use he_names::clean_of;
+use std::alloc::{AllocGlobal, Global};
+use std::net::Net;
+use std::random::RandomSource;
+use std::rt::Files;
+use std::thread::Threads;
+use std::time::Clock;
+use tokio::reactor::Handle;
+
+/// Finds the addresses of a host, and tells each family's as soon as they are known: a resolver for a race that runs
+/// (RFC 8305 section 3).
+#[derive(Drop)]
+pub struct Lookup<'h, R> {
+    alloc: Global,
+    source: Source<'h, R>,
+}
+
+// Where the addresses come from.
+#[derive(Drop)]
+enum Source<'h, R> {
+    Known(Result<Vec<Ip>, NamesFault>),
+    Servers(Resolver<'h, R>),
+    System(SystemQuery),
+}
+
+impl<'h, R: Net + RandomSource + Clock> Lookup<'h, R> {
+    /// Reads the files of the system and takes what they know of the host. Nothing is sent before the first poll; the
+    /// system's own resolver is called at once, in a thread.
+    ///
+    /// # Errors
+    ///
+    /// `Name` where it is no host name; `Runtime` where no thread can be made; `Memory`.
+    pub fn new(
+        rt: &'h R,
+        alloc: Global,
+        reactor: &'h Handle,
+        timers: &'h tokio::time::Handle,
+        host: &str,
+        choice: Choice,
+    ) -> Result<Lookup<'h, R>, NamesFault>
+    where
+        R: Files + AllocGlobal + SystemResolver + Threads + Copy + Send + 'static,
+    {
+        if let Choice::System = choice {
+            let source = Source::System(SystemQuery::begin(*rt, alloc, host)?);
+            return Ok(Lookup { alloc, source });
+        }
+        let hosts = read_file(rt, alloc, HOSTS)?;
+        if let Some(known) = known_in(alloc, host.as_bytes(), &hosts)? {
+            let source = Source::Known(Ok(known));
+            return Ok(Lookup { alloc, source });
+        }
+        let settings = read_file(rt, alloc, SETTINGS)?;
+        let asked = asked_in(alloc, host.as_bytes(), &settings, choice)?;
+        let source = Source::Servers(Resolver::new(rt, alloc, reactor, timers, asked));
+        Ok(Lookup { alloc, source })
+    }
+
+    /// The addresses of the family, each once and at most 256, or why it has none. Each family is to be polled until it is
+    /// told, and not after that.
+    ///
+    /// Both families are asked for at the first poll, that of IPv6 first. Each server has its time for an answer, and is
+    /// asked a number of times, by the file of resolver settings; after that no server answers. The system's resolver
+    /// has its own time, and tells both families at once.
+    ///
+    /// # Errors
+    ///
+    /// `NoSuchName`, `NoAddress`, `NoAnswer`, `ServerFailure`, `System`; `Runtime`, `Memory`.
+    pub fn poll_answer(
+        &mut self,
+        family: Family,
+        cx: &mut Context<'_>,
+    ) -> Poll<Result<Vec<Ip>, NamesFault>>
+        ensures answer { IfReady result (λ told. IfOk told (λ ips. IsAnswer family ips.items)) }
+        ensures armed { OnPending result (IsArmed cx.new) }
+        ensures kept { Keeps cx.old cx.new }
+    {
+        match &mut self.source {
+            Source::Known(found) => Poll::Ready(answer_of(self.alloc, family, found)),
+            Source::Servers(resolver) => match resolver.poll_answer(family, cx) {
+                Poll::Pending => Poll::Pending,
+                Poll::Ready(found) => Poll::Ready(answer_of(self.alloc, family, &found)),
+            },
+            Source::System(query) => match query.poll_found(cx) {
+                Poll::Pending => Poll::Pending,
+                Poll::Ready(found) => {
+                    let answer = answer_of(self.alloc, family, &found);
+                    self.source = Source::Known(found);
+                    Poll::Ready(answer)
+                }
+            },
+        }
+    }
+}
+
+// The family's part of what was found.
+fn answer_of(
+    alloc: Global,
+    family: Family,
+    found: &Result<Vec<Ip>, NamesFault>,
+) -> Result<Vec<Ip>, NamesFault>
+    ensures { IfOk result (λ ips. IsAnswer family ips.items) }
+{
+    match found {
+        Ok(ips) => Ok(clean_of(alloc, family, ips)?),
+        Err(fault) => Err(*fault),
+    }
+}

@@ -1,0 +1,71 @@
+//! What a name has, found and told.
+
+ghost use Rattle.std.specs.Prelude.{◌≡◌, IfOk};
+ghost use Rattle.he_stream.specs.Output.{PutsPart, PutsWhole};
+ghost use Rattle.he_resolver.specs.Told.{IsNamesText, TellsNames};
+
+use crate::choice::Choice;
+use crate::fault::{NamesFault, TellFault};
+use crate::gathering::Gathering;
+use crate::lookup::Lookup;
+use crate::system::SystemResolver;
+use he_names::Found;
+use he_stream::{OutputStream, write_whole};
+use std::alloc::{AllocGlobal, Global};
+use std::net::Net;
+use std::random::RandomSource;
+use std::rt::Files;
+use std::sync::Wait;
+use std::thread::Threads;
+use std::time::Clock;
+use tokio::runtime::LocalRuntime;
+
+/// Finds the addresses of a host and writes them as the two answers of a timeline, each with the tick at which it came,
+/// in milliseconds since the host was asked for.
+///
+/// # Errors
+///
+/// `Names` where the host has no address of either family (`NoSuchName`, `NoAddress`, `NoAnswer`, `ServerFailure`,
+/// `System`), is no host name (`Name`), or could not be asked for (`Runtime`, `Memory`): then nothing was written. After
+/// `Write` a first part was.
+pub fn write_names<R, O>(
+    rt: &R,
+    alloc: Global,
+    output: &mut O,
+    host: &str,
+    choice: Choice,
+) -> Result<(), TellFault>
+where
+    R: Wait + Clock + RandomSource + AllocGlobal + Net + Files + Threads,
+    R: SystemResolver + Copy + Send + 'static,
+    O: OutputStream,
+    ensures { TellsNames (PutsWhole O.contents O.puts O.flushes output.old output.new)
+        (PutsPart O.contents O.puts O.flushes output.old output.new) (output.new ≡ output.old) result }
+{
+    let found = find(rt, alloc, host, choice)?;
+    let text = text_of(alloc, &found)?;
+    write_whole(output, text.as_slice())?;
+    Ok(())
+}
+
+// The two lines.
+fn text_of(alloc: Global, found: &Found) -> Result<Vec<u8>, NamesFault>
+    ensures { IfOk result (λ text. IsNamesText text.items) }
+{
+    let mut text = Vec::new(alloc);
+    found.write(&mut text)?;
+    Ok(text)
+}
+
+// Asks, and waits for both answers.
+fn find<R>(rt: &R, alloc: Global, host: &str, choice: Choice) -> Result<Found, NamesFault>
+where
+    R: Wait + Clock + RandomSource + AllocGlobal + Net + Files + Threads,
+    R: SystemResolver + Copy + Send + 'static,
+{
+    let mut runtime = LocalRuntime::new(rt)?;
+    let handle = runtime.handle().clone()?;
+    let lookup = Lookup::new(rt, alloc, handle.reactor(), handle.time(), host, choice)?;
+    let gathering = Gathering::new(rt, alloc, lookup);
+    runtime.block_on(rt, gathering)?
+}

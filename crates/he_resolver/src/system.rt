@@ -1,0 +1,80 @@
+//! The system's resolver, which is called in a thread.
+
+ghost use Rattle.futures.specs.Poll.{OnPending};
+ghost use Rattle.futures.specs.Task.{IsArmed, Keeps};
+
+use crate::fault::NamesFault;
+use futures::Future;
+use futures::channel::oneshot::{self, Receiver};
+use futures::task::{Context, Poll};
+use he_addr::Ip;
+use std::alloc::Global;
+use std::net::{IpAddr, ToSocketAddrs};
+use std::string::String;
+use std::thread::{self, Threads};
+
+/// A machine with a resolver of its own.
+pub trait SystemResolver {
+    /// The addresses of a host, of both families, in the order in which the system has them. It blocks.
+    ///
+    /// # Errors
+    ///
+    /// `System` where it has none, `Memory`.
+    fn system_addresses(&self, alloc: Global, host: &str) -> Result<Vec<Ip>, NamesFault>;
+}
+
+impl SystemResolver for HostRuntime {
+    // By getaddrinfo, at most 32.
+    fn system_addresses(&self, alloc: Global, host: &str) -> Result<Vec<Ip>, NamesFault> {
+        let Ok(found) = (host, 0u16).to_socket_addrs(self) else {
+            return Err(NamesFault::System);
+        };
+        let mut ips = Vec::new(alloc);
+        for address in found {
+            ips.push(ip_of(address.ip()))?;
+        }
+        Ok(ips)
+    }
+}
+
+fn ip_of(ip: IpAddr) -> Ip {
+    match ip {
+        IpAddr::V4(address) => Ip::V4(address.to_bits()),
+        IpAddr::V6(address) => Ip::V6(address.to_bits()),
+    }
+}
+
+// A call of the system's resolver that is under way. Its thread isn't waited for once this is dropped.
+#[derive(Drop)]
+pub(crate) struct SystemQuery {
+    found: Receiver<Result<Vec<Ip>, NamesFault>>,
+}
+
+impl SystemQuery {
+    pub(crate) fn begin<R>(rt: R, alloc: Global, host: &str) -> Result<SystemQuery, NamesFault>
+    where
+        R: SystemResolver + Threads + Copy + Send + 'static,
+    {
+        let host = String::from_str(alloc, host)?;
+        let (sender, found) = oneshot::channel(alloc)?;
+        let spawned = thread::spawn(&rt, move || {
+            let _ = sender.send(rt.system_addresses(alloc, host.as_str()));
+        });
+        match spawned {
+            Ok(_) => Ok(SystemQuery { found }),
+            Err(_) => Err(NamesFault::Runtime),
+        }
+    }
+
+    // The addresses that the system has of the host, once.
+    pub(crate) fn poll_found(&mut self, cx: &mut Context<'_>) -> Poll<Result<Vec<Ip>, NamesFault>>
+        ensures armed { OnPending result (IsArmed cx.new) }
+        ensures kept { Keeps cx.old cx.new }
+    {
+        match self.found.poll(cx) {
+            Poll::Pending => Poll::Pending,
+            Poll::Ready(Ok(found)) => Poll::Ready(found),
+            Poll::Ready(Err(_)) => Poll::Ready(Err(NamesFault::System)),
+        }
+    }
+}

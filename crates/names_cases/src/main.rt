@@ -1,0 +1,113 @@
+//! Prints what files of hosts and of resolver settings say, and of names beside them.
+//!
+//! A recording `NAME`, in the folder in which it is started, is `NAME.hosts`, `NAME.resolv` and `NAME.names`, a name a
+//! line. Nothing is proved of this program but that it is safe and ends.
+#![tactic(auto)]
+
+use he_addr::{Family, Memory, write_ip, write_number};
+use he_names::{
+    Found, names_to_ask, read_attempts, read_hosts, read_ndots, read_search, read_servers,
+    read_timeout,
+};
+use std::alloc::Global;
+use std::io::Write;
+use std::{fs, io};
+
+const NAMES: [&str; 3] = ["bare", "edge", "plain"];
+
+// A recording's files.
+#[derive(Clone, Copy)]
+struct Files<'t> {
+    hosts: &'t [u8],
+    settings: &'t [u8],
+    names: &'t [u8],
+}
+
+fn main(rt: HostRuntime) -> io::Result<()> {
+    for name in &NAMES {
+        show(&rt, name)?;
+    }
+    Ok(())
+}
+
+fn read(rt: &HostRuntime, name: &str, file: &str) -> io::Result<Vec<u8>> {
+    let path = format!(in rt.alloc(); "{name}.{file}")?;
+    fs::read(rt, path.as_str())
+}
+
+fn show(rt: &HostRuntime, name: &str) -> io::Result<()> {
+    let hosts = read(rt, name, "hosts")?;
+    let settings = read(rt, name, "resolv")?;
+    let names = read(rt, name, "names")?;
+    let files = Files {
+        hosts: &hosts,
+        settings: &settings,
+        names: &names,
+    };
+    println!(rt; "{name}")?;
+    let mut text = Vec::new(rt.alloc());
+    match write_recording(rt.alloc(), files, &mut text) {
+        Ok(()) => rt.stdout().write_all(&text),
+        Err(_) => println!(rt; "out of memory"),
+    }
+}
+
+fn write_recording(alloc: Global, files: Files<'_>, out: &mut Vec<u8>) -> Result<(), Memory> {
+    write_settings(alloc, files.settings, out)?;
+    for name in files.names.split(|byte| *byte == b'\n') {
+        if !name.is_empty() {
+            write_asked(alloc, files.settings, name, out)?;
+            write_known(alloc, files.hosts, name, out)?;
+        }
+    }
+    Ok(())
+}
+
+fn write_settings(alloc: Global, settings: &[u8], out: &mut Vec<u8>) -> Result<(), Memory> {
+    out.extend_from_slice(b"servers")?;
+    for ip in &read_servers(alloc, settings)? {
+        out.push(b' ')?;
+        write_ip(*ip, out)?;
+    }
+    out.extend_from_slice(b"\nsearch")?;
+    for domain in &read_search(alloc, settings)? {
+        out.push(b' ')?;
+        out.extend_from_slice(domain)?;
+    }
+    out.extend_from_slice(b"\nndots ")?;
+    write_number(read_ndots(alloc, settings)?, out)?;
+    out.extend_from_slice(b" timeout ")?;
+    write_number(read_timeout(alloc, settings)?, out)?;
+    out.extend_from_slice(b" attempts ")?;
+    write_number(read_attempts(alloc, settings)?, out)?;
+    out.push(b'\n')?;
+    Ok(())
+}
+
+// The names that are asked for a name.
+fn write_asked(
+    alloc: Global,
+    settings: &[u8],
+    name: &[u8],
+    out: &mut Vec<u8>,
+) -> Result<(), Memory> {
+    out.extend_from_slice(name)?;
+    out.push(b':')?;
+    let search = read_search(alloc, settings)?;
+    for asked in &names_to_ask(alloc, name, read_ndots(alloc, settings)?, &search)? {
+        out.push(b' ')?;
+        out.extend_from_slice(asked)?;
+    }
+    out.push(b'\n')?;
+    Ok(())
+}
+
+// The answers that the file of hosts has for a name.
+fn write_known(alloc: Global, hosts: &[u8], name: &[u8], out: &mut Vec<u8>) -> Result<(), Memory> {
+    let v6 = read_hosts(alloc, hosts, name, Family::V6)?;
+    let v4 = read_hosts(alloc, hosts, name, Family::V4)?;
+    if let Some(found) = Found::new(alloc, 0, &v6, 0, &v4)? {
+        found.write(out)?;
+    }
+    Ok(())
+}
