@@ -1,9 +1,11 @@
 // A race whose answers come while it runs.
 
 ghost use Rattle.std.specs.Prelude.{◌≡◌, None, IfOk, IfSome, IsSomeAnd};
+ghost use Rattle.std.specs.Borrow.{Lends, sem};
 ghost use Rattle.futures.specs.Poll.{IfReady, OnPending};
 ghost use Rattle.futures.specs.Task.{Covers, Keeps};
 ghost use Rattle.he_plan.specs.Building.{unrecorded};
+ghost use Rattle.he_race.specs.contracts.resolving.ResolvingRace.{the_row};
 ghost use Rattle.he_race.specs.Kept.{IsLive};
 ghost use Rattle.he_race.specs.Racing.{RacePollsBy};
 ghost use Rattle.he_race.specs.Resolving.{HeardAt, MayGive};
@@ -48,6 +50,14 @@ impl<C: Connector, S: AnswerSource, T: Ticker> ResolvingRace<C, S, T> {
     {
         let race = RaceFuture::new(alloc, timeline, connector, ticker)?;
         Ok(ResolvingRace { source, race })
+    }
+
+    /// The ticker.
+    pub fn ticker_mut(&mut self) -> &mut T
+        ensures value { result.now ≡ self.old.race.ticker }
+        ensures* writes_back { sem 𝓛 (Lends (the_row C.row S.row T.row C.Conn.row C.Run.row) T.row self.entry result (λ w. record self.old { race = record self.old.race { ticker = w } })) }
+    {
+        &mut self.race.ticker
     }
 }
 
