@@ -10,6 +10,7 @@ pub mod Finished
 pub mod Heard
 pub mod Held
 pub mod Later
+pub mod Listening
 pub mod Onward
 pub mod Races
 pub mod Recorded

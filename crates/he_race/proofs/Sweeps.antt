@@ -36,11 +36,11 @@ from-at [] i x e = cc
 from-at (y ∷ xs) zero x e = let same : y ≡ x = cc in ap (λ z. z ∷ xs) same
 from-at (y ∷ xs) (suc i) x e = from-at xs i x e
 
-one-more : (i : ℕ) → i + 1 ≡ suc i
+pub one-more : (i : ℕ) → i + 1 ≡ suc i
 one-more i = omega arith
 
 -- with the one at i set, one more is taken
-take-one : {X : Type 0} (xs : List X) (i : ℕ) (a : X) → i < length xs → take (suc i) (slice_set xs i a) ≡ take i xs ++ a ∷ []
+pub take-one : {X : Type 0} (xs : List X) (i : ℕ) (a : X) → i < length xs → take (suc i) (slice_set xs i a) ≡ take i xs ++ a ∷ []
 take-one [] i a lt = absurd (let no : ⊥ = omega arith in no)
 take-one (x ∷ xs) zero a lt = refl
 take-one (x ∷ xs) (suc i) a lt = ap (λ ys. x ∷ ys) (take-one xs i a (omega arith))
@@ -56,7 +56,7 @@ drop-joined [] ys (suc i) le = absurd (let no : ⊥ = omega arith in no)
 drop-joined (x ∷ xs) ys (suc i) le = drop-joined xs ys i (omega arith)
 
 -- where the one at i is set and then removed, those before it and those after it are left
-take-removed : {X : Type 0} (xs : List X) (i : ℕ) (a : X) → i < length xs → take i (remove (slice_set xs i a) i) ≡ take i xs
+pub take-removed : {X : Type 0} (xs : List X) (i : ℕ) (a : X) → i < length xs → take i (remove (slice_set xs i a) i) ≡ take i xs
 take-removed xs i a lt = rw (take-set xs i a, drop-set xs i a) (take-joined xs (drop (suc i) xs) i (omega arith))
 
 drop-removed : {X : Type 0} (xs : List X) (i : ℕ) (a : X) → i < length xs → drop i (remove (slice_set xs i a) i) ≡ drop (suc i) xs

@@ -2,7 +2,7 @@
 use Rattle.std.proofs.Common.{◌≡◌, ℕ, ◌<◌, Bool, true, false, List, [], ◌∷◌, Option, Some, Result, Ok, ◌⊎◌, inl, inr, MatchBool, if◌then◌else◌, refl, sym, ap, subst, nat_lt}
 use Rattle.std.proofs.lemmas.Bool.Decides.{Decides-ltb}
 use Rattle.futures.specs.Poll.{OnPending}
-use Rattle.futures.specs.Task.{IsArmed}
+use Rattle.futures.specs.Task.{Covers}
 use Rattle.futures.specs.declared.task.context.Context.{Context}
 use Rattle.futures.specs.declared.task.Poll.{Poll}
 use Rattle.futures.specs.declared.task.Poll.TheVariants.{Ready, Pending}
@@ -13,7 +13,8 @@ use Rattle.he_race.specs.declared.attempt.Finish.{Finish}
 use Rattle.he_race.specs.declared.faults.ConnectFault.{ConnectFault}
 use Rattle.he_race.specs.declared.connector.Connector.{Ghosts as ConnectorOf}
 use Rattle.he_race.specs.declared.trial.Trial.{Ghosts as TrialOf}
-use Rattle.he_race.specs.Attempt.{RunAnswers, attempt_polls, due_of}
+use Rattle.he_race.specs.Attempt.{RunAnswers, attempt_polls, due_of, needs_of}
+use Rattle.he_race.specs.Listening.{Listens}
 use Rattle.he_race.specs.Waiting.{Polls, IsBefore, StaysPending, WaitsForTick}
 
 is_true : Bool → Type 0
@@ -105,9 +106,12 @@ module _ {C Conn Run : Type 0} (connector : ConnectorOf C Conn Run) (trial : Tri
 
   -- what a pending poll of the trial waits for, a poll of the attempt waits for
   pub lifted : (run : Run) (next : ℕ) (x : Result Run ConnectFault) (cx cx' : Context) → x ≡ Ok run → cx ≡ cx'
-      → (IsArmed cx' ⊎ WaitsForTick trial.polls run (trial.due_tick run))
-      → (IsArmed cx ⊎ WaitsForTick (attempt_polls connector trial) (Connecting x next false) (due_of connector trial (Connecting x next false)))
-  lifted run next x cx cx' e same (inl armed) = inl (subst IsArmed (sym same) armed)
+      → (Covers cx' (trial.needs run) ⊎ WaitsForTick trial.polls run (trial.due_tick run))
+      → Listens connector trial cx (Connecting x next false)
+  lifted run next x cx cx' e same (inl covers) =
+      let P : Result Run ConnectFault → Type 0 = λ y. Covers cx (needs_of connector trial (Connecting y next false)) in
+      let here : Covers cx (trial.needs run) = subst (λ (c : Context). Covers c (trial.needs run)) (sym same) covers in
+      inl (subst P (sym e) here)
   lifted run next x cx cx' e same (inr waits) =
       let P : Result Run ConnectFault → Type 0 = λ y. WaitsForTick (attempt_polls connector trial) (Connecting y next false) (due_of connector trial (Connecting y next false)) in
       inr (subst P (sym e) (connecting_waits next run (trial.due_tick run) waits))

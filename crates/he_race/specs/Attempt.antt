@@ -51,6 +51,14 @@ module _ {C Conn Run : Type 0} (connector : ConnectorOf C Conn Run) (trial : Tri
   due_of (Connecting (Err e) next false) = Some next
   due_of (Done started) = None
 
+  -- the sources that it waits for: none before it polls its trial, and then the trial's
+  abbrev pub needs_of : AttemptFuture C Conn Run → ℕ → Type 0
+  needs_of (Sleeping place ip start) = λ _. ⊥
+  needs_of (Connecting run next true) = λ _. ⊥
+  needs_of (Connecting (Ok run) next false) = trial.needs run
+  needs_of (Connecting (Err e) next false) = λ _. ⊥
+  needs_of (Done started) = λ _. ⊥
+
   -- polls with some connector
   abbrev pub attempt_polls : AttemptFuture C Conn Run → ℕ → Poll (Finish Conn) → AttemptFuture C Conn Run → Type 0
   attempt_polls s now answer s' = (c : C) × (c' : C) × AttemptPolls c s now answer c' s'

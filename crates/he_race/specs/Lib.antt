@@ -3,6 +3,7 @@ pub mod Attempt
 pub mod Following
 pub mod Heard
 pub mod Kept
+pub mod Listening
 pub mod Polling
 pub mod Racing
 pub mod Recording

@@ -1,6 +1,7 @@
 -- Mirrors the code: what private functions answer of a poll: of one attempt, of all of them, and of the end of a turn.
 use Rattle.std.specs.Prelude.{ℕ, ◌≡◌, ◌≤◌, ◌++◌, ⊤, false, List, [], ◌∷◌, slice_get, Option, Some, None, Result}
 use Rattle.std.specs.List.{Contains, remove, slice_set}
+use Rattle.futures.specs.declared.task.context.Context.{Context}
 use Rattle.futures.specs.declared.task.Poll.{Poll}
 use Rattle.futures.specs.declared.task.Poll.TheVariants.{Ready, Pending}
 use Rattle.he_plan.specs.declared.attempts.Attempt.{Attempt}
@@ -8,6 +9,7 @@ use Rattle.he_plan.specs.Agreement.{AreAlike}
 use Rattle.he_plan.specs.Race.{Race, has_outcome}
 use Rattle.he_plan.specs.Timeline.{IsRace}
 use Rattle.he_plan.specs.Underway.{IsUnderway}
+use Rattle.he_race.specs.declared.answers.AnswerSource.{Ghosts as SourceOf}
 use Rattle.he_race.specs.declared.attempt.AttemptFuture.{AttemptFuture}
 use Rattle.he_race.specs.declared.attempt.Finish.{Finish}
 use Rattle.he_race.specs.declared.connector.Connector.{Ghosts as ConnectorOf}
@@ -20,6 +22,7 @@ use Rattle.he_race.specs.declared.live.AfterPoll.{AfterPoll}
 use Rattle.he_race.specs.declared.trial.Trial.{Ghosts as TrialOf}
 use Rattle.he_race.specs.Attempt.{AttemptPolls}
 use Rattle.he_race.specs.Kept.{IsLive}
+use Rattle.he_race.specs.Listening.{AllListen, HeardListens, TurnHears, TurnListens}
 use Rattle.he_race.specs.Turns.{BeginsAt, EndsPolled, Goes, Replays, StartsOne, Sweep, asked_tick, told}
 use Rattle.he_race.specs.declared.live.AfterPoll.TheVariants as after_polls
 
@@ -81,6 +84,25 @@ module _ {C Conn Run : Type 0} (connector : ConnectorOf C Conn Run) (trial : Tri
   abbrev pub TurnsFrom : Sweep C Conn Run → List (Unfinished C Conn Run) → ℕ → C → AfterPoll C Conn Run → Type 0
   TurnsFrom from os now c' (after_polls.Ended raced) = EndsPolled connector trial from os now c' raced
   TurnsFrom from os now c' (after_polls.Waits new tick) = Goes connector trial from os now c' new tick
+
+  -- a turn, and a poll, of a race that goes on has registered for its attempts
+  abbrev pub AllListenAfter : Context → AfterPoll C Conn Run → Type 0
+  AllListenAfter cx (after_polls.Ended raced) = ⊤
+  AllListenAfter cx (after_polls.Waits live tick) = AllListen connector trial cx live.unfinished.items
+
+  abbrev pub TurnListensAfter : Context → Live C Conn Run → AfterPoll C Conn Run → Type 0
+  TurnListensAfter cx was (after_polls.Ended raced) = ⊤
+  TurnListensAfter cx was (after_polls.Waits live tick) = TurnListens connector trial cx was live
+
+module _ {S C Conn Run : Type 0} (source : SourceOf S) where
+  -- and for its source
+  abbrev pub HeardListensAfter : Context → S → Race → ℕ → S → AfterPoll C Conn Run → Type 0
+  HeardListensAfter cx s race now s' (after_polls.Ended raced) = ⊤
+  HeardListensAfter cx s race now s' (after_polls.Waits live tick) = HeardListens source cx s race now s' live.recorder.recorded
+
+  abbrev pub TurnHearsAfter : Context → S → Live C Conn Run → S → AfterPoll C Conn Run → Type 0
+  TurnHearsAfter cx s was s' (after_polls.Ended raced) = ⊤
+  TurnHearsAfter cx s was s' (after_polls.Waits live tick) = TurnHears source cx s was s' live
 
 -- the tick that is asked for may be
 abbrev pub AsksInTime : {C Conn Run : Type 0} → AfterPoll C Conn Run → Type 0

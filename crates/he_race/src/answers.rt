@@ -2,7 +2,7 @@
 
 ghost use Rattle.std.specs.Prelude.{◌≡◌, ◌≤◌, ℕ, List, Option, None, Some, ◌⊎◌};
 ghost use Rattle.futures.specs.Poll.{IfReady, OnPending};
-ghost use Rattle.futures.specs.Task.{IsArmed, Keeps};
+ghost use Rattle.futures.specs.Task.{Covers, Keeps};
 ghost use Rattle.he_addr.specs.declared.ip.Family.{Family};
 ghost use Rattle.he_addr.specs.declared.ip.Ip.{Ip};
 ghost use Rattle.he_race.specs.declared.limits.TheConstants.{MAX_POLL_TICK};
@@ -15,9 +15,13 @@ use he_addr::{Family, Ip};
 /// Where the answers of a race come from while it runs, as from a resolver that was asked for AAAA and A at once (RFC
 /// 8305 section 3). Each turn polls it once for each family that has no answer yet, IPv6 first, at the turn's tick.
 ///
-/// A poll that is pending owes one of two: it has registered in `cx`, so that the task is polled again once something
-/// happened; or no later poll for this family tells anything.
+/// A poll that is pending owes one of two: it has registered in `cx` at each source that it waits for (`needs`), so that
+/// the task is polled again once something happened, and registered or yielded there where it states none; or no later
+/// poll for this family tells anything.
 pub trait AnswerSource: Drop {
+    // Holds of each source that it waits for, to answer for the family.
+    ghost needs: { Self → Family → ℕ → Type 0 } = { λ _ _ _. ⊥ };
+
     // What a poll for a family at a tick may tell, and the state that it leaves.
     ghost hears: { Self → Family → ℕ → Option (List Ip) → Self → Type 0 };
 
@@ -28,7 +32,7 @@ pub trait AnswerSource: Drop {
         requires in_time { now ≤ MAX_POLL_TICK }
         ensures pending { OnPending result (hears self.old family now None self.new) }
         ensures ready { IfReady result (λ ips. hears self.old family now (Some ips.items) self.new) }
-        ensures waits { OnPending result (IsArmed cx.new ⊎ IsSilent hears self.new family) }
+        ensures waits { OnPending result (Covers cx.new (needs self.new family) ⊎ IsSilent hears self.new family) }
         ensures kept { Keeps cx.old cx.new };
 }
 

@@ -1,11 +1,11 @@
 // One attempt to connect, as a state machine that is polled.
 
-ghost use Rattle.std.specs.Prelude.{◌≡◌, ◌≤◌, ◌⊎◌, None};
+ghost use Rattle.std.specs.Prelude.{◌≡◌, ◌≤◌, None};
 ghost use Rattle.futures.specs.Poll.{OnPending};
-ghost use Rattle.futures.specs.Task.{IsArmed, Keeps};
+ghost use Rattle.futures.specs.Task.{Keeps};
 ghost use Rattle.he_race.specs.declared.limits.TheConstants.{MAX_POLL_TICK};
-ghost use Rattle.he_race.specs.Attempt.{AttemptPolls, CanPoll, attempt_polls, due_of, started_of, is_done};
-ghost use Rattle.he_race.specs.Waiting.{WaitsForTick};
+ghost use Rattle.he_race.specs.Attempt.{AttemptPolls, CanPoll, due_of, started_of, is_done};
+ghost use Rattle.he_race.specs.Listening.{Listens};
 
 use crate::connector::Connector;
 use crate::faults::ConnectFault;
@@ -64,7 +64,7 @@ impl<C: Connector> AttemptFuture<C> {
         requires in_time { now ≤ MAX_POLL_TICK }
         ensures step { AttemptPolls C.Connector C.Run.Trial connector.old self.old now result connector.new self.new }
         ensures again { OnPending result (CanPoll C.Connector C.Run.Trial self.new) }
-        ensures waits { OnPending result (IsArmed cx.new ⊎ WaitsForTick (attempt_polls C.Connector C.Run.Trial) self.new (due_of C.Connector C.Run.Trial self.new)) }
+        ensures waits { OnPending result (Listens C.Connector C.Run.Trial cx.new self.new) }
         ensures kept { Keeps cx.old cx.new }
     {
         match self {

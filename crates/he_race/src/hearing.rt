@@ -1,6 +1,6 @@
 // What a race that is being run records of the answers that come in a turn.
 
-ghost use Rattle.std.specs.Prelude.{◌≡◌, ◌≤◌, ◌&&◌, false, true, not, None, IfOk, OnOk, length, nat_lt};
+ghost use Rattle.std.specs.Prelude.{◌≡◌, ◌≤◌, ◌&&◌, false, true, not, None, IfNone, IfOk, OnOk, length, nat_lt};
 ghost use Rattle.futures.specs.Task.{Keeps};
 ghost use Rattle.he_plan.specs.declared.limits.TheConstants.{MAX_ADDRESSES, MAX_LIMIT};
 ghost use Rattle.he_plan.specs.Attempts.{AreNextInTurn};
@@ -10,6 +10,7 @@ ghost use Rattle.he_plan.specs.Timeline.{IsRace, are_distinct, are_of, is_of};
 ghost use Rattle.he_plan.specs.Underway.{IsUnderway};
 ghost use Rattle.he_race.specs.Heard.{Hears, HearsOf, cleaned};
 ghost use Rattle.he_race.specs.Kept.{InTurn};
+ghost use Rattle.he_race.specs.Listening.{ListensFor, SourceListens};
 
 use crate::answers::AnswerSource;
 use crate::recorder::{Recorder, only_memory};
@@ -31,6 +32,7 @@ impl Recorder {
         requires underway { IsUnderway self.old.recorded self.old.underway }
         requires in_time { now ≤ MAX_LIMIT }
         ensures heard { OnOk result (Hears S.hears source.old self.old.recorded now source.new self.new.recorded) }
+        ensures waits { OnOk result (SourceListens S.AnswerSource cx.new source.old self.old.recorded now source.new self.new.recorded) }
         ensures attempts { OnOk result (self.new.underway.attempts ≡ self.old.underway.attempts) }
         ensures turn { OnOk result (InTurn self.new.recorded now self.new.underway.attempts false) }
         ensures underway { OnOk result (IsUnderway self.new.recorded self.new.underway) }
@@ -52,6 +54,7 @@ impl Recorder {
         requires underway { IsUnderway self.old.recorded self.old.underway }
         requires in_time { now ≤ MAX_LIMIT }
         ensures heard { OnOk result (HearsOf S.hears source.old self.old.recorded family now source.new self.new.recorded) }
+        ensures waits { OnOk result (IfNone (reply_of self.new.recorded family) (ListensFor S.AnswerSource cx.new source.new family)) }
         ensures attempts { OnOk result (self.new.underway.attempts ≡ self.old.underway.attempts) }
         ensures turn { OnOk result (InTurn self.new.recorded now self.new.underway.attempts false) }
         ensures underway { OnOk result (IsUnderway self.new.recorded self.new.underway) }

@@ -23,7 +23,8 @@
 //! impl Trial for Handshake {
 //!     type Conn = Session;
 //!
-//!     ghost polls = { λ _ _ _ _. ⊤ };  // nothing is promised of its answers
+//!     ghost needs = { λ s source. WaitsAt s.io source };  // where it registers; left out, it only has to wake
+//!     ghost polls = { λ _ _ _ _. ⊤ };                     // nothing is promised of its answers
 //!     ghost due_tick = { λ _. None };
 //!
 //!     fn poll_trial(&mut self, now: u64, cx: &mut Context<'_>) -> Poll<Result<Session, ConnectFault>> {
@@ -71,9 +72,9 @@
 //!
 //! | Trait | Owes |
 //! |---|---|
-//! | `Trial` | a poll that is pending has registered in `cx`, or `due` names a tick before which every poll is pending, or `due` is None and every later poll is pending |
+//! | `Trial` | a poll that is pending has registered in `cx` at each source that it `needs` (it has registered or yielded where it states none), or `due` names a tick before which every poll is pending, or `due` is None and every later poll is pending |
 //! | `Connector` | a trial that may be polled, or a fault, which is the attempt's failure |
-//! | `AnswerSource` | a poll that is pending has registered in `cx`, or no later poll for its family tells anything |
+//! | `AnswerSource` | a poll that is pending has registered in `cx` at each source that it `needs` for the family, or no later poll for its family tells anything |
 //! | `Ticker` | a `wake_at` that answers Ok has registered in `cx` or yielded, so that the task is polled again |
 //!
 //! What each of them does to its own state is a relation that the implementation states (`polls`, `begins`, `tells`,
@@ -86,7 +87,12 @@
 //!
 //! - `AttemptFuture` takes only the steps of `specs/Attempt.antt` between its three states; a finish has the tick of
 //!   its poll and the trial's own answer, or the fault of its connector. Where a poll is pending, the trial has
-//!   registered, or `due` is at most the next tick at which anything can change (`specs/Waiting.antt`).
+//!   registered in that poll's context for all that it needs, or `due` is at most the next tick at which anything can
+//!   change (`specs/Waiting.antt`).
+//! - A race that is pending after a turn has done so in the context of its own poll: each unfinished attempt has
+//!   registered in it for all that it needs, or waits for its tick, and the source of a `ResolvingRace` has for each
+//!   family without an answer, or tells nothing more of it. A poll that takes no turn polls nobody: the ticker wakes
+//!   the task for the next turn (`RaceListens` and `RaceHears` in `specs/Listening.antt`).
 //! - What a `RaceFuture` gives replays, for every connector and ticker: its transcript is the one that the rules of
 //!   a race make of its record; the record has the given settings, policy, host and answers; and there is a winner's
 //!   connection exactly where the race was won (`Replays` in `specs/Turns.antt`).

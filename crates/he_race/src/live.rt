@@ -1,6 +1,6 @@
 // A race that is being run, with the connections of its unfinished attempts.
 
-ghost use Rattle.std.specs.Prelude.{All, if◌then◌else◌, ◌≡◌, ◌+◌, ◌-◌, ◌<◌, ◌≤◌, ◌&&◌, ◌||◌, ◌==◌, Bool, ℕ, [], MatchBool, None, Some, false, length, is_some, min, true, vec_len, IfOk, OnOk};
+ghost use Rattle.std.specs.Prelude.{All, if◌then◌else◌, ◌≡◌, ◌+◌, ◌-◌, ◌<◌, ◌≤◌, ◌&&◌, ◌||◌, ◌==◌, Bool, ℕ, [], MatchBool, None, Some, false, length, is_some, min, slice_get, true, vec_len, IfNone, IfOk, IfSome, OnOk};
 ghost use Rattle.futures.specs.Task.{Keeps};
 ghost use Rattle.he_plan.specs.declared.limits.TheConstants.{MAX_LIMIT};
 ghost use Rattle.he_plan.specs.Agreement.{AreAlike};
@@ -9,7 +9,9 @@ ghost use Rattle.he_race.specs.declared.limits.TheConstants.{MAX_POLL_TICK};
 ghost use Rattle.he_race.specs.Attempt.{CanPoll};
 ghost use Rattle.he_race.specs.Kept.{InTurn, IsEnded, first_after, IsLive, IsUnfinished, are_untold};
 ghost use Rattle.he_plan.specs.Building.{unrecorded};
-ghost use Rattle.he_race.specs.Polling.{Answers, AsksInTime, BeginsFrom, EndsWith, GoesOn, Polled, PollsAt, TurnsFrom};
+ghost use Rattle.he_race.specs.Listening.{AllListen, Listens};
+ghost use Rattle.he_race.specs.Polling.{AllListenAfter, Answers, AsksInTime, BeginsFrom, EndsWith, GoesOn, HeardListensAfter, Polled, PollsAt, TurnHearsAfter, TurnListensAfter, TurnsFrom};
+ghost use Rattle.he_race.specs.Recording.{slept};
 ghost use Rattle.he_race.specs.Resolving.{HeardAt, HeardTurn, HearsAndTurns};
 ghost use Rattle.he_race.specs.Turns.{ArePolled, BeginsAt, IsNew, asked_tick, first_of, is_connection, is_over, unpolled};
 
@@ -81,6 +83,8 @@ impl<C: Connector> Live<C> {
         requires { IsLive C.Connector C.Run.Trial self }
         ensures polled { IfOk result (HeardAt S.hears C.Connector C.Run.Trial source.old connector.old self now source.new connector.new) }
         ensures in_time { IfOk result AsksInTime }
+        ensures waits { IfOk result (TurnListensAfter C.Connector C.Run.Trial cx.new self) }
+        ensures source_waits { IfOk result (TurnHearsAfter S.AnswerSource cx.new source.old self source.new) }
         ensures kept { Keeps cx.old cx.new }
     {
         let limit = self.recorder.limit();
@@ -103,6 +107,8 @@ impl<C: Connector> Live<C> {
         requires later { first_after self.recorder.turn ≤ now }
         requires in_time { now ≤ self.recorder.recorded.settings.limit + 1 }
         ensures turned { IfOk result (HeardTurn S.hears C.Connector C.Run.Trial source.old connector.old self now source.new connector.new) }
+        ensures waits { IfOk result (AllListenAfter C.Connector C.Run.Trial cx.new) }
+        ensures source_waits { IfOk result (HeardListensAfter S.AnswerSource cx.new source.old (slept self.recorder.recorded self.recorder.due now) now source.new) }
         ensures kept { Keeps cx.old cx.new }
     {
         let limit = self.recorder.limit();
@@ -135,6 +141,8 @@ impl<C: Connector> Live<C> {
         requires untold { are_untold self.recorder.recorded.outcomes self.unfinished.items ≡ true }
         requires early { now ≤ self.recorder.recorded.settings.limit }
         ensures turned { IfOk result (HearsAndTurns S.hears C.Connector C.Run.Trial source.old (unpolled connector.old self.recorder.recorded self.recorder.underway.attempts) self.unfinished.items now source.new connector.new) }
+        ensures waits { IfOk result (AllListenAfter C.Connector C.Run.Trial cx.new) }
+        ensures source_waits { IfOk result (HeardListensAfter S.AnswerSource cx.new source.old self.recorder.recorded now source.new) }
         ensures kept { Keeps cx.old cx.new }
     {
         match self.recorder.hear(now, source, cx) {
@@ -159,6 +167,7 @@ impl<C: Connector> Live<C> {
         requires untold { are_untold self.recorder.recorded.outcomes self.unfinished.items ≡ true }
         requires early { now ≤ self.recorder.recorded.settings.limit }
         ensures turned { IfOk result (TurnsFrom C.Connector C.Run.Trial (unpolled connector.old self.recorder.recorded self.recorder.underway.attempts) self.unfinished.items now connector.new) }
+        ensures waits { IfOk result (AllListenAfter C.Connector C.Run.Trial cx.new) }
         ensures kept { Keeps cx.old cx.new }
     {
         match self.poll_all(now, connector, cx) {
@@ -194,6 +203,7 @@ impl<C: Connector> Live<C> {
         ensures untold { OnOk result (are_untold self.new.recorder.recorded.outcomes self.new.unfinished.items ≡ true) }
         ensures recorder { OnOk result (Polled self.old.recorder self.new.recorder) }
         ensures each { IfOk result (λ won. ArePolled C.Connector C.Run.Trial now (unpolled connector.old self.old.recorder.recorded self.old.recorder.underway.attempts) self.old.unfinished.items (record { connector = connector.new; recorded = self.new.recorder.recorded; attempts = self.new.recorder.underway.attempts; pending = self.new.unfinished.items; first = won })) }
+        ensures waits { OnOk result (AllListen C.Connector C.Run.Trial cx.new self.new.unfinished.items) }
         ensures kept { Keeps cx.old cx.new }
     {
         let mut winner = None;
@@ -226,6 +236,7 @@ impl<C: Connector> Live<C> {
         ensures untold { OnOk result (are_untold self.new.recorder.recorded.outcomes self.new.unfinished.items ≡ true) }
         ensures step { IfOk result (λ answer. PollsAt C.Connector C.Run.Trial connector.old self.old i now answer connector.new self.new) }
         ensures left { IfOk result (λ answer. vec_len self.new.unfinished + (if is_some answer then 1 else 0) ≡ vec_len self.old.unfinished) }
+        ensures waits { IfOk result (λ answer. IfNone answer (IfSome (slice_get self.new.unfinished.items i) (λ o. Listens C.Connector C.Run.Trial cx.new o.future))) }
         ensures kept { Keeps cx.old cx.new }
     {
         let attempt = self.unfinished[i].attempt;

@@ -6,6 +6,7 @@ ghost use Rattle.futures.specs.Poll.{IfReady, OnPending};
 ghost use Rattle.futures.specs.Task.{Covers, IsArmed, Keeps};
 ghost use Rattle.he_plan.specs.Building.{unrecorded};
 ghost use Rattle.he_race.specs.contracts.race.RaceFuture.{the_row};
+ghost use Rattle.he_race.specs.Listening.{RaceHears, RaceListens};
 ghost use Rattle.he_race.specs.Racing.{RacePolls, RacePollsBy, fault_of};
 ghost use Rattle.he_race.specs.Resolving.{HeardAt};
 ghost use Rattle.he_race.specs.Kept.{IsLive};
@@ -77,6 +78,8 @@ impl<C: Connector, T: Ticker> RaceFuture<C, T> {
         ensures still { self.old.live ≡ None → source.new ≡ source.old }
         ensures over { IfReady result (λ _. self.new.live ≡ None) }
         ensures registered { OnPending result (IsArmed cx.new) }
+        ensures waits { OnPending result (RaceListens C.Connector C.Run.Trial cx.new self.old.live self.new.live) }
+        ensures source_waits { OnPending result (RaceHears S.AnswerSource cx.new source.old self.old.live source.new self.new.live) }
         ensures kept { Keeps cx.old cx.new }
     {
         let Some(live) = self.live.take() else {
@@ -119,6 +122,7 @@ impl<C: Connector, T: Ticker> Future for RaceFuture<C, T> {
         ensures kept { Keeps cx.old cx.new }
         ensures over { IfReady result (λ _. self.new.live ≡ None) }
         ensures turn { RacePolls C.Connector C.Run.Trial T.Ticker self.old result self.new }
+        ensures waits { OnPending result (RaceListens C.Connector C.Run.Trial cx.new self.old.live self.new.live) }
     {
         self.poll_hearing(&mut NoAnswers, cx)
     }

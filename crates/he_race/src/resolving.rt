@@ -7,6 +7,7 @@ ghost use Rattle.futures.specs.Task.{Covers, Keeps};
 ghost use Rattle.he_plan.specs.Building.{unrecorded};
 ghost use Rattle.he_race.specs.contracts.resolving.ResolvingRace.{the_row};
 ghost use Rattle.he_race.specs.Kept.{IsLive};
+ghost use Rattle.he_race.specs.Listening.{RaceHears, RaceListens};
 ghost use Rattle.he_race.specs.Racing.{RacePollsBy};
 ghost use Rattle.he_race.specs.Resolving.{HeardAt, MayGive};
 ghost use Rattle.he_race.specs.Turns.{IsNew};
@@ -81,6 +82,8 @@ impl<C: Connector, S: AnswerSource, T: Ticker> Future for ResolvingRace<C, S, T>
         ensures over { IfReady result (λ _. self.new.race.live ≡ None) }
         ensures turn { RacePollsBy (λ c live now c' step. HeardAt S.hears C.Connector C.Run.Trial self.old.source c live now self.new.source c' step) T.Ticker self.old.race result self.new.race }
         ensures still { self.old.race.live ≡ None → self.new.source ≡ self.old.source }
+        ensures waits { OnPending result (RaceListens C.Connector C.Run.Trial cx.new self.old.race.live self.new.race.live) }
+        ensures source_waits { OnPending result (RaceHears S.AnswerSource cx.new self.old.source self.old.race.live self.new.source self.new.race.live) }
     {
         self.race.poll_hearing(&mut self.source, cx)
     }

@@ -2,7 +2,7 @@
 
 ghost use Rattle.std.specs.Prelude.{◌≡◌, ◌≤◌, ℕ, ⊤, Option, Result, ◌⊎◌};
 ghost use Rattle.futures.specs.Poll.{OnPending};
-ghost use Rattle.futures.specs.Task.{IsArmed, Keeps};
+ghost use Rattle.futures.specs.Task.{Covers, Keeps};
 ghost use Rattle.futures.specs.declared.task.Poll.{Poll};
 ghost use Rattle.he_race.specs.declared.faults.ConnectFault.{ConnectFault};
 ghost use Rattle.he_race.specs.declared.limits.TheConstants.{MAX_POLL_TICK};
@@ -14,15 +14,20 @@ use futures::task::{Context, Poll};
 
 /// A connection that is being made, polled with the tick of the poll.
 ///
-/// A poll that is pending owes one of three: it has registered in `cx`, so that the task is polled again once
-/// something happened; or `due` names a tick before which every poll is pending; or `due` is None, and every later
-/// poll is pending. A trial is dropped where its attempt is, answered or not: its `Drop` closes what it opened.
+/// A poll that is pending owes one of three: it has registered in `cx` at each source that it waits for (`needs`), so
+/// that the task is polled again once something happened; or `due` names a tick before which every poll is pending; or
+/// `due` is None, and every later poll is pending. In the first case it has registered or yielded in `cx` even where it
+/// states no source: an implementation with no `needs` owes no more than that. A trial is dropped where its attempt is,
+/// answered or not: its `Drop` closes what it opened.
 pub trait Trial: Drop {
     /// The connection.
     type Conn: Drop;
 
     // Holds of the states at which `poll_trial` may be called.
     ghost can_poll: { Self → Type 0 } = { λ _. ⊤ };
+
+    // Holds of each source that the trial waits for.
+    ghost needs: { Self → ℕ → Type 0 } = { λ _ _. ⊥ };
 
     // What a poll at a tick may answer, and the state that it leaves.
     ghost polls: { Self → ℕ → Poll (Result Self.Conn ConnectFault) → Self → Type 0 };
@@ -40,7 +45,7 @@ pub trait Trial: Drop {
         requires in_time { now ≤ MAX_POLL_TICK }
         ensures step { polls self.old now result self.new }
         ensures again { OnPending result (can_poll self.new) }
-        ensures waits { OnPending result (IsArmed cx.new ⊎ WaitsForTick polls self.new (due_tick self.new)) }
+        ensures waits { OnPending result (Covers cx.new (needs self.new) ⊎ WaitsForTick polls self.new (due_tick self.new)) }
         ensures kept { Keeps cx.old cx.new };
 
     /// The tick before which nothing changes, where the trial knows it.

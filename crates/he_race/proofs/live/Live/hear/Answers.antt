@@ -3,6 +3,7 @@ use Rattle.std.specs.List.{All}
 use Rattle.he_plan.specs.declared.attempts.Attempt.{Attempt}
 use Rattle.he_race.specs.Kept.{IsUnfinished}
 use Rattle.he_race.proofs.Heard.{HeardSame, heard-same}
+use Rattle.he_race.proofs.Listening.{turn-heard}
 use Rattle.he_race.proofs.Sweeps.{heard-run}
 use Rattle.he_race.proofs.live.Live.hear.Goals as goal
 
@@ -26,3 +27,7 @@ returns-in-Ok-clause-turned g c =
 
 pub returns-in-Ok-clause-kept : goal.returns-in-Ok-clause-kept
 returns-in-Ok-clause-kept g c = λ fact h. c.run_turn.ensures.kept fact (c.hear.ensures.kept fact h)
+
+pub returns-in-Ok-clause-source_waits : goal.returns-in-Ok-clause-source_waits
+returns-in-Ok-clause-source_waits g c =
+    turn-heard g.S.AnswerSource g.C.Connector g.C.Run.Trial c.hear.new.cx c.run_turn.new.cx c.args.source.now c.hear.new.source c.args.connector.now c.run_turn.new.connector c.args.self.recorder.recorded c.hear.new.self.recorded c.hear.new.self.underway.attempts c.args.self.unfinished.items c.args.now c.run_turn.result c.in-Ok.ensures.waits c.run_turn.ensures.kept c.run_turn.ensures.turned

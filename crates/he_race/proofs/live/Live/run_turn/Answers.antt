@@ -2,6 +2,7 @@ use Rattle.std.proofs.Common.{◌≡◌, ◌∙◌, true, false, is_some, sym, a
 use Rattle.he_plan.proofs.Bools.{or_left_none}
 use Rattle.he_race.specs.Kept.{InTurn}
 use Rattle.he_race.specs.Turns.{is_over, unpolled}
+use Rattle.he_race.proofs.Listening.{ended-listens, gone-listens}
 use Rattle.he_race.proofs.Sweeps.{ended-swept, gone-on}
 use Rattle.he_race.proofs.Turning.{ended-turn, ends-turn, going-early, same_limit}
 use Rattle.he_race.proofs.live.Live.run_turn.Goals as goal
@@ -37,3 +38,11 @@ returns-else-is_over-clause-turned g c =
 
 pub returns-else-is_over-clause-kept : goal.returns-else-is_over-clause-kept
 returns-else-is_over-clause-kept g c = λ fact h. c.end_turn.ensures.kept fact (c.poll_all.ensures.kept fact h)
+
+pub returns-then-is_over-clause-waits : goal.returns-then-is_over-clause-waits
+returns-then-is_over-clause-waits g c =
+    ended-listens g.C.Connector g.C.Run.Trial c.poll_all.new.cx _ c.in-Ok.winner c.end.result c.end.ensures
+
+pub returns-else-is_over-clause-waits : goal.returns-else-is_over-clause-waits
+returns-else-is_over-clause-waits g c =
+    gone-listens g.C.Connector g.C.Run.Trial c.poll_all.new.cx c.end_turn.new.cx c.args.now c.poll_all.new.connector c.end_turn.new.connector c.poll_all.new.self c.end_turn.result c.in-Ok.ensures.waits c.end_turn.ensures.kept c.end_turn.ensures.on

@@ -1,9 +1,12 @@
-use Rattle.std.proofs.Common.{◌≡◌, ◌+◌, ◌∙◌, ap, sym, subst, arith}
+use Rattle.std.proofs.Common.{◌≡◌, ◌+◌, ◌∙◌, IfOk, ap, sym, subst, arith}
 use Rattle.std.specs.List.{All}
 use Rattle.he_plan.specs.Agreement.{AreAlike}
+use Rattle.he_plan.specs.Race.{Race}
 use Rattle.he_race.specs.declared.recorder.Recorder.{Recorder}
 use Rattle.he_race.specs.Recording.{slept}
 use Rattle.he_race.specs.Kept.{IsUnfinished}
+use Rattle.he_race.specs.Polling.{HeardListensAfter}
+use Rattle.he_race.proofs.Listening.{ended-heard, ended-listens}
 use Rattle.he_race.proofs.Sweeps.{turned-late, turned-run}
 use Rattle.he_race.proofs.Turning.{ended-late, ends-late, same_limit, slept-alike}
 use Rattle.he_race.proofs.Untold.{slept-outcomes}
@@ -43,3 +46,15 @@ hear-requires-clause-early g c =
 pub returns-else-now-limit-clause-turned : goal.returns-else-now-limit-clause-turned
 returns-else-now-limit-clause-turned g c =
     turned-run g.S.AnswerSource.hears g.C.Connector g.C.Run.Trial c.args.source.now c.hear.new.source c.args.connector.now c.hear.new.connector c.args.self c.args.now c.begin_turn.new.self c.hear.result c.in-Ok.ensures.recorded c.hear.ensures.turned
+
+pub returns-then-now-limit-clause-waits : goal.returns-then-now-limit-clause-waits
+returns-then-now-limit-clause-waits g c = ended-listens g.C.Connector g.C.Run.Trial c.args.cx.now _ _ c.end.result c.end.ensures
+
+pub returns-then-now-limit-clause-source_waits : goal.returns-then-now-limit-clause-source_waits
+returns-then-now-limit-clause-source_waits g c =
+    ended-heard g.S.AnswerSource g.C.Connector g.C.Run.Trial c.args.cx.now c.args.source.now c.args.source.now _ c.args.now _ _ c.end.result c.end.ensures
+
+pub returns-else-now-limit-clause-source_waits : goal.returns-else-now-limit-clause-source_waits
+returns-else-now-limit-clause-source_waits g c =
+    let recorded : c.begin_turn.new.self.recorded ≡ slept c.args.self.recorder.recorded c.args.self.recorder.due c.args.now = ap (λ (x : Recorder). x.recorded) c.in-Ok.ensures.recorded in
+    subst (λ (race : Race). IfOk c.hear.result (HeardListensAfter g.S.AnswerSource c.hear.new.cx c.args.source.now race c.args.now c.hear.new.source)) recorded c.hear.ensures.source_waits
