@@ -58,7 +58,7 @@ impl<C: Connector, S: AnswerSource, T: Ticker> ResolvingRace<C, S, T> {
         ensures value { result.now ≡ self.old.race.ticker }
         ensures* writes_back { sem 𝓛 (Lends (the_row C.row S.row T.row C.Conn.row C.Run.row) T.row self.entry result (λ w. record self.old { race = record self.old.race { ticker = w } })) }
     {
-        &mut self.race.ticker
+        self.race.ticker_mut()
     }
 }
 
