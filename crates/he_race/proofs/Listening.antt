@@ -1,6 +1,6 @@
 -- What a race has registered while its attempts are polled, and after it.
-use Rattle.std.proofs.Common.{◌≡◌, ℕ, ◌+◌, ◌<◌, ◌∙◌, ◌++◌, List, [], ◌∷◌, length, take, Option, Some, None, Result, IfNone, IfOk, IfSome, OnOk, Ok, Err, MatchBool, is_some, true, refl, sym, ap, subst, arith, inl, inr, nat_lt, slice_get}
-use Rattle.std.specs.List.{All, slice_set}
+use Rattle.std.proofs.Common.{◌≡◌, ℕ, suc, ◌+◌, ◌<◌, ◌∙◌, ◌++◌, List, [], ◌∷◌, length, take, Option, Some, None, Result, IfNone, IfOk, IfSome, OnOk, Ok, Err, Bool, MatchBool, is_some, true, refl, sym, ap, subst, arith, inl, inr, slice_get}
+use Rattle.std.specs.List.{slice_set}
 use Rattle.std.proofs.Math.Seq.{take-length}
 use Rattle.std.proofs.lemmas.List.{get_or-set_same, length-set}
 use Rattle.std.proofs.lemmas.List.Elements.{All-push, All-weaker}
@@ -18,7 +18,7 @@ use Rattle.he_plan.specs.Race.{Race, Reply, reply_of}
 use Rattle.he_plan.proofs.Bools.{not_lt}
 use Rattle.he_race.specs.declared.answers.AnswerSource.{Ghosts as SourceOf}
 use Rattle.he_race.specs.declared.attempt.AttemptFuture.{AttemptFuture}
-use Rattle.he_race.specs.declared.attempt.AttemptFuture.TheVariants.{Connecting}
+use Rattle.he_race.specs.declared.attempt.AttemptFuture.TheVariants.{Sleeping}
 use Rattle.he_race.specs.declared.attempt.Finish.{Finish}
 use Rattle.he_race.specs.declared.connector.Connector.{Ghosts as ConnectorOf}
 use Rattle.he_race.specs.declared.faults.ConnectFault.{ConnectFault}
@@ -83,7 +83,8 @@ module _ {C Conn Run : Type 0} (connector : ConnectorOf C Conn Run) (trial : Tri
   -- an attempt that begins waits for its first tick
   begun_listens : (cx : Context) (c c' : C) (x : Attempt) (o : Unfinished C Conn Run) → BeginsAt connector trial c x c' o → Listens connector trial cx o.future
   begun_listens cx c c' x o b =
-      let begins : Begins connector trial x.place x.ip c x.tick c' o.future = subst (λ t. MatchBool t _ _) (not_lt x.tick x.tick (omega arith)) b.polls.1 in
+      let P : Bool → Type 0 = λ t. MatchBool t ((c' ≡ c) × (o.future ≡ Sleeping x.place x.ip x.tick)) (Begins connector trial x.place x.ip c x.tick c' o.future) in
+      let begins : Begins connector trial x.place x.ip c x.tick c' o.future = subst P (not_lt x.tick x.tick (omega arith)) b.polls.1 in
       subst (Listens connector trial cx) (sym begins.2) (inr (fresh_waits connector trial begins.0 (x.tick + 1)))
 
   -- a turn that goes on

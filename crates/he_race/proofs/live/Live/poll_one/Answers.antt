@@ -1,12 +1,10 @@
-use Rattle.std.proofs.Common.{◌≡◌, ◌∙◌, ◌<◌, IfSome, Option, Some, length, refl, sym, ap, subst, rules}
+use Rattle.std.proofs.Common.{◌≡◌, ◌∙◌, ◌<◌, Some, length, refl, sym, ap, subst, rules}
 use Rattle.std.proofs.lemmas.List.Elements.{All-set}
 use Rattle.futures.specs.declared.task.Poll.TheVariants.{Pending, Ready}
 use Rattle.he_plan.specs.declared.attempts.Attempt.{Attempt}
 use Rattle.he_plan.specs.Race.{Race}
-use Rattle.he_race.specs.declared.live.Unfinished.{Unfinished}
 use Rattle.he_race.specs.Kept.{IsUnfinished}
 use Rattle.he_race.specs.Turns.{told}
-use Rattle.he_race.specs.Listening.{Listens}
 use Rattle.he_race.proofs.Listening.{set-at}
 use Rattle.he_race.proofs.Turning.{All-left}
 use Rattle.he_race.proofs.Untold.{ended-told, same-at, same-attempt, stands-at, untold-at, untold-gone, untold-set}
