@@ -85,7 +85,7 @@ module _ {C Conn Run : Type 0} (connector : ConnectorOf C Conn Run) (trial : Tri
   TurnsFrom from os now c' (after_polls.Ended raced) = EndsPolled connector trial from os now c' raced
   TurnsFrom from os now c' (after_polls.Waits new tick) = Goes connector trial from os now c' new tick
 
-  -- a turn, and a poll, of a race that goes on has registered for its attempts
+  -- after a turn, and after a poll, of a race that goes on its attempts listen
   abbrev pub AllListenAfter : Context → AfterPoll C Conn Run → Type 0
   AllListenAfter cx (after_polls.Ended raced) = ⊤
   AllListenAfter cx (after_polls.Waits live tick) = AllListen connector trial cx live.unfinished.items
@@ -95,7 +95,7 @@ module _ {C Conn Run : Type 0} (connector : ConnectorOf C Conn Run) (trial : Tri
   TurnListensAfter cx was (after_polls.Waits live tick) = TurnListens connector trial cx was live
 
 module _ {S C Conn Run : Type 0} (source : SourceOf S) where
-  -- and for its source
+  -- and its source does
   abbrev pub HeardListensAfter : Context → S → Race → ℕ → S → AfterPoll C Conn Run → Type 0
   HeardListensAfter cx s race now s' (after_polls.Ended raced) = ⊤
   HeardListensAfter cx s race now s' (after_polls.Waits live tick) = HeardListens source cx s race now s' live.recorder.recorded

@@ -15,9 +15,9 @@ use he_addr::{Family, Ip};
 /// Where the answers of a race come from while it runs, as from a resolver that was asked for AAAA and A at once (RFC
 /// 8305 section 3). Each turn polls it once for each family that has no answer yet, IPv6 first, at the turn's tick.
 ///
-/// A poll that is pending owes one of two: it has registered in `cx` at each source that it waits for (`needs`), so that
-/// the task is polled again once something happened, and registered or yielded there where it states none; or no later
-/// poll for this family tells anything.
+/// A poll that is pending owes one of two: it has registered in `cx` at each source that it waits for (`needs`), so
+/// that the task is polled again once something happened, and registered or yielded there where it states none; or no
+/// later poll for this family tells anything.
 pub trait AnswerSource: Drop {
     // Holds of each source that it waits for, to answer for the family.
     ghost needs: { Self → Family → ℕ → Type 0 } = { λ _ _ _. ⊥ };

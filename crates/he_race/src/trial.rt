@@ -15,10 +15,10 @@ use futures::task::{Context, Poll};
 /// A connection that is being made, polled with the tick of the poll.
 ///
 /// A poll that is pending owes one of three: it has registered in `cx` at each source that it waits for (`needs`), so
-/// that the task is polled again once something happened; or `due` names a tick before which every poll is pending; or
-/// `due` is None, and every later poll is pending. In the first case it has registered or yielded in `cx` even where it
-/// states no source: an implementation with no `needs` owes no more than that. A trial is dropped where its attempt is,
-/// answered or not: its `Drop` closes what it opened.
+/// that the task is polled again once something happened; or `due` names a tick before which every poll is pending;
+/// or `due` is None, and every later poll is pending. In the first case it has registered or yielded in `cx` even where
+/// it states no source: with no `needs` it owes no more than that. A trial is dropped where its attempt is, answered or
+/// not: its `Drop` closes what it opened.
 pub trait Trial: Drop {
     /// The connection.
     type Conn: Drop;
