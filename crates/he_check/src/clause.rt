@@ -89,7 +89,8 @@ fn meaning(meant: Meant) -> &'static [u8]
         Meant::Zone =>
             b"an address has no zone: leave out `%` and what follows it, as source and route lines have the interface's number",
         Meant::Brackets => b"an address stands without brackets, and without a port",
-        Meant::Comma => b"no comma stands between two addresses, but a single space, and none in a number",
+        Meant::Comma =>
+            b"no comma stands between two addresses, but a single space, and none in a number",
         Meant::Name =>
             b"names are not looked up here: write the addresses, which `he names NAME` finds, or see `he connect`",
         Meant::DefaultRoute => b"`default` is written as the prefix 0.0.0.0/0 or ::/0",
@@ -98,7 +99,9 @@ fn meaning(meant: Meant) -> &'static [u8]
         Meant::Device => b"an interface is its number, which `ip address` prints before its name",
         Meant::Unit => b"a number has no unit: times are in milliseconds",
         Meant::Sign => b"a number has no sign",
-        Meant::Packed => b"the input is compressed: unpack it first, as `gunzip`, `xz -d` and `zstd -d` do",
-        Meant::Wide => b"the input is UTF-16: make ASCII of it first, as `iconv -f UTF-16 -t ASCII` does",
+        Meant::Packed =>
+            b"the input is compressed: unpack it first, as `gunzip`, `xz -d` and `zstd -d` do",
+        Meant::Wide =>
+            b"the input is UTF-16: make ASCII of it first, as `iconv -f UTF-16 -t ASCII` does",
     }
 }

@@ -141,8 +141,7 @@ fn is_device(word: &[u8]) -> bool
 fn is_name(word: &[u8]) -> bool
     ensures { result ≡ is_name word.now }
 {
-    word == b"localhost".as_slice()
-        || word.contains(&b'.') && has_letter(word) && are_of_name(word)
+    word == b"localhost".as_slice() || word.contains(&b'.') && has_letter(word) && are_of_name(word)
 }
 
 fn has_digit(word: &[u8]) -> bool
