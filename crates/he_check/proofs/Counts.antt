@@ -1,5 +1,5 @@
 -- One race more of an input that is checked, its warnings, and how its walk ends.
-use Rattle.std.proofs.Common.{ℕ, ◌≡◌, ◌+◌, ◌-◌, ◌≤◌, List, [], ◌∷◌, ◌++◌, length, take, Bool, Option, Some, sym, subst, refl, ◌∙◌, ap, append_assoc, arith}
+use Rattle.std.proofs.Common.{ℕ, ◌≡◌, ◌+◌, ◌-◌, ◌≤◌, ◌==◌, List, [], ◌∷◌, ◌++◌, length, map, take, Bool, Option, Some, sym, subst, refl, ◌∙◌, ap, append_assoc, arith}
 use Rattle.std.specs.List.{slice_range}
 use Rattle.std.proofs.lemmas.List.{append-nil, take_all}
 use Rattle.std.proofs.Math.Seq.{take-add}
@@ -13,8 +13,9 @@ use Rattle.he_text.specs.declared.walks.WalkFault.{WalkFault}
 use Rattle.he_text.specs.declared.walks.WalkFault.TheVariants as walks
 use Rattle.he_text.proofs.WalkLaws.{ends_whole, has_fault, has_none, line_count-append, none_behind, passes_on}
 use Rattle.he_check.specs.Checked.{IsRight, IsWrong, check_fault}
-use Rattle.he_check.specs.Slips.{AreWarned, HasWarnings, warnings_of}
+use Rattle.he_check.specs.Slips.{AreWarned, HasWarnings, slip_if, warning_at, warnings_of}
 use Rattle.he_check.specs.Steps.{HasCounted}
+use Rattle.he_check.specs.declared.slips.Slip.TheVariants.{NoRace}
 use Rattle.he_check.specs.declared.slips.Warning.{Warning}
 
 -- one race more behind the others, with its warnings behind theirs
@@ -94,8 +95,16 @@ end_right input is_broken old new warnings found before next none =
       ap (λ (w : Walk). w.lines) ends.0 ∙ lines ∙ ap line_count whole,
     )
 
-pub end_warned : (input : List ℕ) (is_broken : Bool) (old new : Walk) (warnings : List Warning) (found : Option Race) → HasCounted input old warnings
-    → IsNextOf input (ending_of is_broken) old new found → ((race : Race) → found ≡ Some race → ⊥) → HasWarnings input warnings
-end_warned input is_broken old new warnings found before next none =
+pub end_warned : (input : List ℕ) (is_broken : Bool) (old new : Walk) (warnings more : List Warning) (found : Option Race) → HasCounted input old warnings
+    → IsNextOf input (ending_of is_broken) old new found → ((race : Race) → found ≡ Some race → ⊥)
+    → more ≡ warnings ++ map (warning_at 1) (slip_if (new.races == 0) NoRace) → HasWarnings input more
+end_warned input is_broken old new warnings more found before next none longer =
+    let ends = none_behind input is_broken old new found next none in
+    let counted = before.passed.counted in
     let Warned : List ℕ → Type 0 = λ text. AreWarned 0 before.races text warnings in
-    (before.races, subst Warned (passed_all input is_broken old new warnings found before next none) before.warned)
+    let races : new.races ≡ length before.races = ap (λ (w : Walk). w.races) ends.0 ∙ (let same : old.races ≡ length before.races = omega arith in same) in (
+      before.races,
+      warnings,
+      subst Warned (passed_all input is_broken old new warnings found before next none) before.warned,
+      longer ∙ ap (λ (n : ℕ). warnings ++ map (warning_at 1) (slip_if (n == 0) NoRace)) races,
+    )

@@ -1,4 +1,6 @@
 pub mod Checked
+pub mod Clauses
+pub mod Meant
 pub mod Sentences
 pub mod Slips
 pub mod Steps

@@ -1,5 +1,5 @@
 -- What is allowed in a race and surely not meant, and where a check of an input warns of it.
-use Rattle.std.specs.Prelude.{ℕ, ◌≡◌, ◌+◌, ◌==◌, ◌++◌, Bool, false, not, List, [], ◌∷◌, map, nat_lt, if◌then◌else◌, Option, Some, None}
+use Rattle.std.specs.Prelude.{ℕ, ◌≡◌, ◌+◌, ◌==◌, ◌++◌, Bool, false, not, List, [], ◌∷◌, length, map, nat_lt, if◌then◌else◌, Option, Some, None}
 use Rattle.std.specs.List.{list_any}
 use Rattle.std.specs.Option.{option_map_or}
 use Rattle.he_addr.specs.Ip.{is_usable}
@@ -11,7 +11,7 @@ use Rattle.he_plan.specs.Settings.{SettingValues}
 use Rattle.he_text.specs.Inputs.{line_count}
 use Rattle.he_text.specs.Text.{IsRaceText}
 use Rattle.he_check.specs.declared.slips.Slip.{Slip}
-use Rattle.he_check.specs.declared.slips.Slip.TheVariants.{IdleFloor, NoAnswer, LateAnswer, UnusableAnswer}
+use Rattle.he_check.specs.declared.slips.Slip.TheVariants.{NoRace, NoSource, IdleFloor, NoAnswer, LateAnswer, UnusableAnswer}
 use Rattle.he_check.specs.declared.slips.Warning.{Warning}
 
 abbrev pub slip_if : Bool → Slip → List Slip
@@ -32,11 +32,12 @@ answer_slips family limit None = NoAnswer family ∷ []
 answer_slips family limit (Some reply) =
     slip_if (nat_lt limit reply.tick) (LateAnswer family) ++ slip_if (are_unusable reply.addresses) (UnusableAnswer family)
 
--- in the order of the lines of a race
+-- a race without a source stands first; the others in the order of its lines
 abbrev pub slips_of : Race → List Slip
 slips_of race =
-    slip_if (is_floor_idle race.settings) IdleFloor
-    ++ (answer_slips families.V6 race.settings.limit race.aaaa ++ answer_slips families.V4 race.settings.limit race.a)
+    slip_if (length race.host.sources == 0) NoSource
+    ++ (slip_if (is_floor_idle race.settings) IdleFloor
+    ++ (answer_slips families.V6 race.settings.limit race.aaaa ++ answer_slips families.V4 race.settings.limit race.a))
 
 -- a warning names the line with which its race begins
 abbrev pub warning_at : ℕ → Slip → Warning
@@ -53,6 +54,8 @@ AreWarned lines (race ∷ races) text warnings =
     × (text ≡ first ++ more) × IsRaceText first race × (warnings ≡ warnings_of (lines + 1) race ++ later)
     × AreWarned (lines + line_count first) races more later
 
--- the warnings of an input of races
+-- the warnings of an input of races, or that it has none
 abbrev pub HasWarnings : List ℕ → List Warning → Type 0
-HasWarnings input warnings = (races : List Race) × AreWarned 0 races input warnings
+HasWarnings input warnings =
+    (races : List Race) × (told : List Warning)
+    × AreWarned 0 races input told × (warnings ≡ told ++ map (warning_at 1) (slip_if (length races == 0) NoRace))

@@ -1,7 +1,9 @@
 -- What is taken from an input that is checked, and put into an output.
-use Rattle.std.specs.Prelude.{ℕ, ◌≡◌, ◌==◌, ⊤, Bool, List, [], ◌∷◌, ◌++◌, if◌then◌else◌, decimal, codes, Result, Ok, Err}
+use Rattle.std.specs.Prelude.{ℕ, ◌≡◌, ◌==◌, Bool, List, [], ◌∷◌, ◌++◌, if◌then◌else◌, decimal, codes, Result, Ok, Err}
 use Rattle.std.specs.List.{flat_map}
+use Rattle.he_text.specs.declared.fault.TextFault.{TextFault}
 use Rattle.he_check.specs.Checked.{IsRight, IsWrong}
+use Rattle.he_check.specs.Clauses.{EndsInClause}
 use Rattle.he_check.specs.Sentences.{warning_text}
 use Rattle.he_check.specs.Slips.{HasWarnings}
 use Rattle.he_check.specs.declared.fault.CheckFault.{CheckFault}
@@ -50,9 +52,16 @@ pub record TellsWarnings (Given : List ℕ → Bool → Type 0) (old new : List 
   pub are : HasWarnings input warnings
   pub told : new ≡ old ++ flat_map warning_text warnings
 
+-- the input was given, whole or up to where it broke off, and what is said of its fault ends in the clause of the fault
+pub record TellsFault (Given : List ℕ → Bool → Type 0) (fault : TextFault) (old new : List ℕ) : Type 0 where
+  pub input : List ℕ
+  pub is_broken : Bool
+  pub given : Given input is_broken
+  pub told : EndsInClause input fault old new
+
 -- where nothing is wrong with the input, its warnings are told; where no fault of the text is told, nothing is explained
 abbrev pub ExplainsText : (List ℕ → Bool → Type 0) → List ℕ → List ℕ → Result (Unit {0}) CheckFault → Type 0
 ExplainsText Given old new (Ok done) = TellsWarnings Given old new
-ExplainsText Given old new (Err (Text fault)) = ⊤
+ExplainsText Given old new (Err (Text fault)) = TellsFault Given fault old new
 ExplainsText Given old new (Err Write) = TellsWarnings Given old new
 ExplainsText Given old new _ = new ≡ old

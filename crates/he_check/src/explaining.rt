@@ -1,7 +1,9 @@
 //! What is said of a fault: the line, the mark below it, and what was expected there.
-ghost use Rattle.std.specs.Prelude.{◌≡◌, OnErr, OnOk};
+ghost use Rattle.std.specs.Prelude.{◌≡◌, ◌++◌, [], IfOk, OnErr, OnOk};
 ghost use Rattle.std.specs.Io.{StartsWith};
+ghost use Rattle.he_check.specs.Clauses.{EndsInClause};
 
+use crate::clause::{append_clause, hint_of};
 use crate::finding::find_sentence;
 use crate::place::find_line;
 use crate::showing::show_line;
@@ -9,10 +11,11 @@ use he_text::TextFault;
 use std::alloc::{AllocError, Allocator};
 
 /// Appends what is said of a fault of the text `input`: its line, printed behind two spaces with a mark `^` below the
-/// part that is wrong, and a sentence of what was expected there, each with a line end. Of a long line what stands
-/// around the mark is shown, with `..` for the rest. Tab, CR, `\` and bytes that cannot be printed are shown as `\t`,
-/// `\r`, `\\` and `\xNN`. An empty line is not shown. Of a fault that is not the first one of the text, what is said
-/// may be wrong.
+/// part that is wrong, and a sentence of what was expected there, each with a line end. Where a word of the line, or
+/// the first bytes of the input, tell what was meant (a comment, a host name, a compressed file), the sentence ends in
+/// a clause of it. Of a long line what stands around the mark is shown, with `..` for the rest. Tab, CR, `\` and bytes
+/// that cannot be printed are shown as `\t`, `\r`, `\\` and `\xNN`. An empty line is not shown. Of a fault that is not
+/// the first one of the text, what is said may be wrong.
 ///
 /// # Errors
 ///
@@ -24,6 +27,7 @@ pub fn explain_fault<A: Allocator + Copy>(
     explanation: &mut Vec<u8, A>,
 ) -> Result<(), AllocError>
     ensures ok { OnOk result (StartsWith explanation.new.items explanation.old.items) }
+    ensures clause { OnOk result (EndsInClause input.now fault explanation.old.items explanation.new.items) }
     ensures err { OnErr result (explanation.new.items ≡ explanation.old.items) }
 {
     let said = explanation_of(alloc, input, fault)?;
@@ -34,12 +38,15 @@ fn explanation_of<A: Allocator + Copy>(
     alloc: A,
     input: &[u8],
     fault: TextFault,
-) -> Result<Vec<u8, A>, AllocError> {
+) -> Result<Vec<u8, A>, AllocError>
+    ensures { IfOk result (λ text. EndsInClause input.now fault [] text.items) }
+{
     let place = find_line(input, fault.line);
     let (mark, sentence) = find_sentence(place, fault.kind);
     let mut text = Vec::new(alloc);
     show_line(place.line, mark.span(place.line), &mut text)?;
-    let sentence = format!(in alloc; "{sentence}\n")?;
+    let sentence = format!(in alloc; "{sentence}")?;
     text.extend_from_slice(sentence.as_bytes())?;
+    append_clause(hint_of(input, fault), &mut text)?;
     Ok(text)
 }

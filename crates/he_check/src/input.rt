@@ -4,7 +4,7 @@ ghost use Rattle.he_check.specs.Checked.{IsRight, IsWrong};
 ghost use Rattle.he_check.specs.Slips.{HasWarnings};
 
 use crate::fault::CheckFault;
-use crate::slips::{Warning, add_warnings};
+use crate::slips::{Slip, Warning, add_if, add_warnings};
 use he_text::{Ending, Walk};
 use std::alloc::Allocator;
 use std::mem::drop;
@@ -19,7 +19,7 @@ pub struct Checked {
 }
 
 /// Reads the races of an input one by one, counts them and the input's lines, and warns of each slip of a race, in the
-/// order of the races. `is_broken` tells that the input broke off after these bytes.
+/// order of the races, and where the input has none. `is_broken` tells that the input broke off after these bytes.
 ///
 /// # Errors
 ///
@@ -46,6 +46,7 @@ pub fn check_input<A: Allocator + Copy>(
         added?;
         line = walk.lines + 1;
     }
+    add_if(walk.races == 0, 1, Slip::NoRace, &mut warnings)?;
     let checked = Checked {
         races: walk.races as u64,
         lines: walk.lines,

@@ -11,14 +11,16 @@
 //! through its input by the same definition, so both tell one fault. Over streams, whatever they do (`specs/Stream`):
 //! the whole input is read, the numbers are written and flushed where nothing is wrong, and else nothing is written;
 //! after a write or flush that failed, a first part. What is explained stands behind what the vector held, and a
-//! refused growth leaves it as it was.
+//! refused growth leaves it as it was. It ends in the clause of what was likely meant by a word of the line or by the
+//! input's first bytes (`specs/Clauses`, `specs/Meant`), exactly where one of them is such.
 //!
-//! Only tested: what an explanation says. The line is looked at again for it, by checks of its own (`finding.rt`), so
-//! a wrong one would mislead, but leaves the fault's line and kind as they are. Of a fault whose cause these checks
+//! Only tested: what else an explanation says. The line is looked at again for it, by checks of its own (`finding.rt`),
+//! so a wrong one would mislead, but leaves the fault's line and kind as they are. Of a fault whose cause these checks
 //! don't find, a sentence tells what faults of its kind are.
 #![tactic(auto)]
 
 pub mod checking;
+mod clause;
 pub mod explaining;
 pub mod fault;
 mod finding;
@@ -26,6 +28,7 @@ mod flaws;
 mod forms;
 pub mod input;
 pub mod limits;
+mod meant;
 mod place;
 mod repeats;
 mod sentence;

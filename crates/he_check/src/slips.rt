@@ -12,6 +12,10 @@ use std::alloc::{AllocError, Allocator};
 /// What is allowed in a race, and surely not meant. It is no fault: the race means what it says.
 #[derive(Clone, Copy, Debug, PartialEq, Eq)]
 pub enum Slip {
+    /// The input has no race.
+    NoRace,
+    /// The race has no source, so that its host reaches no address.
+    NoSource,
     /// The floor is the Connection Attempt Delay itself, so that no attempt starts earlier for it.
     IdleFloor,
     /// The family is never answered, so that the race can't be exhausted.
@@ -25,7 +29,7 @@ pub enum Slip {
 /// A slip of a race of an input.
 #[derive(Clone, Copy, Debug, PartialEq, Eq)]
 pub struct Warning {
-    /// The line with which the race begins, counted over the whole input from 1.
+    /// The line with which the race begins, counted over the whole input from 1; 1 where the input has no race.
     pub line: u64,
     /// What is surely not meant.
     pub slip: Slip,
@@ -39,6 +43,8 @@ pub(crate) fn add_warnings<A: Allocator, B: Allocator>(
 ) -> Result<(), AllocError>
     ensures { OnOk result (warnings.new.items ≡ warnings.old.items ++ warnings_of line race.now) }
 {
+    let has_no_source = race.host().sources().is_empty();
+    add_if(has_no_source, line, Slip::NoSource, warnings)?;
     add_if(
         is_floor_idle(race.settings()),
         line,
@@ -70,7 +76,7 @@ fn add_of_answer<A: Allocator, B: Allocator>(
     )
 }
 
-fn add_if<A: Allocator>(
+pub(crate) fn add_if<A: Allocator>(
     holds: bool,
     line: u64,
     slip: Slip,

@@ -40,6 +40,9 @@ fn sentence(slip: Slip) -> &'static [u8]
     ensures { result.now ≡ sentence_of slip }
 {
     match slip {
+        Slip::NoRace => b"the input has no race: a race begins with the line `race 1` or `race 2`",
+        Slip::NoSource =>
+            b"this race has no source line, so its host reaches no address: write its addresses, as `he host` does for this machine",
         Slip::IdleFloor =>
             b"the floor of this race is its attempt delay, so it changes nothing: set a lower one, or none",
         Slip::NoAnswer(Family::V6) =>

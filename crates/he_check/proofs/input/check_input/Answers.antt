@@ -18,7 +18,8 @@ returns-clause-right g c =
 pub returns-clause-warned : goal.returns-clause-warned
 returns-clause-warned g c =
     let found = rw c.of-ending.ensures at c.in_ok-race.ensures.found in
-    end_warned c.args.input.now c.args.is_broken c.loop-warnings.walk c.next.new.self c.loop-warnings.warnings.items c.in_ok-race.field-0 c.loop-warnings.invariant.0 found c.in_default.not-Some
+    end_warned c.args.input.now c.args.is_broken c.loop-warnings.walk c.next.new.self c.loop-warnings.warnings.items c.add_if.new.warnings.items c.in_ok-race.field-0 c.loop-warnings.invariant.0 found c.in_default.not-Some
+    c.in_ok-add_if.ensures
 
 pub loop-warnings-preserved : goal.loop-warnings-preserved
 loop-warnings-preserved g c =

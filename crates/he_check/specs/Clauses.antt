@@ -1,0 +1,38 @@
+-- Which fault has a clause behind its sentence, and which line it is of.
+use Rattle.std.specs.Prelude.{ℕ, ◌≡◌, ◌==◌, ◌-◌, ◌++◌, Bool, true, false, List, [], if◌then◌else◌, Option, None}
+use Rattle.std.specs.List.{filter_map, slice_get}
+use Rattle.std.specs.Option.{option_or, unwrap_or}
+use Rattle.he_text.specs.Parts.{lines_of, tokens_of}
+use Rattle.he_text.specs.declared.fault.TextFault.{TextFault}
+use Rattle.he_text.specs.declared.fault.TextKind.{TextKind}
+use Rattle.he_text.specs.declared.fault.TextKind.TheVariants as kinds
+use Rattle.he_check.specs.Meant.{input_meant, meant_of}
+use Rattle.he_check.specs.Sentences.{clause_text}
+use Rattle.he_check.specs.declared.meant.Meant.{Meant}
+
+-- the line with this number, counted from 1; empty where there is none
+abbrev pub line_at : ℕ → List ℕ → List ℕ
+line_at number input = unwrap_or (slice_get (lines_of input) (number - 1)) []
+
+-- the first that a word of the line was likely meant to be
+abbrev pub line_meant : List ℕ → Option Meant
+line_meant line = slice_get (filter_map meant_of (tokens_of line)) 0
+
+-- a word that no text has makes such a fault
+abbrev pub is_of_words : TextKind → Bool
+is_of_words kinds.Header = true
+is_of_words kinds.Word = true
+is_of_words kinds.Number = true
+is_of_words kinds.Address = true
+is_of_words kinds.Prefix = true
+is_of_words _ = false
+
+-- of a fault on the first line the first bytes of the input tell, and else the words of its line
+abbrev pub hint_of : List ℕ → TextFault → Option Meant
+hint_of input fault =
+    option_or (if fault.line == 1 then input_meant input else None)
+    (if is_of_words fault.kind then line_meant (line_at fault.line input) else None)
+
+-- what is said of the fault of the input stands behind the old text, and ends in its clause
+abbrev pub EndsInClause : List ℕ → TextFault → List ℕ → List ℕ → Type 0
+EndsInClause input fault old new = (said : List ℕ) × (new ≡ old ++ (said ++ clause_text (hint_of input fault)))

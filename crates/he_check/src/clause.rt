@@ -1,0 +1,107 @@
+// What is said behind the sentence of a fault: what was likely meant.
+
+ghost use Rattle.std.specs.Prelude.{◌≡◌, ◌++◌, OnOk};
+ghost use Rattle.std.specs.List.{slice_get};
+ghost use Rattle.std.specs.Option.{option_copied};
+ghost use Rattle.he_text.specs.Parts.{lines_of};
+ghost use Rattle.he_check.specs.Clauses.{hint_of, is_of_words, line_at, line_meant};
+ghost use Rattle.he_check.specs.Sentences.{clause_text, meaning_of};
+
+use crate::meant::{Meant, input_meant, meant_of};
+use he_text::{LINE_END, TOKEN_END, TextFault, TextKind};
+use std::alloc::{AllocError, Allocator};
+
+// Appends what was likely meant, and a line end.
+pub(crate) fn append_clause<A: Allocator>(
+    meant: Option<Meant>,
+    text: &mut Vec<u8, A>,
+) -> Result<(), AllocError>
+    ensures { OnOk result (text.new.items ≡ text.old.items ++ clause_text meant) }
+{
+    if let Some(meant) = meant {
+        text.extend_from_slice(b"; ")?;
+        text.extend_from_slice(meaning(meant))?;
+    }
+    text.push(b'\n')?;
+    Ok(())
+}
+
+// What was likely meant where the input has this fault: by its first bytes, or by the words of the faulty line.
+pub(crate) fn hint_of(input: &[u8], fault: TextFault) -> Option<Meant>
+    ensures { result ≡ hint_of input.now fault }
+{
+    if fault.line == 1
+        && let Some(meant) = input_meant(input)
+    {
+        return Some(meant);
+    }
+    if is_of_words(fault.kind) {
+        line_meant(line_at(fault.line, input))
+    } else {
+        None
+    }
+}
+
+// Whether a word that no text has makes such a fault.
+fn is_of_words(kind: TextKind) -> bool
+    ensures { result ≡ is_of_words kind }
+{
+    match kind {
+        TextKind::Header
+        | TextKind::Word
+        | TextKind::Number
+        | TextKind::Address
+        | TextKind::Prefix => true,
+        _ => false,
+    }
+}
+
+// The first of the line's words of which that can be told.
+fn line_meant(line: &[u8]) -> Option<Meant>
+    ensures { result ≡ line_meant line.now }
+{
+    line.split(|byte| *byte == TOKEN_END)
+        .filter_map(|word| meant_of(word))
+        .nth(0)
+}
+
+// The line with this number, counted from 1; empty where there is none.
+fn line_at(number: u64, input: &[u8]) -> &[u8]
+    ensures { result.now ≡ line_at number input.now }
+{
+    nth_line(input, number.saturating_sub(1) as usize).unwrap_or(b"".as_slice())
+}
+
+fn nth_line(input: &[u8], at: usize) -> Option<&[u8]>
+    ensures { option_copied result ≡ slice_get (lines_of input.now) at }
+{
+    input.split(|byte| *byte == LINE_END).nth(at)
+}
+
+// What to do.
+fn meaning(meant: Meant) -> &'static [u8]
+    ensures { result.now ≡ meaning_of meant }
+{
+    match meant {
+        Meant::Comment => b"a text has no comments: leave out `#` and what follows it",
+        Meant::Tab => b"a single space parts two tokens, and a tab does not",
+        Meant::Capitals => b"words are written in small letters",
+        Meant::Zone =>
+            b"an address has no zone: leave out `%` and what follows it, as source and route lines have the interface's number",
+        Meant::Brackets => b"an address stands without brackets, and without a port",
+        Meant::Comma =>
+            b"no comma stands between two addresses, but a single space, and none in a number",
+        Meant::Name =>
+            b"names are not looked up here: write the addresses, which `he names NAME` finds, or see `he connect`",
+        Meant::DefaultRoute => b"`default` is written as the prefix 0.0.0.0/0 or ::/0",
+        Meant::IpOutput =>
+            b"`ip` prints this: `he host` writes the addresses and routes of this machine as lines of a race",
+        Meant::Device => b"an interface is its number, which `ip address` prints before its name",
+        Meant::Unit => b"a number has no unit: times are in milliseconds",
+        Meant::Sign => b"a number has no sign",
+        Meant::Packed =>
+            b"the input is compressed: unpack it first, as `gunzip`, `xz -d` and `zstd -d` do",
+        Meant::Wide =>
+            b"the input is UTF-16: make ASCII of it first, as `iconv -f UTF-16 -t ASCII` does",
+    }
+}
