@@ -1,11 +1,12 @@
 -- Which of the sources and routes that are found a host keeps, and why others are left out.
-use Rattle.std.specs.Prelude.{ℕ, ◌+◌, ◌*◌, ◌^◌, ◌==◌, ◌&&◌, ◌++◌, Bool, List, [], ◌∷◌, Option, Some, None, Result, Ok, Err, length, nat_le, not, if◌then◌else◌}
+use Rattle.std.specs.Prelude.{ℕ, ◌+◌, ◌*◌, ◌^◌, ◌==◌, ◌&&◌, ◌||◌, ◌++◌, Bool, List, [], ◌∷◌, Option, Some, None, Result, Ok, Err, length, nat_le, not, if◌then◌else◌}
 use Rattle.std.specs.List.{list_any}
 use Rattle.std.specs.List.Sorted.{IsNonDecreasingBy, IsPermutation, IsStableByKey}
 use Rattle.std.specs.Ordering.{nat_cmp}
 use Rattle.he_select.specs.declared.host.Route.{Route}
 use Rattle.he_select.specs.declared.host.Source.{Source}
 use Rattle.he_select.specs.declared.limits.TheConstants.{SOURCES, ROUTES}
+use Rattle.he_select.specs.HostFaults.{is_sound_route, is_sound_source}
 use Rattle.he_select.specs.Hosts.{same_route, same_source}
 use Rattle.he_host.specs.declared.found.FoundRoute.{FoundRoute}
 use Rattle.he_host.specs.declared.found.FoundSource.{FoundSource}
@@ -35,22 +36,25 @@ same_way a b = same_route b a && b.interface == a.interface
 
 abbrev pub source_behind : List Source → Source → Result Source Why
 source_behind kept source =
-    if list_any (same_source source) kept then Err whys.Repeated
-    else (if nat_le SOURCES (length kept) then Err whys.TooMany else Ok source)
+    if not (is_sound_source source) then Err whys.Unusable
+    else (if list_any (same_source source) kept then Err whys.Repeated
+    else (if nat_le SOURCES (length kept) then Err whys.TooMany else Ok source))
 
--- a source that is kept behind these: no address is kept twice, and no more than the limit
+-- a source that is kept behind these: it is one that a host may have, no address is kept twice, and no more than the
+-- limit
 unfoldable pub judged_source : List Source → Result Source Why → Result Source Why
 judged_source kept (Err why) = Err why
 judged_source kept (Ok source) = source_behind kept source
 
 abbrev pub route_behind : List Route → Bool → Route → Result Route Why
 route_behind kept carrier route =
-    if not carrier then Err whys.Down
+    if not carrier || not (is_sound_route route) then Err whys.Down
     else (if list_any (same_way route) kept then Err whys.Again
     else (if list_any (same_route route) kept then Err whys.Repeated
     else (if nat_le ROUTES (length kept) then Err whys.TooMany else Ok route)))
 
--- a route that is kept behind these: its interface has a carrier, no prefix is kept twice, and no more than the limit
+-- a route that is kept behind these: its interface has a carrier and a number, no prefix is kept twice, and no more
+-- than the limit
 unfoldable pub judged_route : List Route → Result Metered Why → Result Route Why
 judged_route kept (Err why) = Err why
 judged_route kept (Ok metered) = route_behind kept metered.carrier metered.route

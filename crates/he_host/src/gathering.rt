@@ -45,6 +45,9 @@ pub fn rank_routes<A: Allocator>(found: &mut Vec<FoundRoute, A>) -> Result<(), A
 fn judge_new_source(kept: &[Source], source: Source) -> Result<Source, Why>
     ensures { result ≡ source_behind kept.now source }
 {
+    if !source.is_sound() {
+        return Err(Why::Unusable);
+    }
     if source.repeats(kept) {
         return Err(Why::Repeated);
     }
@@ -58,7 +61,7 @@ fn judge_new_source(kept: &[Source], source: Source) -> Result<Source, Why>
 ///
 /// # Errors
 ///
-/// That of the line; [`Why::Repeated`], [`Why::TooMany`], in this order.
+/// That of the line; [`Why::Unusable`], [`Why::Repeated`], [`Why::TooMany`], in this order.
 #[tactic(auto, unfolding(crate::specs::Gathering::judged_source))]
 pub fn judge_source(kept: &[Source], read: Result<Source, Why>) -> Result<Source, Why>
     ensures { result ≡ judged_source kept.now read }
@@ -84,7 +87,7 @@ fn is_known(route: Route, kept: &[Route]) -> bool
 fn judge_new_route(kept: &[Route], carrier: bool, route: Route) -> Result<Route, Why>
     ensures { result ≡ route_behind kept.now carrier route }
 {
-    if !carrier {
+    if !carrier || !route.is_sound() {
         return Err(Why::Down);
     }
     if is_known(route, kept) {
