@@ -1,7 +1,7 @@
 // What a host has no place for, and what is a guess in it, told in plain words: a line for each.
 
 use crate::fib_trie::{OwnAddress, read_own_addresses};
-use crate::found::FoundRoute;
+use crate::found::{FoundRoute, Metered};
 use crate::host::Files;
 use crate::if_inet6::read_address_line;
 use crate::ipv4_route::{read_mask, read_v4_line};
@@ -164,15 +164,19 @@ fn write_remark<A: Allocator + Copy>(
     write_word(b"\n", out)
 }
 
+// Whether a route is that to the network of the address, over another interface than the source's.
+fn is_to_network(metered: Metered, source: Source) -> bool {
+    let route = metered.route;
+    holds(metered, source.ip)
+        && route.prefix.len().saturating_sub(MAPPED_LEN) == source.plen
+        && route.interface != source.interface
+}
+
 /// Whether the network of an IPv4 address is on another interface too, so that no file tells where the address is.
 pub fn is_elsewhere(routes: &[FoundRoute], source: Source) -> bool {
     for found in routes {
         if let Ok(metered) = found.read {
-            let len = metered.route.prefix.len().saturating_sub(MAPPED_LEN);
-            if holds(metered, source.ip)
-                && len == source.plen
-                && metered.route.interface != source.interface
-            {
+            if is_to_network(metered, source) {
                 return true;
             }
         }
