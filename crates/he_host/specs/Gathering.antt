@@ -1,8 +1,9 @@
 -- Which of the sources and routes that are found a host keeps, and why others are left out.
-use Rattle.std.specs.Prelude.{ℕ, ◌+◌, ◌*◌, ◌^◌, ◌==◌, ◌&&◌, ◌||◌, ◌++◌, Bool, List, [], ◌∷◌, Option, Some, None, Result, Ok, Err, length, nat_le, not, if◌then◌else◌}
+use Rattle.std.specs.Prelude.{ℕ, ◌+◌, ◌-◌, ◌*◌, ◌^◌, ◌==◌, ◌&&◌, ◌||◌, ◌++◌, Bool, List, [], ◌∷◌, Option, Some, None, Result, Ok, Err, length, nat_le, not, if◌then◌else◌}
 use Rattle.std.specs.List.{list_any}
 use Rattle.std.specs.List.Sorted.{IsNonDecreasingBy, IsPermutation, IsStableByKey}
 use Rattle.std.specs.Ordering.{nat_cmp}
+use Rattle.he_addr.specs.Prefix.{PrefixBits, is_inside_mapped}
 use Rattle.he_select.specs.declared.host.Route.{Route}
 use Rattle.he_select.specs.declared.host.Source.{Source}
 use Rattle.he_select.specs.declared.limits.TheConstants.{SOURCES, ROUTES}
@@ -16,10 +17,14 @@ use Rattle.he_host.specs.declared.left_out.File.{File}
 use Rattle.he_host.specs.declared.left_out.Why.{Why}
 use Rattle.he_host.specs.declared.left_out.Why.TheVariants as whys
 
+-- the length of a prefix among those of its family, of which 0 holds all addresses
+abbrev pub family_len : PrefixBits → ℕ
+family_len prefix = if is_inside_mapped prefix then prefix.len - 96 else prefix.len
+
 -- the rank of a route: first by the length of its prefix, then by its metric; a line that tells no route comes first
 abbrev pub rank : Result Metered Why → ℕ
 rank (Err why) = 0
-rank (Ok metered) = metered.route.prefix.len * 2 ^ 64 + metered.metric
+rank (Ok metered) = family_len metered.route.prefix * 2 ^ 64 + metered.metric
 
 abbrev pub rank_found : FoundRoute → ℕ
 rank_found found = rank found.read

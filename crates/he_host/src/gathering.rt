@@ -2,24 +2,36 @@
 
 ghost use Rattle.std.specs.Prelude.{◌≡◌, ◌++◌, OnOk};
 ghost use Rattle.std.specs.List.{list_any};
-ghost use Rattle.he_host.specs.Gathering.{rank, same_way, source_behind, route_behind, judged_source, judged_route, sources_kept, sources_left, routes_kept, routes_left, IsRanked};
+ghost use Rattle.he_host.specs.Gathering.{family_len, rank, same_way, source_behind, route_behind, judged_source, judged_route, sources_kept, sources_left, routes_kept, routes_left, IsRanked};
 
 use crate::found::{FoundRoute, FoundSource, Metered};
 use crate::left_out::{LeftOut, Why};
-use he_addr::Memory;
+use he_addr::prefix::MAPPED_LEN;
+use he_addr::{Memory, Prefix};
 use he_select::limits::{ROUTES, SOURCES};
 use he_select::{Route, Source};
 use std::alloc::{AllocError, Allocator};
 
 const METRICS: u128 = 0x1_0000_0000_0000_0000;
 
+// The length of a prefix among those of its family, of which 0 holds all addresses.
+fn family_len(prefix: Prefix) -> u8
+    ensures { result ≡ family_len prefix }
+{
+    if prefix.is_v4() {
+        prefix.len().saturating_sub(MAPPED_LEN)
+    } else {
+        prefix.len()
+    }
+}
+
 // Routes are kept by the length of the prefix, then by the metric: a wider route stands in for a longer one that there
-// is no place for.
+// is no place for, and many routes of one family leave the other its wide ones.
 fn rank(read: Result<Metered, Why>) -> u128
     ensures { result ≡ rank read }
 {
     match read {
-        Ok(metered) => u128::from(metered.route.prefix.len()) * METRICS
+        Ok(metered) => u128::from(family_len(metered.route.prefix)) * METRICS
             + u128::from(metered.metric),
         Err(_) => 0,
     }

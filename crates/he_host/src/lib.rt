@@ -5,11 +5,11 @@
 //! work on the bytes of the files.
 //!
 //! Proved, for all bytes: what each line of a file says, by the kernel's columns and flags (`specs/IfInet6`,
-//! `Ipv6Route`, `Ipv4Route`, `FibTrie`, `Sysfs`); routes stand by the lengths of their prefixes, those of one length
-//! by their metrics, and those of one rank in the order of the files; an IPv4 address is where the longest connected
-//! route is that holds it; what is kept is a host's, whatever the files say, no address and no prefix twice and 64 of
-//! each at most, and each line that isn't kept is told with its reason (`specs/Gathering`, `Whole`); the lines that
-//! are written are the host's (`specs/Written`).
+//! `Ipv6Route`, `Ipv4Route`, `FibTrie`, `Sysfs`); routes stand by the lengths of their prefixes (which of IPv4 ones
+//! are 0 to 32), those of one length by their metrics, and those of one rank in the order of the files; an IPv4
+//! address is where the longest connected route is that holds it; what is kept is a host's, whatever the files say, no
+//! address and no prefix twice and 64 of each at most, and each line that isn't kept is told with its reason
+//! (`specs/Gathering`, `Whole`); the lines that are written are the host's (`specs/Written`).
 //!
 //! Not proved: that no fault is answered where memory suffices (no step of the code answers one of its own); what
 //! `machine` asks of the system, and what the lines that tell what is left out or a guess say. IPv6 routes are those
