@@ -25,23 +25,25 @@ use Rattle.he_host.specs.Gathering.{judged_route, judged_source, route_behind, r
 record Fits {X : Type 0} (sound : X → Bool) (same : X → X → Bool) (most : ℕ) (kept : List X) : Type 0 where
   few : nat_lt most (length kept) ≡ false
   apart : first_repeat same kept ≡ None
-  sound : position_from (λ x. not (sound x)) 0 kept ≡ None
+  all_sound : position_from (λ x. not (sound x)) 0 kept ≡ None
+
+not_here : (b : Bool) (n : ℕ) (rest : Option ℕ) → cond b (Some n) rest ≡ None → (b ≡ false) × (rest ≡ None)
+not_here true n rest h = cc
+not_here false n rest h = (refl, h)
 
 no_other : {X : Type 0} (test : X → Bool) (place : ℕ) (xs : List X) (x : X)
     → position_from test place xs ≡ None → test x ≡ false → position_from test place (xs ++ x ∷ []) ≡ None
-no_other test place [] x none fails = rw fails refl
+no_other test place [] x none fails = ap (λ b. cond b (Some place) None) fails
 no_other test place (y ∷ ys) x none fails =
-    elim (cases_Bool (test y)) [
-      | inl here ↦ absurd (search (here, none))
-      | inr gone ↦ rw gone (no_other test (place + 1) ys x (rw sym gone none) fails)
-    ]
+    let gone = not_here (test y) place (position_from test (place + 1) ys) none in
+    ap (λ b. cond b (Some place) (position_from test (place + 1) (ys ++ x ∷ []))) gone.0 ∙ no_other test (place + 1) ys x gone.1 fails
 
 fits_more : {X : Type 0} (sound : X → Bool) (same : X → X → Bool) (most : ℕ) (kept : List X) (x : X) → Fits sound same most kept
     → sound x ≡ true → list_any (same x) kept ≡ false → nat_le most (length kept) ≡ false → Fits sound same most (kept ++ x ∷ [])
 fits_more sound same most kept x fits is_sound is_new has_place = record {
   few = grind (arith, nat_tests, length-append kept (x ∷ []), has_place);
   apart = repeats_law same kept x ∙ ap (λ o. option_or o (cause_if (list_any (same x) kept) (length kept))) fits.apart ∙ ap (λ b. cause_if b (length kept)) is_new;
-  sound = no_other (λ x. not (sound x)) 0 kept x fits.sound (ap not is_sound);
+  all_sound = no_other (λ x. not (sound x)) 0 kept x fits.all_sound (ap not is_sound);
 }
 
 abbrev FitSources : List Source → Type 0
@@ -108,12 +110,12 @@ no_fault sources routes s r =
     (ap (λ b. cause_if b faults.TooMany) (few sources routes s r))
     (ap (option_map faults.RepeatedSource) s.apart)
     (ap (option_map faults.RepeatedRoute) r.apart)
-    (ap (option_map faults.BadSource) s.sound)
-    (ap (option_map faults.BadRoute) r.sound)
+    (ap (option_map faults.BadSource) s.all_sound)
+    (ap (option_map faults.BadRoute) r.all_sound)
 
 -- what is kept is a host's, whatever is found
 pub kept_is_host : (sources : List FoundSource) (routes : List FoundRoute) → host_fault (sources_kept [] sources) (routes_kept [] routes) ≡ None
 kept_is_host sources routes =
     no_fault (sources_kept [] sources) (routes_kept [] routes)
-    (sources_fit sources [] (record { few = refl; apart = refl; sound = refl }))
-    (routes_fit routes [] (record { few = refl; apart = refl; sound = refl }))
+    (sources_fit sources [] (record { few = refl; apart = refl; all_sound = refl }))
+    (routes_fit routes [] (record { few = refl; apart = refl; all_sound = refl }))
