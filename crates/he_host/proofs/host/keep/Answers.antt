@@ -1,4 +1,4 @@
-use Rattle.std.proofs.Common.{◌≡◌, List, [], ◌∙◌, ap}
+use Rattle.std.proofs.Common.{List, [], ◌∙◌, ap}
 use Rattle.he_select.specs.HostFaults.{host_fault}
 use Rattle.he_select.specs.declared.host.Route.{Route}
 use Rattle.he_select.specs.declared.host.Source.{Source}
