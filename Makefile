@@ -52,9 +52,7 @@ race: kit
 	(cd crates/he_tool && rt try -- replay < $(abspath $(RACE)) 2> $$log) || { status=$$?; cat $$log >&2; exit $$status; }
 
 test: kit
-	rt ci
-	cd crates/he_c && rt lib
-	scripts/whole crates/he_tool/out/he_tool crates/cases/out/cases
+	scripts/gate
 
 edits: kit
 	scripts/edits $(CRATES)

@@ -1,7 +1,6 @@
 -- /proc/net/fib_trie: the tables of IPv4 routes, each as a tree below its heading. In the table `Local:` an address of
 -- the host is a leaf, a line `|-- ADDRESS`, with a line `/32 host LOCAL` among those below it.
 use Rattle.std.specs.Prelude.{ℕ, ◌++◌, ◌||◌, ◌&&◌, Bool, true, false, codes, List, [], ◌∷◌, Option, Some, None, if◌then◌else◌}
-use Rattle.std.specs.Option.{option_map_or}
 use Rattle.std.specs.Str.{bytes_eq}
 use Rattle.he_addr.specs.declared.ip.Ip.{Ip}
 use Rattle.he_addr.specs.declared.ip.Family.TheVariants as families

@@ -1,5 +1,5 @@
 -- What a line of a file says, by its file, with the interface that it names.
-use Rattle.std.specs.Prelude.{ℕ, ◌==◌, List, Option, Some, None, Result, Ok, Err, if◌then◌else◌}
+use Rattle.std.specs.Prelude.{ℕ, ◌==◌, List, Option, Some, None, Result, Err, if◌then◌else◌}
 use Rattle.he_select.specs.declared.host.Source.{Source}
 use Rattle.he_host.specs.declared.found.FoundRoute.{FoundRoute}
 use Rattle.he_host.specs.declared.found.FoundSource.{FoundSource}

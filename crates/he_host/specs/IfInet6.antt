@@ -1,5 +1,5 @@
--- /proc/net/if_inet6: one line for each IPv6 address, of six fields: address, interface number, prefix length, scope and
--- flags, all in hexadecimal, and the interface's name.
+-- /proc/net/if_inet6: one line for each IPv6 address, of six fields: address, interface number, prefix length, scope
+-- and flags, all in hexadecimal, and the interface's name.
 use Rattle.std.specs.Prelude.{ℕ, ◌||◌, not, List, Option, Some, None, Result, Ok, Err, nat_lt, if◌then◌else◌}
 use Rattle.he_addr.specs.declared.ip.Ip.TheVariants.{V6}
 use Rattle.he_addr.specs.Ip.{is_usable}
@@ -24,7 +24,8 @@ abbrev pub source_on : AddressLine → Option Link → Result Source Why
 source_on read None = Err whys.Down
 source_on read (Some link) = Ok (record { ip = V6 read.number; plen = read.len; interface = link.number; deprecated = has read.flags DEPRECATED; temporary = has read.flags TEMPORARY })
 
--- the source of a line, by its interface; an address that is tentative or that was found twice on its link is not in use
+-- the source of a line, by its interface; an address that is tentative or that was found twice on its link is not in
+-- use
 unfoldable pub source_of : AddressLine → Option Link → Result Source Why
 source_of read link =
     if nat_lt 128 read.len then Err whys.Unclear

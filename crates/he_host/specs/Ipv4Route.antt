@@ -22,7 +22,8 @@ v4_field place line = do
   number ← hex_field 8 place line
   Some (swap_bytes w32 number)
 
--- The numbers of a line. An unreachable or prohibited route has a flag, and these and a blackhole have the interface `*`.
+-- The numbers of a line. An unreachable or prohibited route has a flag, and these and a blackhole have the interface
+-- `*`.
 unfoldable pub v4_line : List ℕ → Option V4Line
 v4_line line = do
   name ← field_of 0 line

@@ -6,7 +6,7 @@ use Rattle.he_addr.specs.Reading.{◌>>=◌, checked}
 use Rattle.he_host.specs.declared.found.Metered.{Metered}
 use Rattle.he_host.specs.declared.interface.Link.{Link}
 use Rattle.he_host.specs.declared.ipv6_route.RouteLine.{RouteLine}
-use Rattle.he_host.specs.declared.ipv6_route.TheConstants.{ANYCAST, CACHED, IN_USE, LAST_METRIC, LOCAL, LOOPBACK, REJECT}
+use Rattle.he_host.specs.declared.ipv6_route.TheConstants.{ANYCAST, CACHED, IN_USE, LAST_METRIC, LOCAL, NETWORK_METRIC, REJECT}
 use Rattle.he_host.specs.declared.left_out.Why.{Why}
 use Rattle.he_host.specs.declared.left_out.Why.TheVariants as whys
 use Rattle.he_host.specs.Hex.{has, hex_field}
@@ -20,14 +20,19 @@ route_line line = do
   flags ← hex_field 8 8 line
   Some (record { bits = bits; len = len; metric = metric; flags = flags })
 
--- A route of the kernel's own: to an address of the host, where that isn't the loopback's ::1; to an anycast address; a
--- cached one; the one that leads nowhere with which each table ends; one that isn't in use; one to multicast, ff00::/8.
-unfoldable pub is_internal : RouteLine → Bool
-is_internal read =
-    (has read.flags LOCAL && not (read.bits == LOOPBACK))
+abbrev pub is_loopback : Option Link → Bool
+is_loopback None = false
+is_loopback (Some link) = link.loopback
+
+-- A route of the kernel's own: to an address of the host that isn't on the loopback interface; to an anycast address;
+-- a cached one; the one that leads nowhere with which each table ends; one to a network of the loopback interface,
+-- which leads nowhere but to the host's own address; one that isn't in use; one to multicast, ff00::/8.
+unfoldable pub is_internal : RouteLine → Option Link → Bool
+is_internal read link =
+    (has read.flags LOCAL && not (is_loopback link))
     || has read.flags ANYCAST
     || has read.flags CACHED
-    || (has read.flags REJECT && read.metric == LAST_METRIC)
+    || (has read.flags REJECT && (read.metric == LAST_METRIC || read.metric == NETWORK_METRIC))
     || (not (has read.flags REJECT) && not (has read.flags IN_USE))
     || read.bits / 2 ^ 120 == 255
 
@@ -40,7 +45,7 @@ route_on read prefix (Some link) =
 abbrev pub route_to : RouteLine → Option Link → Option PrefixBits → Result Metered Why
 route_to read link None = Err whys.Unclear
 route_to read link (Some prefix) =
-    if is_internal read then Err whys.Internal
+    if is_internal read link then Err whys.Internal
     else (if has read.flags REJECT then Err whys.Unreachable
     else route_on read prefix link)
 

@@ -1,6 +1,6 @@
--- Where the host's IPv4 addresses are. No file tells their interfaces and the lengths of their links' prefixes: an address
--- is where the longest connected route is that holds it, which is the first of several.
-use Rattle.std.specs.Prelude.{ℕ, ◌-◌, ◌/◌, ◌^◌, ◌==◌, ◌&&◌, ◌||◌, Bool, false, not, List, [], ◌∷◌, Option, Some, None, Result, Ok, Err, nat_le, if◌then◌else◌}
+-- Where the host's IPv4 addresses are. No file tells their interfaces and the lengths of their links' prefixes: an
+-- address is where the longest connected route is that holds it, which is the first of several.
+use Rattle.std.specs.Prelude.{◌-◌, ◌/◌, ◌^◌, ◌==◌, ◌&&◌, Bool, false, not, List, [], ◌∷◌, Option, Some, None, Result, Ok, Err, nat_le, if◌then◌else◌}
 use Rattle.he_addr.specs.declared.ip.Ip.{Ip}
 use Rattle.he_addr.specs.declared.ip.Ip.TheVariants.{V4, V6}
 use Rattle.he_addr.specs.Ip.{is_usable, same_ip}

@@ -1,8 +1,7 @@
 -- The host of the files: what each says, and what is kept of it.
-use Rattle.std.specs.Prelude.{◌≡◌, ◌++◌, false, true, List, [], ◌∷◌, Option, Some, None, Ok, drop, length, map, min, take, option_to_list}
+use Rattle.std.specs.Prelude.{◌≡◌, ◌++◌, false, true, List, [], Option, Some, None, Ok, drop, length, map, min, take, option_to_list}
 use Rattle.he_select.specs.HostFaults.{host_of}
 use Rattle.he_select.specs.Hosts.{HostLists}
-use Rattle.he_addr.specs.Prefix.{PrefixBits}
 use Rattle.he_host.specs.declared.found.FoundRoute.{FoundRoute}
 use Rattle.he_host.specs.declared.found.FoundSource.{FoundSource}
 use Rattle.he_host.specs.declared.host.Files.{Files}

@@ -2,24 +2,36 @@
 
 ghost use Rattle.std.specs.Prelude.{◌≡◌, ◌++◌, OnOk};
 ghost use Rattle.std.specs.List.{list_any};
-ghost use Rattle.he_host.specs.Gathering.{rank, same_way, source_behind, route_behind, judged_source, judged_route, sources_kept, sources_left, routes_kept, routes_left, IsRanked};
+ghost use Rattle.he_host.specs.Gathering.{family_len, rank, same_way, source_behind, route_behind, judged_source, judged_route, sources_kept, sources_left, routes_kept, routes_left, IsRanked};
 
 use crate::found::{FoundRoute, FoundSource, Metered};
 use crate::left_out::{LeftOut, Why};
-use he_addr::Memory;
+use he_addr::prefix::MAPPED_LEN;
+use he_addr::{Memory, Prefix};
 use he_select::limits::{ROUTES, SOURCES};
 use he_select::{Route, Source};
 use std::alloc::{AllocError, Allocator};
 
 const METRICS: u128 = 0x1_0000_0000_0000_0000;
 
+// The length of a prefix among those of its family, of which 0 holds all addresses.
+fn family_len(prefix: Prefix) -> u8
+    ensures { result ≡ family_len prefix }
+{
+    if prefix.is_v4() {
+        prefix.len().saturating_sub(MAPPED_LEN)
+    } else {
+        prefix.len()
+    }
+}
+
 // Routes are kept by the length of the prefix, then by the metric: a wider route stands in for a longer one that there
-// is no place for.
+// is no place for, and many routes of one family leave the other its wide ones.
 fn rank(read: Result<Metered, Why>) -> u128
     ensures { result ≡ rank read }
 {
     match read {
-        Ok(metered) => u128::from(metered.route.prefix.len()) * METRICS
+        Ok(metered) => u128::from(family_len(metered.route.prefix)) * METRICS
             + u128::from(metered.metric),
         Err(_) => 0,
     }
@@ -45,6 +57,9 @@ pub fn rank_routes<A: Allocator>(found: &mut Vec<FoundRoute, A>) -> Result<(), A
 fn judge_new_source(kept: &[Source], source: Source) -> Result<Source, Why>
     ensures { result ≡ source_behind kept.now source }
 {
+    if !source.is_sound() {
+        return Err(Why::Unusable);
+    }
     if source.repeats(kept) {
         return Err(Why::Repeated);
     }
@@ -58,7 +73,7 @@ fn judge_new_source(kept: &[Source], source: Source) -> Result<Source, Why>
 ///
 /// # Errors
 ///
-/// That of the line; [`Why::Repeated`], [`Why::TooMany`], in this order.
+/// That of the line; [`Why::Unusable`], [`Why::Repeated`], [`Why::TooMany`], in this order.
 #[tactic(auto, unfolding(crate::specs::Gathering::judged_source))]
 pub fn judge_source(kept: &[Source], read: Result<Source, Why>) -> Result<Source, Why>
     ensures { result ≡ judged_source kept.now read }
@@ -84,7 +99,7 @@ fn is_known(route: Route, kept: &[Route]) -> bool
 fn judge_new_route(kept: &[Route], carrier: bool, route: Route) -> Result<Route, Why>
     ensures { result ≡ route_behind kept.now carrier route }
 {
-    if !carrier {
+    if !carrier || !route.is_sound() {
         return Err(Why::Down);
     }
     if is_known(route, kept) {

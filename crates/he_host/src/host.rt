@@ -1,6 +1,7 @@
 // The host of the files.
 
-ghost use Rattle.std.specs.Prelude.{◌≡◌, IfOk};
+ghost use Rattle.std.specs.Prelude.{◌≡◌, IfOk, None, Ok};
+ghost use Rattle.he_select.specs.HostFaults.{host_fault, host_of};
 ghost use Rattle.he_host.specs.Gathering.{IsRanked};
 ghost use Rattle.he_host.specs.Interfaces.{loopback_of};
 ghost use Rattle.he_host.specs.Whole.{routes_in, v4_sources_in, v6_sources_in, loopback_found, IsHostOf, HasKept, in_turn};
@@ -14,11 +15,11 @@ use crate::lines::read_lines;
 use crate::placing::{Around, find_v4_sources};
 use crate::reading::{find_v4_routes, find_v6_routes, find_v6_sources};
 use he_addr::{Memory, Prefix};
-use he_select::{Host, Route};
+use he_select::{Host, Route, Source};
 use std::alloc::Allocator;
 
-/// The IPv4 addresses that are kept before the IPv6 ones. The others come behind these, so that of many addresses of one
-/// family there is place for some of the other.
+/// The IPv4 addresses that are kept before the IPv6 ones. The others come behind these, so that of many addresses of
+/// one family there is place for some of the other.
 pub const FIRST: usize = 32;
 
 /// 127.0.0.0/8 as a prefix of mapped addresses.
@@ -144,8 +145,19 @@ fn put_in_turn<A: Allocator + Copy>(
     Ok(turn)
 }
 
-// The host that keeps of these sources and routes what there is place for. What is kept is a host's, so that nothing but
-// memory is refused.
+// The host of lists that are a host's.
+fn make_host<A: Allocator + Copy>(sources: Vec<Source, A>, routes: Vec<Route, A>) -> Host<A>
+    requires { host_fault sources.items routes.items ≡ None }
+    ensures { Ok result ≡ host_of sources.items routes.items }
+{
+    match Host::from_lists(sources, routes) {
+        Ok(host) => host,
+        Err(_) => unreachable!(),
+    }
+}
+
+// The host that keeps of these sources and routes what there is place for. What is kept is a host's, so that nothing
+// but memory is refused.
 fn keep<A: Allocator + Copy>(
     alloc: A,
     turn: &[FoundSource],
@@ -158,10 +170,8 @@ fn keep<A: Allocator + Copy>(
     keep_sources(turn, &mut sources, &mut left_out)?;
     let mut kept = Vec::new(alloc);
     keep_routes(routes, &mut kept, &mut left_out)?;
-    match Host::from_lists(sources, kept) {
-        Ok(host) => Ok(FoundHost { host, left_out }),
-        Err(_) => Err(Memory),
-    }
+    let host = make_host(sources, kept);
+    Ok(FoundHost { host, left_out })
 }
 
 /// The host of the files, and the lines that are left out. `around` has the interfaces, the routes as [`find_routes`]

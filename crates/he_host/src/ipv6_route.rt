@@ -1,7 +1,7 @@
 // /proc/net/ipv6_route: the IPv6 routes of all tables.
 
 ghost use Rattle.std.specs.Prelude.{◌≡◌};
-ghost use Rattle.he_host.specs.Ipv6Route.{is_internal, route_line, route_of};
+ghost use Rattle.he_host.specs.Ipv6Route.{is_internal, is_loopback, route_line, route_of};
 
 use crate::found::Metered;
 use crate::hex::{has, read_hex_field};
@@ -20,11 +20,11 @@ const CACHED: u128 = 0x0100_0000;
 
 const LOCAL: u128 = 0x8000_0000;
 
-// The number of the loopback address, ::1.
-const LOOPBACK: u128 = 1;
-
 // The metric of the route that leads nowhere with which the kernel ends each table.
 const LAST_METRIC: u64 = 0xffff_ffff;
+
+// The metric of the kernel's routes to the networks of addresses: those on the loopback interface lead nowhere.
+const NETWORK_METRIC: u64 = 0x100;
 
 /// The numbers of a line.
 #[derive(Clone, Copy, Debug, PartialEq, Eq)]
@@ -52,16 +52,27 @@ pub fn read_route_line(line: &[u8]) -> Option<RouteLine>
     })
 }
 
-/// Whether the route is one of the kernel's own: to an address of the host other than ::1, to an anycast address, to
-/// multicast, cached, not in use, or the end of a table.
-#[tactic(auto, unfolding(crate::specs::Ipv6Route::is_internal))]
-pub fn is_internal(read: RouteLine) -> bool
-    ensures { result ≡ is_internal read }
+// Whether the interface is the loopback: an address on it has no other route than that to itself.
+fn is_loopback(link: Option<Link>) -> bool
+    ensures { result ≡ is_loopback link }
 {
-    has(read.flags, LOCAL) && read.bits != LOOPBACK
+    match link {
+        Some(link) => link.loopback,
+        None => false,
+    }
+}
+
+/// Whether the route is one of the kernel's own: to an address of the host that is not on the loopback interface, to
+/// an anycast address, to multicast, cached, not in use, the end of a table, or to a network of the loopback
+/// interface.
+#[tactic(auto, unfolding(crate::specs::Ipv6Route::is_internal))]
+pub fn is_internal(read: RouteLine, link: Option<Link>) -> bool
+    ensures { result ≡ is_internal read link }
+{
+    has(read.flags, LOCAL) && !is_loopback(link)
         || has(read.flags, ANYCAST)
         || has(read.flags, CACHED)
-        || has(read.flags, REJECT) && read.metric == LAST_METRIC
+        || has(read.flags, REJECT) && (read.metric == LAST_METRIC || read.metric == NETWORK_METRIC)
         || !has(read.flags, REJECT) && !has(read.flags, IN_USE)
         || read.bits >> 120 == 0xff
 }
@@ -78,7 +89,7 @@ pub fn make_route(read: RouteLine, link: Option<Link>) -> Result<Metered, Why>
     let Some(prefix) = Prefix::try_new(read.bits, read.len) else {
         return Err(Why::Unclear);
     };
-    if is_internal(read) {
+    if is_internal(read, link) {
         return Err(Why::Internal);
     }
     if has(read.flags, REJECT) {

@@ -20,13 +20,14 @@ pub enum Why {
     Unclear,
     /// The address is not in use yet, or was found twice on its link.
     Unready,
-    /// No source may have the address: unspecified, multicast or IPv4-mapped.
+    /// No source may have the address (unspecified, multicast or IPv4-mapped), its prefix length or its interface.
     Unusable,
     /// The interface isn't known, is down or, for a route, has no carrier.
     Down,
     /// The route leads nowhere: unreachable, blackhole and the like.
     Unreachable,
-    /// The route is one of the kernel's own: to an address of the host, to multicast, or not in use.
+    /// The route is one of the kernel's own: to an address of the host, to a network of the loopback interface, to
+    /// multicast, or not in use.
     Internal,
     /// No connected route holds the address, so that its interface isn't known.
     Unconnected,

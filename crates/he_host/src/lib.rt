@@ -1,17 +1,19 @@
 //! The host's own sources and routes, from what Linux says in `/proc/net` and of each interface in `/sys/class/net`.
 //!
-//! [`machine::write_machine`] appends the `source` and `route` lines of the machine that it runs on, and a line for each
-//! thing that a race has no place for. [`host::find_routes`] and [`host::find_host`] do the work on the bytes of the files.
+//! [`machine::write_machine`] appends the `source` and `route` lines of the machine that it runs on, and a line for
+//! each thing that a race has no place for or that is a guess. [`host::find_routes`] and [`host::find_host`] do the
+//! work on the bytes of the files.
 //!
-//! Proved, for all bytes: what each line of a file says, by the kernel's columns and flags (`specs/IfInet6`, `Ipv6Route`,
-//! `Ipv4Route`, `FibTrie`, `Sysfs`); routes stand by the lengths of their prefixes, those of one length by their metrics,
-//! and those of one rank in the order of the files; an IPv4 address is where the longest connected route is that holds it;
-//! the host that is answered is that of what is kept, no address and no prefix twice and 64 of each at most, and each line
-//! that isn't kept is told with its reason (`specs/Gathering`, `Whole`); the lines that are written are the host's
-//! (`specs/Written`).
+//! Proved, for all bytes: what each line of a file says, by the kernel's columns and flags (`specs/IfInet6`,
+//! `Ipv6Route`, `Ipv4Route`, `FibTrie`, `Sysfs`); routes stand by the lengths of their prefixes (which of IPv4 ones
+//! are 0 to 32), those of one length by their metrics, and those of one rank in the order of the files; an IPv4
+//! address is where the longest connected route is that holds it; what is kept is a host's, whatever the files say, no
+//! address and no prefix twice and 64 of each at most, and each line that isn't kept is told with its reason
+//! (`specs/Gathering`, `Whole`); the lines that are written are the host's (`specs/Written`).
 //!
-//! Not proved: that there is a host wherever memory suffices; what `machine` asks of the system, and what the lines that
-//! tell what is left out say. IPv6 routes are those of all tables, which the file does not tell apart.
+//! Not proved: that no fault is answered where memory suffices (no step of the code answers one of its own); what
+//! `machine` asks of the system, and what the lines that tell what is left out or a guess say. IPv6 routes are those
+//! of all tables, which the file does not tell apart.
 #![tactic(auto)]
 
 pub mod fib_trie;

@@ -9,13 +9,13 @@ use crate::interface::{Interface, Link};
 use crate::left_out::Why;
 use crate::lines::read_lines;
 use crate::parts::field;
-use crate::placing::{Around, Asked, make_v4_source};
-use crate::remarks::write_remarks;
+use crate::placing::{Around, Asked, find_connected, make_v4_source};
+use crate::remarks::{is_elsewhere, write_guess, write_remarks};
 use crate::sysfs::{Sysfs, make_link};
 use crate::writing::write_host;
 use he_addr::prefix::V6_BITS;
 use he_addr::{Ip, Memory};
-use he_select::Route;
+use he_select::{Route, Source};
 use std::alloc::{AllocError, AllocFailed, AllocGlobal, Global};
 use std::net::{IpAddr, Ipv4Addr, Net, UdpSocket};
 use std::rt::Files as FileSystem;
@@ -150,41 +150,75 @@ fn destination_of(route: Route) -> Option<u32> {
     }
 }
 
-// Asks which route it is whose destinations the kernel reaches from the address.
-fn ask_place<R: Net>(rt: &R, ip: Ip, routes: &[FoundRoute]) -> Option<Asked> {
-    for found in routes {
-        if let Ok(metered) = found.read {
-            if let Some(destination) = destination_of(metered.route) {
-                if ask_source(rt, destination) == Some(ip) {
-                    return Some(Asked {
-                        ip,
-                        interface: metered.route.interface,
-                    });
-                }
-            }
-        }
-    }
-    None
+// The source that the kernel takes for the destinations of a route, with the route's interface.
+fn ask_route<R: Net>(rt: &R, found: FoundRoute) -> Option<Asked> {
+    let metered = found.read.ok()?;
+    let ip = ask_source(rt, destination_of(metered.route)?)?;
+    Some(Asked {
+        ip,
+        interface: metered.route.interface,
+    })
 }
 
-// Asks for the addresses that no connected route holds.
+// Whether there is an address that no connected route holds.
+fn is_open(around: Around<'_, '_, '_>, own: &[OwnAddress]) -> bool {
+    for address in own {
+        if let Err(Why::Unconnected) = make_v4_source(around, address.ip) {
+            return true;
+        }
+    }
+    false
+}
+
+// Asks for each route, where there is an address that no connected route holds: once a route, however many of these
+// there are.
 fn ask<R: Net + AllocGlobal>(
     rt: &R,
     around: Around<'_, '_, '_>,
     own: &[OwnAddress],
 ) -> Result<Vec<Asked>, MachineFault> {
     let mut asked = Vec::new(rt.alloc());
-    for address in own {
-        if let (Some(ip), Err(Why::Unconnected)) = (
-            address.ip,
-            make_v4_source(around, address.ip),
-        ) {
-            if let Some(told) = ask_place(rt, ip, around.routes) {
-                asked.push(told)?;
-            }
+    if !is_open(around, own) {
+        return Ok(asked);
+    }
+    for found in around.routes {
+        if let Some(told) = ask_route(rt, *found) {
+            asked.push(told)?;
         }
     }
     Ok(asked)
+}
+
+// Whether the kernel takes the address for others of its connected route: then it is on the interface of that route.
+fn is_taken<R: Net>(rt: &R, ip: Ip, route: Route) -> bool {
+    match destination_of(route) {
+        Some(other) => Ip::V4(other) != ip && ask_source(rt, other) == Some(ip),
+        None => false,
+    }
+}
+
+// Whether it is a guess on which interface an address is: its network is on several, and the kernel takes another
+// address there.
+fn is_guess<R: Net>(rt: &R, routes: &[FoundRoute], source: Source) -> bool {
+    match find_connected(routes, source.ip) {
+        Some(route) => is_elsewhere(routes, source) && !is_taken(rt, source.ip, route),
+        None => false,
+    }
+}
+
+// Tells which of the sources are a guess.
+fn tell_guesses<R: Net>(
+    rt: &R,
+    routes: &[FoundRoute],
+    sources: &[Source],
+    remarks: &mut Vec<u8>,
+) -> Result<(), MachineFault> {
+    for source in sources {
+        if is_guess(rt, routes, *source) {
+            write_guess(*source, remarks)?;
+        }
+    }
+    Ok(())
 }
 
 // The host of the files, where the kernel is asked for what they leave open.
@@ -192,6 +226,7 @@ fn ask_host<R: Net + AllocGlobal>(
     rt: &R,
     files: Files<'_>,
     interfaces: &[Interface<'_>],
+    remarks: &mut Vec<u8>,
 ) -> Result<FoundHost<Global>, MachineFault> {
     let routes = find_routes(rt.alloc(), files, interfaces)?;
     let trie = read_lines(rt.alloc(), files.fib_trie)?;
@@ -207,10 +242,12 @@ fn ask_host<R: Net + AllocGlobal>(
         routes: &routes,
         asked: &asked,
     };
-    Ok(find_host(rt.alloc(), files, around)?)
+    let found = find_host(rt.alloc(), files, around)?;
+    tell_guesses(rt, &routes, found.host.sources(), remarks)?;
+    Ok(found)
 }
 
-/// Appends the lines of this machine's host, and a line for each thing that it has no place for.
+/// Appends the lines of this machine's host, and a line for each thing that it has no place for or that is a guess.
 ///
 /// # Errors
 ///
@@ -238,7 +275,7 @@ pub fn write_machine<R: FileSystem + Net + AllocGlobal>(
         ipv6_route: &ipv6_route,
         route: &route,
     };
-    let found = ask_host(rt, files, &interfaces)?;
+    let found = ask_host(rt, files, &interfaces, remarks)?;
     write_host(&found.host, lines)?;
     write_remarks(rt.alloc(), files, &found.left_out, remarks)?;
     Ok(())

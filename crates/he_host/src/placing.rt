@@ -57,8 +57,8 @@ fn longer_route(kept: Route, other: Route) -> Route
     }
 }
 
-// Whether a connected route holds the address: one with a prefix of IPv4 addresses that isn't 0.0.0.0/0.
-fn holds(metered: Metered, ip: Ip) -> bool
+/// Whether a connected route holds the address: one with a prefix of IPv4 addresses that isn't 0.0.0.0/0.
+pub fn holds(metered: Metered, ip: Ip) -> bool
     ensures { result ≡ holds ip metered }
 {
     let prefix = metered.route.prefix;

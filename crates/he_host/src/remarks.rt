@@ -1,13 +1,17 @@
-// What a host has no place for, told in plain words: a line for each.
+// What a host has no place for, and what is a guess in it, told in plain words: a line for each.
 
 use crate::fib_trie::{OwnAddress, read_own_addresses};
+use crate::found::{FoundRoute, Metered};
 use crate::host::Files;
 use crate::if_inet6::read_address_line;
 use crate::ipv4_route::{read_mask, read_v4_line};
 use crate::ipv6_route::read_route_line;
 use crate::left_out::{File, LeftOut, Why};
 use crate::lines::{Line, read_lines};
+use crate::placing::holds;
+use he_addr::prefix::MAPPED_LEN;
 use he_addr::{Ip, Memory, Prefix, write_ip, write_number, write_prefix};
+use he_select::Source;
 use std::alloc::Allocator;
 
 fn file_name(file: File) -> &'static [u8] {
@@ -160,8 +164,47 @@ fn write_remark<A: Allocator + Copy>(
     write_word(b"\n", out)
 }
 
-/// Appends a line for each line of the files that is left out and that a person may miss: not those for the kernel's own
-/// routes, nor for a route that is there already.
+// Whether a route is that to the network of the address, over another interface than the source's.
+fn is_to_network(metered: Metered, source: Source) -> bool {
+    let route = metered.route;
+    holds(metered, source.ip)
+        && route.prefix.len().saturating_sub(MAPPED_LEN) == source.plen
+        && route.interface != source.interface
+}
+
+/// Whether the network of an IPv4 address is on another interface too, so that no file tells where the address is.
+pub fn is_elsewhere(routes: &[FoundRoute], source: Source) -> bool {
+    for found in routes {
+        if let Ok(metered) = found.read {
+            if is_to_network(metered, source) {
+                return true;
+            }
+        }
+    }
+    false
+}
+
+/// Appends the line for a source whose interface is a guess.
+///
+/// # Errors
+///
+/// [`Memory`]: an allocation was refused; a part of the line may be there.
+pub fn write_guess<A: Allocator + Copy>(
+    source: Source,
+    out: &mut Vec<u8, A>,
+) -> Result<(), Memory> {
+    write_word(b"he: a guess: the address ", out)?;
+    write_ip(source.ip, out)?;
+    write_word(b" is taken to be on interface ", out)?;
+    write_number(u64::from(source.interface), out)?;
+    write_word(
+        b", since its network is on that one and on another, and nothing tells more\n",
+        out,
+    )
+}
+
+/// Appends a line for each line of the files that is left out and that a person may miss: not those for the kernel's
+/// own routes, nor for a route that is there already.
 ///
 /// # Errors
 ///

@@ -1,7 +1,7 @@
 //! Prints the host of each recording of the folder in which it is started, and what is left out of it.
 //!
-//! A recording `NAME` is `NAME.if_inet6`, `NAME.fib_trie`, `NAME.ipv6_route` and `NAME.route`, as `/proc/net` has them,
-//! and `NAME.interfaces`, a line for each interface: its name, `ifindex`, `flags`, `carrier` and `type` of
+//! A recording `NAME` is `NAME.if_inet6`, `NAME.fib_trie`, `NAME.ipv6_route` and `NAME.route`, as `/proc/net` has
+//! them, and `NAME.interfaces`, a line for each interface: its name, `ifindex`, `flags`, `carrier` and `type` of
 //! `/sys/class/net`. Nothing is proved of this program but that it is safe and ends.
 #![tactic(auto)]
 
@@ -17,7 +17,7 @@ use std::alloc::Global;
 use std::io::Write;
 use std::{fs, io};
 
-const NAMES: [&str; 5] = ["edge", "machine", "mixed", "none", "vpn"];
+const NAMES: [&str; 6] = ["edge", "loopback", "machine", "mixed", "none", "vpn"];
 
 fn main(rt: HostRuntime) -> io::Result<()> {
     for name in &NAMES {

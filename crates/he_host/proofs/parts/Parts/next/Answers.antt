@@ -1,4 +1,4 @@
-use Rattle.std.proofs.Common.{◌≡◌, ◌+◌, ◌∷◌, ℕ, List, take, sym, ◌∙◌, ap}
+use Rattle.std.proofs.Common.{◌+◌, ◌∷◌, ℕ, List, take, sym, ◌∙◌, ap}
 use Rattle.std.proofs.lemmas.List.{take_rest}
 use Rattle.he_host.specs.Parts.{is_mark, parts_from, parts_of}
 use Rattle.he_host.proofs.Cutting.{parts_found, parts_whole}
