@@ -44,7 +44,7 @@ pub(crate) fn run_attempt<A: Allocator>(
     ensures later { IsLater (notes pass.old) (notes pass.new) }
     ensures real { (races : List Race) → slice_get races number ≡ Some timeline.now → All (IsOfSuccess races) (notes pass.old).offers → All (IsOfSuccess races) (notes pass.new).offers }
     ensures honest { IsHonest timeline.now number place (notes pass.new) attempt.now result }
-    ensures skips { least_of number (notes pass.old).looked / PLACES ≤ attempt.tick → result ≡ Skipped }
+    ensures skips { least_of number (notes pass.old).looked / PLACES ≤ attempt.now.tick → result ≡ Skipped }
 {
     let seen = board.least(pass, number);
     if attempt.tick >= seen / PLACES as u64 {

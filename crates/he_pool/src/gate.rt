@@ -8,8 +8,8 @@ pub trait Gate {
     /// The worker has made the plan of the race, for a job of it that it has taken. Does nothing unless it is written.
     fn planned(&self, _worker: usize, _race: usize) {}
 
-    /// The worker runs no attempt for a job that it has taken: the attempt starts at or after the tick of the best offer
-    /// so far, or the plan has none at the job's place. Does nothing unless it is written.
+    /// The worker runs no attempt for a job that it has taken: the attempt starts at or after the tick of the best
+    /// offer so far, or the plan has none at the job's place. Does nothing unless it is written.
     fn skipped(&self, _worker: usize, _job: usize) {}
 }
 
