@@ -1,5 +1,5 @@
-// Batches of four races: which jobs the gate is told of, that workers run at the same time, what the pass tells at the
-// end, and what is answered where memory is refused. And batches of other sizes.
+// Batches of four races: which jobs, plans and skips the gate is told of, that workers run at the same time, what the
+// pass tells at the end, and what is answered and still done where memory is refused. And batches of other sizes.
 ghost use Rattle.std.specs.Prelude.{◌≡◌};
 ghost use Rattle.he_board.specs.declared.limits.TheConstants.{PARTS};
 ghost use Rattle.he_board.specs.Passes.{IsPassOf, jobs_of, notes, races_of};

@@ -33,10 +33,7 @@ impl Held {
     }
 
     fn counts_all(self) -> bool {
-        match self {
-            Held::Each => true,
-            _ => false,
-        }
+        matches!(self, Held::Each)
     }
 }
 
