@@ -7,6 +7,7 @@ use Rattle.std.proofs.lemmas.List.Elements.{All-nil, All-cons, All-append}
 use Rattle.he_board.specs.declared.limits.TheConstants.{NO_OFFER, PLACES}
 use Rattle.he_board.specs.declared.view.View.{View}
 use Rattle.he_board.specs.Notes.{key_of, knowing, least_of, looking, offering, taking}
+use Rattle.he_board.specs.Plays.{IsAtMostNoted}
 use Rattle.he_plan.specs.declared.attempts.Attempt.{Attempt}
 use Rattle.he_plan.specs.declared.finish.Fate.{Fate}
 use Rattle.he_plan.specs.declared.finish.Fate.TheVariants.{Skipped, Succeeded}
@@ -50,6 +51,10 @@ pub skipped_honest : (race : Race) (number place value : ℕ) (v w : View) (x : 
 skipped_honest race number place value v w x e late = subst (λ (u : View). IsHonest race number place u x Skipped) (sym e)
     (let le : least_of number (v.looked ++ (number, value) ∷ []) ≤ value = least_of-last number value v.looked in
     inr (record { skipped = refl; late = omega arith }))
+
+-- an attempt that starts below the tick of a value just looked at starts below that of each noted before
+pub not_late : (number value tick : ℕ) (v : View) (fate : Fate) → IsAtMostNoted number value v → tick < value / PLACES → least_of number v.looked / PLACES ≤ tick → fate ≡ Skipped
+not_late number value tick v fate noted early late = let le : value ≤ least_of number v.looked = noted.looked in absurd (omega arith)
 
 -- a success that was offered
 pub success_honest : (race : Race) (number place finish value : ℕ) (v w : View) (x : Attempt) → w ≡ offering number (key_of finish place) value v → Succeeded finish ≡ fate_of race x → IsHonest race number place w x (Succeeded finish)

@@ -1,9 +1,11 @@
 //! One attempt of a race, by a worker.
-ghost use Rattle.std.specs.Prelude.{◌≡◌, ◌<◌, List, All, Some, slice_get};
+ghost use Rattle.std.specs.Prelude.{◌≡◌, ◌/◌, ◌<◌, ◌≤◌, List, All, Some, slice_get};
 ghost use Rattle.he_board.specs.declared.limits.TheConstants.{PLACES};
+ghost use Rattle.he_board.specs.Notes.{least_of};
 ghost use Rattle.he_board.specs.Passes.{IsPassOf, notes, races_of};
 ghost use Rattle.he_plan.specs.Attempts.{AreAttempts};
 ghost use Rattle.he_plan.specs.declared.attempts.Attempt.{Attempt};
+ghost use Rattle.he_plan.specs.declared.finish.Fate.TheVariants.{Skipped};
 ghost use Rattle.he_plan.specs.Race.{Race};
 ghost use Rattle.he_pool.specs.Batch.{IsOfSuccess};
 ghost use Rattle.he_pool.specs.Working.{IsHonest, IsLater};
@@ -42,6 +44,7 @@ pub(crate) fn run_attempt<A: Allocator>(
     ensures later { IsLater (notes pass.old) (notes pass.new) }
     ensures real { (races : List Race) → slice_get races number ≡ Some timeline.now → All (IsOfSuccess races) (notes pass.old).offers → All (IsOfSuccess races) (notes pass.new).offers }
     ensures honest { IsHonest timeline.now number place (notes pass.new) attempt.now result }
+    ensures skips { least_of number (notes pass.old).looked / PLACES ≤ attempt.now.tick → result ≡ Skipped }
 {
     let seen = board.least(pass, number);
     if attempt.tick >= seen / PLACES as u64 {
@@ -75,6 +78,7 @@ pub(crate) fn run_job<A: Allocator>(
     ensures later { IsLater (notes pass.old) (notes pass.new) }
     ensures real { (races : List Race) → slice_get races number ≡ Some timeline.now → All (IsOfSuccess races) (notes pass.old).offers → All (IsOfSuccess races) (notes pass.new).offers }
     ensures honest { (x : Attempt) → slice_get plan.now place ≡ Some x → IsHonest timeline.now number place (notes pass.new) x result }
+    ensures skips { (x : Attempt) → slice_get plan.now place ≡ Some x → least_of number (notes pass.old).looked / PLACES ≤ x.tick → result ≡ Skipped }
 {
     let attempts = plan.attempts();
     match attempts.get(place) {

@@ -23,9 +23,9 @@ use std::thread::Threads;
 /// The transcripts of the races, by so many workers that take their jobs from the board.
 ///
 /// A race has one job for each usable address of its answers; jobs are numbered by race, then by place. Each worker
-/// tries every job once. It tells the gate of a job that it has taken, makes the race's plan with the first one that
-/// it takes of a race, skips an attempt that starts at or after the tick of the best offer so far, and else offers its
-/// success.
+/// tries every job once. It makes the race's plan with the first job that it takes of a race, skips an attempt that
+/// starts at or after the tick of the best offer so far, and else offers its success. The gate is told of all but the
+/// offer.
 ///
 /// The board is new, and has at least as many races and jobs as the batch. The pass is the one that came with it, and
 /// comes back with all its parts, after `Memory` too. Whatever the number of workers and the order of their steps:

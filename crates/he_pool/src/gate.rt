@@ -1,9 +1,16 @@
-//! What is told of each job before its work begins.
+//! What is told of a batch while its workers run.
 
-/// Is told of each job that a worker of a batch has taken, before it plans or runs it. The workers share it.
+/// Is told what each worker of a batch does. The workers, counted from 0, share it.
 pub trait Gate {
-    /// The worker, counted from 0, has taken the job.
+    /// The worker has taken the job, and has not begun to plan or run it.
     fn before(&self, worker: usize, job: usize);
+
+    /// The worker has made the plan of the race, for a job of it that it has taken. Does nothing unless it is written.
+    fn planned(&self, _worker: usize, _race: usize) {}
+
+    /// The worker runs no attempt for a job that it has taken: the attempt starts at or after the tick of the best
+    /// offer so far, or the plan has none at the job's place. Does nothing unless it is written.
+    fn skipped(&self, _worker: usize, _job: usize) {}
 }
 
 /// Does nothing.

@@ -1,11 +1,12 @@
 //! What the workers of a batch handed back, made into transcripts.
-ghost use Rattle.std.specs.Prelude.{◌≡◌, ◌+◌, ◌<◌, ◌≤◌, ℕ, All, IfOk, IfSome, Some, length, replicate, set, slice_get, slice_range};
+ghost use Rattle.std.specs.Prelude.{◌≡◌, ◌+◌, ◌<◌, ◌≤◌, ℕ, All, IfOk, IfSome, List, Ok, Some, length, replicate, set, slice_get, slice_range};
 ghost use Rattle.std.specs.List.{AllZip};
 ghost use Rattle.he_board.specs.declared.limits.TheConstants.{PARTS};
 ghost use Rattle.he_board.specs.Notes.{least_of, looking, times, winner_of};
 ghost use Rattle.he_board.specs.Passes.{IsPassOf, notes};
 ghost use Rattle.he_plan.specs.declared.finish.Fate.TheVariants.{Skipped};
 ghost use Rattle.he_plan.specs.Attempts.{AreAttempts};
+ghost use Rattle.he_plan.specs.declared.attempts.Attempt.{Attempt};
 ghost use Rattle.he_plan.specs.Race.{Race};
 ghost use Rattle.he_plan.specs.Transcript.{AreTold, IsTranscript};
 ghost use Rattle.he_pool.specs.Batch.{HasTakenAll, HasWinners, IsOfSuccess, IsWinnerOf};
@@ -14,10 +15,10 @@ ghost use Rattle.he_pool.specs.Working.{AreFates, ArePlans, AreSettled, IsKept, 
 use crate::attempting::Done;
 use crate::jobs::batch_jobs;
 use crate::plans::take_plan;
-use crate::working::{Batch, Work, jobs_of_race, plan_once};
+use crate::working::{Batch, Work, jobs_of_race};
 use he_addr::Memory;
 use he_board::Pass;
-use he_plan::{Fate, Plan, Timeline, Transcript, transcript_of_fates};
+use he_plan::{Fate, Plan, Timeline, Transcript, plan, transcript_of_fates};
 use std::alloc::{AllocError, Allocator};
 
 // A fate of each job, by number: what was handed back of it, or Skipped.
@@ -68,6 +69,22 @@ fn tell<A: Allocator + Copy>(
 {
     let end = first + attempts.attempts().len();
     transcript_of_fates(alloc, timeline, attempts, &fates[first..end], winner)
+}
+
+// The race's plan, which a worker may have made.
+fn plan_once<A: Allocator + Copy>(
+    alloc: A,
+    timeline: &Timeline<A>,
+    made: Option<Plan<A>>,
+) -> Result<Plan<A>, Memory>
+    requires { IfSome made (AreAttempts timeline.now) }
+    ensures are { IfOk result (AreAttempts timeline.now) }
+    ensures once { (attempts : List Attempt) → made ≡ Some attempts → result ≡ Ok attempts }
+{
+    match made {
+        Some(made) => Ok(made),
+        None => plan(alloc, timeline),
+    }
 }
 
 // The transcript of a race, and its winner: the least offer that was made to it.

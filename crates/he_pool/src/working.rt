@@ -1,8 +1,9 @@
 //! One worker: tries all jobs of the batch, and runs those that it takes.
-ghost use Rattle.std.specs.Prelude.{◌≡◌, ◌+◌, ◌<◌, ◌≤◌, ◌++◌, ◌∷◌, ℕ, [], All, IfOk, IfSome, None, OnOk, Some, length, replicate, slice_get, take};
+ghost use Rattle.std.specs.Prelude.{◌≡◌, ◌+◌, ◌<◌, ◌≤◌, ◌++◌, ◌∷◌, ℕ, List, [], All, IfOk, IfSome, None, Ok, OnOk, Some, length, replicate, slice_get, take};
 ghost use Rattle.he_board.specs.declared.limits.TheConstants.{PLACES};
 ghost use Rattle.he_board.specs.Passes.{IsPassOf, jobs_of, notes, races_of};
 ghost use Rattle.he_plan.specs.Attempts.{AreAttempts};
+ghost use Rattle.he_plan.specs.declared.attempts.Attempt.{Attempt};
 ghost use Rattle.he_plan.specs.Race.{Race};
 ghost use Rattle.he_pool.specs.Batch.{IsOfSuccess, batch_jobs, job_at};
 ghost use Rattle.he_pool.specs.declared.limits.TheConstants.{MOST_WORKERS};
@@ -12,7 +13,7 @@ use crate::attempting::{Done, run_job};
 use crate::gate::Gate;
 use he_addr::Memory;
 use he_board::{Board, Pass};
-use he_plan::{Plan, Timeline, plan};
+use he_plan::{Fate, Plan, Timeline, plan};
 use std::alloc::Allocator;
 
 // What all workers of a batch share.
@@ -81,24 +82,37 @@ fn try_job<A: Allocator + Copy, G: Gate>(
     }
     batch.gate.before(worker, job);
     let timeline = &batch.timelines[number];
-    let attempts = plan_once(batch.alloc, timeline, made)?;
+    let attempts = plan_of(batch, worker, number, timeline, made)?;
     let fate = run_job(batch.board, pass, timeline, number, place, &attempts);
+    tell_skip(batch, worker, job, fate);
     done.push(Done { job, fate })?;
     Ok(Some(attempts))
 }
 
-// The race's plan, which may have been made before.
-pub(crate) fn plan_once<A: Allocator + Copy>(
-    alloc: A,
+// The race's plan: the one that the worker has made before, or a new one, of which the gate is told.
+fn plan_of<A: Allocator + Copy, G: Gate>(
+    batch: &Batch<A, G>,
+    worker: usize,
+    number: usize,
     timeline: &Timeline<A>,
     made: Option<Plan<A>>,
 ) -> Result<Plan<A>, Memory>
     requires { IfSome made (AreAttempts timeline.now) }
-    ensures { IfOk result (AreAttempts timeline.now) }
+    ensures are { IfOk result (AreAttempts timeline.now) }
+    ensures once { (attempts : List Attempt) → made ≡ Some attempts → result ≡ Ok attempts }
 {
-    match made {
-        Some(made) => Ok(made),
-        None => plan(alloc, timeline),
+    if let Some(made) = made {
+        return Ok(made);
+    }
+    let attempts = plan(batch.alloc, timeline)?;
+    batch.gate.planned(worker, number);
+    Ok(attempts)
+}
+
+// Tells the gate of a job that was skipped.
+fn tell_skip<A: Allocator, G: Gate>(batch: &Batch<A, G>, worker: usize, job: usize, fate: Fate) {
+    if let Fate::Skipped = fate {
+        batch.gate.skipped(worker, job);
     }
 }
 

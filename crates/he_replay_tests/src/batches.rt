@@ -1,19 +1,21 @@
-// Batches of four races: which jobs the gate is told of, that workers run at the same time, what the pass tells at the
-// end, and what is answered where memory is refused. And batches of other sizes.
+// Batches of four races: which jobs, plans and skips the gate is told of, that workers run at the same time, what the
+// pass tells at the end, and what is answered and still done where memory is refused. And batches of other sizes.
 ghost use Rattle.std.specs.Prelude.{◌≡◌};
 ghost use Rattle.he_board.specs.declared.limits.TheConstants.{PARTS};
 ghost use Rattle.he_board.specs.Passes.{IsPassOf, jobs_of, notes, races_of};
 
-use crate::gates::{EACH_JOB, Held, Holding};
+use crate::gates::{Held, Holding};
+use crate::tally::Tally;
 use he_addr::Memory;
 use he_board::{Board, PARTS, Pass};
 use he_plan::{Timeline, Transcript};
 use he_replay::limits::MOST_RACES;
-use he_replay::{NoGate, batch_jobs, replay_batch};
+use he_replay::{batch_jobs, replay_batch};
 use he_text::{read_race, write_transcript};
 use refusing::{Refusing, each_growth_refused};
 use std::alloc::{Allocator, Global};
 use std::sync::atomic::Ordering;
+use std::test::Fail;
 use std::thread::Threads;
 
 static TEXT: &[u8] = b"race 1
@@ -129,7 +131,7 @@ fn run<R: Threads + Sync, A: Allocator + Copy + Send + Sync>(
     rt: &R,
     alloc: A,
     workers: u16,
-    gate: &Holding,
+    gate: &Holding<'_>,
 ) -> Option<Ended> {
     let timelines = timelines_of(alloc, RACES)?;
     run_timelines(rt, alloc, &timelines, workers, gate)
@@ -140,7 +142,7 @@ fn run_timelines<R: Threads + Sync, A: Allocator + Copy + Send + Sync>(
     alloc: A,
     timelines: &[Timeline<A>],
     workers: u16,
-    gate: &Holding,
+    gate: &Holding<'_>,
 ) -> Option<Ended> {
     if timelines.len() != RACES || batch_jobs(timelines) > JOBS || workers < 1 || workers > 64 {
         return None;
@@ -208,43 +210,49 @@ fn first_free<A: Allocator>(board: &Board<A>, pass: &mut Pass) -> usize
     JOBS
 }
 
-// Workers, whom the gate holds, until how many jobs of others have begun, and for how many turns at most.
-static BATCHES: [(u16, Held, u64, u64); 9] = [
-    (1, Held::Nobody, 0, 0),
-    (2, Held::Nobody, 0, 0),
-    (7, Held::Nobody, 0, 0),
-    (64, Held::Nobody, 0, 0),
+// Workers, whom the gate holds, until how many jobs have begun, for how many turns at most, and how many jobs must be
+// skipped at least: both late ones where one worker does all.
+static BATCHES: [(u16, Held, u64, u64, u64); 9] = [
+    (1, Held::Nobody, 0, 0, 2),
+    (2, Held::Nobody, 0, 0, 0),
+    (7, Held::Nobody, 0, 0, 0),
+    (64, Held::Nobody, 0, 0, 0),
     // Both ways round, one of two workers waits for the other: they run at the same time.
-    (2, Held::Worker(0), 1, TURNS),
-    (2, Held::Worker(1), 1, TURNS),
+    (2, Held::Worker(0), 1, TURNS, 0),
+    (2, Held::Worker(1), 1, TURNS, 0),
     // One worker does all jobs but the first, which another holds: no job is dealt out before.
-    (2, Held::Job(0), 10, TURNS),
-    (7, Held::Job(10), 10, TURNS),
+    (2, Held::Job(0), 10, TURNS, 1),
+    (7, Held::Job(10), 10, TURNS, 0),
     // Some workers are slow.
-    (7, Held::Odd, 1_000, 1_000),
+    (7, Held::Odd, 1_000, 1_000, 0),
 ];
 
 #[test]
-fn batches_end_right(rt: HostRuntime) {
-    for (workers, held, others, turns) in &BATCHES {
-        let gate = Holding::new(*held, *others, *turns);
+fn batches_end_right(rt: HostRuntime) -> Result<(), Fail> {
+    let heap = Refusing::new(rt.alloc());
+    for (workers, held, jobs, turns, skips) in &BATCHES {
+        let tally = Tally::new(rt.alloc(), RACES, DONE.taken)?;
+        let gate = Holding::new(*held, *jobs, *turns, &heap, tally);
         let ended = run(&rt, rt.alloc(), *workers, &gate);
-        let told = gate.told.load(Ordering::SeqCst);
-        let is_slow = *others > 10;
+        let is_slow = *jobs > 10;
         let is_in_vain = gate.vain.load(Ordering::SeqCst) > 0;
-        assert_eq!(rt;
-            (ended, told, is_in_vain && !is_slow),
-            (Some(DONE), EACH_JOB, false)
-        );
+        assert_eq!(rt; (ended, is_in_vain && !is_slow), (Some(DONE), false));
+        assert!(rt; gate.tally.has_each_job() && gate.tally.is_right());
+        assert!(rt; gate.tally.skips() >= *skips);
     }
+    Ok(())
 }
 
-// Whether a batch whose allocator may refuse is right, or answers that memory was refused with a whole pass.
-fn is_refused_well<R: Threads + Sync>(rt: &R, heap: &Refusing<Global>, workers: u16) -> bool {
-    let gate = Holding::new(Held::Nobody, 0, 0);
-    match run(rt, heap, workers, &gate) {
-        Some(ended) => ended == DONE || ended.parts == PARTS && heap.has_refused(),
-        None => heap.has_refused(),
+// Whether a batch whose allocator may refuse ended right, or memory was refused and the pass is whole. Then no job was
+// taken, since no worker had begun; or each was, since the other of two workers went on to its end.
+fn is_refused_well(ended: Option<Ended>, workers: u16, tally: &Tally) -> bool {
+    match ended {
+        Some(ended) => {
+            let is_taken = tally.has_each_job() && ended.taken == DONE.taken;
+            let is_well = workers == 1 || tally.is_empty() || is_taken;
+            ended == DONE || ended.parts == PARTS && is_well
+        }
+        None => true,
     }
 }
 
@@ -252,43 +260,78 @@ fn is_refused_well<R: Threads + Sync>(rt: &R, heap: &Refusing<Global>, workers: 
 fn refused_workers_hand_back_their_pass(rt: HostRuntime) {
     let heap = Refusing::new(rt.alloc());
     for workers in [1, 2] {
+        let mut untold: u64 = 0;
         let refused = each_growth_refused(&heap, || {
-            assert!(rt; is_refused_well(&rt, &heap, workers));
+            let Ok(tally) = Tally::new(rt.alloc(), RACES, DONE.taken) else {
+                assert!(rt; false, "memory is granted");
+                return;
+            };
+            // The second worker waits until the first one was refused.
+            let gate = Holding::new(Held::Worker(1), 10, TURNS, &heap, tally);
+            let ended = run(&rt, &heap, workers, &gate);
+            assert!(rt; is_refused_well(ended, workers, &gate.tally));
+            assert!(rt; ended == Some(DONE) || heap.has_refused());
+            if ended.is_some() && gate.tally.is_empty() {
+                untold = untold.saturating_add(1);
+            }
         });
         assert!(rt; refused > 10);
+        // No race is planned before the first job is taken: each plan grows.
+        assert!(rt; untold < RACES as u64);
     }
 }
 
-// The numbers of races of batches, and of workers.
-static SIZES: [(usize, u16); 7] = [
-    (0, 1),
-    (0, 7),
-    (1, 1),
-    (1, 7),
-    (64, 7),
-    (1_024, 1),
-    (1_024, 7),
+// Batches: their races, which are the four again and again, their jobs, how many of these start too late to run where
+// one worker does all, and the workers.
+static SIZES: [(usize, usize, u64, u16); 8] = [
+    (0, 0, 0, 1),
+    (0, 0, 0, 7),
+    (1, 2, 1, 1),
+    (1, 2, 1, 7),
+    (64, 176, 32, 7),
+    (64, 176, 32, 64),
+    (1_024, 2_816, 512, 1),
+    (1_024, 2_816, 512, 7),
 ];
 
 #[test]
-fn batches_of_any_size(rt: HostRuntime) {
-    for (size, workers) in &SIZES {
-        let is_right = run_batch(&rt, rt.alloc(), *size, *workers);
-        assert_eq!(rt; (*size, *workers, is_right), (*size, *workers, Some(true)));
+fn batches_of_any_size(rt: HostRuntime) -> Result<(), Fail> {
+    let heap = Refusing::new(rt.alloc());
+    for (races, jobs, late, workers) in &SIZES {
+        let tally = Tally::new(rt.alloc(), *races, *jobs)?;
+        // All workers for whom there is a job run at the same time.
+        let begun = (*workers as u64).min(*jobs as u64);
+        let gate = Holding::new(Held::Each, begun, TURNS, &heap, tally);
+        let is_right = run_batch(&rt, rt.alloc(), *races, *workers, &gate);
+        assert_eq!(rt;
+            (*races, *workers, is_right),
+            (*races, *workers, Some(true))
+        );
+        assert!(rt; gate.vain.load(Ordering::SeqCst) == 0);
+        assert!(rt; gate.tally.has_each_job() && gate.tally.is_right());
+        let skips = gate.tally.skips();
+        assert!(rt; skips == *late || *workers > 1 && skips < *late);
     }
+    Ok(())
 }
 
 // Whether a batch of so many races is done and right.
-fn run_batch<R: Threads + Sync>(rt: &R, alloc: Global, size: usize, workers: u16) -> Option<bool> {
-    let timelines = timelines_of(alloc, size)?;
+fn run_batch<R: Threads + Sync>(
+    rt: &R,
+    alloc: Global,
+    races: usize,
+    workers: u16,
+    gate: &Holding<'_>,
+) -> Option<bool> {
+    let timelines = timelines_of(alloc, races)?;
     if timelines.len() > MOST_RACES || workers < 1 || workers > 64 {
         return None;
     }
     let Ok((board, pass)) = Board::new(alloc, batch_jobs(&timelines), timelines.len()) else {
         return None;
     };
-    let (_, told) = replay_batch(rt, alloc, &timelines, &board, pass, workers, &NoGate);
-    Some(are_repeated(alloc, told, size))
+    let (_, told) = replay_batch(rt, alloc, &timelines, &board, pass, workers, gate);
+    Some(are_repeated(alloc, told, races))
 }
 
 // Whether these are so many transcripts: those of the four races, again and again.

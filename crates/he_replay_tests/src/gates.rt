@@ -1,10 +1,13 @@
-// A gate that holds some workers until others have begun jobs, and counts what it is told.
+// A gate that holds some workers until others have begun jobs, and keeps a tally of what it is told.
 
+use crate::tally::Tally;
 use he_replay::Gate;
+use refusing::Refusing;
+use std::alloc::Global;
 use std::sync::atomic::{AtomicU64, Ordering};
 use std::thread;
 
-// Whom the gate holds until the others have begun so many jobs.
+// Whom the gate holds until so many jobs have begun: those of workers that aren't held, but for `Each`.
 #[derive(Clone, Copy)]
 pub enum Held {
     Nobody,
@@ -14,6 +17,8 @@ pub enum Held {
     Job(usize),
     // Each worker of odd number.
     Odd,
+    // Each worker. All jobs count, so those that wait run at the same time.
+    Each,
 }
 
 impl Held {
@@ -23,72 +28,90 @@ impl Held {
             Held::Worker(held) => worker == held,
             Held::Job(held) => job == held,
             Held::Odd => worker % 2 == 1,
+            Held::Each => true,
         }
+    }
+
+    fn counts_all(self) -> bool {
+        matches!(self, Held::Each)
     }
 }
 
+// How many turns a worker that was held waits behind another's refusal, so that the other comes to its end.
+const TURNS_AFTER_REFUSAL: u64 = 1_000;
+
 #[derive(Drop)]
-pub struct Holding {
+pub struct Holding<'a> {
     held: Held,
-    // How many jobs of others a worker waits for, and how many turns at most. In each it lets others run.
-    others: u64,
+    // How many jobs a worker waits for, and how many turns at most. In each it lets others run.
+    jobs: u64,
     turns: u64,
-    // A hexadecimal digit for each job: how often the gate was told of it.
-    pub told: AtomicU64,
-    // How many jobs were begun by workers that weren't held.
+    // Whose refusal ends the waiting too.
+    heap: &'a Refusing<Global>,
+    pub tally: Tally,
+    // How many jobs that count have begun.
     begun: AtomicU64,
     // How often a worker waited in vain.
     pub vain: AtomicU64,
 }
 
-impl Holding {
-    pub fn new(held: Held, others: u64, turns: u64) -> Holding {
+impl<'a> Holding<'a> {
+    pub fn new(
+        held: Held,
+        jobs: u64,
+        turns: u64,
+        heap: &'a Refusing<Global>,
+        tally: Tally,
+    ) -> Holding<'a> {
         Holding {
             held,
-            others,
+            jobs,
             turns,
-            told: AtomicU64::new(0),
+            heap,
+            tally,
             begun: AtomicU64::new(0),
             vain: AtomicU64::new(0),
         }
     }
-}
 
-// What each of eleven jobs adds to the digits, and a one in each digit.
-static DIGITS: [u64; 11] = [
-    0x1,
-    0x10,
-    0x100,
-    0x1000,
-    0x1_0000,
-    0x10_0000,
-    0x100_0000,
-    0x1000_0000,
-    0x1_0000_0000,
-    0x10_0000_0000,
-    0x100_0000_0000,
-];
-
-pub const EACH_JOB: u64 = 0x111_1111_1111;
-
-impl Gate for Holding {
-    fn before(&self, worker: usize, job: usize) {
-        if job < DIGITS.len() {
-            self.told.fetch_add(DIGITS[job], Ordering::SeqCst);
-        }
-        if !self.held.holds(worker, job) {
-            self.begun.fetch_add(1, Ordering::SeqCst);
-            return;
-        }
-        if self.vain.load(Ordering::SeqCst) > 0 {
-            return;
-        }
+    fn wait(&self) {
         for _ in 0..self.turns {
-            if self.begun.load(Ordering::SeqCst) >= self.others {
+            if self.begun.load(Ordering::SeqCst) >= self.jobs {
+                return;
+            }
+            if self.heap.has_refused() {
+                wait_turns();
                 return;
             }
             thread::yield_now();
         }
         self.vain.fetch_add(1, Ordering::SeqCst);
+    }
+}
+
+fn wait_turns() {
+    for _ in 0..TURNS_AFTER_REFUSAL {
+        thread::yield_now();
+    }
+}
+
+impl<'a> Gate for Holding<'a> {
+    fn before(&self, worker: usize, job: usize) {
+        self.tally.take(worker, job);
+        let is_held = self.held.holds(worker, job);
+        if !is_held || self.held.counts_all() {
+            self.begun.fetch_add(1, Ordering::SeqCst);
+        }
+        if is_held && self.vain.load(Ordering::SeqCst) == 0 {
+            self.wait();
+        }
+    }
+
+    fn planned(&self, worker: usize, race: usize) {
+        self.tally.plan(worker, race);
+    }
+
+    fn skipped(&self, _worker: usize, job: usize) {
+        self.tally.skip(job);
     }
 }

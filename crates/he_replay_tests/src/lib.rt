@@ -1,11 +1,13 @@
 //! Tests of streams, replays and checks over readers, writers and an allocator that fail, and of batches with a gate
-//! that holds workers.
+//! that holds workers and counts what they do.
 #![tactic(auto)]
 
 #[cfg(test)]
 mod batches;
 #[cfg(test)]
 mod checks;
+#[cfg(test)]
+mod counts;
 #[cfg(test)]
 mod gates;
 #[cfg(test)]
@@ -18,3 +20,5 @@ mod rounds;
 mod shared;
 #[cfg(test)]
 mod steps;
+#[cfg(test)]
+mod tally;

@@ -3,7 +3,7 @@ use Rattle.std.specs.Prelude.{All}
 use Rattle.he_board.specs.declared.view.View.{View}
 use Rattle.he_board.specs.Passes.{notes}
 use Rattle.he_pool.specs.Batch.{IsOfSuccess}
-use Rattle.he_pool.proofs.Pooling.{looked_later, offered_later, later_then, skipped_honest, success_honest, other_honest, success_real}
+use Rattle.he_pool.proofs.Pooling.{looked_later, not_late, offered_later, later_then, skipped_honest, success_honest, other_honest, success_real}
 use Rattle.he_pool.proofs.attempting.run_attempt.Goals as goal
 
 pub returns-then-attempt-seen-clause-later : goal.returns-then-attempt-seen-clause-later
@@ -23,6 +23,9 @@ returns-in-Succeeded-clause-real g c = λ races stands real.
 pub returns-in-Succeeded-clause-honest : goal.returns-in-Succeeded-clause-honest
 returns-in-Succeeded-clause-honest g c = success_honest _ _ _ _ _ _ _ _ c.offer.ensures.noted c.in-Succeeded.ensures.value
 
+pub returns-in-Succeeded-clause-skips : goal.returns-in-Succeeded-clause-skips
+returns-in-Succeeded-clause-skips g c = λ late. not_late c.args.number c.least-seen.result _ _ _ c.least-seen.ensures.below c.if-attempt-seen.false late
+
 pub returns-in_default : goal.returns-in_default
 returns-in_default g c = record {
   own = c.least-seen.ensures.own;
@@ -32,4 +35,5 @@ returns-in_default g c = record {
   later = looked_later _ _ _ _ c.least-seen.ensures.noted;
   real = λ races stands real. subst (λ (v : View). All (IsOfSuccess races) v.offers) (sym c.least-seen.ensures.noted) real;
   honest = other_honest _ _ _ _ _ _ c.fate-fate.ensures.value c.in_default.not-Succeeded;
+  skips = λ late. not_late c.args.number c.least-seen.result _ _ _ c.least-seen.ensures.below c.if-attempt-seen.false late;
 }
