@@ -1,6 +1,6 @@
 -- What a race that was run comes to.
 use Rattle.std.proofs.Common.{◌≡◌, ◌∙◌, ℕ, List, is_some}
-use Rattle.std.specs.Prelude.{Option, Result, Ok, Err, IfOk}
+use Rattle.std.specs.Prelude.{Result, Ok, Err, IfOk}
 use Rattle.he_plan.specs.Race.{Race}
 use Rattle.he_plan.specs.Settings.{SettingValues}
 use Rattle.he_race.specs.declared.live.Raced.{Raced}

@@ -1,5 +1,6 @@
 -- What a connection that is asked for did.
-use Rattle.std.specs.Prelude.{ℕ, ◌≡◌, ◌⊎◌, List, Bool, true, false, Result, Ok, Err}
+use Rattle.std.specs.Prelude.{ℕ, ◌≡◌, ◌⊎◌, List, [], Bool, true, false, Result, Ok, Err}
+use Rattle.he_explain.specs.Course.{Explains}
 use Rattle.he_plan.specs.Race.{Race}
 use Rattle.he_plan.specs.Settings.{SettingValues}
 use Rattle.he_plan.specs.Transcript.{IsTranscript, Report}
@@ -40,6 +41,11 @@ pub record IsRun (settings : SettingValues) (families : Families) (text : List �
 -- such a race was run
 abbrev pub Ran : SettingValues → Families → Bool → Type 0
 Ran settings families won = (text : List ℕ) × IsRun settings families text won
+
+-- an explanation that is asked for is that of the record
+abbrev pub IsExplained : Bool → Race → List ℕ → Type 0
+IsExplained true recorded text = Explains recorded [] text
+IsExplained false recorded text = text ≡ []
 
 -- RanTo: a race was run, and won or not; Put, PutPart and Kept as `Relays` has them
 abbrev pub Connects : (Bool → Type 0) → (List ℕ → Type 0) → (List ℕ → Type 0) → Type 0 → Result Ended ConnectFault → Type 0

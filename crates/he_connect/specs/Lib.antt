@@ -1,2 +1,3 @@
 pub mod Connects
+pub mod Sources
 pub mod Start

@@ -44,6 +44,16 @@ pub enum ConnectFault {
     Memory,
 }
 
+impl ConnectFault {
+    /// Whether the host is what the fault is about, so that a line that tells the fault is to name it.
+    pub fn is_of_host(self) -> bool {
+        match self {
+            ConnectFault::Name(fault) => fault.is_of_host(),
+            _ => false,
+        }
+    }
+}
+
 impl From<AllocError> for ConnectFault {
     ghost from_gives = { λ _ fault. IsBefore fault };
 

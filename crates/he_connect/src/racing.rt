@@ -1,10 +1,11 @@
 //! The race of a connection that is asked for, on real sockets.
 ghost use Rattle.std.specs.Prelude.{◌≡◌, IfOk, IfErr, is_some};
 ghost use Rattle.he_text.specs.Written.{timeline_text};
-ghost use Rattle.he_connect.specs.Connects.{IsBefore, IsRun, RunsFrom};
+ghost use Rattle.he_connect.specs.Connects.{IsBefore, IsExplained, IsRun, RunsFrom};
 
 use crate::asked::Asked;
 use crate::fault::ConnectFault;
+use crate::kernel::write_other_sources;
 use crate::lines::read_lines_of;
 use crate::source::{HostAnswers, WhyNone};
 use crate::start::start_race;
@@ -100,7 +101,7 @@ where
         &steps,
         &telling,
     )?;
-    end_with(alloc, asked, why.fault(asked.families), &steps, raced)
+    end_with(rt, alloc, asked, why.fault(asked.families), &steps, raced)
 }
 
 // The answers of a look-up of the host, which waits in the event loop.
@@ -122,7 +123,8 @@ where
 }
 
 // What is told of the race, with its connection.
-fn end_with(
+fn end_with<R: Net>(
+    rt: &R,
     alloc: Global,
     asked: &Asked<'_>,
     nameless: Option<NamesFault>,
@@ -133,7 +135,7 @@ fn end_with(
     ensures winner { IfOk result (λ run. is_some run.winner ≡ is_some raced.winner) }
     ensures fault { IfErr result IsBefore }
 {
-    let texts = texts_of(alloc, asked, nameless, steps, &raced);
+    let texts = texts_of(rt, alloc, asked, nameless, steps, &raced);
     let Raced {
         transcript,
         recorded,
@@ -150,7 +152,8 @@ fn end_with(
     })
 }
 
-fn texts_of(
+fn texts_of<R: Net>(
+    rt: &R,
     alloc: Global,
     asked: &Asked<'_>,
     nameless: Option<NamesFault>,
@@ -162,12 +165,24 @@ fn texts_of(
 {
     let mut text = Vec::new(alloc);
     write_timeline(&raced.recorded, &mut text)?;
-    let mut told = Vec::new(alloc);
-    if asked.explains {
-        write_explanation(alloc, &raced.recorded, &mut told)?;
+    let mut told = explain(alloc, asked.explains, &raced.recorded)?;
+    if asked.tells_steps {
+        write_other_sources(rt, &raced.recorded, raced.transcript.attempts(), &mut told)?;
     }
     if raced.winner.is_none() && nameless.is_none() {
         write_tried(asked, &raced.recorded, &raced.transcript, steps, &mut told)?;
     }
     Ok(Texts { text, told })
+}
+
+// The explanation of a race, where it is asked for.
+fn explain(alloc: Global, is_asked: bool, recorded: &Timeline) -> Result<Vec<u8>, ConnectFault>
+    ensures text { IfOk result (λ text. IsExplained is_asked recorded.now text.items) }
+    ensures fault { IfErr result IsBefore }
+{
+    let mut text = Vec::new(alloc);
+    if is_asked {
+        write_explanation(alloc, recorded, &mut text)?;
+    }
+    Ok(text)
 }

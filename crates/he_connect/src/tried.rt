@@ -6,8 +6,8 @@ use he_live::{Reason, Steps};
 use he_plan::{Line, Mark, Timeline, Transcript};
 use std::alloc::Global;
 
-/// Appends the line, as `he: no connection to example.org port 443: 2 addresses tried: 2001:db8::1 connection refused
-/// after 12 ms, 198.51.100.1 no answer in 30000 ms`.
+/// Appends the line, as `he: no connection to example.org port 443: 2 addresses tried: 2001:db8::1 refused after
+/// 12 ms, 198.51.100.1 no answer in 30000 ms`.
 ///
 /// # Errors
 ///
@@ -70,7 +70,7 @@ fn write_attempt(attempt: Line, steps: &Steps, out: &mut Vec<u8>) -> Result<(), 
     out.push(b' ')?;
     let (words, end): (&[u8], u64) = match attempt.mark {
         Mark::Failed(end) => {
-            write_reason(steps.reason_of(attempt.place), out)?;
+            write_short_reason(steps.reason_of(attempt.place), out)?;
             (b" after ", end)
         }
         Mark::Won(end) => (b"connected after ", end),
@@ -79,6 +79,18 @@ fn write_attempt(attempt: Line, steps: &Steps, out: &mut Vec<u8>) -> Result<(), 
     out.extend_from_slice(words)?;
     write_number(end.saturating_sub(attempt.tick), out)?;
     out.extend_from_slice(b" ms")?;
+    Ok(())
+}
+
+// The reason without the word for what failed, which the line has.
+fn write_short_reason(reason: Reason, out: &mut Vec<u8>) -> Result<(), Memory> {
+    let words: &[u8] = match reason {
+        Reason::Refused => b"refused",
+        Reason::Reset => b"reset",
+        Reason::Aborted => b"aborted",
+        _ => return write_reason(reason, out),
+    };
+    out.extend_from_slice(words)?;
     Ok(())
 }
 

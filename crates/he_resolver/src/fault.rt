@@ -39,6 +39,13 @@ pub enum NamesFault {
     Memory,
 }
 
+impl NamesFault {
+    /// Whether the host is what the fault is about, so that a line that tells the fault is to name it.
+    pub fn is_of_host(self) -> bool {
+        !matches!(self, NamesFault::Runtime | NamesFault::Memory)
+    }
+}
+
 impl From<AllocError> for NamesFault {
     ghost from_gives = { λ _ fault. fault ≡ Memory };
 
@@ -83,6 +90,16 @@ pub enum TellFault {
     /// A step of the output failed or took no byte, the flush failed, or the bound of steps was reached.
     #[error("cannot write the output")]
     Write,
+}
+
+impl TellFault {
+    /// Whether the host is what the fault is about, so that a line that tells the fault is to name it.
+    pub fn is_of_host(self) -> bool {
+        match self {
+            TellFault::Names(fault) => fault.is_of_host(),
+            TellFault::Write => false,
+        }
+    }
 }
 
 impl From<NamesFault> for TellFault {

@@ -1,6 +1,6 @@
 //! A stub resolver: the addresses of a host, from the files of the system and from name servers.
 //!
-//! [`Resolver`] asks name servers for both families of a host at once (RFC 1035, RFC 3596), and is polled: it tells each
+//! [`Lookup`] asks name servers for both families of a host at once (RFC 1035, RFC 3596), and is polled: it tells each
 //! family's addresses as soon as they are known. [`write_names`] finds a host's addresses and writes them as the two
 //! answers of a timeline: `he names` is this call. What the files of the system say is `he_names`, the messages `he_dns`.
 //!
@@ -15,8 +15,10 @@
 //! A query has a random id and a port that the kernel chooses, and its socket is connected, so what another peer sends is
 //! not seen. A response with another id or another question is passed over. One that is cut off is asked for over TCP.
 //!
-//! What the contracts say: [`write_names`] writes the two lines, and after any fault but `Write` nothing; where a poll is
-//! pending, it is woken again. Only tested, on loopback: that queries leave, when, to whom, and what becomes of answers.
+//! What the contracts say: a family is told addresses of its own, none twice, at most 256; where a poll is pending, it is
+//! woken again; [`write_names`] writes the two lines, and after any fault but `Write` nothing; and, of functions inside,
+//! what a message comes to (`specs/Replies`), which server is asked at which try (`specs/Asked`), what the file of hosts
+//! knows (`specs/Known`). Only tested, on loopback: that queries leave, when, to whom, and what becomes of answers.
 #![tactic(auto)]
 
 mod asked;
