@@ -1,3 +1,5 @@
 pub mod Live
+pub mod Changed
 pub mod Reasons
 pub mod Reading
+pub mod Rebuilt

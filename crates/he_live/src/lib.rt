@@ -51,6 +51,7 @@
 //! the winner's stream is connected and waits; and that no socket of a race is left but the winner's.
 #![tactic(auto)]
 
+pub mod changes;
 mod clock;
 mod dialing;
 pub mod failures;
@@ -61,9 +62,10 @@ pub mod recording;
 mod sockets;
 pub mod steps;
 
+pub use changes::Changes;
 pub use failures::{FailedAttempt, failed_attempts, first_local, write_failures};
 pub use fault::LiveFault;
 pub use racing::{live_race, live_race_on, resolving_race_on};
 pub use reason::Reason;
-pub use recording::live;
+pub use recording::{Told, live};
 pub use steps::{Quiet, Step, Steps, Watcher, What};
