@@ -3,3 +3,4 @@ pub mod Changed
 pub mod Reasons
 pub mod Reading
 pub mod Rebuilt
+pub mod Dials
