@@ -1,5 +1,5 @@
 -- When changes fit the settings of a race.
-use Rattle.std.proofs.Common.{◌≡◌, ◌∙◌, ℕ, ◌≤◌, ◌<◌, ◌||◌, Bool, true, false, refl, sym, ap, arith}
+use Rattle.std.proofs.Common.{◌≡◌, ◌∙◌, ℕ, ◌≤◌, ◌<◌, ◌||◌, Bool, true, false, refl, sym, ap, subst, arith}
 use Rattle.std.specs.Prelude.{Option, Some, None, Result, Ok, Err, nat_lt, if◌then◌else◌}
 use Rattle.std.specs.Option.{option_or, unwrap_or}
 use Rattle.std.proofs.lemmas.Grind.{common_steps}
@@ -58,12 +58,14 @@ lower : (given : Option ℕ) (own floor : ℕ) → own ≤ MAX_ATTEMPT
 lower (Some x) own floor most h = h
 lower None own floor most h = grind (arith, common_steps)
 
-refused_by : (floor own_floor : Option ℕ) (r a n l r' a' n' l' : Bool) (w o : SettingValues) (range : Range)
-    → r ≡ r' → a ≡ a' → n ≡ n' → l ≡ l'
+refused_by : (floor own_floor : Option ℕ) (r a n l : Bool) (w o : SettingValues) (range : Range)
     → ((x : ℕ) → (nat_lt x MIN_FLOOR || nat_lt w.attempt x) ≡ true → (nat_lt x MIN_FLOOR || nat_lt o.attempt x) ≡ true)
-    → with_any_floor (option_or floor None) (judged r a n l w) ≡ Err range → with_any_floor (option_or floor own_floor) (judged r' a' n' l' o) ≡ Err range
-refused_by (Some floor) own_floor r a n l r' a' n' l' w o range refl refl refl refl on h = refused_one floor r a n l w o range (on floor) h
-refused_by None own_floor r a n l r' a' n' l' w o range refl refl refl refl on h = refused_none own_floor r a n l w o range h
+    → with_any_floor (option_or floor None) (judged r a n l w) ≡ Err range → with_any_floor (option_or floor own_floor) (judged r a n l o) ≡ Err range
+refused_by (Some floor) own_floor r a n l w o range on h = refused_one floor r a n l w o range (on floor) h
+refused_by None own_floor r a n l w o range on h = refused_none own_floor r a n l w o range h
+
+judged_alike : (r a n l r' a' n' l' : Bool) (o : SettingValues) → r ≡ r' → a ≡ a' → n ≡ n' → l ≡ l' → judged r a n l o ≡ judged r' a' n' l' o
+judged_alike r a n l r' a' n' l' o e f g h = rw (e, f, g, h) refl
 
 both : {a b c d : Bool} → a ≡ b → c ≡ d → (a || c) ≡ (b || d)
 both e f = cc
@@ -72,21 +74,33 @@ both e f = cc
 pub fits_none : (changes : Changes) (own : SettingValues) (range : Range) → IsSettings own
     → changed_settings changes widest ≡ Err range → changed_settings changes own ≡ Err range
 fits_none changes own range is h =
-    refused_by changes.floor own.floor
-    (nat_lt MAX_RESOLUTION (unwrap_or changes.resolution 0))
-    (nat_lt (unwrap_or changes.attempt MAX_ATTEMPT) MIN_ATTEMPT || nat_lt MAX_ATTEMPT (unwrap_or changes.attempt MAX_ATTEMPT))
-    (nat_lt (unwrap_or changes.count MIN_COUNT) MIN_COUNT || nat_lt MAX_COUNT (unwrap_or changes.count MIN_COUNT))
-    (nat_lt (unwrap_or changes.limit MIN_LIMIT) MIN_LIMIT || nat_lt MAX_LIMIT (unwrap_or changes.limit MIN_LIMIT))
-    (nat_lt MAX_RESOLUTION (unwrap_or changes.resolution own.resolution))
-    (nat_lt (unwrap_or changes.attempt own.attempt) MIN_ATTEMPT || nat_lt MAX_ATTEMPT (unwrap_or changes.attempt own.attempt))
-    (nat_lt (unwrap_or changes.count own.count) MIN_COUNT || nat_lt MAX_COUNT (unwrap_or changes.count own.count))
-    (nat_lt (unwrap_or changes.limit own.limit) MIN_LIMIT || nat_lt MAX_LIMIT (unwrap_or changes.limit own.limit))
-    (record { resolution = unwrap_or changes.resolution 0; attempt = unwrap_or changes.attempt MAX_ATTEMPT; count = unwrap_or changes.count MIN_COUNT; limit = unwrap_or changes.limit MIN_LIMIT; floor = None })
-    (record { resolution = unwrap_or changes.resolution own.resolution; attempt = unwrap_or changes.attempt own.attempt; count = unwrap_or changes.count own.count; limit = unwrap_or changes.limit own.limit; floor = None })
-    range
-    (most_alike MAX_RESOLUTION changes.resolution 0 own.resolution (omega arith) is.resolution)
-    (both (least_alike MIN_ATTEMPT changes.attempt MAX_ATTEMPT own.attempt (omega arith) is.attempt_least) (most_alike MAX_ATTEMPT changes.attempt MAX_ATTEMPT own.attempt (omega arith) is.attempt_most))
-    (both (least_alike MIN_COUNT changes.count MIN_COUNT own.count (omega arith) is.count_least) (most_alike MAX_COUNT changes.count MIN_COUNT own.count (omega arith) is.count_most))
-    (both (least_alike MIN_LIMIT changes.limit MIN_LIMIT own.limit (omega arith) is.limit_least) (most_alike MAX_LIMIT changes.limit MIN_LIMIT own.limit (omega arith) is.limit_most))
-    (λ floor. lower changes.attempt own.attempt floor is.attempt_most)
-    h
+    let w : SettingValues = record { resolution = unwrap_or changes.resolution 0; attempt = unwrap_or changes.attempt MAX_ATTEMPT; count = unwrap_or changes.count MIN_COUNT; limit = unwrap_or changes.limit MIN_LIMIT; floor = None } in
+    let o : SettingValues = record { resolution = unwrap_or changes.resolution own.resolution; attempt = unwrap_or changes.attempt own.attempt; count = unwrap_or changes.count own.count; limit = unwrap_or changes.limit own.limit; floor = None } in
+    let alike = judged_alike
+      (nat_lt MAX_RESOLUTION (unwrap_or changes.resolution own.resolution))
+      (nat_lt (unwrap_or changes.attempt own.attempt) MIN_ATTEMPT || nat_lt MAX_ATTEMPT (unwrap_or changes.attempt own.attempt))
+      (nat_lt (unwrap_or changes.count own.count) MIN_COUNT || nat_lt MAX_COUNT (unwrap_or changes.count own.count))
+      (nat_lt (unwrap_or changes.limit own.limit) MIN_LIMIT || nat_lt MAX_LIMIT (unwrap_or changes.limit own.limit))
+      (nat_lt MAX_RESOLUTION (unwrap_or changes.resolution 0))
+      (nat_lt (unwrap_or changes.attempt MAX_ATTEMPT) MIN_ATTEMPT || nat_lt MAX_ATTEMPT (unwrap_or changes.attempt MAX_ATTEMPT))
+      (nat_lt (unwrap_or changes.count MIN_COUNT) MIN_COUNT || nat_lt MAX_COUNT (unwrap_or changes.count MIN_COUNT))
+      (nat_lt (unwrap_or changes.limit MIN_LIMIT) MIN_LIMIT || nat_lt MAX_LIMIT (unwrap_or changes.limit MIN_LIMIT))
+      o
+      (most_alike MAX_RESOLUTION changes.resolution own.resolution 0 is.resolution (omega arith))
+      (both (least_alike MIN_ATTEMPT changes.attempt own.attempt MAX_ATTEMPT is.attempt_least (omega arith)) (most_alike MAX_ATTEMPT changes.attempt own.attempt MAX_ATTEMPT is.attempt_most (omega arith)))
+      (both (least_alike MIN_COUNT changes.count own.count MIN_COUNT is.count_least (omega arith)) (most_alike MAX_COUNT changes.count own.count MIN_COUNT is.count_most (omega arith)))
+      (both (least_alike MIN_LIMIT changes.limit own.limit MIN_LIMIT is.limit_least (omega arith)) (most_alike MAX_LIMIT changes.limit own.limit MIN_LIMIT is.limit_most (omega arith))) in
+    ap (with_any_floor (option_or changes.floor own.floor)) alike
+    ∙ refused_by changes.floor own.floor
+      (nat_lt MAX_RESOLUTION (unwrap_or changes.resolution 0))
+      (nat_lt (unwrap_or changes.attempt MAX_ATTEMPT) MIN_ATTEMPT || nat_lt MAX_ATTEMPT (unwrap_or changes.attempt MAX_ATTEMPT))
+      (nat_lt (unwrap_or changes.count MIN_COUNT) MIN_COUNT || nat_lt MAX_COUNT (unwrap_or changes.count MIN_COUNT))
+      (nat_lt (unwrap_or changes.limit MIN_LIMIT) MIN_LIMIT || nat_lt MAX_LIMIT (unwrap_or changes.limit MIN_LIMIT))
+      w o range (λ floor. lower changes.attempt own.attempt floor is.attempt_most) h
+
+pub fits_none_from : (changes : Changes) (own wide : SettingValues) (range : Range) → Ok wide ≡ settings_of 0 MAX_ATTEMPT MIN_COUNT MIN_LIMIT
+    → Err range ≡ changed_settings changes wide → IsSettings own → changed_settings changes own ≡ Err range
+fits_none_from changes own wide range made h is =
+    let same : ◌≡◌ {A = Result SettingValues Range} (Ok wide) (Ok widest) = made in
+    let wide_is : wide ≡ widest = cc in
+    fits_none changes own range is (sym (subst (λ (w : SettingValues). Err range ≡ changed_settings changes w) wide_is h))

@@ -62,8 +62,10 @@ impl Changes {
     {
         // With the greatest delay and no floor, all that is given has its widest range.
         let widest = Settings::new(0, MAX_ATTEMPT, MIN_COUNT, MIN_LIMIT)?;
-        self.apply(widest)?;
-        Ok(())
+        match self.apply(widest) {
+            Ok(_) => Ok(()),
+            Err(range) => Err(range),
+        }
     }
 }
 

@@ -25,8 +25,13 @@ const SLOWER: Changes = Changes {
     ..Changes::NONE
 };
 
-// The lines of its settings in the record; the others are the race's own.
-const SLOWER_LINES: &[u8] = b"race 1\nset attempt 150\nset limit 4000\nsource ";
+// The settings in the record; the others are the race's own.
+const SLOWER_LINES: &[u8] = b"race 1
+set resolution 50
+set attempt 150
+set count 1
+set limit 4000
+";
 
 // More than the delay of the race.
 const FLOOR: Changes = Changes {
