@@ -1,5 +1,5 @@
 -- What a run of a race with changes comes to.
-use Rattle.std.proofs.Common.{◌≡◌, ◌⊎◌, inl, inr, refl, subst}
+use Rattle.std.proofs.Common.{◌≡◌, ◌⊎◌, inl, inr, refl, sym, subst}
 use Rattle.std.specs.Prelude.{Result, Ok, Err, IfErr, IfOk}
 use Rattle.he_plan.specs.Building.{unrecorded}
 use Rattle.he_plan.specs.Race.{Race}
@@ -31,9 +31,12 @@ changed_so : (changes : Changes) (own : Race) (settings : SettingValues) (result
     → RunsChanged changes own result
 changed_so changes own settings (Ok run) fit text fault =
     (record own { settings = settings }, record { settings = settings; fit = fit; is = refl }, live_text (record own { settings = settings }) run text)
-changed_so changes own settings (Err fault) fit text (inl refl) =
-    (record own { settings = settings }, record { settings = settings; fit = fit; is = refl })
-changed_so changes own settings (Err fault) fit text (inr refl) = tt
+changed_so changes own settings (Err fault) fit text (inl e) =
+    let at : RunsChanged changes own (Err faults.Runtime) = (record own { settings = settings }, record { settings = settings; fit = fit; is = refl }) in
+    subst (λ (f : LiveFault). RunsChanged changes own (Err f)) (sym e) at
+changed_so changes own settings (Err fault) fit text (inr e) =
+    let at : RunsChanged changes own (Err faults.Memory) = tt in
+    subst (λ (f : LiveFault). RunsChanged changes own (Err f)) (sym e) at
 
 pub runs_changed : (changes : Changes) (own race : Race) (settings : SettingValues) (result : Result Run LiveFault)
     → changed_settings changes own.settings ≡ Ok settings → race ≡ unrecorded (record own { settings = settings })
