@@ -1,2 +1,5 @@
 mod LoopLaws
 mod Records
+mod Rebuilding
+mod Fitting
+mod Running

@@ -9,8 +9,11 @@ use Rattle.he_text.specs.Written.{timeline_text, transcript_text}
 use Rattle.he_text.specs.declared.inputs.InputFault.TheVariants as inputs
 use Rattle.he_text.specs.declared.inputs.NotOneRace.{NotOneRace}
 use Rattle.he_text.specs.declared.inputs.NotOneRace.TheVariants as ones
+use Rattle.he_plan.specs.declared.settings.Range.{Range}
+use Rattle.he_live.specs.Changed.{IsChanged, changed_settings}
 use Rattle.he_live.specs.Reasons.{AreFailed}
-use Rattle.he_live.specs.declared.failures.FailedAttempt.{FailedAttempt}
+use Rattle.he_live.specs.declared.changes.Changes.{Changes}
+use Rattle.he_live.specs.declared.recording.Told.{Told}
 use Rattle.he_live.specs.declared.fault.LiveFault.{LiveFault}
 use Rattle.he_live.specs.declared.fault.LiveFault.TheVariants as faults
 
@@ -18,15 +21,16 @@ use Rattle.he_live.specs.declared.fault.LiveFault.TheVariants as faults
 abbrev pub IsRunFault : LiveFault → Type 0
 IsRunFault fault = (fault ≡ faults.Runtime) ⊎ (fault ≡ faults.Memory)
 
--- the text of a race that was run, its attempts that failed, and how it ended: a transcript and then a record, which has the
--- race's settings, policy, host, answers and what is known from earlier, and replays to this transcript
-pub record IsLiveText (race : Race) (text : List ℕ) (failed : List FailedAttempt) (result : Outcome3) : Type 0 where
+-- the text of a race that was run, what is told of it, and how it ended: the text is a transcript and then the record, which
+-- has the race's settings, policy, host, answers and what is known from earlier, and replays to this transcript
+pub record IsLiveText (race : Race) (text : List ℕ) (told : Told) (result : Outcome3) : Type 0 where
   pub recorded : Race
   pub report : Report
   pub alike : AreAlike race recorded
   pub transcript : IsTranscript recorded report
-  pub told : text ≡ transcript_text report ++ timeline_text recorded
-  pub failures : AreFailed report.lines failed
+  pub written : text ≡ transcript_text report ++ told.record.items
+  pub record_text : told.record.items ≡ timeline_text recorded
+  pub failures : AreFailed report.lines told.failed.items
   pub ended : result ≡ report.result
 
 -- what is wrong with the input, as the fault tells it
@@ -50,27 +54,41 @@ pub record GivesNone (Given : List ℕ → Bool → Type 0) (why : NotOneRace) :
   pub given : Given input is_broken
   pub none : IsNotOne input is_broken why
 
--- the input is one race, and this is the text of a run of it, in which these attempts failed, and which ended so
-pub record GivesText (Given : List ℕ → Bool → Type 0) (text : List ℕ) (failed : List FailedAttempt) (result : Outcome3) : Type 0 where
+-- the input is one race, and this is it with the changes
+pub record GivesChanged (Given : List ℕ → Bool → Type 0) (changes : Changes) (race : Race) : Type 0 where
+  pub own : Race
+  pub given : GivesOne Given own
+  pub changed : IsChanged changes own race
+
+-- the input is one race, whose settings can't be changed so, for this reason
+pub record GivesUnfit (Given : List ℕ → Bool → Type 0) (changes : Changes) (range : Range) : Type 0 where
+  pub own : Race
+  pub given : GivesOne Given own
+  pub unfit : changed_settings changes own.settings ≡ Err range
+
+-- the input is one race, and this is the text of a run of it with the changes, of which this is told, and which ended so
+pub record GivesText (Given : List ℕ → Bool → Type 0) (changes : Changes) (text : List ℕ) (told : Told) (result : Outcome3) : Type 0 where
   pub race : Race
-  pub given : GivesOne Given race
-  pub run : IsLiveText race text failed result
+  pub given : GivesChanged Given changes race
+  pub run : IsLiveText race text told result
 
 -- Given: what the input gave, and whether it broke off after that; Whole and Part: the text of which all was put into
--- the output and then flushed, or a first part until that failed; Kept: nothing was put into the output; failed: the
--- attempts of the run that failed.
--- A run's text is written whole, and how it ended is told; a fault of the input, of the event loop or of memory comes before any of it is.
-abbrev pub Lives : (List ℕ → Bool → Type 0) → (List ℕ → Type 0) → (List ℕ → Type 0) → Type 0 → List FailedAttempt → Result Outcome3 LiveFault → Type 0
-Lives Given Whole Part Kept failed (Ok result) = (text : List ℕ) × GivesText Given text failed result × Whole text
-Lives Given Whole Part Kept failed (Err (faults.Text fault)) = GivesNone Given (ones.Fault (inputs.Text fault)) × Kept
-Lives Given Whole Part Kept failed (Err faults.OneRace) = GivesNone Given ones.Count × Kept
-Lives Given Whole Part Kept failed (Err faults.Read) = GivesNone Given (ones.Fault inputs.Read) × Kept
-Lives Given Whole Part Kept failed (Err faults.Write) = (text : List ℕ) × (result : Outcome3) × GivesText Given text failed result × Part text
-Lives Given Whole Part Kept failed (Err faults.Runtime) = (race : Race) × GivesOne Given race × Kept
-Lives Given Whole Part Kept failed (Err faults.Memory) = Kept
+-- the output and then flushed, or a first part until that failed; Kept: nothing was put into the output; told: what is
+-- told of the run.
+-- A run's text is written whole, and how it ended is told; a fault of the input, of the changes, of the event loop or of
+-- memory comes before any of it is.
+abbrev pub Lives : (List ℕ → Bool → Type 0) → (List ℕ → Type 0) → (List ℕ → Type 0) → Type 0 → Changes → Told → Result Outcome3 LiveFault → Type 0
+Lives Given Whole Part Kept changes told (Ok result) = (text : List ℕ) × GivesText Given changes text told result × Whole text
+Lives Given Whole Part Kept changes told (Err (faults.Text fault)) = GivesNone Given (ones.Fault (inputs.Text fault)) × Kept
+Lives Given Whole Part Kept changes told (Err faults.OneRace) = GivesNone Given ones.Count × Kept
+Lives Given Whole Part Kept changes told (Err faults.Read) = GivesNone Given (ones.Fault inputs.Read) × Kept
+Lives Given Whole Part Kept changes told (Err (faults.Setting range)) = GivesUnfit Given changes range × Kept
+Lives Given Whole Part Kept changes told (Err faults.Write) = (text : List ℕ) × (result : Outcome3) × GivesText Given changes text told result × Part text
+Lives Given Whole Part Kept changes told (Err faults.Runtime) = (race : Race) × GivesChanged Given changes race × Kept
+Lives Given Whole Part Kept changes told (Err faults.Memory) = Kept
 
--- after a fault before the race was run to its end, the list of what failed is as it was
-abbrev pub KeepsFailed : List FailedAttempt → List FailedAttempt → Result Outcome3 LiveFault → Type 0
-KeepsFailed old new (Ok result) = ⊤
-KeepsFailed old new (Err faults.Write) = ⊤
-KeepsFailed old new (Err fault) = new ≡ old
+-- after a fault before the race was run to its end, what is told is as it was
+abbrev pub KeepsTold : Told → Told → Result Outcome3 LiveFault → Type 0
+KeepsTold old new (Ok result) = ⊤
+KeepsTold old new (Err faults.Write) = ⊤
+KeepsTold old new (Err fault) = new ≡ old

@@ -1,7 +1,9 @@
 //! A connection that is being made, to be taken out of the event loop.
 
+ghost use Rattle.std.specs.Prelude.{◌≡◌};
 ghost use Rattle.futures.specs.Poll.{OnPending};
-ghost use Rattle.futures.specs.Task.{IsArmed, Keeps};
+ghost use Rattle.futures.specs.Task.{Covers, Keeps};
+ghost use Rattle.tokio.specs.Net.{stream_writable};
 
 use futures::task::{Context, Poll};
 use std::io;
@@ -30,22 +32,22 @@ impl Dialing {
 
     // Ready once the connection stands, or with why it does not.
     //
-    // Before the event loop has seen a socket it counts as writable. A send of no byte tells: while the connection is being
-    // made it would block, so that the loop waits for its end, and where it failed it tells the fault, which the system
-    // tells once. The peer's address is asked for besides, since a socket has one only where it is connected.
+    // The system is asked first: a socket has a peer's address only where it is connected, also where the event loop has not
+    // looked at it yet, as behind a stop. Before the event loop has seen a socket it counts as writable. A send of no byte
+    // tells: while the connection is being made it would block, so that the loop waits for its end, and where it failed it
+    // tells the fault, which the system tells once.
     pub(crate) fn poll_connected(&mut self, cx: &mut Context<'_>) -> Poll<io::Result<()>>
-        ensures waits { OnPending result (IsArmed cx.new) }
+        ensures waits { OnPending result (Covers cx.new (λ source. source ≡ stream_writable self.new.watched)) }
         ensures kept { Keeps cx.old cx.new }
     {
-        match self.watched.poll_write(cx, &[]) {
-            Poll::Pending => return Poll::Pending,
-            Poll::Ready(Err(error)) => return Poll::Ready(Err(error)),
-            Poll::Ready(Ok(_)) => {}
+        if self.kept.peer_addr().is_ok() {
+            return Poll::Ready(Ok(()));
         }
-        match self.kept.peer_addr() {
-            Ok(_) => Poll::Ready(Ok(())),
-            Err(error) if error.kind() == io::ErrorKind::NotConnected => cx.yield_now(),
-            Err(error) => Poll::Ready(Err(error)),
+        match self.watched.poll_write(cx, &[]) {
+            Poll::Pending => Poll::Pending,
+            Poll::Ready(Err(error)) => Poll::Ready(Err(error)),
+            // It came to stand just now.
+            Poll::Ready(Ok(_)) => cx.yield_now(),
         }
     }
 

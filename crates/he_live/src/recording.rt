@@ -1,11 +1,12 @@
 //! A race of an input, run on real sockets and recorded.
-ghost use Rattle.std.specs.Prelude.{◌≡◌, ◌++◌, IfErr, IfOk};
+ghost use Rattle.std.specs.Prelude.{◌≡◌, [], IfErr, IfOk};
 ghost use Rattle.he_stream.specs.Input.{Gives};
 ghost use Rattle.he_stream.specs.Output.{PutsPart, PutsWhole};
-ghost use Rattle.he_text.specs.Written.{timeline_text, transcript_text};
-ghost use Rattle.he_live.specs.Live.{IsLiveText, IsRunFault, KeepsFailed, Lives};
-ghost use Rattle.he_live.specs.Reading.{IsTold, ReadsOne};
+ghost use Rattle.he_text.specs.Written.{timeline_text};
+ghost use Rattle.he_live.specs.Live.{IsLiveText, IsRunFault, KeepsTold, Lives};
+ghost use Rattle.he_live.specs.Reading.{IsTold, ReadsOne, RunsChanged};
 
+use crate::changes::{Changes, with_settings};
 use crate::failures::{FailedAttempt, failed_attempts};
 use crate::fault::LiveFault;
 use crate::racing::live_race;
@@ -21,13 +22,37 @@ use std::random::RandomSource;
 use std::sync::Wait;
 use std::time::Clock;
 
-/// Reads one race to the end of the input, runs it on real sockets at the port ([`live_race`]), and writes its
-/// transcript and then its record, a timeline that replays to this transcript. Answers how the race ended.
+/// What is told of a live race beside its output.
+#[derive(Drop)]
+pub struct Told {
+    /// The record: a timeline text that replays to the transcript. It is what the output has behind the transcript, and
+    /// empty where no race was run.
+    pub record: Vec<u8>,
+    /// The attempts that failed, by place, with why.
+    pub failed: Vec<FailedAttempt>,
+}
+
+impl Told {
+    /// No race was run. It takes no memory.
+    pub fn new(alloc: Global) -> Told
+        ensures record { result.record.items ≡ [] }
+        ensures failed { result.failed.items ≡ [] }
+    {
+        Told {
+            record: Vec::new(alloc),
+            failed: Vec::new(alloc),
+        }
+    }
+}
+
+/// Reads one race to the end of the input, runs it with the changes of its settings on real sockets at the port
+/// ([`live_race`]), and writes its transcript and then its record, a timeline that replays to this transcript. Answers
+/// how the race ended.
 ///
 /// Of the input's race the settings, policy, host, answers and what is known of addresses from earlier are looked at
 /// alone. The whole output is made before the first byte of it is written: after `Write` a first part was written,
 /// after any other fault nothing. It is flushed at the end. Where the race was run, also if it could not be written,
-/// `failed` is then its attempts that failed, by place, with why; else it is as it was.
+/// `told` has then its record and its attempts that failed; else it is as it was.
 ///
 /// # Errors
 ///
@@ -35,6 +60,7 @@ use std::time::Clock;
 /// - `Read` where a step of the input failed before a fault of the text was found, or the bound of 4,294,967,296 steps
 ///   was reached.
 /// - `OneRace` where nothing is wrong with the input, but it has no race, or more than one.
+/// - `Setting` where the changes do not fit the settings of the input's race ([`Changes::apply`]).
 /// - `Runtime` and `Memory` as `live_race`, and `Memory` where an allocation was refused.
 /// - `Write` where a step of the output failed or took no byte, the flush failed, or the bound of 4,294,967,296 steps
 ///   was reached.
@@ -44,7 +70,8 @@ pub fn live<R, I, O>(
     input: &mut I,
     output: &mut O,
     port: u16,
-    failed: &mut Vec<FailedAttempt>,
+    changes: Changes,
+    told: &mut Told,
 ) -> Result<Outcome3, LiveFault>
 where
     R: Wait + Clock + RandomSource + AllocGlobal + Net,
@@ -52,16 +79,16 @@ where
     O: OutputStream,
     ensures done { Lives (Gives I.remaining I.takes input.old input.new)
         (PutsWhole O.contents O.puts O.flushes output.old output.new)
-        (PutsPart O.contents O.puts O.flushes output.old output.new) (output.new ≡ output.old) failed.new.items result }
-    ensures quiet { KeepsFailed failed.old.items failed.new.items result }
+        (PutsPart O.contents O.puts O.flushes output.old output.new) (output.new ≡ output.old) changes told.new result }
+    ensures quiet { KeepsTold told.old told.new result }
 {
     let timeline = take_race(alloc, input)?;
-    let told = race_text(rt, alloc, &timeline, port);
+    let run = run_changed(rt, alloc, &timeline, changes, port);
     drop(timeline);
-    let told = told?;
-    *failed = told.failed;
-    match write_whole(output, told.text.as_slice()) {
-        Ok(()) => Ok(told.ended),
+    let run = run?;
+    *told = run.told;
+    match write_whole(output, run.text.as_slice()) {
+        Ok(()) => Ok(run.ended),
         Err(_) => Err(LiveFault::Write),
     }
 }
@@ -76,46 +103,70 @@ fn take_race<I: InputStream>(alloc: Global, input: &mut I) -> Result<Timeline, N
     }
 }
 
-// What is told of a race: the transcript and the record, the attempts that failed, and how it ended.
+// A race that was run: the text of the output, what is told beside it, and how it ended.
 #[derive(Drop)]
-struct Told {
+struct Run {
     text: Vec<u8>,
-    failed: Vec<FailedAttempt>,
+    told: Told,
     ended: Outcome3,
 }
 
-// Runs the race, and answers what is told of it.
-fn race_text<R>(rt: &R, alloc: Global, timeline: &Timeline, port: u16) -> Result<Told, LiveFault>
+// Runs the race with the changes.
+fn run_changed<R>(
+    rt: &R,
+    alloc: Global,
+    own: &Timeline,
+    changes: Changes,
+    port: u16,
+) -> Result<Run, LiveFault>
 where
     R: Wait + Clock + RandomSource + AllocGlobal + Net,
-    ensures text { IfOk result (λ told. IsLiveText timeline.now told.text.items told.failed.items told.ended) }
+    ensures { RunsChanged changes own.now result }
+{
+    let settings = changes.apply(own.settings())?;
+    let timeline = with_settings(alloc, own, settings)?;
+    let run = run_race(rt, alloc, &timeline, port);
+    drop(timeline);
+    run
+}
+
+// Runs the race.
+fn run_race<R>(rt: &R, alloc: Global, timeline: &Timeline, port: u16) -> Result<Run, LiveFault>
+where
+    R: Wait + Clock + RandomSource + AllocGlobal + Net,
+    ensures run { IfOk result (λ run. IsLiveText timeline.now run.text.items run.told run.ended) }
     ensures fault { IfErr result IsRunFault }
 {
     let steps = Steps::new(alloc)?;
     let raced = live_race(rt, alloc, timeline, port, &steps)?;
-    let told = tell_race(alloc, &raced, &steps);
+    let run = tell_race(alloc, &raced, &steps);
     drop(raced);
-    told
+    run
 }
 
-fn tell_race(alloc: Global, raced: &Raced<TcpStream>, steps: &Steps) -> Result<Told, LiveFault>
-    ensures text { IfOk result (λ told. IsTold raced.now.transcript raced.now.recorded told) }
+fn tell_race(alloc: Global, raced: &Raced<TcpStream>, steps: &Steps) -> Result<Run, LiveFault>
+    ensures text { IfOk result (IsTold raced.now.transcript raced.now.recorded) }
     ensures fault { IfErr result IsRunFault }
 {
-    Ok(Told {
-        text: raced_text(alloc, raced)?,
-        failed: failed_attempts(alloc, raced.transcript.attempts(), steps)?,
+    let record = record_text(alloc, &raced.recorded)?;
+    let mut text = Vec::new(alloc);
+    write_transcript(&raced.transcript, &mut text)?;
+    text.extend_from_slice(&record)?;
+    Ok(Run {
+        text,
+        told: Told {
+            record,
+            failed: failed_attempts(alloc, raced.transcript.attempts(), steps)?,
+        },
         ended: raced.transcript.result(),
     })
 }
 
-// The transcript and then the record.
-fn raced_text(alloc: Global, raced: &Raced<TcpStream>) -> Result<Vec<u8>, LiveFault>
-    ensures text { IfOk result (λ text. text.items ≡ transcript_text raced.now.transcript ++ timeline_text raced.now.recorded) }
+fn record_text(alloc: Global, recorded: &Timeline) -> Result<Vec<u8>, LiveFault>
+    ensures text { IfOk result (λ text. text.items ≡ timeline_text recorded.now) }
     ensures fault { IfErr result IsRunFault }
 {
     let mut text = Vec::new(alloc);
-    write_transcript(&raced.transcript, &mut text)?;
-    write_timeline(&raced.recorded, &mut text)?;
+    write_timeline(recorded, &mut text)?;
     Ok(text)
 }

@@ -1,7 +1,7 @@
 // What each fault leaves, and what is written of a race that is read and run.
 
 use crate::homes::{Lender, ONE, REFUSED, Wanted, race_on};
-use he_live::{LiveFault, Reason, live};
+use he_live::{Changes, LiveFault, Reason, Told, live};
 use he_stream::{FromReader, ToWriter};
 use he_text::{TextFault, TextKind};
 use std::fs::File;
@@ -108,14 +108,22 @@ fn is_right<R: Lender + Net>(rt: &R, row: &Row) -> bool {
     };
     let mut input = FromReader::new(reader);
     let mut output = ToWriter::new(writer);
-    let mut failed = Vec::new(rt.alloc());
-    let told = live(rt, rt.alloc(), &mut input, &mut output, 1, &mut failed);
-    drop(failed);
+    let mut told = Told::new(rt.alloc());
+    let ended = live(
+        rt,
+        rt.alloc(),
+        &mut input,
+        &mut output,
+        1,
+        Changes::NONE,
+        &mut told,
+    );
+    drop(told);
     let held = output.writer().held();
     let is_written = held.starts_with(begins) && held.len() <= *most;
     drop(input);
     drop(output);
-    told.map(|_| ()) == *wanted && is_written
+    ended.map(|_| ()) == *wanted && is_written
 }
 
 #[test]

@@ -1,8 +1,10 @@
 //! Tests of `he_live` on real sockets, of loopback alone: what races come to with servers that listen, refuse or stay
 //! silent, or whose addresses come while they run, that their records replay, that no socket of a race is left but the
-//! winner's, what each fault leaves, and what a clock that fails comes to.
+//! winner's, what each fault leaves, what changed settings do, and what a clock that fails comes to.
 #![tactic(auto)]
 
+#[cfg(test)]
+mod changes;
 #[cfg(test)]
 mod clocks;
 #[cfg(test)]

@@ -4,7 +4,7 @@ use crate::homes::{
     End, Lender, ONE, REFUSED, Result3, Wanted, descriptors, free_port, listen, race, replays,
 };
 use he_addr::Ip;
-use he_live::{FailedAttempt, Reason, live};
+use he_live::{Changes, FailedAttempt, Reason, Told, live};
 use he_plan::Outcome3;
 use he_stream::{FromReader, ToWriter};
 use std::io::Read;
@@ -226,11 +226,19 @@ fn is_told<R: Lender + Net<Listener = TcpListener, Stream = StdStream>>(
 ) -> Result<bool, Fail> {
     let mut input = FromReader::new(FakeReader::new(ONE, 7));
     let mut output = ToWriter::new(Vec::new(rt.alloc()));
-    let mut failed = Vec::new(rt.alloc());
-    let ended = live(rt, rt.alloc(), &mut input, &mut output, port, &mut failed);
-    let is_one = failed.as_slice() == [FIRST_REFUSED].as_slice();
-    let is_none = failed.is_empty();
-    drop(failed);
+    let mut told = Told::new(rt.alloc());
+    let ended = live(
+        rt,
+        rt.alloc(),
+        &mut input,
+        &mut output,
+        port,
+        Changes::NONE,
+        &mut told,
+    );
+    let is_one = told.failed.as_slice() == [FIRST_REFUSED].as_slice();
+    let is_none = told.failed.is_empty();
+    drop(told);
     let is_won = matches!(ended?, Outcome3::Won(..));
     let is_told = if wins {
         is_won && is_none
