@@ -77,26 +77,26 @@ fits_none changes own range is h =
     let w : SettingValues = record { resolution = unwrap_or changes.resolution 0; attempt = unwrap_or changes.attempt MAX_ATTEMPT; count = unwrap_or changes.count MIN_COUNT; limit = unwrap_or changes.limit MIN_LIMIT; floor = None } in
     let o : SettingValues = record { resolution = unwrap_or changes.resolution own.resolution; attempt = unwrap_or changes.attempt own.attempt; count = unwrap_or changes.count own.count; limit = unwrap_or changes.limit own.limit; floor = None } in
     let alike = judged_alike
-      (nat_lt MAX_RESOLUTION (unwrap_or changes.resolution own.resolution))
-      (nat_lt (unwrap_or changes.attempt own.attempt) MIN_ATTEMPT || nat_lt MAX_ATTEMPT (unwrap_or changes.attempt own.attempt))
-      (nat_lt (unwrap_or changes.count own.count) MIN_COUNT || nat_lt MAX_COUNT (unwrap_or changes.count own.count))
-      (nat_lt (unwrap_or changes.limit own.limit) MIN_LIMIT || nat_lt MAX_LIMIT (unwrap_or changes.limit own.limit))
-      (nat_lt MAX_RESOLUTION (unwrap_or changes.resolution 0))
-      (nat_lt (unwrap_or changes.attempt MAX_ATTEMPT) MIN_ATTEMPT || nat_lt MAX_ATTEMPT (unwrap_or changes.attempt MAX_ATTEMPT))
-      (nat_lt (unwrap_or changes.count MIN_COUNT) MIN_COUNT || nat_lt MAX_COUNT (unwrap_or changes.count MIN_COUNT))
-      (nat_lt (unwrap_or changes.limit MIN_LIMIT) MIN_LIMIT || nat_lt MAX_LIMIT (unwrap_or changes.limit MIN_LIMIT))
-      o
-      (most_alike MAX_RESOLUTION changes.resolution own.resolution 0 is.resolution (omega arith))
-      (both (least_alike MIN_ATTEMPT changes.attempt own.attempt MAX_ATTEMPT is.attempt_least (omega arith)) (most_alike MAX_ATTEMPT changes.attempt own.attempt MAX_ATTEMPT is.attempt_most (omega arith)))
-      (both (least_alike MIN_COUNT changes.count own.count MIN_COUNT is.count_least (omega arith)) (most_alike MAX_COUNT changes.count own.count MIN_COUNT is.count_most (omega arith)))
-      (both (least_alike MIN_LIMIT changes.limit own.limit MIN_LIMIT is.limit_least (omega arith)) (most_alike MAX_LIMIT changes.limit own.limit MIN_LIMIT is.limit_most (omega arith))) in
+    (nat_lt MAX_RESOLUTION (unwrap_or changes.resolution own.resolution))
+    (nat_lt (unwrap_or changes.attempt own.attempt) MIN_ATTEMPT || nat_lt MAX_ATTEMPT (unwrap_or changes.attempt own.attempt))
+    (nat_lt (unwrap_or changes.count own.count) MIN_COUNT || nat_lt MAX_COUNT (unwrap_or changes.count own.count))
+    (nat_lt (unwrap_or changes.limit own.limit) MIN_LIMIT || nat_lt MAX_LIMIT (unwrap_or changes.limit own.limit))
+    (nat_lt MAX_RESOLUTION (unwrap_or changes.resolution 0))
+    (nat_lt (unwrap_or changes.attempt MAX_ATTEMPT) MIN_ATTEMPT || nat_lt MAX_ATTEMPT (unwrap_or changes.attempt MAX_ATTEMPT))
+    (nat_lt (unwrap_or changes.count MIN_COUNT) MIN_COUNT || nat_lt MAX_COUNT (unwrap_or changes.count MIN_COUNT))
+    (nat_lt (unwrap_or changes.limit MIN_LIMIT) MIN_LIMIT || nat_lt MAX_LIMIT (unwrap_or changes.limit MIN_LIMIT))
+    o
+    (most_alike MAX_RESOLUTION changes.resolution own.resolution 0 is.resolution (omega arith))
+    (both (least_alike MIN_ATTEMPT changes.attempt own.attempt MAX_ATTEMPT is.attempt_least (omega arith)) (most_alike MAX_ATTEMPT changes.attempt own.attempt MAX_ATTEMPT is.attempt_most (omega arith)))
+    (both (least_alike MIN_COUNT changes.count own.count MIN_COUNT is.count_least (omega arith)) (most_alike MAX_COUNT changes.count own.count MIN_COUNT is.count_most (omega arith)))
+    (both (least_alike MIN_LIMIT changes.limit own.limit MIN_LIMIT is.limit_least (omega arith)) (most_alike MAX_LIMIT changes.limit own.limit MIN_LIMIT is.limit_most (omega arith))) in
     ap (with_any_floor (option_or changes.floor own.floor)) alike
     ∙ refused_by changes.floor own.floor
-      (nat_lt MAX_RESOLUTION (unwrap_or changes.resolution 0))
-      (nat_lt (unwrap_or changes.attempt MAX_ATTEMPT) MIN_ATTEMPT || nat_lt MAX_ATTEMPT (unwrap_or changes.attempt MAX_ATTEMPT))
-      (nat_lt (unwrap_or changes.count MIN_COUNT) MIN_COUNT || nat_lt MAX_COUNT (unwrap_or changes.count MIN_COUNT))
-      (nat_lt (unwrap_or changes.limit MIN_LIMIT) MIN_LIMIT || nat_lt MAX_LIMIT (unwrap_or changes.limit MIN_LIMIT))
-      w o range (λ floor. lower changes.attempt own.attempt floor is.attempt_most) h
+    (nat_lt MAX_RESOLUTION (unwrap_or changes.resolution 0))
+    (nat_lt (unwrap_or changes.attempt MAX_ATTEMPT) MIN_ATTEMPT || nat_lt MAX_ATTEMPT (unwrap_or changes.attempt MAX_ATTEMPT))
+    (nat_lt (unwrap_or changes.count MIN_COUNT) MIN_COUNT || nat_lt MAX_COUNT (unwrap_or changes.count MIN_COUNT))
+    (nat_lt (unwrap_or changes.limit MIN_LIMIT) MIN_LIMIT || nat_lt MAX_LIMIT (unwrap_or changes.limit MIN_LIMIT))
+    w o range (λ floor. lower changes.attempt own.attempt floor is.attempt_most) h
 
 pub fits_none_from : (changes : Changes) (own wide : SettingValues) (range : Range) → Ok wide ≡ settings_of 0 MAX_ATTEMPT MIN_COUNT MIN_LIMIT
     → Err range ≡ changed_settings changes wide → IsSettings own → changed_settings changes own ≡ Err range

@@ -9,7 +9,7 @@ use Rattle.he_live.specs.Rebuilt.{with_happenings, with_reply, with_rtts, with_u
 
 happened : (settings : SettingValues) (own : Race) (aaaa a : Option Reply) (history : History)
     → with_uses history.used (with_rtts history.rtts (with_reply families.V4 a (with_reply families.V6 aaaa (empty_race settings own.policy own.host))))
-      ≡ record { settings = settings; policy = own.policy; host = own.host; aaaa = aaaa; a = a; history = history; outcomes = []; pauses = [] }
+    ≡ record { settings = settings; policy = own.policy; host = own.host; aaaa = aaaa; a = a; history = history; outcomes = []; pauses = [] }
 happened settings own None None history = refl
 happened settings own None (Some x) history = refl
 happened settings own (Some x) None history = refl
