@@ -1,5 +1,7 @@
 -- What a run of the program has done, by its exit status.
-use Rattle.std.specs.Prelude.{◌≡◌, ◌≢◌, ◌≤◌, ◌⊎◌, ℕ, Bool, true, List, Option, Some, None, Result, Ok, Err}
+use Rattle.std.specs.Prelude.{◌≡◌, ◌≢◌, ◌≤◌, ◌⊎◌, ℕ, Bool, true, List, Option, Some, None, MatchOption, Result, Ok, Err}
+use Rattle.std.specs.Option.{option_and_then, unwrap_or}
+use Rattle.std.specs.Result.{result_ok}
 use Rattle.clap.specs.Values.{kind_of}
 use Rattle.clap.specs.declared.error.Error.{Error}
 use Rattle.clap.specs.declared.error.kind.ErrorKind.{ErrorKind}
@@ -16,7 +18,8 @@ use Rattle.he_live.specs.Live.{Lives}
 use Rattle.he_resolver.specs.Told.{TellsNames}
 use Rattle.he_resolver.specs.declared.choice.Choice.{Choice}
 use Rattle.he_resolver.specs.declared.fault.TellFault.{TellFault}
-use Rattle.he_plan.specs.Settings.{SettingValues}
+use Rattle.he_plan.specs.Settings.{SettingValues, settings_of, with_floor}
+use Rattle.he_plan.specs.declared.limits.TheConstants.{DEFAULT_ATTEMPT, DEFAULT_COUNT, DEFAULT_LIMIT, DEFAULT_RESOLUTION, MIN_FLOOR}
 use Rattle.he_plan.specs.declared.transcript.Outcome3.{Outcome3}
 use Rattle.he_plan.specs.declared.transcript.Outcome3.TheVariants as results
 use Rattle.he_replay.specs.Actions.{HasWorkers, RunsAction}
@@ -25,6 +28,7 @@ use Rattle.he_command.specs.declared.asking.Options.{Options}
 use Rattle.he_command.specs.declared.command.Request.{Request}
 use Rattle.he_command.specs.declared.command.Request.TheVariants.{Action, Check, Connect, Host, Live, Names}
 use Rattle.he_command.specs.declared.limits.TheConstants.{LEAST_PORT}
+use Rattle.he_command.specs.declared.numbers.Numbers.{Numbers}
 use Rattle.he_command.specs.declared.run.TheConstants.{DONE, FAULT, NO_CONNECTION, USAGE}
 
 -- the status that tells how a command ended
@@ -81,11 +85,24 @@ RunsNames None Whole Part Kept status = (status ≡ USAGE) × Kept
 RunsNames (Some choice) Whole Part Kept status =
     (result : Result (Unit {0}) TellFault) × TellsNames Whole Part Kept result × (status ≡ status_of result)
 
--- what comes of a connection that is asked for: it was made and relayed, or not; or an option has no value that it may have
+-- the settings of a connection that is asked for: where a number is not given that of RFC 8305 section 8, and the least
+-- floor. None where a number is out of its range
+abbrev pub connect_settings : Numbers → Option SettingValues
+connect_settings numbers =
+    option_and_then (λ settings. result_ok (with_floor settings (unwrap_or numbers.floor MIN_FLOOR)))
+    (result_ok (settings_of (unwrap_or numbers.resolution DEFAULT_RESOLUTION) (unwrap_or numbers.attempt DEFAULT_ATTEMPT) (unwrap_or numbers.count DEFAULT_COUNT) (unwrap_or numbers.limit DEFAULT_LIMIT)))
+
+-- the settings of the race; None where an option has no value that it may have
+abbrev pub asked_settings : Options → Option SettingValues
+asked_settings options = option_and_then (λ resolver. option_and_then connect_settings options.numbers) options.resolver
+
+-- what comes of a connection that is asked for: an option has no value that it may have; or the connection was made and
+-- relayed, or not
 abbrev pub RunsConnect : Options → (List ℕ → Type 0) → (List ℕ → Type 0) → Type 0 → ℕ → Type 0
 RunsConnect options Put PutPart Kept status =
+    MatchOption (asked_settings options)
     ((status ≡ USAGE) × Kept)
-    ⊎ ((settings : SettingValues) × (result : Result Ended ConnectFault) × Connects (Ran settings options.families) Put PutPart Kept result × (status ≡ status_of_connection result))
+    (λ settings. (result : Result Ended ConnectFault) × Connects (Ran settings options.families) Put PutPart Kept result × (status ≡ status_of_connection result))
 
 -- what was asked for was done, and the status tells how that ended. Given, Taken, Ended, Failed and Put as `RunsAction` has
 -- them: of a text that is put in rounds; Whole, Part and Kept as `Lives` has them: of one text

@@ -2,9 +2,10 @@
 ghost use Rattle.std.specs.Prelude.{◌≤◌, IfOk};
 ghost use Rattle.he_command.specs.Run.{IsRequest};
 
+use crate::arguments::{flag, plain, port_of, resolver, resolver_of};
 use crate::asking::{Options, connect_command, options_of};
 use crate::limits::{DEFAULT_WORKERS, DEFAULT_WORKERS_TEXT, LEAST_PORT};
-use clap::{Arg, ArgAction, ArgMatches, Command, Error, value_parser};
+use clap::{Arg, ArgMatches, Command, Error, value_parser};
 use he_replay::Action;
 use he_replay::limits::{LEAST_WORKERS, MOST_WORKERS};
 use he_resolver::Choice;
@@ -55,10 +56,6 @@ const NAMES_ABOUT: &str =
     "Finds the addresses of a host, and writes them as the answers of a timeline";
 
 const HOST_NAME_HELP: &str = "A host name, as www.example.com, or an address";
-
-const RESOLVER_HELP: &str =
-    "A name server in place of those of /etc/resolv.conf: ADDRESS or ADDRESS:PORT, IPv6 with a port as [ADDRESS]:PORT; \
-or `system`, the system's own resolver";
 
 const PORT_HELP: &str = "The TCP port at which each address is connected to, 1 to 65535";
 
@@ -288,54 +285,58 @@ refused.";
 
 // The whole command line of the program.
 fn command<'a>(alloc: Global) -> Result<Command<'a>, AllocError> {
-    let workers = Arg::new(alloc, "workers")
-        .long("workers")
-        .value_name("N")
-        .value_parser(value_parser!(u16).range(i64::from(LEAST_WORKERS)..=i64::from(MOST_WORKERS)))
-        .default_value(DEFAULT_WORKERS_TEXT)
-        .help(WORKERS_HELP);
-    let replay = Command::new(alloc, "replay")
-        .about(REPLAY_ABOUT)
-        .after_help(REPLAY_EXAMPLE)
-        .arg(workers)?;
-    let order = Command::new(alloc, "order")
-        .about(ORDER_ABOUT)
-        .after_help(ORDER_EXAMPLE);
-    let explain = Command::new(alloc, "explain")
-        .about(EXPLAIN_ABOUT)
-        .after_help(EXPLAIN_EXAMPLE);
-    let check = Command::new(alloc, "check")
-        .about(CHECK_ABOUT)
-        .after_help(CHECK_EXAMPLE);
-    let live = Command::new(alloc, "live")
-        .about(LIVE_ABOUT)
-        .after_help(LIVE_EXAMPLE)
-        .arg(port(alloc))?
-        .arg(must_connect(alloc))?
-        .arg(verbose(alloc))?;
-    let host = Command::new(alloc, "host")
-        .about(HOST_ABOUT)
-        .after_help(HOST_EXAMPLE);
-    let names = Command::new(alloc, "names")
-        .about(NAMES_ABOUT)
-        .after_help(NAMES_EXAMPLE)
-        .arg(host_name(alloc))?
-        .arg(resolver(alloc))?;
-    let connect = connect_command(alloc)?;
+    let commands = commands(alloc)?;
     Command::new(alloc, "he")
         .bin_name("he")?
         .version("1.0.0")
         .about(ABOUT)
         .after_help(EXIT_STATUS)
         .subcommand_required(true)
-        .subcommand(replay)?
-        .subcommand(order)?
-        .subcommand(explain)?
-        .subcommand(check)?
-        .subcommand(live)?
-        .subcommand(host)?
-        .subcommand(names)?
-        .subcommand(connect)
+        .subcommands(commands)
+}
+
+// The commands, in the order in which help has them.
+fn commands<'a>(alloc: Global) -> Result<Vec<Command<'a>>, AllocError> {
+    let mut commands = Vec::new(alloc);
+    commands.push(replay(alloc)?)?;
+    commands.push(plain(alloc, "order", ORDER_ABOUT, ORDER_EXAMPLE))?;
+    commands.push(plain(alloc, "explain", EXPLAIN_ABOUT, EXPLAIN_EXAMPLE))?;
+    commands.push(plain(alloc, "check", CHECK_ABOUT, CHECK_EXAMPLE))?;
+    commands.push(live(alloc)?)?;
+    commands.push(plain(alloc, "host", HOST_ABOUT, HOST_EXAMPLE))?;
+    commands.push(names(alloc)?)?;
+    commands.push(connect_command(alloc)?)?;
+    Ok(commands)
+}
+
+fn replay<'a>(alloc: Global) -> Result<Command<'a>, AllocError> {
+    plain(alloc, "replay", REPLAY_ABOUT, REPLAY_EXAMPLE).arg(workers(alloc))
+}
+
+fn live<'a>(alloc: Global) -> Result<Command<'a>, AllocError> {
+    let args = vec![in alloc;
+        port(alloc),
+        flag(alloc, "must-connect", MUST_CONNECT_HELP).long("must-connect"),
+        flag(alloc, "verbose", VERBOSE_HELP)
+            .short('v')
+            .long("verbose"),
+    ]?;
+    plain(alloc, "live", LIVE_ABOUT, LIVE_EXAMPLE).args(args)
+}
+
+fn names<'a>(alloc: Global) -> Result<Command<'a>, AllocError> {
+    let args = vec![in alloc; host_name(alloc), resolver(alloc)]?;
+    plain(alloc, "names", NAMES_ABOUT, NAMES_EXAMPLE).args(args)
+}
+
+// The most workers of `he replay`.
+fn workers<'a>(alloc: Global) -> Arg<'a> {
+    Arg::new(alloc, "workers")
+        .long("workers")
+        .value_name("N")
+        .value_parser(value_parser!(u16).range(i64::from(LEAST_WORKERS)..=i64::from(MOST_WORKERS)))
+        .default_value(DEFAULT_WORKERS_TEXT)
+        .help(WORKERS_HELP)
 }
 
 // The port of `he live`.
@@ -348,37 +349,12 @@ fn port<'a>(alloc: Global) -> Arg<'a> {
         .help(PORT_HELP)
 }
 
-// Whether `he live` tells by its status that no connection was made.
-fn must_connect<'a>(alloc: Global) -> Arg<'a> {
-    Arg::new(alloc, "must-connect")
-        .long("must-connect")
-        .action(ArgAction::SetTrue)
-        .help(MUST_CONNECT_HELP)
-}
-
-// Whether `he live` tells each attempt that failed.
-fn verbose<'a>(alloc: Global) -> Arg<'a> {
-    Arg::new(alloc, "verbose")
-        .short('v')
-        .long("verbose")
-        .action(ArgAction::SetTrue)
-        .help(VERBOSE_HELP)
-}
-
 // The host of `he names`.
 fn host_name<'a>(alloc: Global) -> Arg<'a> {
     Arg::new(alloc, "host")
         .value_name("HOST")
         .required(true)
         .help(HOST_NAME_HELP)
-}
-
-// The resolver of `he names`.
-pub(crate) fn resolver<'a>(alloc: Global) -> Arg<'a> {
-    Arg::new(alloc, "resolver")
-        .long("resolver")
-        .value_name("RESOLVER")
-        .help(RESOLVER_HELP)
 }
 
 /// Reads the words of a command line, of which the first is the program's name.
@@ -412,24 +388,6 @@ pub fn read_words<'a>(alloc: Global, words: &'a [&'a str]) -> Result<Request<'a>
             workers: DEFAULT_WORKERS,
         }),
     })
-}
-
-// The resolver that the line names: that of the system's settings where it names none.
-pub(crate) fn resolver_of(matches: &ArgMatches<'_>) -> Option<Choice> {
-    match matches.get_str("resolver") {
-        Some(text) => Choice::read(text.as_bytes()),
-        None => Some(Choice::Configured),
-    }
-}
-
-// The port. clap has tested that it is there, and its range, but has no clause on a subcommand's arguments.
-pub(crate) fn port_of(matches: &ArgMatches<'_>) -> u16
-    ensures { LEAST_PORT ≤ result }
-{
-    matches
-        .get_one::<u16>("port")
-        .unwrap_or(LEAST_PORT)
-        .max(LEAST_PORT)
 }
 
 // The number of workers. clap has tested its range, but has no clause on a subcommand's arguments.

@@ -16,9 +16,11 @@
 //! Only tested: which words ask for what, and what help, usage, faults and their explanations say.
 #![tactic(auto)]
 
+mod arguments;
 pub mod asking;
 pub mod command;
 pub mod limits;
+pub mod numbers;
 pub mod run;
 
 pub use command::{Request, read_words};

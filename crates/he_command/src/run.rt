@@ -1,12 +1,14 @@
 //! A whole run of the program over an input, an output and a writer of faults.
 ghost use Rattle.std.specs.Prelude.{◌≡◌, IfOk, Result};
+ghost use Rattle.std.specs.Option.{option_and_then};
 ghost use Rattle.clap.specs.Values.{kind_of};
 ghost use Rattle.he_stream.specs.Input.{Gives, GivesSoFar};
 ghost use Rattle.he_stream.specs.Output.{PutsAndEnds, PutsInRounds, PutsPart, PutsRoundsPart, PutsWhole};
 ghost use Rattle.he_command.specs.declared.command.Request.TheVariants.{Check};
-ghost use Rattle.he_command.specs.Run.{AnswersLine, IsRequest, RunsConnect, RunsLine, RunsNames, RunsRequest, Shows, status_of, status_of_connection, status_of_live};
+ghost use Rattle.he_command.specs.Run.{AnswersLine, IsRequest, RunsConnect, RunsLine, RunsNames, RunsRequest, Shows, connect_settings, status_of, status_of_connection, status_of_live};
 
-use crate::asking::{OptionFault, Options};
+use crate::arguments::OptionFault;
+use crate::asking::Options;
 use crate::command::{Request, read_words};
 use clap::Error;
 use clap::error::ErrorKind;
@@ -40,11 +42,6 @@ pub const USAGE: u8 = 2;
 
 /// The exit status of a live race that had to make a connection and made none.
 pub const NO_CONNECTION: u8 = 3;
-
-const NO_RESOLVER: &str = "\
-error: invalid value for '--resolver <RESOLVER>': neither an address, nor an address and a port, nor `system`
-
-For more information, try '--help'.";
 
 /// Runs the command line `words`, of which the first is the program's name, and answers the exit
 /// status. Output and help that was asked for go to `output`; what is wrong goes to `faults`. What
@@ -222,10 +219,7 @@ where
 {
     match resolver {
         Some(choice) => report_end(write_names(rt, alloc, output, host, choice), faults),
-        None => {
-            let _ = writeln!(faults, "{NO_RESOLVER}");
-            USAGE
-        }
+        None => refuse_option(OptionFault::Resolver, faults),
     }
 }
 
@@ -271,7 +265,9 @@ where
     report_connection(connect(rt, alloc, &asked, input, output, faults), faults)
 }
 
-fn settings_of(options: &Options<'_>) -> Option<Settings> {
+fn settings_of(options: &Options<'_>) -> Option<Settings>
+    ensures { result ≡ option_and_then connect_settings options.now.numbers }
+{
     options.numbers?.settings()
 }
 
