@@ -13,7 +13,7 @@ _he() {
         order) options='--help -h' ;;
         explain) options='--help -h' ;;
         check) options='--help -h' ;;
-        live) options='--port --must-connect --verbose -v --help -h' ;;
+        live) options='--port --timeout --set --record --must-connect --verbose -v --help -h' ;;
         host) options='--help -h' ;;
         names) options='--resolver --help -h' ;;
         connect) options='-4 -6 -z --timeout --set --host --resolver --record --explain --verbose -v --help -h' ;;

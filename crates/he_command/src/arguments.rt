@@ -3,7 +3,7 @@ ghost use Rattle.std.specs.Prelude.{◌≤◌};
 ghost use Rattle.he_command.specs.declared.limits.TheConstants.{LEAST_PORT};
 
 use crate::limits::LEAST_PORT;
-use clap::{Arg, ArgAction, ArgMatches, Command};
+use clap::{Arg, ArgAction, ArgMatches, Command, value_parser};
 use he_resolver::Choice;
 use std::alloc::Global;
 use thiserror::Error;
@@ -39,6 +39,15 @@ pub(crate) fn flag<'a>(alloc: Global, id: &'a str, help: &'a str) -> Arg<'a> {
 // An option with the name of a file.
 pub(crate) fn file<'a>(alloc: Global, id: &'a str, help: &'a str) -> Arg<'a> {
     Arg::new(alloc, id).value_name("FILE").help(help)
+}
+
+// The TCP port that is connected to. It must be given.
+pub(crate) fn port<'a>(alloc: Global, value: &'a str, help: &'a str) -> Arg<'a> {
+    Arg::new(alloc, "port")
+        .value_name(value)
+        .value_parser(value_parser!(u16).range(i64::from(LEAST_PORT)..=i64::from(u16::MAX)))
+        .required(true)
+        .help(help)
 }
 
 // The resolver of `he names` and `he connect`.

@@ -2,12 +2,12 @@
 ghost use Rattle.std.specs.Prelude.{◌≤◌};
 ghost use Rattle.he_command.specs.declared.limits.TheConstants.{LEAST_PORT};
 
-use crate::arguments::{file, flag, plain, port_of, resolver, resolver_of};
-use crate::limits::LEAST_PORT;
-use crate::numbers::{Numbers, numbers_of, set, timeout};
-use clap::{Arg, ArgMatches, Command, value_parser};
+use crate::arguments::{file, flag, plain, port, port_of, resolver, resolver_of};
+use crate::numbers::{changes_of, set, timeout};
+use clap::{Arg, ArgMatches, Command};
 use he_addr::Family;
 use he_connect::Families;
+use he_live::Changes;
 use he_resolver::Choice;
 use std::alloc::{AllocError, Global};
 
@@ -74,7 +74,7 @@ fn args<'a>(alloc: Global) -> Result<Vec<Arg<'a>>, AllocError> {
     let six = six(alloc)?;
     Ok(vec![in alloc;
         host(alloc),
-        port(alloc),
+        port(alloc, "PORT", PORT_HELP),
         flag(alloc, "four", FOUR_HELP).short('4'),
         six,
         flag(alloc, "try", TRY_HELP).short('z'),
@@ -97,14 +97,6 @@ fn host<'a>(alloc: Global) -> Arg<'a> {
         .help(HOST_HELP)
 }
 
-fn port<'a>(alloc: Global) -> Arg<'a> {
-    Arg::new(alloc, "port")
-        .value_name("PORT")
-        .value_parser(value_parser!(u16).range(i64::from(LEAST_PORT)..=i64::from(u16::MAX)))
-        .required(true)
-        .help(PORT_HELP)
-}
-
 // Whether IPv6 addresses alone are tried.
 fn six<'a>(alloc: Global) -> Result<Arg<'a>, AllocError> {
     flag(alloc, "six", SIX_HELP)
@@ -120,7 +112,7 @@ pub struct Options<'a> {
     pub port: u16,
     pub families: Families,
     /// The settings that are given; None where one isn't a number, or has a name that there isn't.
-    pub numbers: Option<Numbers>,
+    pub changes: Option<Changes>,
     /// The resolver; None where the line names none that there is.
     pub resolver: Option<Choice>,
     /// The file of lines in place of this machine's.
@@ -140,7 +132,7 @@ pub(crate) fn options_of<'a>(matches: &ArgMatches<'a>) -> Options<'a>
         host: matches.get_str("host").unwrap_or(""),
         port: port_of(matches),
         families: families_of(matches),
-        numbers: numbers_of(matches),
+        changes: changes_of(matches),
         resolver: resolver_of(matches),
         lines: matches.get_str("lines"),
         record: matches.get_str("record"),

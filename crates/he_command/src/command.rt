@@ -2,9 +2,10 @@
 ghost use Rattle.std.specs.Prelude.{◌≤◌, IfOk};
 ghost use Rattle.he_command.specs.Run.{IsRequest};
 
-use crate::arguments::{flag, plain, port_of, resolver, resolver_of};
+use crate::arguments::{plain, resolver, resolver_of};
 use crate::asking::{Options, connect_command, options_of};
-use crate::limits::{DEFAULT_WORKERS, DEFAULT_WORKERS_TEXT, LEAST_PORT};
+use crate::limits::{DEFAULT_WORKERS, DEFAULT_WORKERS_TEXT};
+use crate::racing::{LiveOptions, live_command, live_options_of};
 use clap::{Arg, ArgMatches, Command, Error, value_parser};
 use he_replay::Action;
 use he_replay::limits::{LEAST_WORKERS, MOST_WORKERS};
@@ -18,13 +19,8 @@ pub enum Request<'a> {
     Action(Action),
     /// To check the input, and to explain its first fault or to warn of its slips.
     Check,
-    /// To run the race of the input on real sockets, each address at this port, 1 to 65,535. The status tells no
-    /// connection where `must_connect`, and standard error each attempt that failed where `verbose`.
-    Live {
-        port: u16,
-        must_connect: bool,
-        verbose: bool,
-    },
+    /// To run the race of the input on real sockets.
+    Live(LiveOptions<'a>),
     /// To write the lines of this machine's addresses and routes.
     Host,
     /// To find the addresses of a host, by this resolver; None where the line names none that there is.
@@ -48,22 +44,12 @@ const EXPLAIN_ABOUT: &str = "Reads timelines of races and writes why they went a
 const CHECK_ABOUT: &str =
     "Checks timelines of races, and explains the first fault or warns of slips";
 
-const LIVE_ABOUT: &str = "Races real connections, and writes what happened and a record of it";
-
 const HOST_ABOUT: &str = "Writes the addresses and routes of this machine as lines of a race";
 
 const NAMES_ABOUT: &str =
     "Finds the addresses of a host, and writes them as the answers of a timeline";
 
 const HOST_NAME_HELP: &str = "A host name, as www.example.com, or an address";
-
-const PORT_HELP: &str = "The TCP port at which each address is connected to, 1 to 65535";
-
-const MUST_CONNECT_HELP: &str =
-    "Ends with status 3 where no connection was made: the race was exhausted, or met its limit";
-
-const VERBOSE_HELP: &str =
-    "Tells on standard error each attempt that failed, and why, once the race has ended";
 
 const WORKERS_HELP: &str =
     "The most workers that share the races, 1 to 64; the output is the same for each number";
@@ -184,54 +170,6 @@ Standard error for it:
 Exit status: 0 when nothing is wrong; 1 after a fault; 2 for a command line that is
 refused.";
 
-const LIVE_EXAMPLE: &str = "\
-Standard input is a timeline text with one race, as for `he replay`: the host's
-addresses and routes, and the addresses of a name, which count as known from the tick
-(millisecond) of their answer on; 0 is at once. Its outcomes and pauses are ignored.
-Each address is connected to by TCP when it is its turn, until one connection is made;
-that one and all others are then closed.
-
-Standard output has the transcript, and then the record: the same race with how each
-attempt ended and when this program itself was late. The record is a timeline text.
-Kept in a file, it can be replayed anywhere, and gives the same transcript.
-
-Example input, with a server that listens at port 8080 of 127.0.0.1:
-
-  race 1
-  source 127.0.0.1/8 1
-  route 127.0.0.0/8 1
-  aaaa 0 none
-  a 0 127.0.0.1
-  end
-
-Output of `he live --port 8080` begins so (ticks differ from run to run):
-
-  attempt 0 0 127.0.0.1 won 1
-  won 0 1
-  race 1
-  set resolution 50
-
-To keep the record, and to replay it:
-
-  he live --port 8080 < race.txt | sed -n '/^race /,$p' > record.txt
-  he replay < record.txt
-
-With -v standard error has a line for each attempt that failed, with the system's
-words, once the race has ended:
-
-  he: attempt 0 at 127.0.0.1 failed: connection refused
-
-An attempt that this host itself could not begin (no descriptor, no memory, no
-permission, no sockets of the address's family) is told as
-
-  he: attempt 0 at 127.0.0.1 could not begin: too many open files
-
-Without -v only the first of these is told. Neither changes the exit status.
-
-Exit status: 0 when all is done, whether a connection was made or not; 3 in place of
-that with --must-connect where none was made; 1 after a fault, with one line on
-standard error; 2 for a command line that is refused.";
-
 const HOST_EXAMPLE: &str = "\
 Reads no input. Standard output has the `source` and `route` lines of this machine, as a
 race of a timeline text has them, from what Linux says in /proc/net and /sys/class/net.
@@ -302,7 +240,7 @@ fn commands<'a>(alloc: Global) -> Result<Vec<Command<'a>>, AllocError> {
     commands.push(plain(alloc, "order", ORDER_ABOUT, ORDER_EXAMPLE))?;
     commands.push(plain(alloc, "explain", EXPLAIN_ABOUT, EXPLAIN_EXAMPLE))?;
     commands.push(plain(alloc, "check", CHECK_ABOUT, CHECK_EXAMPLE))?;
-    commands.push(live(alloc)?)?;
+    commands.push(live_command(alloc)?)?;
     commands.push(plain(alloc, "host", HOST_ABOUT, HOST_EXAMPLE))?;
     commands.push(names(alloc)?)?;
     commands.push(connect_command(alloc)?)?;
@@ -311,17 +249,6 @@ fn commands<'a>(alloc: Global) -> Result<Vec<Command<'a>>, AllocError> {
 
 fn replay<'a>(alloc: Global) -> Result<Command<'a>, AllocError> {
     plain(alloc, "replay", REPLAY_ABOUT, REPLAY_EXAMPLE).arg(workers(alloc))
-}
-
-fn live<'a>(alloc: Global) -> Result<Command<'a>, AllocError> {
-    let args = vec![in alloc;
-        port(alloc),
-        flag(alloc, "must-connect", MUST_CONNECT_HELP).long("must-connect"),
-        flag(alloc, "verbose", VERBOSE_HELP)
-            .short('v')
-            .long("verbose"),
-    ]?;
-    plain(alloc, "live", LIVE_ABOUT, LIVE_EXAMPLE).args(args)
 }
 
 fn names<'a>(alloc: Global) -> Result<Command<'a>, AllocError> {
@@ -337,16 +264,6 @@ fn workers<'a>(alloc: Global) -> Arg<'a> {
         .value_parser(value_parser!(u16).range(i64::from(LEAST_WORKERS)..=i64::from(MOST_WORKERS)))
         .default_value(DEFAULT_WORKERS_TEXT)
         .help(WORKERS_HELP)
-}
-
-// The port of `he live`.
-fn port<'a>(alloc: Global) -> Arg<'a> {
-    Arg::new(alloc, "port")
-        .long("port")
-        .value_name("P")
-        .value_parser(value_parser!(u16).range(i64::from(LEAST_PORT)..=i64::from(u16::MAX)))
-        .required(true)
-        .help(PORT_HELP)
 }
 
 // The host of `he names`.
@@ -370,11 +287,7 @@ pub fn read_words<'a>(alloc: Global, words: &'a [&'a str]) -> Result<Request<'a>
         Some(("order", _)) => Request::Action(Action::Order),
         Some(("explain", _)) => Request::Action(Action::Explain),
         Some(("check", _)) => Request::Check,
-        Some(("live", live)) => Request::Live {
-            port: port_of(live),
-            must_connect: live.get_flag("must-connect"),
-            verbose: live.get_flag("verbose"),
-        },
+        Some(("live", live)) => Request::Live(live_options_of(live)),
         Some(("host", _)) => Request::Host,
         Some(("names", names)) => Request::Names {
             host: names.get_str("host").unwrap_or(""),

@@ -20,7 +20,8 @@ mod arguments;
 pub mod asking;
 pub mod command;
 pub mod limits;
-pub mod numbers;
+mod numbers;
+pub mod racing;
 pub mod run;
 
 pub use command::{Request, read_words};

@@ -1,27 +1,30 @@
 //! A whole run of the program over an input, an output and a writer of faults.
-ghost use Rattle.std.specs.Prelude.{◌≡◌, IfOk, Result};
+ghost use Rattle.std.specs.Prelude.{◌≡◌, ◌≢◌, [], IfOk, IsSome, OnErr, Result};
 ghost use Rattle.std.specs.Option.{option_and_then};
 ghost use Rattle.clap.specs.Values.{kind_of};
 ghost use Rattle.he_stream.specs.Input.{Gives, GivesSoFar};
 ghost use Rattle.he_stream.specs.Output.{PutsAndEnds, PutsInRounds, PutsPart, PutsRoundsPart, PutsWhole};
 ghost use Rattle.he_command.specs.declared.command.Request.TheVariants.{Check};
-ghost use Rattle.he_command.specs.Run.{AnswersLine, IsRequest, RunsConnect, RunsLine, RunsNames, RunsRequest, Shows, connect_settings, status_of, status_of_connection, status_of_live};
+ghost use Rattle.he_command.specs.Run.{AnswersLine, IsRequest, RunsConnect, RunsLine, RunsLive, RunsNames, RunsRace, RunsRequest, Shows, TellsRace, connect_settings, status_of, status_of_connection, status_of_live};
 
 use crate::arguments::OptionFault;
 use crate::asking::Options;
 use crate::command::{Request, read_words};
+use crate::numbers::settings_of;
+use crate::racing::LiveOptions;
 use clap::Error;
 use clap::error::ErrorKind;
 use he_check::check;
 use he_connect::{Asked, ConnectFault, Ended, Lines, connect};
 use he_host::machine::write_machine;
-use he_live::{FailedAttempt, LiveFault, first_local, live, write_failures};
+use he_live::{Changes, FailedAttempt, LiveFault, Told, first_local, live, write_failures};
 use he_plan::{Outcome3, Settings};
 use he_replay::{ReplayFault, run_action};
 use he_resolver::{Choice, SystemResolver, write_names};
 use he_stream::{InputStream, OutputStream, write_whole};
 use std::alloc::{AllocGlobal, Global};
 use std::fmt::Display;
+use std::fs;
 use std::io::Write;
 use std::mem::drop;
 use std::net::Net;
@@ -131,17 +134,7 @@ where
             report_end(run_action(rt, alloc, action, input, output), faults)
         }
         Request::Check => run_check(alloc, input, output, faults),
-        Request::Live {
-            port,
-            must_connect,
-            verbose,
-        } => {
-            let mut failed = Vec::new(alloc);
-            let end = live(rt, alloc, input, output, port, &mut failed);
-            report_failures(alloc, &failed, verbose, faults);
-            drop(failed);
-            report_race(end, must_connect, faults)
-        }
+        Request::Live(options) => run_live(rt, alloc, &options, input, output, faults),
         Request::Host => run_host(rt, alloc, output, faults),
         Request::Names { host, resolver } => {
             run_names(rt, alloc, host, resolver, output, faults)
@@ -170,6 +163,90 @@ fn run_check<I: InputStream, O: OutputStream, F: Write>(
     let status = report_end(end, faults);
     let _ = faults.write_all(explanation.as_slice());
     status
+}
+
+// Runs the race of the input. Settings that fit no race are a line that is refused.
+fn run_live<R, I, O, F>(
+    rt: &R,
+    alloc: Global,
+    options: &LiveOptions<'_>,
+    input: &mut I,
+    output: &mut O,
+    faults: &mut F,
+) -> u8
+where
+    R: Wait + Clock + RandomSource + AllocGlobal + Net + Files,
+    I: InputStream,
+    O: OutputStream,
+    F: Write,
+    ensures { RunsLive options.now (Gives I.remaining I.takes input.old input.new)
+        (PutsWhole O.contents O.puts O.flushes output.old output.new)
+        (PutsPart O.contents O.puts O.flushes output.old output.new) (output.new ≡ output.old) result }
+{
+    let Some(changes) = options.changes else {
+        return refuse_option(OptionFault::Setting, faults);
+    };
+    match changes.check() {
+        Ok(()) => run_changed(rt, alloc, options, changes, input, output, faults),
+        Err(_) => refuse_option(OptionFault::Setting, faults),
+    }
+}
+
+// Runs the race of the input with the changes of its settings.
+fn run_changed<R, I, O, F>(
+    rt: &R,
+    alloc: Global,
+    options: &LiveOptions<'_>,
+    changes: Changes,
+    input: &mut I,
+    output: &mut O,
+    faults: &mut F,
+) -> u8
+where
+    R: Wait + Clock + RandomSource + AllocGlobal + Net + Files,
+    I: InputStream,
+    O: OutputStream,
+    F: Write,
+    ensures { RunsRace options.now changes (Gives I.remaining I.takes input.old input.new)
+        (PutsWhole O.contents O.puts O.flushes output.old output.new)
+        (PutsPart O.contents O.puts O.flushes output.old output.new) (output.new ≡ output.old) result }
+{
+    let mut told = Told::new(alloc);
+    let end = live(rt, alloc, input, output, options.port, changes, &mut told);
+    let status = report_live(rt, alloc, options, &told, end, faults);
+    drop(told);
+    status
+}
+
+// Says why attempts of a live race failed and how it ended, and writes its record to a file where one is named.
+fn report_live<R: Files, F: Write>(
+    rt: &R,
+    alloc: Global,
+    options: &LiveOptions<'_>,
+    told: &Told,
+    end: Result<Outcome3, LiveFault>,
+    faults: &mut F,
+) -> u8
+    ensures { TellsRace options.now told.now end result }
+{
+    report_failures(alloc, &told.failed, options.verbose, faults);
+    let status = report_race(end, options.must_connect, faults);
+    match keep_record(rt, options.record, &told.record) {
+        Ok(()) => status,
+        Err(fault) => report(fault, faults),
+    }
+}
+
+// Writes the record of a race that was run to its file, where one is named.
+fn keep_record<R: Files>(rt: &R, path: Option<&str>, record: &[u8]) -> Result<(), ConnectFault>
+    ensures { OnErr result (IsSome path × (record.now ≢ [])) }
+{
+    match path {
+        Some(path) if !record.is_empty() => {
+            fs::write(rt, path, record).map_err(|_| ConnectFault::Record)
+        }
+        _ => Ok(()),
+    }
 }
 
 // Writes the lines of this machine, and what is left out of them.
@@ -244,7 +321,7 @@ where
     let Some(resolver) = options.resolver else {
         return refuse_option(OptionFault::Resolver, faults);
     };
-    let Some(settings) = settings_of(options) else {
+    let Some(settings) = settings_asked(options) else {
         return refuse_option(OptionFault::Setting, faults);
     };
     let asked = Asked {
@@ -265,10 +342,10 @@ where
     report_connection(connect(rt, alloc, &asked, input, output, faults), faults)
 }
 
-fn settings_of(options: &Options<'_>) -> Option<Settings>
-    ensures { result ≡ option_and_then connect_settings options.now.numbers }
+fn settings_asked(options: &Options<'_>) -> Option<Settings>
+    ensures { result ≡ option_and_then connect_settings options.now.changes }
 {
-    options.numbers?.settings()
+    settings_of(options.changes?)
 }
 
 // Says how a connection ended, and answers the exit status.
