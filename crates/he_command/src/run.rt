@@ -238,12 +238,12 @@ fn report_live<R: Files, F: Write>(
 }
 
 // Writes the record of a race that was run to its file, where one is named.
-fn keep_record<R: Files>(rt: &R, path: Option<&str>, record: &[u8]) -> Result<(), ConnectFault>
-    ensures { OnErr result (IsSome path × (record.now ≢ [])) }
+fn keep_record<R: Files>(rt: &R, path: Option<&str>, text: &[u8]) -> Result<(), ConnectFault>
+    ensures { OnErr result (IsSome path × (text.now ≢ [])) }
 {
     match path {
-        Some(path) if !record.is_empty() => {
-            fs::write(rt, path, record).map_err(|_| ConnectFault::Record)
+        Some(path) if !text.is_empty() => {
+            fs::write(rt, path, text).map_err(|_| ConnectFault::Record)
         }
         _ => Ok(()),
     }
