@@ -239,7 +239,7 @@ fn report_live<R: Files, F: Write>(
 
 // Writes the record of a race that was run to its file, where one is named.
 fn keep_record<R: Files>(rt: &R, path: Option<&str>, text: &[u8]) -> Result<(), ConnectFault>
-    ensures { OnErr result (IsSome path × (text.now ≢ [])) }
+    ensures { OnErr result (IsSome path.entry × (text.now ≢ [])) }
 {
     match path {
         Some(path) if !text.is_empty() => {
