@@ -9,9 +9,11 @@
 //! Proved (`run_line`): `he replay` writes the transcripts of the input's races and `he order` their orders, as
 //! `he_replay` says, `he check` the numbers of its races and lines where nothing is wrong with it, as `he_check` says,
 //! `he live` a transcript and a record that replays to it, as `he_live` says, `he host` one text, which no clause here
-//! names, and the status tells how that ended. A line that asks for none of them leaves the input alone: help and the
-//! version go to the output, whole with status 0, or with status 1 after a fault; a line that is refused leaves the
-//! output alone too, with status 2, or with 1 where it was refused for want of memory.
+//! names, and the status tells how that ended. `he connect` runs its race with exactly the settings that the line asks
+//! for, as `he_connect` says, and is refused, with status 2, exactly where they are none or the resolver is none; `he
+//! live` exactly where the settings that it is given fit no race. A line that asks for none of them leaves the input
+//! alone: help and the version go to the output, whole with status 0, or with status 1 after a fault; a line that is
+//! refused leaves the output alone too, with status 2, or with 1 where it was refused for want of memory.
 //!
 //! Only tested: which words ask for what, and what help, usage, faults and their explanations say.
 #![tactic(auto)]
