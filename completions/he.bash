@@ -9,9 +9,9 @@ _he() {
     esac
     case $command in
         '') options="$commands --help --version -h -V" ;;
-        replay) options='--workers --help -h' ;;
-        order) options='--help -h' ;;
-        explain) options='--help -h' ;;
+        replay) options='--workers --verbose -v --help -h' ;;
+        order) options='--verbose -v --help -h' ;;
+        explain) options='--verbose -v --help -h' ;;
         check) options='--help -h' ;;
         live) options='--port --timeout --set --record --must-connect --verbose -v --help -h' ;;
         host) options='--help -h' ;;

@@ -15,6 +15,8 @@ complete -c he -n __fish_use_subcommand -s V -l version -d 'Tell the version'
 complete -c he -n "not __fish_seen_subcommand_from help" -s h -l help -d 'Tell what it does'
 complete -c he -n '__fish_seen_subcommand_from help' -a "$commands"
 
+complete -c he -n '__fish_seen_subcommand_from replay order explain check' -F
+complete -c he -n '__fish_seen_subcommand_from replay order explain' -s v -l verbose -d 'Explain the fault of a file'
 complete -c he -n '__fish_seen_subcommand_from replay' -l workers -x -d 'Most workers, 1 to 64'
 complete -c he -n '__fish_seen_subcommand_from live' -l port -x -d 'TCP port, 1 to 65535'
 complete -c he -n '__fish_seen_subcommand_from live' -l must-connect -d 'Status 3 where no connection was made'

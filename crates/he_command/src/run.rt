@@ -4,24 +4,25 @@ ghost use Rattle.std.specs.Option.{option_and_then};
 ghost use Rattle.clap.specs.Values.{kind_of};
 ghost use Rattle.he_stream.specs.Input.{Gives, GivesSoFar};
 ghost use Rattle.he_stream.specs.Output.{PutsAndEnds, PutsInRounds, PutsPart, PutsRoundsPart, PutsWhole};
-ghost use Rattle.he_command.specs.declared.command.Request.TheVariants.{Check};
-ghost use Rattle.he_command.specs.Run.{AnswersLine, IsRequest, RunsConnect, RunsLine, RunsLive, RunsNames, RunsRace, RunsRequest, Shows, TellsRace, connect_settings, status_of, status_of_connection, status_of_live};
+ghost use Rattle.he_command.specs.Run.{AnswersLine, IsRequest, RunsConnect, RunsLine, RunsLive, RunsNames, RunsRace, RunsRequest, Shows, TellsRace, connect_settings};
+ghost use Rattle.he_command.specs.Status.{status_of, status_of_connection, status_of_live};
+ghost use Rattle.he_command.specs.Texts.{RunsFile, RunsFiles, RunsOver};
 
 use crate::arguments::OptionFault;
 use crate::asking::Options;
 use crate::command::{Request, read_words};
+use crate::files::run_texts;
 use crate::numbers::settings_of;
 use crate::racing::LiveOptions;
 use clap::Error;
 use clap::error::ErrorKind;
-use he_check::check;
 use he_connect::{Asked, ConnectFault, Ended, Lines, connect};
 use he_host::machine::write_machine;
 use he_live::{Changes, FailedAttempt, LiveFault, Told, first_local, live, write_failures};
 use he_plan::{Outcome3, Settings};
-use he_replay::{ReplayFault, run_action};
+use he_replay::ReplayFault;
 use he_resolver::{Choice, SystemResolver, write_names};
-use he_stream::{InputStream, OutputStream, write_whole};
+use he_stream::{FromReader, InputStream, OutputStream, write_whole};
 use std::alloc::{AllocGlobal, Global};
 use std::fmt::Display;
 use std::fs;
@@ -70,7 +71,8 @@ where
         (PutsRoundsPart O.contents O.puts O.flushes output.old output.new)
         (PutsInRounds O.contents O.puts O.flushes output.old output.new)
         (PutsWhole O.contents O.puts O.flushes output.old output.new)
-        (PutsPart O.contents O.puts O.flushes output.old output.new) (output.new ≡ output.old) result }
+        (PutsPart O.contents O.puts O.flushes output.old output.new) (output.new ≡ output.old)
+        (λ task files status. RunsFiles (λ name. RunsFile (RunsOver I.remaining I.takes O.contents O.puts O.flushes task) (RunsOver ⟦<FromReader<R::File> as InputStream>⟧.remaining ⟦<FromReader<R::File> as InputStream>⟧.takes O.contents O.puts O.flushes task) name.now) files input.old input.new output.old output.new status) result }
 {
     run_line(rt, alloc, read_words(alloc, words), input, output, faults)
 }
@@ -97,7 +99,8 @@ where
         (PutsRoundsPart O.contents O.puts O.flushes output.old output.new)
         (PutsInRounds O.contents O.puts O.flushes output.old output.new)
         (PutsWhole O.contents O.puts O.flushes output.old output.new)
-        (PutsPart O.contents O.puts O.flushes output.old output.new) (output.new ≡ output.old) result }
+        (PutsPart O.contents O.puts O.flushes output.old output.new) (output.new ≡ output.old)
+        (λ task files status. RunsFiles (λ name. RunsFile (RunsOver I.remaining I.takes O.contents O.puts O.flushes task) (RunsOver ⟦<FromReader<R::File> as InputStream>⟧.remaining ⟦<FromReader<R::File> as InputStream>⟧.takes O.contents O.puts O.flushes task) name.now) files input.old input.new output.old output.new status) result }
 {
     match line {
         Ok(request) => run_request(rt, alloc, request, input, output, faults),
@@ -127,13 +130,11 @@ where
         (PutsRoundsPart O.contents O.puts O.flushes output.old output.new)
         (PutsInRounds O.contents O.puts O.flushes output.old output.new)
         (PutsWhole O.contents O.puts O.flushes output.old output.new)
-        (PutsPart O.contents O.puts O.flushes output.old output.new) (output.new ≡ output.old) result }
+        (PutsPart O.contents O.puts O.flushes output.old output.new) (output.new ≡ output.old)
+        (λ task files status. RunsFiles (λ name. RunsFile (RunsOver I.remaining I.takes O.contents O.puts O.flushes task) (RunsOver ⟦<FromReader<R::File> as InputStream>⟧.remaining ⟦<FromReader<R::File> as InputStream>⟧.takes O.contents O.puts O.flushes task) name.now) files input.old input.new output.old output.new status) result }
 {
     match request {
-        Request::Action(action) => {
-            report_end(run_action(rt, alloc, action, input, output), faults)
-        }
-        Request::Check => run_check(alloc, input, output, faults),
+        Request::Texts(texts) => run_texts(rt, alloc, &texts, input, output, faults),
         Request::Live(options) => run_live(rt, alloc, &options, input, output, faults),
         Request::Host => run_host(rt, alloc, output, faults),
         Request::Names { host, resolver } => {
@@ -141,28 +142,6 @@ where
         }
         Request::Connect(options) => run_connect(rt, alloc, &options, input, output, faults),
     }
-}
-
-// Checks the input, and explains its first fault behind the line that tells it, or warns of its slips.
-fn run_check<I: InputStream, O: OutputStream, F: Write>(
-    alloc: Global,
-    input: &mut I,
-    output: &mut O,
-    faults: &mut F,
-) -> u8
-    ensures { RunsRequest Check (Gives I.remaining I.takes input.old input.new)
-        (GivesSoFar I.remaining I.takes input.old input.new)
-        (PutsAndEnds O.contents O.puts O.flushes output.old output.new)
-        (PutsRoundsPart O.contents O.puts O.flushes output.old output.new)
-        (PutsInRounds O.contents O.puts O.flushes output.old output.new)
-        (PutsWhole O.contents O.puts O.flushes output.old output.new)
-        (PutsPart O.contents O.puts O.flushes output.old output.new) (output.new ≡ output.old) result }
-{
-    let mut explanation = Vec::new(alloc);
-    let end = check(alloc, input, output, &mut explanation);
-    let status = report_end(end, faults);
-    let _ = faults.write_all(explanation.as_slice());
-    status
 }
 
 // Runs the race of the input. Settings that fit no race are a line that is refused.
@@ -453,6 +432,14 @@ pub fn report<E: Display + Drop, F: Write>(fault: E, faults: &mut F) -> u8
 {
     let _ = writeln!(faults, "he: {fault}");
     FAULT
+}
+
+/// Says that a text is waited for.
+pub fn tell_waiting<F: Write>(faults: &mut F) {
+    let _ = writeln!(
+        faults,
+        "he: takes a timeline text from this terminal, up to its end (Ctrl-D); `he --help` tells what else there is"
+    );
 }
 
 /// Says that a word of the command line is no UTF-8 text, and answers the exit status.
