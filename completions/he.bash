@@ -9,11 +9,11 @@ _he() {
     esac
     case $command in
         '') options="$commands --help --version -h -V" ;;
-        replay) options='--workers --help -h' ;;
-        order) options='--help -h' ;;
-        explain) options='--help -h' ;;
+        replay) options='--workers --verbose -v --help -h' ;;
+        order) options='--verbose -v --help -h' ;;
+        explain) options='--verbose -v --help -h' ;;
         check) options='--help -h' ;;
-        live) options='--port --must-connect --verbose -v --help -h' ;;
+        live) options='--port --timeout --set --record --must-connect --verbose -v --help -h' ;;
         host) options='--help -h' ;;
         names) options='--resolver --help -h' ;;
         connect) options='-4 -6 -z --timeout --set --host --resolver --record --explain --verbose -v --help -h' ;;

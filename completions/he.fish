@@ -15,6 +15,8 @@ complete -c he -n __fish_use_subcommand -s V -l version -d 'Tell the version'
 complete -c he -n "not __fish_seen_subcommand_from help" -s h -l help -d 'Tell what it does'
 complete -c he -n '__fish_seen_subcommand_from help' -a "$commands"
 
+complete -c he -n '__fish_seen_subcommand_from replay order explain check' -F
+complete -c he -n '__fish_seen_subcommand_from replay order explain' -s v -l verbose -d 'Explain the fault of a file'
 complete -c he -n '__fish_seen_subcommand_from replay' -l workers -x -d 'Most workers, 1 to 64'
 complete -c he -n '__fish_seen_subcommand_from live' -l port -x -d 'TCP port, 1 to 65535'
 complete -c he -n '__fish_seen_subcommand_from live' -l must-connect -d 'Status 3 where no connection was made'
@@ -24,9 +26,9 @@ complete -c he -n '__fish_seen_subcommand_from names connect' -a '(__fish_print_
 complete -c he -n '__fish_seen_subcommand_from connect' -s 4 -d 'IPv4 addresses alone'
 complete -c he -n '__fish_seen_subcommand_from connect' -s 6 -d 'IPv6 addresses alone'
 complete -c he -n '__fish_seen_subcommand_from connect' -s z -d 'End once the connection is made'
-complete -c he -n '__fish_seen_subcommand_from connect' -l timeout -x -d 'Milliseconds to give up after'
-complete -c he -n '__fish_seen_subcommand_from connect' -l set -x -a 'attempt= resolution= count= floor=' -d 'A setting of the race'
+complete -c he -n '__fish_seen_subcommand_from live connect' -l timeout -x -d 'Milliseconds to give up after'
+complete -c he -n '__fish_seen_subcommand_from live connect' -l set -x -a 'attempt= resolution= count= floor=' -d 'A setting of the race'
 complete -c he -n '__fish_seen_subcommand_from connect' -l host -r -F -d 'Lines in place of this machine'
-complete -c he -n '__fish_seen_subcommand_from connect' -l record -r -F -d 'File for the record'
+complete -c he -n '__fish_seen_subcommand_from live connect' -l record -r -F -d 'File for the record'
 complete -c he -n '__fish_seen_subcommand_from connect' -l explain -d 'Explain the race on standard error'
 complete -c he -n '__fish_seen_subcommand_from connect' -s v -l verbose -d 'Tell each step of the race'

@@ -2,27 +2,14 @@
 ghost use Rattle.std.specs.Prelude.{◌≤◌};
 ghost use Rattle.he_command.specs.declared.limits.TheConstants.{LEAST_PORT};
 
-use crate::command::{port_of, resolver, resolver_of};
-use crate::limits::LEAST_PORT;
-use clap::{Arg, ArgAction, ArgMatches, Command, value_parser};
-use he_addr::{Family, read_number};
+use crate::arguments::{file, flag, plain, port, port_of, resolver, resolver_of};
+use crate::numbers::{changes_of, set, timeout};
+use clap::{Arg, ArgMatches, Command};
+use he_addr::Family;
 use he_connect::Families;
-use he_plan::Settings;
-use he_plan::limits::{
-    DEFAULT_ATTEMPT, DEFAULT_COUNT, DEFAULT_LIMIT, DEFAULT_RESOLUTION, MIN_FLOOR,
-};
+use he_live::Changes;
 use he_resolver::Choice;
 use std::alloc::{AllocError, Global};
-use thiserror::Error;
-
-/// Which option of `he connect` has no value that it may have.
-#[derive(Clone, Copy, Debug, PartialEq, Eq, Error)]
-pub enum OptionFault {
-    #[error("invalid value for '--resolver <RESOLVER>': neither an address, nor an address and a port, nor `system`")]
-    Resolver,
-    #[error("invalid value for '--set <NAME=N>' or '--timeout <MS>': attempt=10 to 2000, resolution=0 to 1000, count=1 to 8, floor=10 to the attempt delay, and a timeout of 1 to 3600000")]
-    Setting,
-}
 
 const ABOUT: &str =
     "Connects to a host by RFC 8305, with standard input and output over the connection";
@@ -77,37 +64,30 @@ refused.";
 
 // The command `he connect`.
 pub(crate) fn connect_command<'a>(alloc: Global) -> Result<Command<'a>, AllocError> {
-    let connect = Command::new(alloc, "connect")
-        .about(ABOUT)
-        .after_help(EXAMPLE)
-        .arg(host(alloc))?
-        .arg(port(alloc))?
-        .arg(flag(alloc, "four").short('4').help(FOUR_HELP))?
-        .arg(
-            flag(alloc, "six")
-                .short('6')
-                .conflicts_with("four")?
-                .help(SIX_HELP),
-        )?
-        .arg(flag(alloc, "try").short('z').help(TRY_HELP))?
-        .arg(timeout(alloc))?
-        .arg(set(alloc))?;
-    with_files(alloc, connect)
+    let args = args(alloc)?;
+    plain(alloc, "connect", ABOUT, EXAMPLE).args(args)
 }
 
-// With the options that name files, and those that tell of the race.
-fn with_files<'a>(alloc: Global, connect: Command<'a>) -> Result<Command<'a>, AllocError> {
-    connect
-        .arg(file(alloc, "lines").long("host").help(LINES_HELP))?
-        .arg(resolver(alloc))?
-        .arg(file(alloc, "record").long("record").help(RECORD_HELP))?
-        .arg(flag(alloc, "explain").long("explain").help(EXPLAIN_HELP))?
-        .arg(
-            flag(alloc, "verbose")
-                .short('v')
-                .long("verbose")
-                .help(VERBOSE_HELP),
-        )
+// Its arguments, in the order in which help has them. They are made in one list: a chain of `arg`, each of which may
+// be refused memory, takes minutes to prove.
+fn args<'a>(alloc: Global) -> Result<Vec<Arg<'a>>, AllocError> {
+    let six = six(alloc)?;
+    Ok(vec![in alloc;
+        host(alloc),
+        port(alloc, "PORT", PORT_HELP),
+        flag(alloc, "four", FOUR_HELP).short('4'),
+        six,
+        flag(alloc, "try", TRY_HELP).short('z'),
+        timeout(alloc, TIMEOUT_HELP),
+        set(alloc, SET_HELP),
+        file(alloc, "lines", LINES_HELP).long("host"),
+        resolver(alloc),
+        file(alloc, "record", RECORD_HELP).long("record"),
+        flag(alloc, "explain", EXPLAIN_HELP).long("explain"),
+        flag(alloc, "verbose", VERBOSE_HELP)
+            .long("verbose")
+            .short('v'),
+    ]?)
 }
 
 fn host<'a>(alloc: Global) -> Arg<'a> {
@@ -117,35 +97,11 @@ fn host<'a>(alloc: Global) -> Arg<'a> {
         .help(HOST_HELP)
 }
 
-fn port<'a>(alloc: Global) -> Arg<'a> {
-    Arg::new(alloc, "port")
-        .value_name("PORT")
-        .value_parser(value_parser!(u16).range(i64::from(LEAST_PORT)..=i64::from(u16::MAX)))
-        .required(true)
-        .help(PORT_HELP)
-}
-
-fn timeout<'a>(alloc: Global) -> Arg<'a> {
-    Arg::new(alloc, "timeout")
-        .long("timeout")
-        .value_name("MS")
-        .help(TIMEOUT_HELP)
-}
-
-fn set<'a>(alloc: Global) -> Arg<'a> {
-    Arg::new(alloc, "set")
-        .long("set")
-        .value_name("NAME=N")
-        .action(ArgAction::Append)
-        .help(SET_HELP)
-}
-
-fn flag<'a>(alloc: Global, id: &'a str) -> Arg<'a> {
-    Arg::new(alloc, id).action(ArgAction::SetTrue)
-}
-
-fn file<'a>(alloc: Global, id: &'a str) -> Arg<'a> {
-    Arg::new(alloc, id).value_name("FILE")
+// Whether IPv6 addresses alone are tried.
+fn six<'a>(alloc: Global) -> Result<Arg<'a>, AllocError> {
+    flag(alloc, "six", SIX_HELP)
+        .short('6')
+        .conflicts_with("four")
 }
 
 /// What a line of `he connect` asks for.
@@ -155,8 +111,8 @@ pub struct Options<'a> {
     /// 1 to 65,535.
     pub port: u16,
     pub families: Families,
-    /// The numbers of the settings; None where one isn't a number, or has a name that there isn't.
-    pub numbers: Option<Numbers>,
+    /// The settings that are given; None where one isn't a number, or has a name that there isn't.
+    pub changes: Option<Changes>,
     /// The resolver; None where the line names none that there is.
     pub resolver: Option<Choice>,
     /// The file of lines in place of this machine's.
@@ -176,7 +132,7 @@ pub(crate) fn options_of<'a>(matches: &ArgMatches<'a>) -> Options<'a>
         host: matches.get_str("host").unwrap_or(""),
         port: port_of(matches),
         families: families_of(matches),
-        numbers: numbers_of(matches),
+        changes: changes_of(matches),
         resolver: resolver_of(matches),
         lines: matches.get_str("lines"),
         record: matches.get_str("record"),
@@ -194,70 +150,4 @@ fn families_of(matches: &ArgMatches<'_>) -> Families {
     } else {
         Families::Both
     }
-}
-
-/// The numbers of the settings of a race, whatever they are.
-#[derive(Clone, Copy, Debug, PartialEq, Eq)]
-pub struct Numbers {
-    pub resolution: u64,
-    pub attempt: u64,
-    pub count: u64,
-    pub limit: u64,
-    pub floor: u64,
-}
-
-// Those of RFC 8305 section 8, and a floor, where none are given.
-const DEFAULTS: Numbers = Numbers {
-    resolution: DEFAULT_RESOLUTION,
-    attempt: DEFAULT_ATTEMPT,
-    count: DEFAULT_COUNT,
-    limit: DEFAULT_LIMIT,
-    floor: MIN_FLOOR,
-};
-
-impl Numbers {
-    // With a setting as `attempt=100`.
-    fn with(self, text: &str) -> Option<Numbers> {
-        let (name, number) = text.split_once('=')?;
-        let number = read_number(number.as_bytes())?;
-        match name {
-            "resolution" => Some(Numbers {
-                resolution: number,
-                ..self
-            }),
-            "attempt" => Some(Numbers {
-                attempt: number,
-                ..self
-            }),
-            "count" => Some(Numbers {
-                count: number,
-                ..self
-            }),
-            "floor" => Some(Numbers {
-                floor: number,
-                ..self
-            }),
-            _ => None,
-        }
-    }
-
-    // The settings; None where a number is out of its range.
-    pub(crate) fn settings(self) -> Option<Settings> {
-        let settings = Settings::new(self.resolution, self.attempt, self.count, self.limit).ok()?;
-        settings.with_floor(self.floor).ok()
-    }
-}
-
-// The numbers of the line, those of `DEFAULTS` where none are given. Of two for one name the later counts.
-fn numbers_of(matches: &ArgMatches<'_>) -> Option<Numbers> {
-    let mut numbers = DEFAULTS;
-    if let Some(text) = matches.get_str("timeout") {
-        numbers.limit = read_number(text.as_bytes())?;
-    }
-    if let Some(texts) = matches.get_strs("set") {
-        for text in texts {
-            numbers = numbers.with(text)?;
-        }
-    }
-    Some(numbers)
 }

@@ -1,29 +1,26 @@
 //! The command line.
-ghost use Rattle.std.specs.Prelude.{◌≤◌, IfOk};
+ghost use Rattle.std.specs.Prelude.{IfOk};
 ghost use Rattle.he_command.specs.Run.{IsRequest};
+ghost use Rattle.he_command.specs.Texts.{HasTaskWorkers};
 
+use crate::arguments::{plain, resolver, resolver_of};
 use crate::asking::{Options, connect_command, options_of};
-use crate::limits::{DEFAULT_WORKERS, DEFAULT_WORKERS_TEXT, LEAST_PORT};
-use clap::{Arg, ArgAction, ArgMatches, Command, Error, value_parser};
+use crate::racing::{LiveOptions, live_command, live_options_of};
+use crate::texts::{
+    Task, Texts, check_command, explain_command, files_of, order_command, replay_command, replay_of,
+};
+use clap::{Arg, ArgMatches, Command, Error};
 use he_replay::Action;
-use he_replay::limits::{LEAST_WORKERS, MOST_WORKERS};
 use he_resolver::Choice;
 use std::alloc::{AllocError, Global};
 
 /// What a command line asks for.
-#[derive(Clone, Copy)]
+#[derive(Drop)]
 pub enum Request<'a> {
-    /// Something to do with the races of the input.
-    Action(Action),
-    /// To check the input, and to explain its first fault or to warn of its slips.
-    Check,
-    /// To run the race of the input on real sockets, each address at this port, 1 to 65,535. The status tells no
-    /// connection where `must_connect`, and standard error each attempt that failed where `verbose`.
-    Live {
-        port: u16,
-        must_connect: bool,
-        verbose: bool,
-    },
+    /// To do something with the races of texts.
+    Texts(Texts<'a>),
+    /// To run the race of the input on real sockets.
+    Live(LiveOptions<'a>),
     /// To write the lines of this machine's addresses and routes.
     Host,
     /// To find the addresses of a host, by this resolver; None where the line names none that there is.
@@ -38,16 +35,14 @@ pub enum Request<'a> {
 const ABOUT: &str =
     "Replays Happy Eyeballs races (RFC 8305), runs them live, and orders their addresses (RFC 6724)";
 
-const REPLAY_ABOUT: &str = "Reads timelines of races and writes what happens in them";
-
-const ORDER_ABOUT: &str = "Reads timelines of races and writes the order of their addresses";
-
-const EXPLAIN_ABOUT: &str = "Reads timelines of races and writes why they went as they did";
-
-const CHECK_ABOUT: &str =
-    "Checks timelines of races, and explains the first fault or warns of slips";
-
-const LIVE_ABOUT: &str = "Races real connections, and writes what happened and a record of it";
+/// Whether a line asks for something that takes a text from standard input.
+pub fn takes_text(line: &Result<Request<'_>, Error>) -> bool {
+    match line {
+        Ok(Request::Texts(texts)) => texts.files.is_empty(),
+        Ok(Request::Live(_)) => true,
+        _ => false,
+    }
+}
 
 const HOST_ABOUT: &str = "Writes the addresses and routes of this machine as lines of a race";
 
@@ -56,184 +51,10 @@ const NAMES_ABOUT: &str =
 
 const HOST_NAME_HELP: &str = "A host name, as www.example.com, or an address";
 
-const RESOLVER_HELP: &str =
-    "A name server in place of those of /etc/resolv.conf: ADDRESS or ADDRESS:PORT, IPv6 with a port as [ADDRESS]:PORT; \
-or `system`, the system's own resolver";
-
-const PORT_HELP: &str = "The TCP port at which each address is connected to, 1 to 65535";
-
-const MUST_CONNECT_HELP: &str =
-    "Ends with status 3 where no connection was made: the race was exhausted, or met its limit";
-
-const VERBOSE_HELP: &str =
-    "Tells on standard error each attempt that failed, and why, once the race has ended";
-
-const WORKERS_HELP: &str =
-    "The most workers that share the races, 1 to 64; the output is the same for each number";
-
 const EXIT_STATUS: &str = "\
 Exit status: 0 when all is done; 1 after a fault, which standard error tells; 2 for a
 command line that is refused; 3 where `connect` or `live --must-connect` made no
 connection.";
-
-const REPLAY_EXAMPLE: &str = "\
-Standard input is a timeline text: for each race the host's addresses and routes, the
-tick (millisecond) at which each DNS answer comes, and how long each connect takes.
-Standard output has, for each race, its attempts with start, address and end, and
-the result. A race that begins with `race 2` may also say what is known of addresses
-from earlier (`rtt`, `used`), and how soon after failures the next is tried (`set floor`).
-
-Example input:
-
-  race 1
-  source 2001:db8::2/64 1
-  source 192.0.2.2/24 1
-  route ::/0 1
-  route 0.0.0.0/0 1
-  aaaa 20 2001:db8:1::1
-  a 25 198.51.100.1
-  connect 2001:db8:1::1 ok 35
-  end
-
-Its output:
-
-  attempt 0 20 2001:db8:1::1 won 55
-  won 0 55
-
-Exit status: 0 when all is done; 1 after a fault, with one line on standard error;
-2 for a command line that is refused.";
-
-const ORDER_EXAMPLE: &str = "\
-Standard input is a timeline text, as for `he replay`. Standard output has, for each
-race, its usable addresses in the order of preference (RFC 6724), each with the source
-address that the host uses for it, or none where it has no route or no source.
-
-Example input:
-
-  race 1
-  source 2001:db8::2/64 1
-  source 192.0.2.2/24 1
-  route 0.0.0.0/0 1
-  aaaa 20 2001:db8:1::1
-  a 20 198.51.100.1
-  end
-
-Its output:
-
-  0 198.51.100.1 from 192.0.2.2
-  1 2001:db8:1::1 from none
-  end
-
-Exit status: 0 when all is done; 1 after a fault, with one line on standard error;
-2 for a command line that is refused.";
-
-const EXPLAIN_EXAMPLE: &str = "\
-Standard input is a timeline text, as for `he replay`. Standard output has, for each
-race, its usable addresses in the order of preference, from the second on with the rule
-(RFC 6724 section 6, RFC 8305 section 4) that puts it behind the one before; then what
-happened at which tick (millisecond), each attempt with what started it (RFC 8305
-sections 3 to 5), and with the place of its address in the interlaced list.
-
-Example input:
-
-  race 1
-  source 2001:db8::2/64 1
-  source 192.0.2.2/24 1
-  route ::/0 1
-  route 0.0.0.0/0 1
-  aaaa 20 2001:db8:1::1
-  a 25 198.51.100.1
-  connect 2001:db8:1::1 ok 35
-  end
-
-Its output (the second line is one line):
-
-  order 0 2001:db8:1::1 source 2001:db8::2
-  order 1 198.51.100.1 source 192.0.2.2, behind 0 by rule 6, prefer higher precedence:
-    35 after 40
-  20 answer aaaa usable 1
-  20 attempt 0 2001:db8:1::1, on the AAAA answer, listed at 0 of 1, its family leads
-  25 answer a usable 1
-  55 won attempt 0
-  end
-
-Exit status: 0 when all is done; 1 after a fault, with one line on standard error;
-2 for a command line that is refused.";
-
-const CHECK_EXAMPLE: &str = "\
-Standard input is a timeline text, as for `he replay`. Where nothing is wrong with it,
-standard output has one line, as
-
-  3 races, 27 lines
-
-and standard error a warning of what is allowed and surely not meant, as a race without an
-`aaaa` line, which can't be exhausted. Else standard output has nothing, and standard error
-the first fault: its line by number and by its text, a mark below what is wrong there, and
-what was expected.
-
-Example input:
-
-  race 1
-  set attempt 5
-  end
-
-Standard error for it:
-
-  he: line 2: range
-    set attempt 5
-                ^
-  the attempt delay is 10 to 2000 milliseconds
-
-Exit status: 0 when nothing is wrong; 1 after a fault; 2 for a command line that is
-refused.";
-
-const LIVE_EXAMPLE: &str = "\
-Standard input is a timeline text with one race, as for `he replay`: the host's
-addresses and routes, and the addresses of a name, which count as known from the tick
-(millisecond) of their answer on; 0 is at once. Its outcomes and pauses are ignored.
-Each address is connected to by TCP when it is its turn, until one connection is made;
-that one and all others are then closed.
-
-Standard output has the transcript, and then the record: the same race with how each
-attempt ended and when this program itself was late. The record is a timeline text.
-Kept in a file, it can be replayed anywhere, and gives the same transcript.
-
-Example input, with a server that listens at port 8080 of 127.0.0.1:
-
-  race 1
-  source 127.0.0.1/8 1
-  route 127.0.0.0/8 1
-  aaaa 0 none
-  a 0 127.0.0.1
-  end
-
-Output of `he live --port 8080` begins so (ticks differ from run to run):
-
-  attempt 0 0 127.0.0.1 won 1
-  won 0 1
-  race 1
-  set resolution 50
-
-To keep the record, and to replay it:
-
-  he live --port 8080 < race.txt | sed -n '/^race /,$p' > record.txt
-  he replay < record.txt
-
-With -v standard error has a line for each attempt that failed, with the system's
-words, once the race has ended:
-
-  he: attempt 0 at 127.0.0.1 failed: connection refused
-
-An attempt that this host itself could not begin (no descriptor, no memory, no
-permission, no sockets of the address's family) is told as
-
-  he: attempt 0 at 127.0.0.1 could not begin: too many open files
-
-Without -v only the first of these is told. Neither changes the exit status.
-
-Exit status: 0 when all is done, whether a connection was made or not; 3 in place of
-that with --must-connect where none was made; 1 after a fault, with one line on
-standard error; 2 for a command line that is refused.";
 
 const HOST_EXAMPLE: &str = "\
 Reads no input. Standard output has the `source` and `route` lines of this machine, as a
@@ -288,81 +109,33 @@ refused.";
 
 // The whole command line of the program.
 fn command<'a>(alloc: Global) -> Result<Command<'a>, AllocError> {
-    let workers = Arg::new(alloc, "workers")
-        .long("workers")
-        .value_name("N")
-        .value_parser(value_parser!(u16).range(i64::from(LEAST_WORKERS)..=i64::from(MOST_WORKERS)))
-        .default_value(DEFAULT_WORKERS_TEXT)
-        .help(WORKERS_HELP);
-    let replay = Command::new(alloc, "replay")
-        .about(REPLAY_ABOUT)
-        .after_help(REPLAY_EXAMPLE)
-        .arg(workers)?;
-    let order = Command::new(alloc, "order")
-        .about(ORDER_ABOUT)
-        .after_help(ORDER_EXAMPLE);
-    let explain = Command::new(alloc, "explain")
-        .about(EXPLAIN_ABOUT)
-        .after_help(EXPLAIN_EXAMPLE);
-    let check = Command::new(alloc, "check")
-        .about(CHECK_ABOUT)
-        .after_help(CHECK_EXAMPLE);
-    let live = Command::new(alloc, "live")
-        .about(LIVE_ABOUT)
-        .after_help(LIVE_EXAMPLE)
-        .arg(port(alloc))?
-        .arg(must_connect(alloc))?
-        .arg(verbose(alloc))?;
-    let host = Command::new(alloc, "host")
-        .about(HOST_ABOUT)
-        .after_help(HOST_EXAMPLE);
-    let names = Command::new(alloc, "names")
-        .about(NAMES_ABOUT)
-        .after_help(NAMES_EXAMPLE)
-        .arg(host_name(alloc))?
-        .arg(resolver(alloc))?;
-    let connect = connect_command(alloc)?;
+    let commands = commands(alloc)?;
     Command::new(alloc, "he")
         .bin_name("he")?
         .version("1.0.0")
         .about(ABOUT)
         .after_help(EXIT_STATUS)
         .subcommand_required(true)
-        .subcommand(replay)?
-        .subcommand(order)?
-        .subcommand(explain)?
-        .subcommand(check)?
-        .subcommand(live)?
-        .subcommand(host)?
-        .subcommand(names)?
-        .subcommand(connect)
+        .subcommands(commands)
 }
 
-// The port of `he live`.
-fn port<'a>(alloc: Global) -> Arg<'a> {
-    Arg::new(alloc, "port")
-        .long("port")
-        .value_name("P")
-        .value_parser(value_parser!(u16).range(i64::from(LEAST_PORT)..=i64::from(u16::MAX)))
-        .required(true)
-        .help(PORT_HELP)
+// The commands, in the order in which help has them.
+fn commands<'a>(alloc: Global) -> Result<Vec<Command<'a>>, AllocError> {
+    let mut commands = Vec::new(alloc);
+    commands.push(replay_command(alloc)?)?;
+    commands.push(order_command(alloc)?)?;
+    commands.push(explain_command(alloc)?)?;
+    commands.push(check_command(alloc)?)?;
+    commands.push(live_command(alloc)?)?;
+    commands.push(plain(alloc, "host", HOST_ABOUT, HOST_EXAMPLE))?;
+    commands.push(names(alloc)?)?;
+    commands.push(connect_command(alloc)?)?;
+    Ok(commands)
 }
 
-// Whether `he live` tells by its status that no connection was made.
-fn must_connect<'a>(alloc: Global) -> Arg<'a> {
-    Arg::new(alloc, "must-connect")
-        .long("must-connect")
-        .action(ArgAction::SetTrue)
-        .help(MUST_CONNECT_HELP)
-}
-
-// Whether `he live` tells each attempt that failed.
-fn verbose<'a>(alloc: Global) -> Arg<'a> {
-    Arg::new(alloc, "verbose")
-        .short('v')
-        .long("verbose")
-        .action(ArgAction::SetTrue)
-        .help(VERBOSE_HELP)
+fn names<'a>(alloc: Global) -> Result<Command<'a>, AllocError> {
+    let args = vec![in alloc; host_name(alloc), resolver(alloc)]?;
+    plain(alloc, "names", NAMES_ABOUT, NAMES_EXAMPLE).args(args)
 }
 
 // The host of `he names`.
@@ -371,14 +144,6 @@ fn host_name<'a>(alloc: Global) -> Arg<'a> {
         .value_name("HOST")
         .required(true)
         .help(HOST_NAME_HELP)
-}
-
-// The resolver of `he names`.
-pub(crate) fn resolver<'a>(alloc: Global) -> Arg<'a> {
-    Arg::new(alloc, "resolver")
-        .long("resolver")
-        .value_name("RESOLVER")
-        .help(RESOLVER_HELP)
 }
 
 /// Reads the words of a command line, of which the first is the program's name.
@@ -390,56 +155,41 @@ pub fn read_words<'a>(alloc: Global, words: &'a [&'a str]) -> Result<Request<'a>
     ensures { IfOk result IsRequest }
 {
     let matches = command(alloc)?.try_get_matches_from(words)?;
-    Ok(match matches.subcommand() {
-        Some(("order", _)) => Request::Action(Action::Order),
-        Some(("explain", _)) => Request::Action(Action::Explain),
-        Some(("check", _)) => Request::Check,
-        Some(("live", live)) => Request::Live {
-            port: port_of(live),
-            must_connect: live.get_flag("must-connect"),
-            verbose: live.get_flag("verbose"),
-        },
-        Some(("host", _)) => Request::Host,
-        Some(("names", names)) => Request::Names {
-            host: names.get_str("host").unwrap_or(""),
-            resolver: resolver_of(names),
-        },
-        Some(("connect", connect)) => Request::Connect(options_of(connect)),
-        Some((_, replay)) => Request::Action(Action::Replay {
-            workers: workers_of(replay),
-        }),
-        None => Request::Action(Action::Replay {
-            workers: DEFAULT_WORKERS,
-        }),
-    })
+    Ok(request_of(alloc, &matches)?)
 }
 
-// The resolver that the line names: that of the system's settings where it names none.
-pub(crate) fn resolver_of(matches: &ArgMatches<'_>) -> Option<Choice> {
-    match matches.get_str("resolver") {
-        Some(text) => Choice::read(text.as_bytes()),
-        None => Some(Choice::Configured),
+// What the line asks for. clap has tested that it names a command.
+fn request_of<'a>(alloc: Global, matches: &ArgMatches<'a>) -> Result<Request<'a>, AllocError>
+    ensures { IfOk result IsRequest }
+{
+    match matches.subcommand() {
+        Some(("order", order)) => texts_of(alloc, Task::Action(Action::Order), order),
+        Some(("explain", explain)) => texts_of(alloc, Task::Action(Action::Explain), explain),
+        Some(("check", check)) => texts_of(alloc, Task::Check, check),
+        Some(("live", live)) => Ok(Request::Live(live_options_of(live))),
+        Some(("host", _)) => Ok(Request::Host),
+        Some(("names", names)) => Ok(Request::Names {
+            host: names.get_str("host").unwrap_or(""),
+            resolver: resolver_of(names),
+        }),
+        Some(("connect", connect)) => Ok(Request::Connect(options_of(connect))),
+        Some((_, replay)) => texts_of(alloc, Task::Action(replay_of(replay)), replay),
+        None => texts_of(alloc, Task::Action(replay_of(matches)), matches),
     }
 }
 
-// The port. clap has tested that it is there, and its range, but has no clause on a subcommand's arguments.
-pub(crate) fn port_of(matches: &ArgMatches<'_>) -> u16
-    ensures { LEAST_PORT ≤ result }
+// The texts that the line names.
+fn texts_of<'a>(
+    alloc: Global,
+    task: Task,
+    matches: &ArgMatches<'a>,
+) -> Result<Request<'a>, AllocError>
+    requires { HasTaskWorkers task }
+    ensures { IfOk result IsRequest }
 {
-    matches
-        .get_one::<u16>("port")
-        .unwrap_or(LEAST_PORT)
-        .max(LEAST_PORT)
-}
-
-// The number of workers. clap has tested its range, but has no clause on a subcommand's arguments.
-fn workers_of(matches: &ArgMatches<'_>) -> u16
-    ensures some { LEAST_WORKERS ≤ result }
-    ensures few { result ≤ MOST_WORKERS }
-{
-    matches
-        .get_one::<u16>("workers")
-        .unwrap_or(DEFAULT_WORKERS)
-        .max(LEAST_WORKERS)
-        .min(MOST_WORKERS)
+    Ok(Request::Texts(Texts {
+        task,
+        files: files_of(alloc, matches)?,
+        explains: matches.get_flag("verbose"),
+    }))
 }

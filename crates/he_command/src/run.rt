@@ -1,25 +1,31 @@
 //! A whole run of the program over an input, an output and a writer of faults.
-ghost use Rattle.std.specs.Prelude.{◌≡◌, IfOk, Result};
+ghost use Rattle.std.specs.Prelude.{◌≡◌, ◌≢◌, [], IfOk, IsSome, OnErr, Result};
+ghost use Rattle.std.specs.Option.{option_and_then};
 ghost use Rattle.clap.specs.Values.{kind_of};
 ghost use Rattle.he_stream.specs.Input.{Gives, GivesSoFar};
 ghost use Rattle.he_stream.specs.Output.{PutsAndEnds, PutsInRounds, PutsPart, PutsRoundsPart, PutsWhole};
-ghost use Rattle.he_command.specs.declared.command.Request.TheVariants.{Check};
-ghost use Rattle.he_command.specs.Run.{AnswersLine, IsRequest, RunsConnect, RunsLine, RunsNames, RunsRequest, Shows, status_of, status_of_connection, status_of_live};
+ghost use Rattle.he_command.specs.Run.{AnswersLine, IsRequest, RunsConnect, RunsLine, RunsLive, RunsNames, RunsRace, RunsRequest, Shows, TellsRace, connect_settings};
+ghost use Rattle.he_command.specs.Status.{status_of, status_of_connection, status_of_live};
+ghost use Rattle.he_command.specs.Texts.{RunsFile, RunsFiles, RunsOver};
 
-use crate::asking::{OptionFault, Options};
+use crate::arguments::OptionFault;
+use crate::asking::Options;
 use crate::command::{Request, read_words};
+use crate::files::run_texts;
+use crate::numbers::settings_of;
+use crate::racing::LiveOptions;
 use clap::Error;
 use clap::error::ErrorKind;
-use he_check::check;
 use he_connect::{Asked, ConnectFault, Ended, Lines, connect};
 use he_host::machine::write_machine;
-use he_live::{FailedAttempt, LiveFault, first_local, live, write_failures};
+use he_live::{Changes, FailedAttempt, LiveFault, Told, first_local, live, write_failures};
 use he_plan::{Outcome3, Settings};
-use he_replay::{ReplayFault, run_action};
+use he_replay::ReplayFault;
 use he_resolver::{Choice, SystemResolver, write_names};
-use he_stream::{InputStream, OutputStream, write_whole};
+use he_stream::{FromReader, InputStream, OutputStream, write_whole};
 use std::alloc::{AllocGlobal, Global};
 use std::fmt::Display;
+use std::fs;
 use std::io::Write;
 use std::mem::drop;
 use std::net::Net;
@@ -40,11 +46,6 @@ pub const USAGE: u8 = 2;
 
 /// The exit status of a live race that had to make a connection and made none.
 pub const NO_CONNECTION: u8 = 3;
-
-const NO_RESOLVER: &str = "\
-error: invalid value for '--resolver <RESOLVER>': neither an address, nor an address and a port, nor `system`
-
-For more information, try '--help'.";
 
 /// Runs the command line `words`, of which the first is the program's name, and answers the exit
 /// status. Output and help that was asked for go to `output`; what is wrong goes to `faults`. What
@@ -70,7 +71,8 @@ where
         (PutsRoundsPart O.contents O.puts O.flushes output.old output.new)
         (PutsInRounds O.contents O.puts O.flushes output.old output.new)
         (PutsWhole O.contents O.puts O.flushes output.old output.new)
-        (PutsPart O.contents O.puts O.flushes output.old output.new) (output.new ≡ output.old) result }
+        (PutsPart O.contents O.puts O.flushes output.old output.new) (output.new ≡ output.old)
+        (λ task files status. RunsFiles (λ name. RunsFile (RunsOver I.remaining I.takes O.contents O.puts O.flushes task) (RunsOver ⟦<FromReader<R::File> as InputStream>⟧.remaining ⟦<FromReader<R::File> as InputStream>⟧.takes O.contents O.puts O.flushes task) name.now) files input.old input.new output.old output.new status) result }
 {
     run_line(rt, alloc, read_words(alloc, words), input, output, faults)
 }
@@ -97,7 +99,8 @@ where
         (PutsRoundsPart O.contents O.puts O.flushes output.old output.new)
         (PutsInRounds O.contents O.puts O.flushes output.old output.new)
         (PutsWhole O.contents O.puts O.flushes output.old output.new)
-        (PutsPart O.contents O.puts O.flushes output.old output.new) (output.new ≡ output.old) result }
+        (PutsPart O.contents O.puts O.flushes output.old output.new) (output.new ≡ output.old)
+        (λ task files status. RunsFiles (λ name. RunsFile (RunsOver I.remaining I.takes O.contents O.puts O.flushes task) (RunsOver ⟦<FromReader<R::File> as InputStream>⟧.remaining ⟦<FromReader<R::File> as InputStream>⟧.takes O.contents O.puts O.flushes task) name.now) files input.old input.new output.old output.new status) result }
 {
     match line {
         Ok(request) => run_request(rt, alloc, request, input, output, faults),
@@ -127,24 +130,12 @@ where
         (PutsRoundsPart O.contents O.puts O.flushes output.old output.new)
         (PutsInRounds O.contents O.puts O.flushes output.old output.new)
         (PutsWhole O.contents O.puts O.flushes output.old output.new)
-        (PutsPart O.contents O.puts O.flushes output.old output.new) (output.new ≡ output.old) result }
+        (PutsPart O.contents O.puts O.flushes output.old output.new) (output.new ≡ output.old)
+        (λ task files status. RunsFiles (λ name. RunsFile (RunsOver I.remaining I.takes O.contents O.puts O.flushes task) (RunsOver ⟦<FromReader<R::File> as InputStream>⟧.remaining ⟦<FromReader<R::File> as InputStream>⟧.takes O.contents O.puts O.flushes task) name.now) files input.old input.new output.old output.new status) result }
 {
     match request {
-        Request::Action(action) => {
-            report_end(run_action(rt, alloc, action, input, output), faults)
-        }
-        Request::Check => run_check(alloc, input, output, faults),
-        Request::Live {
-            port,
-            must_connect,
-            verbose,
-        } => {
-            let mut failed = Vec::new(alloc);
-            let end = live(rt, alloc, input, output, port, &mut failed);
-            report_failures(alloc, &failed, verbose, faults);
-            drop(failed);
-            report_race(end, must_connect, faults)
-        }
+        Request::Texts(texts) => run_texts(rt, alloc, &texts, input, output, faults),
+        Request::Live(options) => run_live(rt, alloc, &options, input, output, faults),
         Request::Host => run_host(rt, alloc, output, faults),
         Request::Names { host, resolver } => {
             run_names(rt, alloc, host, resolver, output, faults)
@@ -153,26 +144,88 @@ where
     }
 }
 
-// Checks the input, and explains its first fault behind the line that tells it, or warns of its slips.
-fn run_check<I: InputStream, O: OutputStream, F: Write>(
+// Runs the race of the input. Settings that fit no race are a line that is refused.
+fn run_live<R, I, O, F>(
+    rt: &R,
     alloc: Global,
+    options: &LiveOptions<'_>,
     input: &mut I,
     output: &mut O,
     faults: &mut F,
 ) -> u8
-    ensures { RunsRequest Check (Gives I.remaining I.takes input.old input.new)
-        (GivesSoFar I.remaining I.takes input.old input.new)
-        (PutsAndEnds O.contents O.puts O.flushes output.old output.new)
-        (PutsRoundsPart O.contents O.puts O.flushes output.old output.new)
-        (PutsInRounds O.contents O.puts O.flushes output.old output.new)
+where
+    R: Wait + Clock + RandomSource + AllocGlobal + Net + Files,
+    I: InputStream,
+    O: OutputStream,
+    F: Write,
+    ensures { RunsLive options.now (Gives I.remaining I.takes input.old input.new)
         (PutsWhole O.contents O.puts O.flushes output.old output.new)
         (PutsPart O.contents O.puts O.flushes output.old output.new) (output.new ≡ output.old) result }
 {
-    let mut explanation = Vec::new(alloc);
-    let end = check(alloc, input, output, &mut explanation);
-    let status = report_end(end, faults);
-    let _ = faults.write_all(explanation.as_slice());
+    let Some(changes) = options.changes else {
+        return refuse_option(OptionFault::Setting, faults);
+    };
+    match changes.check() {
+        Ok(()) => run_changed(rt, alloc, options, changes, input, output, faults),
+        Err(_) => refuse_option(OptionFault::Setting, faults),
+    }
+}
+
+// Runs the race of the input with the changes of its settings.
+fn run_changed<R, I, O, F>(
+    rt: &R,
+    alloc: Global,
+    options: &LiveOptions<'_>,
+    changes: Changes,
+    input: &mut I,
+    output: &mut O,
+    faults: &mut F,
+) -> u8
+where
+    R: Wait + Clock + RandomSource + AllocGlobal + Net + Files,
+    I: InputStream,
+    O: OutputStream,
+    F: Write,
+    ensures { RunsRace options.now changes (Gives I.remaining I.takes input.old input.new)
+        (PutsWhole O.contents O.puts O.flushes output.old output.new)
+        (PutsPart O.contents O.puts O.flushes output.old output.new) (output.new ≡ output.old) result }
+{
+    let mut told = Told::new(alloc);
+    let end = live(rt, alloc, input, output, options.port, changes, &mut told);
+    let status = report_live(rt, alloc, options, &told, end, faults);
+    drop(told);
     status
+}
+
+// Says why attempts of a live race failed and how it ended, and writes its record to a file where one is named.
+fn report_live<R: Files, F: Write>(
+    rt: &R,
+    alloc: Global,
+    options: &LiveOptions<'_>,
+    told: &Told,
+    end: Result<Outcome3, LiveFault>,
+    faults: &mut F,
+) -> u8
+    ensures { TellsRace options.now told.now end result }
+{
+    report_failures(alloc, &told.failed, options.verbose, faults);
+    let status = report_race(end, options.must_connect, faults);
+    match keep_record(rt, options.record, &told.record) {
+        Ok(()) => status,
+        Err(fault) => report(fault, faults),
+    }
+}
+
+// Writes the record of a race that was run to its file, where one is named.
+fn keep_record<R: Files>(rt: &R, path: Option<&str>, text: &[u8]) -> Result<(), ConnectFault>
+    ensures { OnErr result (IsSome path.entry × (text.now ≢ [])) }
+{
+    match path {
+        Some(path) if !text.is_empty() => {
+            fs::write(rt, path, text).map_err(|_| ConnectFault::Record)
+        }
+        _ => Ok(()),
+    }
 }
 
 // Writes the lines of this machine, and what is left out of them.
@@ -222,10 +275,7 @@ where
 {
     match resolver {
         Some(choice) => report_end(write_names(rt, alloc, output, host, choice), faults),
-        None => {
-            let _ = writeln!(faults, "{NO_RESOLVER}");
-            USAGE
-        }
+        None => refuse_option(OptionFault::Resolver, faults),
     }
 }
 
@@ -250,7 +300,7 @@ where
     let Some(resolver) = options.resolver else {
         return refuse_option(OptionFault::Resolver, faults);
     };
-    let Some(settings) = settings_of(options) else {
+    let Some(settings) = settings_asked(options) else {
         return refuse_option(OptionFault::Setting, faults);
     };
     let asked = Asked {
@@ -271,8 +321,10 @@ where
     report_connection(connect(rt, alloc, &asked, input, output, faults), faults)
 }
 
-fn settings_of(options: &Options<'_>) -> Option<Settings> {
-    options.numbers?.settings()
+fn settings_asked(options: &Options<'_>) -> Option<Settings>
+    ensures { result ≡ option_and_then connect_settings options.now.changes }
+{
+    settings_of(options.changes?)
 }
 
 // Says how a connection ended, and answers the exit status.
@@ -380,6 +432,14 @@ pub fn report<E: Display + Drop, F: Write>(fault: E, faults: &mut F) -> u8
 {
     let _ = writeln!(faults, "he: {fault}");
     FAULT
+}
+
+/// Says that a text is waited for.
+pub fn tell_waiting<F: Write>(faults: &mut F) {
+    let _ = writeln!(
+        faults,
+        "he: takes a timeline text from this terminal, up to its end (Ctrl-D); `he --help` tells what else there is"
+    );
 }
 
 /// Says that a word of the command line is no UTF-8 text, and answers the exit status.

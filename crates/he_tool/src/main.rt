@@ -5,11 +5,12 @@
 //! exit status.
 #![tactic(auto)]
 
-use he_command::{report, report_not_text, run_words};
+use he_command::{read_words, report, report_not_text, run_line, takes_text, tell_waiting};
 use he_replay::ReplayFault;
 use he_resolver::SystemResolver;
 use he_stream::{FromReader, ToWriter};
 use std::alloc::AllocGlobal;
+use std::io::IsTerminal;
 use std::net::Net;
 use std::process::ExitCode;
 use std::random::RandomSource;
@@ -55,14 +56,27 @@ where
         .map(|word| word.as_str())
         .collect::<Vec<&str>>(rt.alloc());
     match texts {
-        Ok(texts) => run_words(
-            lender,
-            rt.alloc(),
-            texts.as_slice(),
-            &mut FromReader::new(rt.stdin()),
-            &mut ToWriter::new(rt.stdout()),
-            &mut rt.stderr(),
-        ),
+        Ok(texts) => run_words_of(rt, lender, texts.as_slice()),
         Err(_) => report(ReplayFault::Memory, &mut rt.stderr()),
     }
+}
+
+// Runs the command line. Where it is to take a text from a terminal, that is told first.
+fn run_words_of<R>(rt: &HostRuntime, lender: &R, words: &[&str]) -> u8
+where
+    R: Threads + Wait + Clock + RandomSource + AllocGlobal + Net + Files + Sync,
+    R: SystemResolver + Copy + Send + 'static,
+{
+    let line = read_words(rt.alloc(), words);
+    if takes_text(&line) && rt.stdin().is_terminal() {
+        tell_waiting(&mut rt.stderr());
+    }
+    run_line(
+        lender,
+        rt.alloc(),
+        line,
+        &mut FromReader::new(rt.stdin()),
+        &mut ToWriter::new(rt.stdout()),
+        &mut rt.stderr(),
+    )
 }

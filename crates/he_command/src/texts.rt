@@ -1,0 +1,236 @@
+//! The words of `he replay`, `he order`, `he explain` and `he check`, which read texts of races.
+ghost use Rattle.std.specs.Prelude.{◌≤◌};
+ghost use Rattle.he_replay.specs.Actions.{HasWorkers};
+
+use crate::arguments::{flag, plain};
+use crate::limits::{DEFAULT_WORKERS, DEFAULT_WORKERS_TEXT};
+use clap::{Arg, ArgAction, ArgMatches, Command, value_parser};
+use he_replay::Action;
+use he_replay::limits::{LEAST_WORKERS, MOST_WORKERS};
+use std::alloc::{AllocError, Global};
+
+const REPLAY_ABOUT: &str = "Reads timelines of races and writes what happens in them";
+
+const ORDER_ABOUT: &str = "Reads timelines of races and writes the order of their addresses";
+
+const EXPLAIN_ABOUT: &str = "Reads timelines of races and writes why they went as they did";
+
+const CHECK_ABOUT: &str =
+    "Checks timelines of races, and explains the first fault or warns of slips";
+
+const FILE_HELP: &str =
+    "A file with a text, `-` for standard input; of several one after the other. Standard input where none is given";
+
+const VERBOSE_HELP: &str = "Explains the fault of a file, as `he check` does";
+
+const WORKERS_HELP: &str =
+    "The most workers that share the races, 1 to 64; the output is the same for each number";
+
+const REPLAY_EXAMPLE: &str = "\
+The text is a timeline text: for each race the host's addresses and routes, the tick
+(millisecond) at which each DNS answer comes, and how long each connect takes.
+Standard output has, for each race, its attempts with start, address and end, and
+the result. A race that begins with `race 2` may also say what is known of addresses
+from earlier (`rtt`, `used`), and how soon after failures the next is tried (`set floor`).
+
+Example input:
+
+  race 1
+  source 2001:db8::2/64 1
+  source 192.0.2.2/24 1
+  route ::/0 1
+  route 0.0.0.0/0 1
+  aaaa 20 2001:db8:1::1
+  a 25 198.51.100.1
+  connect 2001:db8:1::1 ok 35
+  end
+
+Its output:
+
+  attempt 0 20 2001:db8:1::1 won 55
+  won 0 55
+
+Exit status: 0 when all is done; 1 after a fault, which standard error tells, and which
+ends it; 2 for a command line that is refused.";
+
+const ORDER_EXAMPLE: &str = "\
+The text is a timeline text, as for `he replay`. Standard output has, for each
+race, its usable addresses in the order of preference (RFC 6724), each with the source
+address that the host uses for it, or none where it has no route or no source.
+
+Example input:
+
+  race 1
+  source 2001:db8::2/64 1
+  source 192.0.2.2/24 1
+  route 0.0.0.0/0 1
+  aaaa 20 2001:db8:1::1
+  a 20 198.51.100.1
+  end
+
+Its output:
+
+  0 198.51.100.1 from 192.0.2.2
+  1 2001:db8:1::1 from none
+  end
+
+Exit status: 0 when all is done; 1 after a fault, which standard error tells, and which
+ends it; 2 for a command line that is refused.";
+
+const EXPLAIN_EXAMPLE: &str = "\
+The text is a timeline text, as for `he replay`. Standard output has, for each
+race, its usable addresses in the order of preference, from the second on with the rule
+(RFC 6724 section 6, RFC 8305 section 4) that puts it behind the one before; then what
+happened at which tick (millisecond), each attempt with what started it (RFC 8305
+sections 3 to 5), and with the place of its address in the interlaced list.
+
+Example input:
+
+  race 1
+  source 2001:db8::2/64 1
+  source 192.0.2.2/24 1
+  route ::/0 1
+  route 0.0.0.0/0 1
+  aaaa 20 2001:db8:1::1
+  a 25 198.51.100.1
+  connect 2001:db8:1::1 ok 35
+  end
+
+Its output (the second line is one line):
+
+  order 0 2001:db8:1::1 source 2001:db8::2
+  order 1 198.51.100.1 source 192.0.2.2, behind 0 by rule 6, prefer higher precedence:
+    35 after 40
+  20 answer aaaa usable 1
+  20 attempt 0 2001:db8:1::1, on the AAAA answer, listed at 0 of 1, its family leads
+  25 answer a usable 1
+  55 won attempt 0
+  end
+
+Exit status: 0 when all is done; 1 after a fault, which standard error tells, and which
+ends it; 2 for a command line that is refused.";
+
+const CHECK_EXAMPLE: &str = "\
+The text is a timeline text, as for `he replay`. Where nothing is wrong with it,
+standard output has one line, as
+
+  3 races, 27 lines
+
+and standard error a warning of what is allowed and surely not meant, as a race without an
+`aaaa` line, which can't be exhausted. Else standard output has nothing, and standard error
+the first fault: its line by number and by its text, a mark below what is wrong there, and
+what was expected.
+
+Example input:
+
+  race 1
+  set attempt 5
+  end
+
+Standard error for it:
+
+  he: line 2: range
+    set attempt 5
+                ^
+  the attempt delay is 10 to 2000 milliseconds
+
+Exit status: 0 when nothing is wrong; 1 after a fault; 2 for a command line that is
+refused.";
+
+// The command `he replay`.
+pub(crate) fn replay_command<'a>(alloc: Global) -> Result<Command<'a>, AllocError> {
+    let args = vec![in alloc; files(alloc), workers(alloc), verbose(alloc)]?;
+    plain(alloc, "replay", REPLAY_ABOUT, REPLAY_EXAMPLE).args(args)
+}
+
+// The command `he order`.
+pub(crate) fn order_command<'a>(alloc: Global) -> Result<Command<'a>, AllocError> {
+    let args = vec![in alloc; files(alloc), verbose(alloc)]?;
+    plain(alloc, "order", ORDER_ABOUT, ORDER_EXAMPLE).args(args)
+}
+
+// The command `he explain`.
+pub(crate) fn explain_command<'a>(alloc: Global) -> Result<Command<'a>, AllocError> {
+    let args = vec![in alloc; files(alloc), verbose(alloc)]?;
+    plain(alloc, "explain", EXPLAIN_ABOUT, EXPLAIN_EXAMPLE).args(args)
+}
+
+// The command `he check`.
+pub(crate) fn check_command<'a>(alloc: Global) -> Result<Command<'a>, AllocError> {
+    plain(alloc, "check", CHECK_ABOUT, CHECK_EXAMPLE).arg(files(alloc))
+}
+
+// The files of the texts.
+fn files<'a>(alloc: Global) -> Arg<'a> {
+    Arg::new(alloc, "file")
+        .value_name("FILE")
+        .action(ArgAction::Append)
+        .help(FILE_HELP)
+}
+
+// The most workers of `he replay`.
+fn workers<'a>(alloc: Global) -> Arg<'a> {
+    Arg::new(alloc, "workers")
+        .long("workers")
+        .value_name("N")
+        .value_parser(value_parser!(u16).range(i64::from(LEAST_WORKERS)..=i64::from(MOST_WORKERS)))
+        .default_value(DEFAULT_WORKERS_TEXT)
+        .help(WORKERS_HELP)
+}
+
+// Whether a fault is explained.
+fn verbose<'a>(alloc: Global) -> Arg<'a> {
+    flag(alloc, "verbose", VERBOSE_HELP)
+        .long("verbose")
+        .short('v')
+}
+
+/// What is done with a text of races.
+#[derive(Clone, Copy)]
+pub enum Task {
+    Action(Action),
+    /// To check it, and to explain its first fault or to warn of its slips.
+    Check,
+}
+
+/// Texts that something is done with.
+#[derive(Drop)]
+pub struct Texts<'a> {
+    pub task: Task,
+    /// The files that have them, one after the other, `-` for standard input; where there are none, it has one.
+    pub files: Vec<&'a str>,
+    /// Whether the fault of a file is explained, as a check does.
+    pub explains: bool,
+}
+
+// The files that the line names.
+pub(crate) fn files_of<'a>(
+    alloc: Global,
+    matches: &ArgMatches<'a>,
+) -> Result<Vec<&'a str>, AllocError> {
+    match matches.get_strs("file") {
+        Some(files) => Vec::from_slice(alloc, files),
+        None => Ok(Vec::new(alloc)),
+    }
+}
+
+// To replay by the workers of the line.
+pub(crate) fn replay_of(matches: &ArgMatches<'_>) -> Action
+    ensures { HasWorkers result }
+{
+    Action::Replay {
+        workers: workers_of(matches),
+    }
+}
+
+// The number of workers. clap has tested its range, but has no clause on a subcommand's arguments.
+fn workers_of(matches: &ArgMatches<'_>) -> u16
+    ensures some { LEAST_WORKERS ≤ result }
+    ensures few { result ≤ MOST_WORKERS }
+{
+    matches
+        .get_one::<u16>("workers")
+        .unwrap_or(DEFAULT_WORKERS)
+        .max(LEAST_WORKERS)
+        .min(MOST_WORKERS)
+}
