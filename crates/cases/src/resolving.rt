@@ -6,9 +6,12 @@ use he_addr::{Family, Ip, Memory};
 use he_plan::{Timeline, TimelineBuilder, Transcript, transcript_of};
 use he_race::{AnswerSource, RaceFault, Raced, ResolvingRace, Scripted, TickFault, Ticker};
 use std::alloc::Global;
+use std::mem::drop;
 
-// How often a race is run at drawn ticks.
+// How often a race is run at drawn ticks, and the most addresses of a family that it has then.
 const DRAWN_RUNS: u8 = 2;
+
+const MOST_DRAWN_ADDRESSES: usize = 64;
 
 /// How many races were run so whose transcript was compared with their own, and how many were run at drawn ticks.
 #[derive(Clone, Copy)]
@@ -89,10 +92,10 @@ struct Reply {
 
 fn reply_of(alloc: Global, timeline: &Timeline, family: Family) -> Result<Option<Reply>, Memory> {
     match timeline.answer(family) {
-        Some((tick, ips)) => Ok(Some(Reply {
-            tick,
-            addresses: Vec::from_slice(alloc, ips)?,
-        })),
+        Some((tick, ips)) => {
+            let addresses = Vec::from_slice(alloc, ips)?;
+            Ok(Some(Reply { tick, addresses }))
+        }
         None => Ok(None),
     }
 }
@@ -102,6 +105,19 @@ fn reply_of(alloc: Global, timeline: &Timeline, family: Family) -> Result<Option
 struct Replies {
     six: Option<Reply>,
     four: Option<Reply>,
+}
+
+impl Replies {
+    fn of(alloc: Global, timeline: &Timeline) -> Result<Replies, Memory> {
+        let six = reply_of(alloc, timeline, Family::V6)?;
+        match reply_of(alloc, timeline, Family::V4) {
+            Ok(four) => Ok(Replies { six, four }),
+            Err(fault) => {
+                drop(six);
+                Err(fault)
+            }
+        }
+    }
 }
 
 impl AnswerSource for Replies {
@@ -124,15 +140,9 @@ impl AnswerSource for Replies {
     }
 }
 
-// A wait of this number: by its last hexadecimal digit below twice what is asked for, a half of that, a quarter, ..
-fn wait(number: u64, asked: u64) -> u64 {
-    let most = asked.saturating_mul(2) >> (number % 16);
-    (number / 16) % most.max(1)
-}
-
-/// Runs the race with its answers coming at their ticks, and, where there are any, twice with them coming at drawn
-/// polls. Answers whether the record of each run replays to its transcript, and whether the first run has the race's
-/// own, where it must.
+/// Runs a race that has an answer with its answers coming at their ticks, and, where it has some and few addresses, with
+/// them coming at drawn polls. Answers whether the record of each run replays to its transcript, and whether that of the
+/// first run is the race's own, where it must be.
 ///
 /// # Errors
 ///
@@ -144,70 +154,88 @@ pub fn is_heard(
     transcript: &Transcript,
     heard: &mut Heard,
 ) -> Result<bool, Memory> {
-    let mut is_right = is_heard_on_time(alloc, solo, timeline, transcript, heard)?;
-    if is_answered(timeline) {
+    if timeline.answer(Family::V6).is_none() && timeline.answer(Family::V4).is_none() {
+        return Ok(true);
+    }
+    let own = own_transcript(timeline, transcript);
+    if own.is_some() {
+        heard.compared = heard.compared.saturating_add(1);
+    }
+    let mut are_right = is_right(alloc, solo, timeline, Polls::OnTime, own)?;
+    if is_drawn(timeline) {
         for _ in 0..DRAWN_RUNS {
             heard.drawn = heard.drawn.saturating_add(1);
-            let raced = run(alloc, solo, timeline, Polls::Drawn(heard.drawn))?;
-            is_right = is_right && replays(alloc, raced.as_ref())?;
+            let polls = Polls::Drawn(heard.drawn);
+            are_right = are_right && is_right(alloc, solo, timeline, polls, None)?;
         }
     }
-    Ok(is_right)
+    Ok(are_right)
 }
 
-fn is_heard_on_time(
+// The transcript that the race has where its answers come at their ticks, if it must be this one of its timeline. The
+// Resolution Delay runs from the A answer's own tick; where the client slept then, the answer counts from its waking.
+// And what is known of addresses stands with their answers.
+fn own_transcript<'a>(timeline: &Timeline, transcript: &'a Transcript) -> Option<&'a Transcript> {
+    let is_known = !timeline.rtts().is_empty() || !timeline.used_addresses().is_empty();
+    match timeline.answer(Family::V4) {
+        _ if is_known => None,
+        Some((tick, _)) if timeline.seen(tick) != tick => None,
+        _ => Some(transcript),
+    }
+}
+
+// Whether the race is run at drawn ticks.
+fn is_drawn(timeline: &Timeline) -> bool {
+    let six = address_count(timeline, Family::V6);
+    let four = address_count(timeline, Family::V4);
+    six.max(four) <= MOST_DRAWN_ADDRESSES && six.max(four) > 0
+}
+
+fn address_count(timeline: &Timeline, family: Family) -> usize {
+    match timeline.answer(family) {
+        Some((_, ips)) => ips.len(),
+        None => 0,
+    }
+}
+
+// Whether the race's record replays to its transcript, and this is the one that is its own, if one is given.
+fn is_right(
     alloc: Global,
     solo: &Solo,
     timeline: &Timeline,
-    transcript: &Transcript,
-    heard: &mut Heard,
+    polls: Polls,
+    own: Option<&Transcript>,
 ) -> Result<bool, Memory> {
-    let raced = run(alloc, solo, timeline, Polls::OnTime)?;
-    if !replays(alloc, raced.as_ref())? {
-        return Ok(false);
-    }
-    if !has_own_transcript(timeline) {
-        return Ok(true);
-    }
-    heard.compared = heard.compared.saturating_add(1);
-    Ok(raced.is_some_and(|raced| is_same(&raced.transcript, transcript)))
-}
-
-fn is_answered(timeline: &Timeline) -> bool {
-    timeline.answer(Family::V6).is_some() || timeline.answer(Family::V4).is_some()
-}
-
-// Whether the race has the same transcript where its answers come while it runs. The Resolution Delay runs from the A
-// answer's own tick; where the client slept then, the answer counts from its waking. And what is known of addresses
-// stands with their answers.
-fn has_own_transcript(timeline: &Timeline) -> bool {
-    timeline.rtts().is_empty()
-        && timeline.used_addresses().is_empty()
-        && is_heard_at_once(timeline, Family::V6)
-        && is_heard_at_once(timeline, Family::V4)
-}
-
-// Whether no pause covers the family's answer.
-fn is_heard_at_once(timeline: &Timeline, family: Family) -> bool {
-    match timeline.answer(family) {
-        Some((tick, _)) => timeline.seen(tick) == tick,
-        None => true,
-    }
-}
-
-// Whether the record of what a race gave replays to its transcript.
-fn replays(alloc: Global, raced: Option<&Raced<()>>) -> Result<bool, Memory> {
-    match raced {
-        Some(raced) => Ok(is_same(&raced.transcript, &transcript_of(alloc, &raced.recorded)?)),
+    match run(alloc, solo, timeline, polls)? {
+        Some(raced) => {
+            let is_right = is_right_end(alloc, &raced, own);
+            drop(raced);
+            is_right
+        }
         None => Ok(false),
     }
+}
+
+fn is_right_end(
+    alloc: Global,
+    raced: &Raced<()>,
+    own: Option<&Transcript>,
+) -> Result<bool, Memory> {
+    let replayed = transcript_of(alloc, &raced.recorded)?;
+    let is_right = is_same(&raced.transcript, &replayed)
+        && match own {
+            Some(own) => is_same(&raced.transcript, own),
+            None => true,
+        };
+    drop(replayed);
+    Ok(is_right)
 }
 
 fn is_same(one: &Transcript, other: &Transcript) -> bool {
     one.attempts() == other.attempts() && one.result() == other.result()
 }
 
-// What the race gives, polled so; None where it is no end within a poll for each tick up to the limit and one behind it.
+// What the race gives, polled so; None where that is no end.
 fn run(
     alloc: Global,
     solo: &Solo,
@@ -215,40 +243,59 @@ fn run(
     polls: Polls,
 ) -> Result<Option<Raced<()>>, Memory> {
     let unanswered = unanswered(alloc, timeline)?;
-    let source = Replies {
-        six: reply_of(alloc, timeline, Family::V6)?,
-        four: reply_of(alloc, timeline, Family::V4)?,
-    };
+    let ended = run_from(alloc, solo, timeline, &unanswered, polls);
+    drop(unanswered);
+    ended
+}
+
+fn run_from(
+    alloc: Global,
+    solo: &Solo,
+    timeline: &Timeline,
+    unanswered: &Timeline,
+    polls: Polls,
+) -> Result<Option<Raced<()>>, Memory> {
+    let source = Replies::of(alloc, timeline)?;
     let ticker = PollTicker {
         timeline,
         polls,
-        at: match polls {
-            Polls::OnTime => timeline.seen(0),
-            Polls::Drawn(_) => 0,
-        },
+        at: first_tick(timeline, polls),
     };
     let connector = Scripted::new(timeline);
-    let race = ResolvingRace::new(alloc, &unanswered, connector, source, ticker)?;
-    let most = timeline.settings().limit() + 2;
-    match drive(solo, race, most) {
+    let race = ResolvingRace::new(alloc, unanswered, connector, source, ticker)?;
+    match drive(solo, race, timeline.settings().limit()) {
         Some(Ok(raced)) => Ok(Some(raced)),
         Some(Err(RaceFault::Memory)) => Err(Memory),
         _ => Ok(None),
     }
 }
 
-// The race without its answers, and so without what is known of their addresses.
-fn unanswered(alloc: Global, timeline: &Timeline) -> Result<Timeline, Memory> {
-    let policy = timeline.policy().copy(alloc)?;
-    let host = timeline.host().copy(alloc)?;
-    Ok(TimelineBuilder::new(alloc, timeline.settings(), policy, host).finish())
+fn first_tick(timeline: &Timeline, polls: Polls) -> u64 {
+    match polls {
+        Polls::OnTime => timeline.seen(0),
+        Polls::Drawn(_) => 0,
+    }
 }
 
-// What the future gives within so many polls.
-fn drive<F: Future>(solo: &Solo, mut future: F, most: u64) -> Option<F::Output>
+// The race without its answers, and so without what is known of their addresses.
+fn unanswered(alloc: Global, timeline: &Timeline) -> Result<Timeline, Memory> {
+    let host = timeline.host().copy(alloc)?;
+    match timeline.policy().copy(alloc) {
+        Ok(policy) => {
+            Ok(TimelineBuilder::new(alloc, timeline.settings(), policy, host).finish())
+        }
+        Err(fault) => {
+            drop(host);
+            Err(fault)
+        }
+    }
+}
+
+// What the future gives, polled at most once for each tick up to the one behind the limit.
+fn drive<F: Future>(solo: &Solo, mut future: F, limit: u64) -> Option<F::Output>
     requires { F.can_poll future }
 {
-    for _ in 0..most {
+    for _ in 0..limit.saturating_add(2) {
         let mut cx = solo.begin();
         let polled = future.poll(&mut cx);
         cx.cancel();

@@ -280,6 +280,20 @@ fn late_answer_takes_part(rt: HostRuntime) -> Result<(), Fail> {
         run(alloc, &solo, never)?,
         Some(Short { six: None, ..first })
     );
+    // It comes behind the first attempt of the other family, which fails: the second is due 250 after its start.
+    let behind = Case {
+        six: Some((4, Told::One(V6_A))),
+        four: Some((30, Told::One(V4_A))),
+        ticks: [0, 4, 6, 30, 254, 264],
+    };
+    let second = Short {
+        result: Outcome3::Won(1, 264),
+        last: Some((254, Mark::Won(264))),
+        six: Some((4, 1)),
+        four: Some((30, 1)),
+        ..won
+    };
+    assert_eq!(rt; run(alloc, &solo, behind)?, Some(second));
     Ok(())
 }
 

@@ -297,21 +297,30 @@ fn attempts_that_cannot_begin_fail(rt: HostRuntime) -> Result<(), Fail> {
         v6: Some(Outcome::Fail(1)),
         v4: Some(Outcome::Ok(5)),
     };
-    assert_eq!(rt; by_wheel(alloc, &solo, race(alloc, &given)?, 1)?, Seen::Gave(second));
+    assert_eq!(rt;
+        by_wheel(alloc, &solo, race(alloc, &given)?, 1)?,
+        Seen::Gave(second)
+    );
     let none = Short {
         result: Outcome3::Exhausted(271),
         last: Some((270, Mark::Failed(271))),
         v4: Some(Outcome::Fail(1)),
         ..second
     };
-    assert_eq!(rt; by_wheel(alloc, &solo, race(alloc, &given)?, 2)?, Seen::Gave(none));
+    assert_eq!(rt;
+        by_wheel(alloc, &solo, race(alloc, &given)?, 2)?,
+        Seen::Gave(none)
+    );
     let five = Short {
         result: Outcome3::Exhausted(1_021),
         attempts: 5,
         last: Some((1_020, Mark::Failed(1_021))),
         ..none
     };
-    assert_eq!(rt; by_wheel(alloc, &solo, race_of_five(alloc)?, 5)?, Seen::Gave(five));
+    assert_eq!(rt;
+        by_wheel(alloc, &solo, race_of_five(alloc)?, 5)?,
+        Seen::Gave(five)
+    );
     Ok(())
 }
 
@@ -338,7 +347,10 @@ fn pause_over_the_start_is_recorded(rt: HostRuntime) -> Result<(), Fail> {
         v6: Some(Outcome::Ok(20)),
         v4: None,
     };
-    assert_eq!(rt; by_wheel(alloc, &solo, race(alloc, &given)?, 0)?, Seen::Gave(slept));
+    assert_eq!(rt;
+        by_wheel(alloc, &solo, race(alloc, &given)?, 0)?,
+        Seen::Gave(slept)
+    );
     Ok(())
 }
 
@@ -417,7 +429,10 @@ fn starts_by_the_floor(rt: HostRuntime) -> Result<(), Fail> {
     let solo = Solo::new(&rt, Doorbell::spinning())?;
     let alloc: Global = rt.alloc();
     for (given, short) in floors() {
-        assert_eq!(rt; by_wheel(alloc, &solo, race(alloc, &given)?, 0)?, Seen::Gave(short));
+        assert_eq!(rt;
+            by_wheel(alloc, &solo, race(alloc, &given)?, 0)?,
+            Seen::Gave(short)
+        );
     }
     Ok(())
 }
