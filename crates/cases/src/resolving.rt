@@ -140,9 +140,9 @@ impl AnswerSource for Replies {
     }
 }
 
-/// Runs a race that has an answer with its answers coming at their ticks, and, where it has some and few addresses, with
-/// them coming at drawn polls. Answers whether the record of each run replays to its transcript, and whether that of the
-/// first run is the race's own, where it must be.
+/// Runs a race that has an answer with its answers coming at their ticks, and, where it has some and few addresses,
+/// with them coming at drawn polls. Answers whether the record of each run replays to its transcript, and whether that
+/// of the first run is the race's own, where it must be.
 ///
 /// # Errors
 ///

@@ -55,6 +55,15 @@ struct Telling<'a> {
     again: &'a Cell<u8>,
 }
 
+impl<'a> Telling<'a> {
+    fn note(&mut self, family: Family) {
+        match family {
+            Family::V6 => self.told.0 = true,
+            Family::V4 => self.told.1 = true,
+        }
+    }
+}
+
 impl<'a> AnswerSource for Telling<'a> {
     ghost use Rattle.std.specs.Prelude.{⊤};
 
@@ -62,16 +71,16 @@ impl<'a> AnswerSource for Telling<'a> {
 
     fn poll_answer(&mut self, family: Family, now: u64, cx: &mut Context<'_>) -> Poll<Vec<Ip>> {
         let (told, has_told) = match family {
-            Family::V6 => (self.six, &mut self.told.0),
-            Family::V4 => (self.four, &mut self.told.1),
+            Family::V6 => (self.six, self.told.0),
+            Family::V4 => (self.four, self.told.1),
         };
-        if *has_told {
+        if has_told {
             self.again.set(self.again.get().saturating_add(1));
         }
         if let Some((from, told)) = told {
             if from <= now {
                 if let Ok(ips) = addresses(self.alloc, told) {
-                    *has_told = true;
+                    self.note(family);
                     return Poll::Ready(ips);
                 }
             }
