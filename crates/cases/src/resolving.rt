@@ -1,5 +1,8 @@
 //! The races of an example with their answers coming while they run, as in RFC 8305 section 3.
 
+ghost use Rattle.futures.specs.Poll.{OnPending};
+ghost use Rattle.futures.specs.Task.{IsArmed, Keeps};
+
 use futures::Future;
 use futures::task::{Context, Poll, Solo};
 use he_addr::{Family, Ip, Memory};
@@ -83,6 +86,12 @@ impl<'a> Ticker for PollTicker<'a> {
     }
 }
 
+// A wait of this number: by its last hexadecimal digit below twice what is asked for, a half of that, a quarter, ..
+fn wait(number: u64, asked: u64) -> u64 {
+    let most = asked.saturating_mul(2) >> (number % 16);
+    (number / 16) % most.max(1)
+}
+
 // A family's answer, told at the first poll at its tick or later.
 #[derive(Drop)]
 struct Reply {
@@ -126,16 +135,23 @@ impl AnswerSource for Replies {
     ghost hears = { λ _ _ _ _ _. ⊤ };
 
     fn poll_answer(&mut self, family: Family, now: u64, cx: &mut Context<'_>) -> Poll<Vec<Ip>> {
-        let reply = match family {
-            Family::V6 => &mut self.six,
-            Family::V4 => &mut self.four,
-        };
-        match reply.take() {
-            Some(told) if told.tick <= now => Poll::Ready(told.addresses),
-            waits => {
-                *reply = waits;
-                cx.yield_now()
-            }
+        match family {
+            Family::V6 => tell(&mut self.six, now, cx),
+            Family::V4 => tell(&mut self.four, now, cx),
+        }
+    }
+}
+
+// Tells the answer, where its tick has come.
+fn tell(reply: &mut Option<Reply>, now: u64, cx: &mut Context<'_>) -> Poll<Vec<Ip>>
+    ensures waits { OnPending result (IsArmed cx.new) }
+    ensures kept { Keeps cx.old cx.new }
+{
+    match reply.take() {
+        Some(told) if told.tick <= now => Poll::Ready(told.addresses),
+        waits => {
+            *reply = waits;
+            cx.yield_now()
         }
     }
 }
