@@ -289,16 +289,17 @@ fn late_answer_takes_part(rt: HostRuntime) -> Result<(), Fail> {
         run(alloc, &solo, never)?,
         Some(Short { six: None, ..first })
     );
-    // It comes behind the first attempt of the other family, which fails: the second is due 250 after its start.
+    // It comes behind the first attempt at one of two addresses of the other family, which fails: the second is at its
+    // address, since the families take turns, 250 after the first.
     let behind = Case {
-        six: Some((4, Told::One(V6_A))),
+        six: Some((4, Told::Mixed)),
         four: Some((30, Told::One(V4_A))),
         ticks: [0, 4, 6, 30, 254, 264],
     };
     let second = Short {
         result: Outcome3::Won(1, 264),
         last: Some((254, Mark::Won(264))),
-        six: Some((4, 1)),
+        six: Some((4, 2)),
         four: Some((30, 1)),
         ..won
     };
