@@ -1,5 +1,6 @@
 //! One example.
 
+use crate::resolving::Heard;
 use crate::turns::run_turns;
 use he_check::check;
 use he_replay::limits::{LEAST_WORKERS, MOST_WORKERS};
@@ -153,6 +154,7 @@ pub fn run_example<R: Threads + Sync>(
     threads: &R,
     name: &str,
     counts: &mut Counts,
+    heard: &mut Heard,
 ) -> io::Result<()> {
     let text = read_beside(rt, name, "timeline")?.unwrap_or(Vec::new(rt.alloc()));
     let fault = read_beside(rt, name, "fault")?.unwrap_or(Vec::new(rt.alloc()));
@@ -162,7 +164,7 @@ pub fn run_example<R: Threads + Sync>(
         fault: &fault,
     };
     run_check(rt, example, counts)?;
-    run_all(rt, threads, example, counts)
+    run_all(rt, threads, example, counts, heard)
 }
 
 // Runs the text through `replay`, `orders` and `explanations`, where what they write stands beside it.
@@ -171,6 +173,7 @@ fn run_all<R: Threads + Sync>(
     threads: &R,
     example: Example<'_>,
     counts: &mut Counts,
+    heard: &mut Heard,
 ) -> io::Result<()> {
     let Example { name, text, .. } = example;
     let ran = counts.ran;
@@ -179,7 +182,7 @@ fn run_all<R: Threads + Sync>(
             let asked = Asked::Transcript(workers);
             run_asked(rt, threads, example, asked, &transcript, counts)?;
         }
-        let is_same = run_turns(rt.alloc(), text)?.as_slice() == transcript.as_slice();
+        let is_same = run_turns(rt, text, heard)?.as_slice() == transcript.as_slice();
         counts.count(rt, name, "the transcript by turns differs", is_same)?;
     }
     if let Some(order) = read_beside(rt, name, "order")? {

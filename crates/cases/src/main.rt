@@ -7,28 +7,39 @@
 //! mark and the sentence; beside a text without a fault it has what `check` warns of. Each example is run in pieces of
 //! 1 byte, of 7 bytes and whole, a short one in every cut into two pieces too, and `replay` with 1, 2, 7 and 64
 //! workers; each of its races is run as a future too, to the same transcript, and each of their attempts alone
-//! (`turns.rt`). Command lines are run beside them, over streams that may fail (`command_lines.rt`). A line names each
-//! run that differs, and the last two say how many there were. Where memory is refused to an example, the program ends
-//! and says so. Nothing is proved of this program but that it is safe and ends.
+//! (`turns.rt`), and again with its answers coming while it runs (`resolving.rt`). Command lines are run beside them,
+//! over streams that may fail (`command_lines.rt`). A line names each run that differs, and the last three say how
+//! many there were. Where memory is refused to an example, the program ends and says so. Nothing is proved of this
+//! program but that it is safe and ends.
 #![tactic(auto)]
 
 mod command_lines;
 mod example;
+mod resolving;
 mod turns;
 
 use command_lines::run_command_lines;
 use example::{Counts, run_example};
+use resolving::Heard;
 use std::{fs, io};
 
 fn main(rt: HostRuntime) -> io::Result<()> {
     let mut counts = Counts { ran: 0, differ: 0 };
+    let mut heard = Heard {
+        compared: 0,
+        drawn: 0,
+    };
     let names = names(&rt)?;
     for name in names.as_slice() {
-        run_example(&rt, &rt, name.as_str(), &mut counts)?;
+        run_example(&rt, &rt, name.as_str(), &mut counts, &mut heard)?;
     }
     let examples = names.len();
     let Counts { ran, differ } = counts;
     println!(rt; "{examples} examples: {ran} runs, {differ} differ")?;
+    let Heard { compared, drawn } = heard;
+    println!(rt;
+        "races whose answers come while they run: {compared} compared, {drawn} at drawn ticks"
+    )?;
     let Counts { ran, differ } = run_command_lines(&rt, &rt)?;
     println!(rt; "{ran} runs of command lines, {differ} differ")
 }

@@ -1,27 +1,36 @@
 //! The races of an example, each run turn by turn as a future.
 
+use crate::resolving::{Heard, is_heard};
+use futures::task::{Doorbell, Solo};
 use he_addr::Memory;
 use he_plan::{Fate, Mark, Timeline, Transcript, plan};
 use he_race::{race_one, run_attempt};
 use he_replay::limits::MOST_RACES;
 use he_text::{TextKind, read_race, write_transcript};
 use std::alloc::{AllocError, Global};
+use std::io;
 use std::mem::drop;
 
-// What stands in place of a transcript's end where an attempt that is run alone does not come to what its line tells.
+// What stands behind a transcript where an attempt that is run alone does not come to what its line tells.
 const DIFFERS: &[u8] = b"an attempt differs\n";
 
+// And where the race comes to something else when its answers come while it runs.
+const UNHEARD: &[u8] = b"the race whose answers come differs\n";
+
 /// The transcripts of the text's races up to its first fault, each by `race_one`. Where an attempt that is run alone
-/// comes to something else than its line tells, a line behind the transcript says so.
+/// comes to something else than its line tells, or the race where its answers come while it runs, a line behind the
+/// transcript says so.
 ///
 /// # Errors
 ///
-/// `AllocError` where an allocation was refused.
-pub fn run_turns(alloc: Global, text: &[u8]) -> Result<Vec<u8>, AllocError> {
+/// Where an allocation was refused.
+pub fn run_turns(rt: &HostRuntime, text: &[u8], heard: &mut Heard) -> io::Result<Vec<u8>> {
+    let solo = Solo::new(rt, Doorbell::spinning())?;
+    let alloc = rt.alloc();
     let mut written = Vec::new(alloc);
     let mut rest = text;
     for _ in 0..MOST_RACES {
-        match run_first(alloc, rest, &mut written)? {
+        match run_first(alloc, &solo, rest, &mut written, heard)? {
             Some(behind) => rest = behind,
             None => break,
         }
@@ -32,12 +41,14 @@ pub fn run_turns(alloc: Global, text: &[u8]) -> Result<Vec<u8>, AllocError> {
 // Appends the transcript of the first race, and answers what stands behind it; None where no race stands there.
 fn run_first<'a>(
     alloc: Global,
+    solo: &Solo,
     text: &'a [u8],
     written: &mut Vec<u8>,
+    heard: &mut Heard,
 ) -> Result<Option<&'a [u8]>, AllocError> {
     match read_race(alloc, text, 0) {
         Ok(Some((timeline, end))) => {
-            let ran = run_race(alloc, &timeline, written);
+            let ran = run_race(alloc, solo, &timeline, written, heard);
             drop(timeline);
             ran.map_err(|_| AllocError)?;
             Ok(Some(&text[end..]))
@@ -50,11 +61,20 @@ fn run_first<'a>(
     }
 }
 
-fn run_race(alloc: Global, timeline: &Timeline, written: &mut Vec<u8>) -> Result<(), Memory> {
+fn run_race(
+    alloc: Global,
+    solo: &Solo,
+    timeline: &Timeline,
+    written: &mut Vec<u8>,
+    heard: &mut Heard,
+) -> Result<(), Memory> {
     let transcript = race_one(alloc, timeline)?;
     write_transcript(&transcript, written)?;
     if !are_told(alloc, timeline, &transcript)? {
         written.extend_from_slice(DIFFERS)?;
+    }
+    if !is_heard(alloc, solo, timeline, &transcript, heard)? {
+        written.extend_from_slice(UNHEARD)?;
     }
     Ok(())
 }
