@@ -55,7 +55,7 @@ Examples:
 
 Where nothing connects, standard error says what was tried:
 
-  he: no connection to example.org port 443: 2 addresses tried: 2001:db8::1 connection
+  he: no connection to example.org port 443: 2 addresses tried: 2001:db8::1
     refused after 12 ms, 198.51.100.1 no answer in 30000 ms
 
 Exit status: 0 when the connection was made and relayed to its end; 3 when no connection

@@ -104,7 +104,7 @@ attempts count as resolver(5) has them. With `--resolver system` all of it is le
 the system (getaddrinfo), which gives both families at once.
 
 Exit status: 0 when an address was found; 1 after a fault, with one line on standard
-error (`he: no such name`, `he: no name server answers`); 2 for a command line that is
+error (`he: no such name: www.exampel.org`); 2 for a command line that is
 refused.";
 
 // The whole command line of the program.
