@@ -54,8 +54,10 @@ const NO_TIME: &[u8] = b"race 1\nset limit 1\nend\n";
 const TWO_RACES: &[u8] = b"race 1\nend\nrace 1\nend\n";
 
 const TWO_RACES_WARNED: &[u8] =
-    b"he: line 1: warning: this race has no aaaa line, so it can't be exhausted: for an answer without an address write `aaaa TICK none`
+    b"he: line 1: warning: this race has no source line, so its host reaches no address: write its addresses, as `he host` does for this machine
+he: line 1: warning: this race has no aaaa line, so it can't be exhausted: for an answer without an address write `aaaa TICK none`
 he: line 1: warning: this race has no a line, so it can't be exhausted: for an answer without an address write `a TICK none`
+he: line 3: warning: this race has no source line, so its host reaches no address: write its addresses, as `he host` does for this machine
 he: line 3: warning: this race has no aaaa line, so it can't be exhausted: for an answer without an address write `aaaa TICK none`
 he: line 3: warning: this race has no a line, so it can't be exhausted: for an answer without an address write `a TICK none`
 ";
