@@ -94,8 +94,7 @@ fn is_refused<R: Lender + Net>(rt: &R, changes: Changes, range: Range) -> bool {
         changes,
         &mut told,
     );
-    let is_quiet =
-        output.writer().is_empty() && told.record.is_empty() && told.failed.is_empty();
+    let is_quiet = output.writer().is_empty() && told.record.is_empty() && told.failed.is_empty();
     drop(told);
     ended == Err(LiveFault::Setting(range)) && is_quiet
 }
