@@ -1,5 +1,5 @@
 # What a newcomer needs. README.md and CONTRIBUTING.md say what each is for and how long it takes.
-.PHONY: help race test edits install install-library library deb examples documents explained hostile refused hosts captures live names connect fuzz manual kit program
+.PHONY: help race test edits install install-library library deb examples documents explained hostile cost refused hosts captures live names connect fuzz manual kit program
 
 PREFIX ?= /usr/local
 RACE ?= crates/cases/data/ipv6-late-but-within-delay-leads.timeline
@@ -25,6 +25,7 @@ help:
 	@echo 'make examples HE=FILE      runs a built program over all examples'
 	@echo 'make documents HE=FILE     runs the command lines of the documents, and compares what stands below them'
 	@echo 'make hostile HE=FILE       runs a built program over streams that fail, open pipes, too little memory'
+	@echo 'make cost HE=FILE          bounds what a built program takes for a text of some megabytes: time and memory'
 	@echo 'make refused HE=FILE       refuses each allocation of a built program in turn, also of a live race, and those of'
 	@echo '                           the races that the crate cases runs'
 	@echo 'make hosts HE=FILE         tries tools/host-lines on recorded hosts, has a built program read its lines,'
@@ -85,6 +86,9 @@ documents: program
 
 hostile: program
 	scripts/hostile $(HE)
+
+cost: program
+	scripts/cost $(HE)
 
 hosts: program
 	scripts/hosts $(HE)
