@@ -90,7 +90,7 @@ type Row = (
 );
 
 // Commands that read a text.
-static TEXT_ROWS: [Row; 57] = [
+static TEXT_ROWS: [Row; 58] = [
     (&["he", "replay"], TEXT, Streams::Whole, 0, TRANSCRIPT, b""),
     (
         &["he", "replay", "--workers", "1"],
@@ -144,12 +144,20 @@ static TEXT_ROWS: [Row; 57] = [
     (&["he"], TEXT, Streams::Whole, 2, b"", b"error: "),
     (&["he", "race"], TEXT, Streams::Whole, 2, b"", b"error: "),
     (
+        &["he", "replay", "-"],
+        TEXT,
+        Streams::Whole,
+        0,
+        TRANSCRIPT,
+        b"",
+    ),
+    (
         &["he", "replay", "more"],
         TEXT,
         Streams::Whole,
-        2,
+        1,
         b"",
-        b"error: ",
+        b"he: more: No such file or directory",
     ),
     (
         &["he", "replay", "--workers", "0"],
@@ -179,9 +187,9 @@ static TEXT_ROWS: [Row; 57] = [
         &["he", "order", "more"],
         TEXT,
         Streams::Whole,
-        2,
+        1,
         b"",
-        b"error: ",
+        b"he: more: No such file or directory",
     ),
     (
         &["he", "order", "--workers", "2"],
@@ -500,9 +508,9 @@ static TEXT_ROWS: [Row; 57] = [
         &["he", "check", "more"],
         TEXT,
         Streams::Whole,
-        2,
+        1,
         b"",
-        b"error: ",
+        b"he: more: No such file or directory",
     ),
     (
         &["he", "check", "--help"],
@@ -515,7 +523,15 @@ static TEXT_ROWS: [Row; 57] = [
 ];
 
 // Commands that are about this host, or others.
-static HOST_ROWS: [Row; 13] = [
+static HOST_ROWS: [Row; 14] = [
+    (
+        &["he", "live", "--port", "8080", "--set", "attempt=5"],
+        TEXT,
+        Streams::Whole,
+        2,
+        b"",
+        b"error: invalid value for '--set ",
+    ),
     (
         &["he", "host", "more"],
         TEXT,

@@ -1,11 +1,11 @@
 -- What a run of a race with changes comes to.
 use Rattle.std.proofs.Common.{◌≡◌, ◌⊎◌, inl, inr, refl, sym, subst}
-use Rattle.std.specs.Prelude.{Result, Ok, Err, IfErr, IfOk}
+use Rattle.std.specs.Prelude.{ℕ, Bool, List, Result, Ok, Err, IfErr, IfOk}
 use Rattle.he_plan.specs.Building.{unrecorded}
 use Rattle.he_plan.specs.Race.{Race}
 use Rattle.he_plan.specs.Settings.{SettingValues}
 use Rattle.he_live.specs.Changed.{IsChanged, changed_settings}
-use Rattle.he_live.specs.Live.{IsLiveText, IsRunFault}
+use Rattle.he_live.specs.Live.{GivesOne, GivesText, IsLiveText, IsRunFault}
 use Rattle.he_live.specs.Reading.{RunsChanged}
 use Rattle.he_live.specs.declared.changes.Changes.{Changes}
 use Rattle.he_live.specs.declared.fault.LiveFault.{LiveFault}
@@ -45,3 +45,13 @@ pub runs_changed : (changes : Changes) (own race : Race) (settings : SettingValu
 runs_changed changes own race settings result fit is text fault =
     changed_so changes own settings result fit
     (subst (λ (r : Race). IfOk result (λ run. IsLiveText r run.text.items run.told run.ended)) is text) fault
+
+-- an input that is one race, which was run with changes, gives the text of that run
+pub gives_text : (Given : List ℕ → Bool → Type 0) (changes : Changes) (own : Race) (run : Run) (text : List ℕ)
+    → text ≡ run.text.items → GivesOne Given own → RunsChanged changes own (Ok run)
+    → GivesText Given changes text run.told run.ended
+gives_text Given changes own run text e given ran = record {
+  race = ran.0;
+  given = record { own = own; given = given; changed = ran.1 };
+  run = subst (λ (t : List ℕ). IsLiveText ran.0 t run.told run.ended) (sym e) ran.2;
+}
