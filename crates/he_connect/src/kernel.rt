@@ -39,7 +39,8 @@ fn write_other_source(ip: Ip, said: Ip, taken: Ip, out: &mut Vec<u8>) -> Result<
         return Ok(());
     }
     write_reached(ip, taken, out)?;
-    write_not_from(said, out)
+    write_not_from(said, out)?;
+    Ok(())
 }
 
 fn write_reached(ip: Ip, taken: Ip, out: &mut Vec<u8>) -> Result<(), Memory>
@@ -48,7 +49,8 @@ fn write_reached(ip: Ip, taken: Ip, out: &mut Vec<u8>) -> Result<(), Memory>
     out.extend_from_slice(b"he: ")?;
     write_ip(ip, out)?;
     out.extend_from_slice(b" is reached from ")?;
-    write_ip(taken, out)
+    write_ip(taken, out)?;
+    Ok(())
 }
 
 fn write_not_from(said: Ip, out: &mut Vec<u8>) -> Result<(), Memory>
