@@ -1,3 +1,2 @@
 pub mod Connects
-pub mod Sources
 pub mod Start

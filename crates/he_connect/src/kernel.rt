@@ -1,6 +1,4 @@
 //! The sources that the kernel takes, beside those that the lines of the host say.
-ghost use Rattle.std.specs.Prelude.{◌≡◌, ◌++◌, OnOk};
-ghost use Rattle.he_connect.specs.Sources.{not_from_text, other_source_text, reached_text};
 
 use he_addr::{Ip, Memory, write_ip};
 use he_plan::{Line, Timeline};
@@ -32,30 +30,14 @@ pub(crate) fn write_other_sources<R: Net>(
 }
 
 // The line, where the sources differ.
-fn write_other_source(ip: Ip, said: Ip, taken: Ip, out: &mut Vec<u8>) -> Result<(), Memory>
-    ensures { OnOk result (out.new.items ≡ out.old.items ++ other_source_text ip said taken) }
-{
+fn write_other_source(ip: Ip, said: Ip, taken: Ip, out: &mut Vec<u8>) -> Result<(), Memory> {
     if said == taken {
         return Ok(());
     }
-    write_reached(ip, taken, out)?;
-    write_not_from(said, out)?;
-    Ok(())
-}
-
-fn write_reached(ip: Ip, taken: Ip, out: &mut Vec<u8>) -> Result<(), Memory>
-    ensures { OnOk result (out.new.items ≡ out.old.items ++ reached_text ip taken) }
-{
     out.extend_from_slice(b"he: ")?;
     write_ip(ip, out)?;
     out.extend_from_slice(b" is reached from ")?;
     write_ip(taken, out)?;
-    Ok(())
-}
-
-fn write_not_from(said: Ip, out: &mut Vec<u8>) -> Result<(), Memory>
-    ensures { OnOk result (out.new.items ≡ out.old.items ++ not_from_text said) }
-{
     out.extend_from_slice(b", and not from ")?;
     write_ip(said, out)?;
     out.push(b'\n')?;

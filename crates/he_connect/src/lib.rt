@@ -11,15 +11,14 @@
 //!   an empty answer for a family that isn't tried (`specs/Start`).
 //! - The text that is written as the record is that of a race that began so, kept what it began with, and replays to its
 //!   transcript; there is a connection exactly where that race was won (`IsRun` in `specs/Connects`).
-//! - An explanation that is asked for is that of the record, and the line of a source that the kernel takes instead of that
-//!   of the lines is that of `specs/Sources`: clauses of functions inside.
+//! - An explanation that is asked for is that of the record: a clause of a function inside.
 //! - Nothing is put into the output but by the relay, and of it what `he_relay` says; a fault that is not the relay's left
 //!   the output alone (`Connects`).
 //!
 //! All promise this if they return: they wait for the system.
 //!
 //! Only tested: which addresses are found, that anything connects, and when; what the line that tells what was tried says,
-//! and each step; that the record's text is what is in the file; what the kernel takes.
+//! and each step; that the record's text is what is in the file; which source the kernel takes, and what is said of it.
 #![tactic(auto)]
 
 pub mod asked;
