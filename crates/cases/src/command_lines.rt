@@ -372,9 +372,9 @@ static TEXT_ROWS: [Row; 58] = [
         &["he", "replay", "-v"],
         TEXT,
         Streams::Whole,
-        2,
+        0,
+        TRANSCRIPT,
         b"",
-        b"error: ",
     ),
     (
         &["he", "live", "--must-connect", "--port", "1"],
