@@ -25,8 +25,8 @@ ran_so start raced (Ok run) replays text winner = record {
 }
 ran_so start raced (Err fault) replays text winner = tt
 
-pub began_so : (lines : List ℕ) (settings : SettingValues) (families : Families) (start : Race) (result : Result Run ConnectFault)
-    → Starts lines settings families start → IfOk result (λ run. RunsFrom start run.text.items (is_some run.winner))
-    → IfOk result (λ run. IsRun settings families run.text.items (is_some run.winner))
-began_so lines settings families start (Ok run) starts runs = record { lines = lines; start = start; starts = starts; runs = runs }
-began_so lines settings families start (Err fault) starts runs = tt
+pub began_so : (HasLines : List ℕ → Type 0) (lines : List ℕ) (settings : SettingValues) (families : Families) (start : Race) (result : Result Run ConnectFault)
+    → HasLines lines → Starts lines settings families start → IfOk result (λ run. RunsFrom start run.text.items (is_some run.winner))
+    → IfOk result (λ run. IsRun HasLines settings families run.text.items (is_some run.winner))
+began_so HasLines lines settings families start (Ok run) has starts runs = record { lines = lines; has = has; start = start; starts = starts; runs = runs }
+began_so HasLines lines settings families start (Err fault) has starts runs = tt

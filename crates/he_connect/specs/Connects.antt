@@ -1,5 +1,5 @@
 -- What a connection that is asked for did.
-use Rattle.std.specs.Prelude.{ℕ, ◌≡◌, ◌⊎◌, List, [], Bool, true, false, Result, Ok, Err}
+use Rattle.std.specs.Prelude.{ℕ, ◌≡◌, ◌⊎◌, ⊤, List, [], Bool, true, false, Result, Ok, Err}
 use Rattle.he_explain.specs.Course.{Explains}
 use Rattle.he_plan.specs.Race.{Race}
 use Rattle.he_plan.specs.Settings.{SettingValues}
@@ -31,16 +31,21 @@ pub record RunsFrom (start : Race) (text : List ℕ) (won : Bool) : Type 0 where
   pub written : text ≡ timeline_text recorded
   pub won_so : won ≡ is_won report.result
 
--- a race that was run began with the settings and some lines
-pub record IsRun (settings : SettingValues) (families : Families) (text : List ℕ) (won : Bool) : Type 0 where
+-- a race that was run began with the settings and with the lines that there were
+pub record IsRun (HasLines : List ℕ → Type 0) (settings : SettingValues) (families : Families) (text : List ℕ) (won : Bool) : Type 0 where
   pub lines : List ℕ
+  pub has : HasLines lines
   pub start : Race
   pub starts : Starts lines settings families start
   pub runs : RunsFrom start text won
 
--- such a race was run
+-- such a race was run, and its text was kept
+abbrev pub RanAndKept : (List ℕ → Type 0) → (List ℕ → Type 0) → SettingValues → Families → Bool → Type 0
+RanAndKept HasLines IsKept settings families won = (text : List ℕ) × IsRun HasLines settings families text won × IsKept text
+
+-- the same with some lines, whatever was kept
 abbrev pub Ran : SettingValues → Families → Bool → Type 0
-Ran settings families won = (text : List ℕ) × IsRun settings families text won
+Ran settings families won = (text : List ℕ) × IsRun (λ _. ⊤) settings families text won
 
 -- an explanation that is asked for is that of the record
 abbrev pub IsExplained : Bool → Race → List ℕ → Type 0

@@ -1,3 +1,4 @@
 pub mod Connects
+pub mod Heard
 pub mod Sources
 pub mod Start

@@ -1,16 +1,16 @@
 //! A connection that is made and relayed.
-ghost use Rattle.std.specs.Prelude.{◌≡◌, IfErr, is_some};
+ghost use Rattle.std.specs.Prelude.{◌≡◌, IfSome, OnOk, IfErr, is_some};
 ghost use Rattle.he_stream.specs.Output.{PutsInRounds, PutsRoundsPart};
-ghost use Rattle.he_connect.specs.Connects.{Connects, IsBefore, Ran};
+ghost use Rattle.he_connect.specs.Connects.{Connects, IsBefore, Ran, RanAndKept};
 
 use crate::asked::Asked;
 use crate::fault::ConnectFault;
+use crate::machine::Machine;
 use crate::racing::{Run, run_race};
 use he_relay::relay;
 use he_resolver::SystemResolver;
 use he_stream::{InputStream, OutputStream};
 use std::alloc::{AllocGlobal, Global};
-use std::fs;
 use std::io::Write;
 use std::net::Net;
 use std::random::RandomSource;
@@ -49,19 +49,21 @@ pub fn connect<R, I, O, F>(
 ) -> Result<Ended, ConnectFault>
 where
     R: Threads + Wait + Clock + RandomSource + AllocGlobal + Net + Files + Sync,
-    R: SystemResolver + Copy + Send + 'static,
+    R: SystemResolver + Machine + Copy + Send + 'static,
     I: InputStream,
     O: OutputStream + Send,
     F: Write,
-    ensures { Connects (Ran asked.now.settings asked.now.families)
+    ensures kept { Connects (RanAndKept (R.has_lines rt.now asked.now.lines)
+        (λ text. IfSome asked.now.record (λ path. R.has_written rt.now path.now text)) asked.now.settings asked.now.families)
+        (PutsInRounds O.contents O.puts O.flushes output.old output.new)
+        (PutsRoundsPart O.contents O.puts O.flushes output.old output.new) (output.new ≡ output.old) result }
+    ensures ran { Connects (Ran asked.now.settings asked.now.families)
         (PutsInRounds O.contents O.puts O.flushes output.old output.new)
         (PutsRoundsPart O.contents O.puts O.flushes output.old output.new) (output.new ≡ output.old) result }
 {
     let ran = run_race(rt, alloc, asked, faults)?;
     let _ = faults.write_all(ran.told.as_slice());
-    if let Some(path) = asked.record {
-        write_record(rt, path, ran.text.as_slice())?;
-    }
+    keep(rt, asked.record, ran.text.as_slice())?;
     end_with(rt, alloc, asked.only_tries, ran, input, output)
 }
 
@@ -95,11 +97,13 @@ where
     }
 }
 
-fn write_record<R: Files>(rt: &R, path: &str, record: &[u8]) -> Result<(), ConnectFault>
-    ensures { IfErr result IsBefore }
+// Writes the text of a record, where a file is named for it.
+fn keep<R: Machine>(rt: &R, path: Option<&str>, text: &[u8]) -> Result<(), ConnectFault>
+    ensures written { OnOk result (IfSome path (λ path. R.has_written rt.now path.now text.now)) }
+    ensures fault { IfErr result IsBefore }
 {
-    match fs::write(rt, path, record) {
-        Ok(()) => Ok(()),
-        Err(_) => Err(ConnectFault::Record),
+    match path {
+        Some(path) => rt.write_record(path, text),
+        None => Ok(()),
     }
 }

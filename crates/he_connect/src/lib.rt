@@ -1,25 +1,31 @@
 //! A connection to a host by RFC 8305, with standard input and output over it: `he connect`.
 //!
-//! [`connect`] finds the host's addresses (`he_resolver`) while it races them (`he_live`), each family's as soon as they
-//! are known, with the sources, routes and policy rows of this machine (`he_host`) or of a file. It writes the record of
-//! the race to a file, tells what was tried where nothing connected, explains the race, and relays the connection
-//! (`he_relay`), as far as each of these is asked for.
+//! [`connect`] finds the host's addresses (`he_resolver`) while it races them (`he_live`), each family's as soon as
+//! they are known, with the sources, routes and policy rows of this machine (`he_host`) or of a file. It writes the
+//! record of the race to a file, tells what was tried where nothing connected, explains the race, and relays the
+//! connection (`he_relay`), as far as each of these is asked for.
 //!
 //! # What is proved
 //!
-//! - The race begins as [`start_race`](start::start_race) says: with the settings, the host and the policy of the lines, and
-//!   an empty answer for a family that isn't tried (`specs/Start`).
-//! - The text that is written as the record is that of a race that began so, kept what it began with, and replays to its
-//!   transcript; there is a connection exactly where that race was won (`IsRun` in `specs/Connects`).
-//! - An explanation that is asked for is that of the record, and the line of a source that the kernel takes instead of that
-//!   of the lines is that of `specs/Sources`: clauses of functions inside.
-//! - Nothing is put into the output but by the relay, and of it what `he_relay` says; a fault that is not the relay's left
-//!   the output alone (`Connects`).
+//! - The race begins as [`start_race`](start::start_race) says: with the settings, the host and the policy of the
+//!   lines that [`Machine::read_lines`] gave for those that were asked for, and an empty answer for a family that
+//!   isn't tried (`specs/Start`, `RanAndKept` in `specs/Connects`).
+//! - The text that [`Machine::write_record`] was given for the file of the record is that of a race that began so,
+//!   kept what it began with, and replays to its transcript; there is a connection exactly where that race was won.
+//! - What the race hears of a family is what the look-up tells for the host, or none (`specs/Heard`); an explanation
+//!   that is asked for is that of the record (`IsExplained`); and the line of a source that the kernel takes instead
+//!   of that of the lines (`specs/Sources`). These are clauses of functions inside.
+//! - Nothing is put into the output but by the relay, and of it what `he_relay` says; a fault that is not the relay's
+//!   left the output alone (`Connects`).
 //!
 //! All promise this if they return: they wait for the system.
 //!
-//! Only tested: which addresses are found, that anything connects, and when; what the line that tells what was tried says,
-//! and each step; that the record's text is what is in the file; what the kernel takes.
+//! No contract says what a file has or gets, since none of the system's does: how `HostRuntime` is a [`Machine`]
+//! stands in one short impl. Nor that the answers of the record are those that were heard, that what is told reaches
+//! the writer of faults, and what the kernel takes.
+//!
+//! Only tested: which addresses are found, that anything connects, and when; what the line that tells what was tried
+//! says, and each step.
 #![tactic(auto)]
 
 pub mod asked;
@@ -27,6 +33,7 @@ pub mod connecting;
 pub mod fault;
 mod kernel;
 mod lines;
+pub mod machine;
 mod racing;
 mod source;
 pub mod start;
@@ -36,3 +43,4 @@ mod tried;
 pub use asked::{Asked, Families, Lines};
 pub use connecting::{Ended, connect};
 pub use fault::ConnectFault;
+pub use machine::Machine;

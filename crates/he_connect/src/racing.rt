@@ -6,7 +6,7 @@ ghost use Rattle.he_connect.specs.Connects.{IsBefore, IsExplained, IsRun, RunsFr
 use crate::asked::Asked;
 use crate::fault::ConnectFault;
 use crate::kernel::write_other_sources;
-use crate::lines::read_lines_of;
+use crate::machine::Machine;
 use crate::source::{HostAnswers, WhyNone};
 use crate::start::start_race;
 use crate::telling::Telling;
@@ -59,11 +59,11 @@ pub(crate) fn run_race<R, F>(
 where
     F: Write,
     R: Threads + Wait + Clock + RandomSource + AllocGlobal + Net + Files + Sync,
-    R: SystemResolver + Copy + Send + 'static,
-    ensures race { IfOk result (λ run. IsRun asked.now.settings asked.now.families run.text.items (is_some run.winner)) }
+    R: SystemResolver + Machine + Copy + Send + 'static,
+    ensures race { IfOk result (λ run. IsRun (R.has_lines rt.now asked.now.lines) asked.now.settings asked.now.families run.text.items (is_some run.winner)) }
     ensures fault { IfErr result IsBefore }
 {
-    let lines = read_lines_of(rt, alloc, asked.lines)?;
+    let lines = rt.read_lines(alloc, asked.lines)?;
     let start = start_race(alloc, asked.settings, asked.families, &lines)?;
     let run = run_from(rt, alloc, asked, &start, faults);
     drop(start);

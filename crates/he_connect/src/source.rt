@@ -1,4 +1,5 @@
 //! Where the answers of a connection's race come from.
+ghost use Rattle.std.specs.Prelude.{◌≡◌, []};
 ghost use Rattle.futures.specs.Task.{Keeps};
 
 use crate::asked::Families;
@@ -81,6 +82,7 @@ impl<'h, R> HostAnswers<'h, R> {
     // Registers for the end of the wait.
     fn wake_at_end(&mut self, cx: &mut Context<'_>)
         ensures kept { Keeps cx.old cx.new }
+        ensures lookup { self.new.lookup ≡ self.old.lookup }
     {
         if let Some(mut sleep) = self.sleep.take() {
             match sleep.poll(cx) {
@@ -92,16 +94,20 @@ impl<'h, R> HostAnswers<'h, R> {
         }
     }
 
-    fn none(&self, family: Family, fault: NamesFault) -> Vec<Ip> {
+    fn none(&self, family: Family, fault: NamesFault) -> Vec<Ip>
+        ensures { result.items ≡ [] }
+    {
         self.why.note(family, fault);
         Vec::new(self.alloc)
     }
 }
 
 impl<'h, R: Net + RandomSource + Clock> AnswerSource for HostAnswers<'h, R> {
-    ghost use Rattle.std.specs.Prelude.{⊤};
+    ghost use Rattle.std.specs.Prelude.{List, ℕ};
+    ghost use Rattle.he_resolver.specs.declared.choice.Choice.{Choice};
+    ghost use Rattle.he_connect.specs.Heard.{HearsFor};
 
-    ghost hears = { λ _ _ _ _ _. ⊤ };
+    ghost hears = { λ s family _ told left. (choice : Choice) (host : List ℕ) → HearsFor choice host s family told left };
 
     fn poll_answer(&mut self, family: Family, now: u64, cx: &mut Context<'_>) -> Poll<Vec<Ip>> {
         self.wake_at_end(cx);

@@ -1,1 +1,4 @@
+pub mod Names
+pub mod Messages
+pub mod Steps
 mod Tells

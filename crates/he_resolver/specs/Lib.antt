@@ -1,4 +1,5 @@
 pub mod Asked
 pub mod Known
+pub mod Looking
 pub mod Replies
 pub mod Told

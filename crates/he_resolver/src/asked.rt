@@ -1,9 +1,11 @@
 // What is asked for a host, and of whom.
 
-ghost use Rattle.std.specs.Prelude.{◌≡◌, ◌*◌, IfOk, codes};
+ghost use Rattle.std.specs.Prelude.{◌≡◌, ◌*◌, All, IfOk, IfSome, List, ℕ, codes};
 ghost use Rattle.std.specs.Duration.{as_nanos};
 ghost use Rattle.he_names.specs.Conf.{option_in};
 ghost use Rattle.he_resolver.specs.Asked.{server_of_try};
+ghost use Rattle.he_resolver.specs.Looking.{AreNamesFor};
+ghost use Rattle.he_resolver.specs.Told.{IsNameFor};
 
 use crate::choice::{Choice, server_at};
 use crate::fault::NamesFault;
@@ -25,7 +27,9 @@ pub(crate) struct Asked {
 
 impl Asked {
     // The name at this place, where there are so many.
-    pub(crate) fn name(&self, place: usize) -> Option<&Name> {
+    pub(crate) fn name(&self, place: usize) -> Option<&Name>
+        ensures { (host : List ℕ) → AreNamesFor host self.now → IfSome result (λ name. IsNameFor host name.now.octets) }
+    {
         self.names.get(place)
     }
 
@@ -58,6 +62,7 @@ pub(crate) fn asked_in(
 ) -> Result<Asked, NamesFault>
     ensures timeout { IfOk result (λ asked. as_nanos asked.timeout ≡ option_in (codes "timeout:") 1 5 30 settings.now * 1_000_000_000) }
     ensures attempts { IfOk result (λ asked. asked.attempts ≡ option_in (codes "attempts:") 1 2 5 settings.now) }
+    ensures names { IfOk result (AreNamesFor host.now) }
 {
     Ok(Asked {
         names: names_of(alloc, host, settings)?,
@@ -84,7 +89,9 @@ fn servers_of(
 }
 
 // The names that are asked for a host. One that is too long in a domain of the search list is left out.
-fn names_of(alloc: Global, host: &[u8], settings: &[u8]) -> Result<Vec<Name>, NamesFault> {
+fn names_of(alloc: Global, host: &[u8], settings: &[u8]) -> Result<Vec<Name>, NamesFault>
+    ensures { IfOk result (λ names. All (λ name. IsNameFor host.now name.octets) names.items) }
+{
     if let Err(fault) = Name::read(alloc, host) {
         return Err(name_fault(fault));
     }

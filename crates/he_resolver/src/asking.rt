@@ -1,7 +1,10 @@
 // What one family asks: the servers in turn, until one of them tells.
 
-ghost use Rattle.futures.specs.Poll.{OnPending};
+ghost use Rattle.std.specs.Prelude.{◌≡◌, IfOk, List, None, Ok, Some, ℕ};
+ghost use Rattle.futures.specs.Poll.{IfReady, OnPending};
 ghost use Rattle.futures.specs.Task.{IsArmed, Keeps};
+ghost use Rattle.he_resolver.specs.Looking.{AreNamesFor, IsAskedFor, IsReply};
+ghost use Rattle.he_resolver.specs.Told.{IsNameFor};
 
 use crate::datagrams::Datagrams;
 use crate::fault::NamesFault;
@@ -34,6 +37,7 @@ impl Query {
         question: Question<'_>,
         cx: &mut Context<'_>,
     ) -> Poll<Reply>
+        ensures reply { IfReady result (λ reply. (id : ℕ) × IsReply id question.entry.name.now.octets question.entry.family reply) }
         ensures kept { Keeps cx.old cx.new }
     {
         match self {
@@ -64,7 +68,10 @@ pub(crate) struct Asking {
 }
 
 impl Asking {
-    pub(crate) fn new(family: Family) -> Asking {
+    pub(crate) fn new(family: Family) -> Asking
+        ensures family { result.family ≡ family }
+        ensures told { result.told ≡ None }
+    {
         Asking {
             family,
             tries: 0,
@@ -88,7 +95,11 @@ impl Asking {
     }
 
     // The addresses, or why there are none. They are given away: from then on there are none.
-    pub(crate) fn give(&mut self, alloc: Global) -> Result<Vec<Ip>, NamesFault> {
+    pub(crate) fn give(&mut self, alloc: Global) -> Result<Vec<Ip>, NamesFault>
+        ensures family { self.new.family ≡ self.old.family }
+        ensures given { IfOk result (λ ips. self.old.told ≡ Some (Ok ips)) }
+        ensures told { (host : List ℕ) → IsAskedFor host self.old → IsAskedFor host self.new }
+    {
         match &mut self.told {
             Some(Ok(ips)) => Ok(replace(ips, Vec::new(alloc))),
             Some(Err(fault)) => Err(*fault),
@@ -103,6 +114,8 @@ impl Asking {
         place: usize,
         cx: &mut Context<'_>,
     ) -> Poll<()>
+        ensures family { self.new.family ≡ self.old.family }
+        ensures told { (host : List ℕ) → AreNamesFor host setup.now.asked → IsAskedFor host self.old → IsAskedFor host self.new }
         ensures armed { OnPending result (IsArmed cx.new) }
         ensures kept { Keeps cx.old cx.new }
     {
@@ -128,6 +141,8 @@ impl Asking {
         name: &Name,
         cx: &mut Context<'_>,
     ) -> Poll<()>
+        ensures family { self.new.family ≡ self.old.family }
+        ensures told { (host : List ℕ) → IsNameFor host name.now.octets → IsAskedFor host self.old → IsAskedFor host self.new }
         ensures armed { OnPending result (IsArmed cx.new) }
         ensures kept { Keeps cx.old cx.new }
     {
@@ -156,11 +171,10 @@ impl Asking {
 
     // Asks the next server, over UDP; where each was asked as often as the settings say, it is told that none gave
     // an address.
-    fn begin<R: Net + RandomSource + Clock>(
-        &mut self,
-        setup: &Setup<'_, R>,
-        question: Question<'_>,
-    ) {
+    fn begin<R: Net + RandomSource + Clock>(&mut self, setup: &Setup<'_, R>, question: Question<'_>)
+        ensures family { self.new.family ≡ self.old.family }
+        ensures told { (host : List ℕ) → IsAskedFor host self.old → IsAskedFor host self.new }
+    {
         let Some(server) = setup.asked.server(self.tries) else {
             self.told = Some(Err(self.lack));
             return;
@@ -172,7 +186,10 @@ impl Asking {
         }
     }
 
-    fn wait<R: Clock>(&mut self, setup: &Setup<'_, R>, server: SocketAddr, query: Query) {
+    fn wait<R: Clock>(&mut self, setup: &Setup<'_, R>, server: SocketAddr, query: Query)
+        ensures family { self.new.family ≡ self.old.family }
+        ensures told { self.new.told ≡ self.old.told }
+    {
         match setup.timers.sleep(setup.rt, setup.asked.timeout()) {
             Ok(timer) => {
                 self.current = Some(Try {
@@ -185,7 +202,10 @@ impl Asking {
         }
     }
 
-    fn fail(&mut self, lack: NamesFault) {
+    fn fail(&mut self, lack: NamesFault)
+        ensures family { self.new.family ≡ self.old.family }
+        ensures told { self.new.told ≡ self.old.told }
+    {
         self.lack = lack;
         self.current = None;
     }
@@ -197,7 +217,11 @@ impl Asking {
         reply: Reply,
         setup: &Setup<'_, R>,
         question: Question<'_>,
-    ) {
+    )
+        ensures family { self.new.family ≡ self.old.family }
+        ensures told { (host octets : List ℕ) (id : ℕ) → IsNameFor host octets → IsReply id octets self.old.family reply
+            → IsAskedFor host self.old → IsAskedFor host self.new }
+    {
         match reply {
             Reply::Addresses(ips) => self.told = Some(Ok(ips)),
             Reply::Truncated => self.ask_again(setup, question),
@@ -211,7 +235,10 @@ impl Asking {
         &mut self,
         setup: &Setup<'_, R>,
         question: Question<'_>,
-    ) {
+    )
+        ensures family { self.new.family ≡ self.old.family }
+        ensures told { self.new.told ≡ self.old.told }
+    {
         let server = match &self.current {
             Some(
                 Try {

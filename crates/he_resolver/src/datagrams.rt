@@ -1,6 +1,8 @@
 // A query over UDP (RFC 1035 section 4.2.1).
 
+ghost use Rattle.futures.specs.Poll.{IfReady};
 ghost use Rattle.futures.specs.Task.{Keeps};
+ghost use Rattle.he_resolver.specs.Looking.{IsReply};
 
 use crate::fault::NamesFault;
 use crate::limits::{DATAGRAM_ROOM, DATAGRAMS_IN_A_ROW};
@@ -54,6 +56,7 @@ impl Datagrams {
         question: Question<'_>,
         cx: &mut Context<'_>,
     ) -> Poll<Reply>
+        ensures reply { IfReady result (IsReply self.old.id question.entry.name.now.octets question.entry.family) }
         ensures kept { Keeps cx.old cx.new }
     {
         for _ in 0..DATAGRAMS_IN_A_ROW {

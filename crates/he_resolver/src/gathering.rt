@@ -1,7 +1,12 @@
 // Both answers of a host, each with the tick at which it came.
 
-ghost use Rattle.futures.specs.Poll.{OnPending};
+ghost use Rattle.std.specs.Prelude.{IfOk, List, ℕ};
+ghost use Rattle.futures.specs.Poll.{IfReady, OnPending};
 ghost use Rattle.futures.specs.Task.{IsArmed, Keeps};
+ghost use Rattle.he_addr.specs.declared.ip.Family.TheVariants as families;
+ghost use Rattle.he_resolver.specs.declared.choice.Choice.{Choice};
+ghost use Rattle.he_resolver.specs.Looking.{Gathers, IsToldOf, LooksUp};
+ghost use Rattle.he_resolver.specs.Told.{AreToldFor};
 
 use crate::fault::{NamesFault, first_fault};
 use crate::lookup::Lookup;
@@ -33,7 +38,9 @@ pub(crate) struct Gathering<'h, R> {
 }
 
 impl<'h, R: Net + RandomSource + Clock> Gathering<'h, R> {
-    pub(crate) fn new(clock: &'h R, alloc: Global, lookup: Lookup<'h, R>) -> Gathering<'h, R> {
+    pub(crate) fn new(clock: &'h R, alloc: Global, lookup: Lookup<'h, R>) -> Gathering<'h, R>
+        ensures { (choice : Choice) (host : List ℕ) → LooksUp choice host lookup.entry → Gathers choice host result }
+    {
         Gathering {
             clock,
             alloc,
@@ -45,7 +52,9 @@ impl<'h, R: Net + RandomSource + Clock> Gathering<'h, R> {
     }
 
     // The whole milliseconds since the first poll; 0 where the clock fails.
-    fn tick(&mut self) -> u64 {
+    fn tick(&mut self) -> u64
+        ensures { (choice : Choice) (host : List ℕ) → Gathers choice host self.old → Gathers choice host self.new }
+    {
         let Ok(now) = Instant::now(self.clock) else {
             return 0;
         };
@@ -57,6 +66,8 @@ impl<'h, R: Net + RandomSource + Clock> Gathering<'h, R> {
 
     // What the family is told in a poll at this tick.
     fn poll_told(&mut self, family: Family, tick: u64, cx: &mut Context<'_>) -> Poll<Told>
+        ensures goes_on { (choice : Choice) (host : List ℕ) → Gathers choice host self.old → Gathers choice host self.new }
+        ensures told { (choice : Choice) (host : List ℕ) → Gathers choice host self.old → IfReady result (IsToldOf choice host family) }
         ensures armed { OnPending result (IsArmed cx.new) }
         ensures kept { Keeps cx.old cx.new }
     {
@@ -69,6 +80,8 @@ impl<'h, R: Net + RandomSource + Clock> Gathering<'h, R> {
 
 impl<R: Net + RandomSource + Clock> Future for Gathering<'_, R> {
     type Output = Result<Found, NamesFault>;
+
+    ghost gives = { λ gathering found. (choice : Choice) (host : List ℕ) → Gathers choice host gathering → IfOk found (AreToldFor choice host) };
 
     fn poll(&mut self, cx: &mut Context<'_>) -> Poll<Result<Found, NamesFault>> {
         let tick = self.tick();
@@ -99,7 +112,10 @@ fn ready(told: Poll<Told>) -> Option<Told> {
 }
 
 // Both answers; or, where neither family has an address, why.
-fn join(alloc: Global, v6: Told, v4: Told) -> Result<Found, NamesFault> {
+fn join(alloc: Global, v6: Told, v4: Told) -> Result<Found, NamesFault>
+    ensures { (choice : Choice) (host : List ℕ) → IsToldOf choice host families.V6 v6 → IsToldOf choice host families.V4 v4
+        → IfOk result (AreToldFor choice host) }
+{
     if let (Err(six), Err(four)) = (&v6.answer, &v4.answer) {
         return Err(first_fault(*six, *four));
     }

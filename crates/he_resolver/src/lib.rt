@@ -15,10 +15,21 @@
 //! A query has a random id and a port that the kernel chooses, and its socket is connected, so what another peer sends is
 //! not seen. A response with another id or another question is passed over. One that is cut off is asked for over TCP.
 //!
-//! What the contracts say: a family is told addresses of its own, none twice, at most 256; where a poll is pending, it is
-//! woken again; [`write_names`] writes the two lines, and after any fault but `Write` nothing; and, of functions inside,
-//! what a message comes to (`specs/Replies`), which server is asked at which try (`specs/Asked`), what the file of hosts
-//! knows (`specs/Known`). Only tested, on loopback: that queries leave, when, to whom, and what becomes of answers.
+//! # What is proved
+//!
+//! - What is told for a family of a host ([`Lookup::poll_answer`], [`write_names`]) is nothing; or the host's own address
+//!   or those that a file of hosts has for it (`specs/Known`); or the addresses of the family that some message answers,
+//!   as `he_dns` reads it, to a question for the family's addresses of the host, or of the host in a domain (`specs/Told`);
+//!   each once, at most 256.
+//! - A reply is read by the id of its own query; what any message comes to (`specs/Replies`), and which server is asked at
+//!   which try (`specs/Asked`), is said of the functions inside.
+//! - Where a poll is pending, it is woken again; [`write_names`] writes the two lines, and after any fault but `Write`
+//!   nothing.
+//!
+//! The message, the bytes of the file of hosts and the domain are some: no contract of the system's says what a socket or a
+//! file has. Of what the system's resolver has nothing is said but that each family is told its own, each once.
+//!
+//! Only tested, on loopback: that queries leave, when, to whom, and which message is answered.
 #![tactic(auto)]
 
 mod asked;

@@ -1,9 +1,11 @@
 //! A look-up of a host's addresses that is polled, as a race polls it.
 
-ghost use Rattle.std.specs.Prelude.{IfOk};
+ghost use Rattle.std.specs.Prelude.{◌≡◌, IfOk, IsOkAnd, List, ℕ};
 ghost use Rattle.futures.specs.Poll.{IfReady, OnPending};
 ghost use Rattle.futures.specs.Task.{IsArmed, Keeps};
-ghost use Rattle.he_names.specs.Answers.{IsAnswer};
+ghost use Rattle.he_names.specs.Answers.{IsAnswer, cleaned};
+ghost use Rattle.he_resolver.specs.Looking.{LooksUp};
+ghost use Rattle.he_resolver.specs.Told.{IsToldFor};
 
 use crate::asked::asked_in;
 use crate::choice::Choice;
@@ -34,9 +36,12 @@ pub struct Lookup<'h, R> {
 // Where the addresses come from.
 #[derive(Drop)]
 enum Source<'h, R> {
-    Known(Result<Vec<Ip>, NamesFault>),
+    // The host itself, or the file of hosts.
+    Known(Vec<Ip>),
     Servers(Resolver<'h, R>),
     System(SystemQuery),
+    // What the system's resolver told.
+    Found(Result<Vec<Ip>, NamesFault>),
 }
 
 impl<'h, R: Net + RandomSource + Clock> Lookup<'h, R> {
@@ -56,6 +61,7 @@ impl<'h, R: Net + RandomSource + Clock> Lookup<'h, R> {
     ) -> Result<Lookup<'h, R>, NamesFault>
     where
         R: Files + AllocGlobal + SystemResolver + Threads + Copy + Send + 'static,
+        ensures { IfOk result (LooksUp choice host.now) }
     {
         if let Choice::System = choice {
             let source = Source::System(SystemQuery::begin(*rt, alloc, host)?);
@@ -63,7 +69,7 @@ impl<'h, R: Net + RandomSource + Clock> Lookup<'h, R> {
         }
         let hosts = read_file(rt, alloc, HOSTS)?;
         if let Some(known) = known_in(alloc, host.as_bytes(), &hosts)? {
-            let source = Source::Known(Ok(known));
+            let source = Source::Known(known);
             return Ok(Lookup { alloc, source });
         }
         let settings = read_file(rt, alloc, SETTINGS)?;
@@ -87,12 +93,15 @@ impl<'h, R: Net + RandomSource + Clock> Lookup<'h, R> {
         family: Family,
         cx: &mut Context<'_>,
     ) -> Poll<Result<Vec<Ip>, NamesFault>>
+        ensures goes_on { (choice : Choice) (host : List ℕ) → LooksUp choice host self.old → LooksUp choice host self.new }
+        ensures told { (choice : Choice) (host : List ℕ) → LooksUp choice host self.old
+            → IfReady result (λ told. IfOk told (λ ips. IsToldFor choice host family ips.items)) }
         ensures answer { IfReady result (λ told. IfOk told (λ ips. IsAnswer family ips.items)) }
         ensures armed { OnPending result (IsArmed cx.new) }
         ensures kept { Keeps cx.old cx.new }
     {
         match &mut self.source {
-            Source::Known(found) => Poll::Ready(answer_of(self.alloc, family, found)),
+            Source::Known(known) => Poll::Ready(clean(self.alloc, family, known)),
             Source::Servers(resolver) => match resolver.poll_answer(family, cx) {
                 Poll::Pending => Poll::Pending,
                 Poll::Ready(found) => Poll::Ready(answer_of(self.alloc, family, &found)),
@@ -101,10 +110,11 @@ impl<'h, R: Net + RandomSource + Clock> Lookup<'h, R> {
                 Poll::Pending => Poll::Pending,
                 Poll::Ready(found) => {
                     let answer = answer_of(self.alloc, family, &found);
-                    self.source = Source::Known(found);
+                    self.source = Source::Found(found);
                     Poll::Ready(answer)
                 }
             },
+            Source::Found(found) => Poll::Ready(answer_of(self.alloc, family, found)),
         }
     }
 }
@@ -115,10 +125,18 @@ fn answer_of(
     family: Family,
     found: &Result<Vec<Ip>, NamesFault>,
 ) -> Result<Vec<Ip>, NamesFault>
-    ensures { IfOk result (λ ips. IsAnswer family ips.items) }
+    ensures answer { IfOk result (λ ips. IsAnswer family ips.items) }
+    ensures value { IfOk result (λ kept. IsOkAnd found.now (λ ips. kept.items ≡ cleaned family ips.items)) }
 {
     match found {
-        Ok(ips) => Ok(clean_of(alloc, family, ips)?),
+        Ok(ips) => clean(alloc, family, ips),
         Err(fault) => Err(*fault),
     }
+}
+
+fn clean(alloc: Global, family: Family, ips: &[Ip]) -> Result<Vec<Ip>, NamesFault>
+    ensures answer { IfOk result (λ kept. IsAnswer family kept.items) }
+    ensures value { IfOk result (λ kept. kept.items ≡ cleaned family ips.now) }
+{
+    Ok(clean_of(alloc, family, ips)?)
 }

@@ -1,8 +1,8 @@
 //! What a name has, found and told.
 
-ghost use Rattle.std.specs.Prelude.{◌≡◌, IfOk};
+ghost use Rattle.std.specs.Prelude.{◌≡◌, IfOk, List, ℕ};
 ghost use Rattle.he_stream.specs.Output.{PutsPart, PutsWhole};
-ghost use Rattle.he_resolver.specs.Told.{IsNamesText, TellsNames};
+ghost use Rattle.he_resolver.specs.Told.{AreToldFor, IsNamesText, TellsNames};
 
 use crate::choice::Choice;
 use crate::fault::{NamesFault, TellFault};
@@ -39,7 +39,7 @@ where
     R: Wait + Clock + RandomSource + AllocGlobal + Net + Files + Threads,
     R: SystemResolver + Copy + Send + 'static,
     O: OutputStream,
-    ensures { TellsNames (PutsWhole O.contents O.puts O.flushes output.old output.new)
+    ensures { TellsNames choice host.now (PutsWhole O.contents O.puts O.flushes output.old output.new)
         (PutsPart O.contents O.puts O.flushes output.old output.new) (output.new ≡ output.old) result }
 {
     let found = find(rt, alloc, host, choice)?;
@@ -50,7 +50,7 @@ where
 
 // The two lines.
 fn text_of(alloc: Global, found: &Found) -> Result<Vec<u8>, NamesFault>
-    ensures { IfOk result (λ text. IsNamesText text.items) }
+    ensures { (choice : Choice) (host : List ℕ) → AreToldFor choice host found.now → IfOk result (λ text. IsNamesText choice host text.items) }
 {
     let mut text = Vec::new(alloc);
     found.write(&mut text)?;
@@ -62,6 +62,7 @@ fn find<R>(rt: &R, alloc: Global, host: &str, choice: Choice) -> Result<Found, N
 where
     R: Wait + Clock + RandomSource + AllocGlobal + Net + Files + Threads,
     R: SystemResolver + Copy + Send + 'static,
+    ensures { IfOk result (AreToldFor choice host.now) }
 {
     let mut runtime = LocalRuntime::new(rt)?;
     let handle = runtime.handle().clone()?;

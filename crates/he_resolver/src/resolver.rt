@@ -1,7 +1,10 @@
 // Name servers that are asked for a host.
 
-ghost use Rattle.futures.specs.Poll.{OnPending};
+ghost use Rattle.std.specs.Prelude.{IfOk, List, ℕ};
+ghost use Rattle.futures.specs.Poll.{IfReady, OnPending};
 ghost use Rattle.futures.specs.Task.{IsArmed, Keeps};
+ghost use Rattle.he_resolver.specs.Looking.{AreNamesFor, ResolvesFor};
+ghost use Rattle.he_resolver.specs.Told.{IsFoundFor};
 
 use crate::asked::Asked;
 use crate::asking::Asking;
@@ -37,7 +40,9 @@ impl<'h, R: Net + RandomSource + Clock> Resolver<'h, R> {
         reactor: &'h Handle,
         timers: &'h tokio::time::Handle,
         asked: Asked,
-    ) -> Resolver<'h, R> {
+    ) -> Resolver<'h, R>
+        ensures { (host : List ℕ) → AreNamesFor host asked → ResolvesFor host result }
+    {
         Resolver {
             setup: Setup {
                 rt,
@@ -59,6 +64,9 @@ impl<'h, R: Net + RandomSource + Clock> Resolver<'h, R> {
         family: Family,
         cx: &mut Context<'_>,
     ) -> Poll<Result<Vec<Ip>, NamesFault>>
+        ensures goes_on { (host : List ℕ) → ResolvesFor host self.old → ResolvesFor host self.new }
+        ensures told { (host : List ℕ) → ResolvesFor host self.old
+            → IfReady result (λ told. IfOk told (λ ips. IsFoundFor host family ips.items)) }
         ensures armed { OnPending result (IsArmed cx.new) }
         ensures kept { Keeps cx.old cx.new }
     {
@@ -70,6 +78,7 @@ impl<'h, R: Net + RandomSource + Clock> Resolver<'h, R> {
 
     // Goes on as far as it goes; ready where no more is asked.
     fn poll_names(&mut self, cx: &mut Context<'_>) -> Poll<()>
+        ensures goes_on { (host : List ℕ) → ResolvesFor host self.old → ResolvesFor host self.new }
         ensures armed { OnPending result (IsArmed cx.new) }
         ensures kept { Keeps cx.old cx.new }
     {
@@ -89,6 +98,7 @@ impl<'h, R: Net + RandomSource + Clock> Resolver<'h, R> {
 
     // Both families go on with the name; ready where both are told.
     fn poll_sides(&mut self, cx: &mut Context<'_>) -> Poll<()>
+        ensures goes_on { (host : List ℕ) → ResolvesFor host self.old → ResolvesFor host self.new }
         ensures armed { OnPending result (IsArmed cx.new) }
         ensures kept { Keeps cx.old cx.new }
     {
@@ -121,7 +131,10 @@ impl<'h, R: Net + RandomSource + Clock> Resolver<'h, R> {
         own.has_found() || (own.lack().is_some() && (self.is_last() || other.has_found()))
     }
 
-    fn give(&mut self, family: Family) -> Result<Vec<Ip>, NamesFault> {
+    fn give(&mut self, family: Family) -> Result<Vec<Ip>, NamesFault>
+        ensures goes_on { (host : List ℕ) → ResolvesFor host self.old → ResolvesFor host self.new }
+        ensures told { (host : List ℕ) → ResolvesFor host self.old → IfOk result (λ ips. IsFoundFor host family ips.items) }
+    {
         let alloc = self.setup.alloc;
         match family {
             Family::V6 => self.v6.give(alloc),

@@ -1,6 +1,8 @@
 // A query over TCP (RFC 1035 section 4.2.2): each message stands behind its length in two bytes.
 
+ghost use Rattle.futures.specs.Poll.{IfReady};
 ghost use Rattle.futures.specs.Task.{Keeps};
+ghost use Rattle.he_resolver.specs.Looking.{IsReply};
 
 use crate::datagrams::random_id;
 use crate::fault::NamesFault;
@@ -66,6 +68,7 @@ impl StreamQuery {
 
     // What the server told.
     pub(crate) fn poll_reply(&mut self, question: Question<'_>, cx: &mut Context<'_>) -> Poll<Reply>
+        ensures reply { IfReady result (IsReply self.old.id question.entry.name.now.octets question.entry.family) }
         ensures kept { Keeps cx.old cx.new }
     {
         match self.poll_message(cx) {
