@@ -60,10 +60,10 @@ IsRequest (Names host resolver) = Unit {0}
 IsRequest (Connect options) = LEAST_PORT ≤ options.port
 
 -- what comes of a search for names: they were told, or the line names a resolver that is none
-abbrev pub RunsNames : Option Choice → (List ℕ → Type 0) → (List ℕ → Type 0) → Type 0 → ℕ → Type 0
-RunsNames None Whole Part Kept status = (status ≡ USAGE) × Kept
-RunsNames (Some choice) Whole Part Kept status =
-    (result : Result (Unit {0}) TellFault) × TellsNames Whole Part Kept result × (status ≡ status_of result)
+abbrev pub RunsNames : List ℕ → Option Choice → (List ℕ → Type 0) → (List ℕ → Type 0) → Type 0 → ℕ → Type 0
+RunsNames host None Whole Part Kept status = (status ≡ USAGE) × Kept
+RunsNames host (Some choice) Whole Part Kept status =
+    (result : Result (Unit {0}) TellFault) × TellsNames choice host Whole Part Kept result × (status ≡ status_of result)
 
 -- there are settings of a race that can be changed so
 abbrev pub FitSome : Changes → Type 0
@@ -119,7 +119,7 @@ RunsRequest (Texts texts) Given Taken Ended Failed Put Whole Part Kept OfFiles s
     RunsTexts texts.files.items (RunsText texts.task Given Taken Ended Failed Put Whole Part Kept status) (OfFiles texts.task texts.files.items status)
 RunsRequest (Live options) Given Taken Ended Failed Put Whole Part Kept OfFiles status = RunsLive options Given Whole Part Kept status
 RunsRequest Host Given Taken Ended Failed Put Whole Part Kept OfFiles status = Shows Whole Part Kept status
-RunsRequest (Names host resolver) Given Taken Ended Failed Put Whole Part Kept OfFiles status = RunsNames resolver Whole Part Kept status
+RunsRequest (Names host resolver) Given Taken Ended Failed Put Whole Part Kept OfFiles status = RunsNames host.now resolver Whole Part Kept status
 RunsRequest (Connect options) Given Taken Ended Failed Put Whole Part Kept OfFiles status = RunsConnect options Put Failed Kept status
 
 -- what comes of a line: what it asks for was done; or it asks for nothing that is done, and the input is Unread

@@ -31,6 +31,7 @@ pub mod run;
 pub mod texts;
 
 pub use command::{Request, read_words, takes_text};
+pub use he_connect::Machine;
 pub use run::{
     DONE, FAULT, NO_CONNECTION, USAGE, report, report_not_text, run_line, run_words, tell_waiting,
 };

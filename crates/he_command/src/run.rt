@@ -16,12 +16,12 @@ use crate::numbers::settings_of;
 use crate::racing::LiveOptions;
 use clap::Error;
 use clap::error::ErrorKind;
-use he_connect::{Asked, ConnectFault, Ended, Lines, connect};
+use he_connect::{Asked, ConnectFault, Ended, Lines, Machine, connect};
 use he_host::machine::write_machine;
 use he_live::{Changes, FailedAttempt, LiveFault, Told, first_local, live, write_failures};
 use he_plan::{Outcome3, Settings};
 use he_replay::ReplayFault;
-use he_resolver::{Choice, SystemResolver, write_names};
+use he_resolver::{Choice, SystemResolver, TellFault, write_names};
 use he_stream::{FromReader, InputStream, OutputStream, write_whole};
 use std::alloc::{AllocGlobal, Global};
 use std::fmt::Display;
@@ -60,7 +60,7 @@ pub fn run_words<'a, R, I, O, F>(
 ) -> u8
 where
     R: Threads + Wait + Clock + RandomSource + AllocGlobal + Net + Files + Sync,
-    R: SystemResolver + Copy + Send + 'static,
+    R: SystemResolver + Machine + Copy + Send + 'static,
     I: InputStream,
     O: OutputStream + Send,
     F: Write,
@@ -88,7 +88,7 @@ pub fn run_line<R, I, O, F>(
 ) -> u8
 where
     R: Threads + Wait + Clock + RandomSource + AllocGlobal + Net + Files + Sync,
-    R: SystemResolver + Copy + Send + 'static,
+    R: SystemResolver + Machine + Copy + Send + 'static,
     I: InputStream,
     O: OutputStream + Send,
     F: Write,
@@ -119,7 +119,7 @@ fn run_request<R, I, O, F>(
 ) -> u8
 where
     R: Threads + Wait + Clock + RandomSource + AllocGlobal + Net + Files + Sync,
-    R: SystemResolver + Copy + Send + 'static,
+    R: SystemResolver + Machine + Copy + Send + 'static,
     I: InputStream,
     O: OutputStream + Send,
     F: Write,
@@ -270,11 +270,11 @@ where
     R: SystemResolver + Copy + Send + 'static,
     O: OutputStream,
     F: Write,
-    ensures { RunsNames resolver (PutsWhole O.contents O.puts O.flushes output.old output.new)
+    ensures { RunsNames host.now resolver (PutsWhole O.contents O.puts O.flushes output.old output.new)
         (PutsPart O.contents O.puts O.flushes output.old output.new) (output.new ≡ output.old) result }
 {
     match resolver {
-        Some(choice) => report_end(write_names(rt, alloc, output, host, choice), faults),
+        Some(choice) => report_names(write_names(rt, alloc, output, host, choice), host, faults),
         None => refuse_option(OptionFault::Resolver, faults),
     }
 }
@@ -290,7 +290,7 @@ fn run_connect<R, I, O, F>(
 ) -> u8
 where
     R: Threads + Wait + Clock + RandomSource + AllocGlobal + Net + Files + Sync,
-    R: SystemResolver + Copy + Send + 'static,
+    R: SystemResolver + Machine + Copy + Send + 'static,
     I: InputStream,
     O: OutputStream + Send,
     F: Write,
@@ -318,7 +318,11 @@ where
         tells_steps: options.tells_steps,
         only_tries: options.only_tries,
     };
-    report_connection(connect(rt, alloc, &asked, input, output, faults), faults)
+    report_connection(
+        connect(rt, alloc, &asked, input, output, faults),
+        options.host,
+        faults,
+    )
 }
 
 fn settings_asked(options: &Options<'_>) -> Option<Settings>
@@ -328,14 +332,34 @@ fn settings_asked(options: &Options<'_>) -> Option<Settings>
 }
 
 // Says how a connection ended, and answers the exit status.
-fn report_connection<F: Write>(end: Result<Ended, ConnectFault>, faults: &mut F) -> u8
+fn report_connection<F: Write>(end: Result<Ended, ConnectFault>, host: &str, faults: &mut F) -> u8
     ensures { result ≡ status_of_connection end }
 {
     match end {
         Ok(Ended::NoConnection) => NO_CONNECTION,
         Ok(Ended::Connected | Ended::Relayed) => DONE,
+        Err(fault) if fault.is_of_host() => report_of(fault, host, faults),
         Err(fault) => report(fault, faults),
     }
+}
+
+// Says how a search for names ended, and answers the exit status.
+fn report_names<F: Write>(end: Result<(), TellFault>, host: &str, faults: &mut F) -> u8
+    ensures { result ≡ status_of end }
+{
+    match end {
+        Ok(()) => DONE,
+        Err(fault) if fault.is_of_host() => report_of(fault, host, faults),
+        Err(fault) => report(fault, faults),
+    }
+}
+
+// Writes the line of a fault that is the host's, and answers the exit status.
+fn report_of<E: Display + Drop, F: Write>(fault: E, host: &str, faults: &mut F) -> u8
+    ensures { result ≡ FAULT }
+{
+    let _ = writeln!(faults, "he: {fault}: {host}");
+    FAULT
 }
 
 // Says which option has no value that it may have.

@@ -5,7 +5,9 @@
 //! exit status.
 #![tactic(auto)]
 
-use he_command::{read_words, report, report_not_text, run_line, takes_text, tell_waiting};
+use he_command::{
+    Machine, read_words, report, report_not_text, run_line, takes_text, tell_waiting,
+};
 use he_replay::ReplayFault;
 use he_resolver::SystemResolver;
 use he_stream::{FromReader, ToWriter};
@@ -29,7 +31,7 @@ fn main(rt: HostRuntime) -> ExitCode {
 fn run_program<R>(rt: &HostRuntime, lender: &R) -> u8
 where
     R: Threads + Wait + Clock + RandomSource + AllocGlobal + Net + Files + Sync,
-    R: SystemResolver + Copy + Send + 'static,
+    R: SystemResolver + Machine + Copy + Send + 'static,
 {
     match words_of(rt) {
         Ok(words) => run_texts(rt, lender, words.as_slice()),
@@ -49,7 +51,7 @@ fn words_of(rt: &HostRuntime) -> io::Result<Vec<String>> {
 fn run_texts<R>(rt: &HostRuntime, lender: &R, words: &[String]) -> u8
 where
     R: Threads + Wait + Clock + RandomSource + AllocGlobal + Net + Files + Sync,
-    R: SystemResolver + Copy + Send + 'static,
+    R: SystemResolver + Machine + Copy + Send + 'static,
 {
     let texts = words
         .iter()
@@ -65,7 +67,7 @@ where
 fn run_words_of<R>(rt: &HostRuntime, lender: &R, words: &[&str]) -> u8
 where
     R: Threads + Wait + Clock + RandomSource + AllocGlobal + Net + Files + Sync,
-    R: SystemResolver + Copy + Send + 'static,
+    R: SystemResolver + Machine + Copy + Send + 'static,
 {
     let line = read_words(rt.alloc(), words);
     if takes_text(&line) && rt.stdin().is_terminal() {
