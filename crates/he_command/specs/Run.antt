@@ -100,18 +100,20 @@ RunsConnect options Put PutPart Kept status =
     ((status ≡ USAGE) × Kept)
     (λ settings. (result : Result Ended ConnectFault) × Connects (Ran settings options.families) Put PutPart Kept result × (status ≡ status_of_connection result))
 
--- what was asked for was done, and the status tells how that ended. Given, Taken, Ended, Failed and Put as `RunsAction` has
+-- what was asked for was done, and the status tells how that ended; or a setting is none, or out of its range. Given, Taken, Ended, Failed and Put as `RunsAction` has
 -- them: of a text that is put in rounds; Whole, Part and Kept as `Lives` has them: of one text; OfFiles: what comes of
 -- the texts of files
-abbrev pub RunsRequest : Request → (List ℕ → Bool → Type 0) → (List ℕ → Type 0) → (List ℕ → Type 0) → (List ℕ → Type 0) → (List ℕ → Type 0) → (List ℕ → Type 0) → (List ℕ → Type 0) → Type 0 → (Task → List (Bor (List ℕ)) → ℕ → Type 0) → ℕ → Type 0
+abbrev pub RunsRequest : Request → (List ℕ → Bool → Type 0) → (List ℕ → Type 0) → (List ℕ → Type 0) → (List ℕ → Type 0) → (List ℕ → Type 0) → (List ℕ → Type 0) → (List ℕ → Type 0) → Type 0 → (Task → ChangeValues → List (Bor (List ℕ)) → ℕ → Type 0) → ℕ → Type 0
 RunsRequest (Texts texts) Given Taken Ended Failed Put Whole Part Kept OfFiles status =
-    RunsTexts texts.files.items (RunsText texts.task Given Taken Ended Failed Put Whole Part Kept status) (OfFiles texts.task texts.files.items status)
+    MatchOption texts.changes
+    ((status ≡ USAGE) × Kept)
+    (λ changes. RunsTexts texts.files.items (RunsText texts.task changes Given Taken Ended Failed Put Whole Part Kept status) (OfFiles texts.task changes texts.files.items status))
 RunsRequest (Live options) Given Taken Ended Failed Put Whole Part Kept OfFiles status = RunsLive options Given Whole Part Kept status
 RunsRequest Host Given Taken Ended Failed Put Whole Part Kept OfFiles status = Shows Whole Part Kept status
 RunsRequest (Names host resolver) Given Taken Ended Failed Put Whole Part Kept OfFiles status = RunsNames resolver Whole Part Kept status
 RunsRequest (Connect options) Given Taken Ended Failed Put Whole Part Kept OfFiles status = RunsConnect options Put Failed Kept status
 
 -- what comes of a line: what it asks for was done; or it asks for nothing that is done, and the input is Unread
-abbrev pub RunsLine : Result Request Error → (List ℕ → Bool → Type 0) → (List ℕ → Type 0) → Type 0 → (List ℕ → Type 0) → (List ℕ → Type 0) → (List ℕ → Type 0) → (List ℕ → Type 0) → (List ℕ → Type 0) → Type 0 → (Task → List (Bor (List ℕ)) → ℕ → Type 0) → ℕ → Type 0
+abbrev pub RunsLine : Result Request Error → (List ℕ → Bool → Type 0) → (List ℕ → Type 0) → Type 0 → (List ℕ → Type 0) → (List ℕ → Type 0) → (List ℕ → Type 0) → (List ℕ → Type 0) → (List ℕ → Type 0) → Type 0 → (Task → ChangeValues → List (Bor (List ℕ)) → ℕ → Type 0) → ℕ → Type 0
 RunsLine (Ok request) Given Taken Unread Ended Failed Put Whole Part Kept OfFiles status = RunsRequest request Given Taken Ended Failed Put Whole Part Kept OfFiles status
 RunsLine (Err error) Given Taken Unread Ended Failed Put Whole Part Kept OfFiles status = Unread × AnswersLine (kind_of error) Whole Part Kept status

@@ -71,7 +71,7 @@ where
         (PutsInRounds O.contents O.puts O.flushes output.old output.new)
         (PutsWhole O.contents O.puts O.flushes output.old output.new)
         (PutsPart O.contents O.puts O.flushes output.old output.new) (output.new ≡ output.old)
-        (λ task files status. RunsFiles (λ name. RunsFile (RunsOver I.remaining I.takes O.contents O.puts O.flushes task) (RunsOver ⟦<FromReader<R::File> as InputStream>⟧.remaining ⟦<FromReader<R::File> as InputStream>⟧.takes O.contents O.puts O.flushes task) name.now) files input.old input.new output.old output.new status) result }
+        (λ task changes files status. RunsFiles (λ name. RunsFile (RunsOver I.remaining I.takes O.contents O.puts O.flushes task changes) (RunsOver ⟦<FromReader<R::File> as InputStream>⟧.remaining ⟦<FromReader<R::File> as InputStream>⟧.takes O.contents O.puts O.flushes task changes) name.now) files input.old input.new output.old output.new status) result }
 {
     run_line(rt, alloc, read_words(alloc, words), input, output, faults)
 }
@@ -99,7 +99,7 @@ where
         (PutsInRounds O.contents O.puts O.flushes output.old output.new)
         (PutsWhole O.contents O.puts O.flushes output.old output.new)
         (PutsPart O.contents O.puts O.flushes output.old output.new) (output.new ≡ output.old)
-        (λ task files status. RunsFiles (λ name. RunsFile (RunsOver I.remaining I.takes O.contents O.puts O.flushes task) (RunsOver ⟦<FromReader<R::File> as InputStream>⟧.remaining ⟦<FromReader<R::File> as InputStream>⟧.takes O.contents O.puts O.flushes task) name.now) files input.old input.new output.old output.new status) result }
+        (λ task changes files status. RunsFiles (λ name. RunsFile (RunsOver I.remaining I.takes O.contents O.puts O.flushes task changes) (RunsOver ⟦<FromReader<R::File> as InputStream>⟧.remaining ⟦<FromReader<R::File> as InputStream>⟧.takes O.contents O.puts O.flushes task changes) name.now) files input.old input.new output.old output.new status) result }
 {
     match line {
         Ok(request) => run_request(rt, alloc, request, input, output, faults),
@@ -130,7 +130,7 @@ where
         (PutsInRounds O.contents O.puts O.flushes output.old output.new)
         (PutsWhole O.contents O.puts O.flushes output.old output.new)
         (PutsPart O.contents O.puts O.flushes output.old output.new) (output.new ≡ output.old)
-        (λ task files status. RunsFiles (λ name. RunsFile (RunsOver I.remaining I.takes O.contents O.puts O.flushes task) (RunsOver ⟦<FromReader<R::File> as InputStream>⟧.remaining ⟦<FromReader<R::File> as InputStream>⟧.takes O.contents O.puts O.flushes task) name.now) files input.old input.new output.old output.new status) result }
+        (λ task changes files status. RunsFiles (λ name. RunsFile (RunsOver I.remaining I.takes O.contents O.puts O.flushes task changes) (RunsOver ⟦<FromReader<R::File> as InputStream>⟧.remaining ⟦<FromReader<R::File> as InputStream>⟧.takes O.contents O.puts O.flushes task changes) name.now) files input.old input.new output.old output.new status) result }
 {
     match request {
         Request::Texts(texts) => run_texts(rt, alloc, &texts, input, output, faults),
@@ -359,7 +359,7 @@ fn report_of<E: Display + Drop, F: Write>(fault: E, host: &str, faults: &mut F) 
 }
 
 // Says which option has no value that it may have.
-fn refuse_option<F: Write>(fault: OptionFault, faults: &mut F) -> u8
+pub(crate) fn refuse_option<F: Write>(fault: OptionFault, faults: &mut F) -> u8
     ensures { result ≡ USAGE }
 {
     let _ = writeln!(
