@@ -1,0 +1,6 @@
+pub mod Closing
+pub mod Happening
+pub mod Heading
+pub mod Parts
+pub mod Preferred
+pub mod Story
