@@ -2,6 +2,7 @@ pub mod Agreement
 pub mod Alternating
 pub mod Attempts
 pub mod Building
+pub mod Changes
 pub mod Continuing
 pub mod Due
 pub mod Equality

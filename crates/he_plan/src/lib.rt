@@ -34,6 +34,7 @@ pub mod agreement;
 pub mod attempts;
 pub mod builder;
 mod by_address;
+pub mod changes;
 pub mod due;
 pub mod finish;
 mod history;
@@ -52,6 +53,7 @@ pub mod underway;
 
 pub use attempts::{Attempt, Plan};
 pub use builder::{BuildFault, TimelineBuilder};
+pub use changes::Changes;
 pub use finish::{Fate, winner};
 pub use interlacing::interlace;
 pub use listing::sorted_standings;

@@ -29,11 +29,11 @@ pub enum Range {
 /// Attempt Delay (RFC 8305 section 8; the limit and the floor are this project's own).
 #[derive(Clone, Copy, Debug, PartialEq, Eq)]
 pub struct Settings {
-    resolution: u64,
-    attempt: u64,
-    count: u64,
-    limit: u64,
-    floor: Option<u64>,
+    pub(crate) resolution: u64,
+    pub(crate) attempt: u64,
+    pub(crate) count: u64,
+    pub(crate) limit: u64,
+    pub(crate) floor: Option<u64>,
 }
 
 impl Model for Settings {

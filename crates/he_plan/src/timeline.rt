@@ -11,10 +11,12 @@ ghost use Rattle.he_select.specs.Equality.{equal_hosts, equal_tables};
 ghost use Rattle.he_plan.specs.Timeline.{IsRace, are_pauses, are_told_once, duration_of, is_outcome};
 ghost use Rattle.he_plan.specs.Attempts.{IsSeen, seen, seen_past};
 ghost use Rattle.he_plan.specs.Finish.{outcome_of, outcome_in};
+ghost use Rattle.he_plan.specs.Changes.{changed};
 ghost use Rattle.he_plan.specs.Planning.{are_ahead};
 ghost use Rattle.he_plan.specs.Building.{empty_race, unrecorded, with_answer, with_outcome, with_pause, with_rtt, with_used};
 
 use crate::by_address::ByAddress;
+use crate::changes::Changes;
 use crate::history::History;
 use crate::limits::{MAX_DURATION, MAX_PAUSE_END, MIN_DURATION};
 use crate::outcome::Outcome;
@@ -205,6 +207,14 @@ impl<A: Allocator> Timeline<A> {
             outcomes,
             pauses,
         })
+    }
+
+    /// The same race with the changes of its settings.
+    pub fn with_changes(self, changes: Changes) -> Timeline<A>
+        ensures { result ≡ changed changes self }
+    {
+        let settings = changes.apply(self.settings);
+        Timeline { settings, ..self }
     }
 
     fn is_same(&self, other: &Timeline<A>) -> bool

@@ -120,9 +120,10 @@
 //!   only those that it slept. Over these two its one fault is `Memory`.
 //! - `run_attempt` answers the fate that `he_plan` defines (`Finish`).
 //!
-//! Tested only: that calls succeed where memory is granted, since no contract can say that a growth was refused, and
-//! a connector, tickers and a source of a user's own. Neither proved nor tested: that over a source that tells a recorded
-//! timeline's answers at their ticks, the race is the one that `RaceFuture::new` runs.
+//! Tested only: that calls succeed where memory is granted, since no contract can say that a growth was refused; a
+//! connector, tickers and a source of a user's own; and that over a source that tells a recorded timeline's answers at
+//! their ticks, the race is the one that `RaceFuture::new` runs. That is so where nothing is known of addresses from
+//! earlier and no pause covers the tick of the A answer: the Resolution Delay runs from where an answer is told.
 #![tactic(auto)]
 
 mod alone;
