@@ -31,8 +31,8 @@ cause_text (causes.AttemptDelay place delay) = concat (decimal delay ∷ codes "
 cause_text (causes.Floor place floor) =
     concat (codes "all before have failed, and the floor of " ∷ decimal floor ∷ codes " ms after attempt " ∷ decimal (place + 1) ∷ codes " is over" ∷ [])
 cause_text (causes.LastFailure tick) = concat (codes "all before have failed, the last one at " ∷ decimal tick ∷ codes " ms" ∷ [])
-cause_text (causes.LaterAnswer families.V6) = codes "the AAAA answer brought it"
-cause_text (causes.LaterAnswer families.V4) = codes "the A answer brought it"
+cause_text (causes.LaterAnswer families.V6) = codes "it came with the AAAA answer"
+cause_text (causes.LaterAnswer families.V4) = codes "it came with the A answer"
 
 abbrev pub held_text : Bool → List ℕ
 held_text true = codes ", late because of a pause"

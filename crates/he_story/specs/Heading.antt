@@ -1,5 +1,5 @@
 -- The first line of a story: which race it is, and how it ended.
-use Rattle.std.specs.Prelude.{ℕ, ◌+◌, ◌++◌, List, [], ◌∷◌, length, decimal, codes, slice_get, Option, Some, None}
+use Rattle.std.specs.Prelude.{ℕ, ◌+◌, ◌==◌, ◌++◌, if◌then◌else◌, List, [], ◌∷◌, length, decimal, codes, slice_get, Option, Some, None}
 use Rattle.std.specs.List.{concat}
 use Rattle.he_addr.specs.Printing.{printed}
 use Rattle.he_plan.specs.declared.transcript.Line.{Line}
@@ -21,8 +21,8 @@ ending_text lines (results.Exhausted tick) =
 ending_text lines (results.Limit tick) =
     concat (codes "not connected by the limit of " ∷ decimal tick ∷ codes " ms, after " ∷ decimal (length lines) ∷ noun (length lines) (codes " attempt") (codes " attempts") ∷ [])
 
--- race NUMBER, line LINE: ENDING
+-- race NUMBER, line LINE: ENDING, behind a blank line where it is not the first race
 abbrev pub heading_text : ℕ → ℕ → Report → List ℕ
 heading_text number line report =
-    concat (codes "race " ∷ decimal number ∷ codes ", line " ∷ decimal line ∷ codes ": " ∷ [])
+    concat ((if number == 1 then [] else codes "\n") ∷ codes "race " ∷ decimal number ∷ codes ", line " ∷ decimal line ∷ codes ": " ∷ [])
     ++ (ending_text report.lines report.result ++ codes "\n")

@@ -1,4 +1,5 @@
 pub mod Closing
+pub mod Floor
 pub mod Happening
 pub mod Heading
 pub mod Parts

@@ -86,12 +86,15 @@ address_lines routes decide width number earlier [] = []
 address_lines routes decide width number earlier (first ∷ more) =
     address_line routes decide width number earlier first ++ address_lines routes decide width (number + 1) (Some first) more
 
--- they are counted from 1, and stand two columns in, under a line of their own
+-- what stands above them
+abbrev pub title_text : List Standing → List ℕ
+title_text [] = codes "no address to try\n"
+title_text (first ∷ more) = codes "preferred, once every answer is known:\n"
+
+-- they are counted from 1, and stand two columns in
 abbrev pub listed_text : List Route → Decision → List Standing → List ℕ
-listed_text routes decide [] = codes "no address to try\n"
-listed_text routes decide (first ∷ more) =
-    codes "preferred, once every answer is known:\n"
-    ++ address_lines routes decide (length (decimal (length (first ∷ more))) + 2) 1 None (first ∷ more)
+listed_text routes decide sorted =
+    title_text sorted ++ address_lines routes decide (length (decimal (length sorted)) + 2) 1 None sorted
 
 abbrev pub preferred_text : Race → List ℕ
 preferred_text race = listed_text race.host.routes (λ a b. deciding_rule (race_input race) a.ip b.ip) (standings_of race)

@@ -121,11 +121,7 @@ fn write_answer<A: Allocator + Copy, B: Allocator>(
     let Some((tick, ips)) = timeline.answer(family) else {
         let name = Part::Words(name_of(family));
         return write_parts(
-            &[
-                Part::Words(b"no "),
-                name,
-                Part::Words(b" answer came\n"),
-            ],
+            &[Part::Words(b"no "), name, Part::Words(b" answer came\n")],
             text,
         );
     };

@@ -52,8 +52,8 @@ fn write_cause<A: Allocator + Copy>(cause: Cause, text: &mut Vec<u8, A>) -> Resu
             ],
             text,
         ),
-        Cause::LaterAnswer(Family::V6) => write_words(b"the AAAA answer brought it", text),
-        Cause::LaterAnswer(Family::V4) => write_words(b"the A answer brought it", text),
+        Cause::LaterAnswer(Family::V6) => write_words(b"it came with the AAAA answer", text),
+        Cause::LaterAnswer(Family::V4) => write_words(b"it came with the A answer", text),
     }
 }
 
@@ -165,21 +165,22 @@ fn is_seen_by<A: Allocator>(timeline: &Timeline<A>, family: Family, tick: u64) -
 }
 
 // An answer with so many addresses, and whether the other one is still to come.
-fn write_answer<A: Allocator + Copy>(
-    name: &[u8],
+fn write_answer<'t, A: Allocator + Copy>(
+    name: &'t [u8],
     count: usize,
     other_seen: bool,
-    missing: &[u8],
+    missing: &'t [u8],
     text: &mut Vec<u8, A>,
 ) -> Result<(), Memory>
     ensures { OnOk result (text.new.items ≡ text.old.items ++ answer_text name.now count other_seen missing.now) }
 {
+    let rest: &[u8] = if other_seen { b"" } else { missing };
     write_parts(
         &[
             Part::Words(name),
             Part::Number(count as u64),
             Part::Words(noun(count, b" address to try", b" addresses to try")),
-            Part::Words(if other_seen { b"" } else { missing }),
+            Part::Words(rest),
         ],
         text,
     )
@@ -218,9 +219,19 @@ fn write_kind<A: Allocator + Copy, B: Allocator>(
 {
     let tick = event.tick;
     match event.kind {
-        EventKind::Paused(end) => write_until(b"pause: the client sees and starts nothing until ", end, b" ms", text),
+        EventKind::Paused(end) => write_until(
+            b"pause: the client sees and starts nothing until ",
+            end,
+            b" ms",
+            text,
+        ),
         EventKind::Answered(family, count) => write_answered(timeline, tick, family, count, text),
-        EventKind::Waits(end) => write_until(b"wait for the AAAA answer until ", end, b" ms (Resolution Delay)", text),
+        EventKind::Waits(end) => write_until(
+            b"wait for the AAAA answer until ",
+            end,
+            b" ms (Resolution Delay)",
+            text,
+        ),
         EventKind::DelayOver => write_words(b"the wait is over, without the AAAA answer", text),
         EventKind::Failed(place) => write_became(lines, tick, place, b" failed after ", text),
         EventKind::Started(start) => write_start(start, text),
@@ -231,20 +242,16 @@ fn write_kind<A: Allocator + Copy, B: Allocator>(
     }
 }
 
-fn write_until<A: Allocator + Copy>(
-    before: &[u8],
+fn write_until<'t, A: Allocator + Copy>(
+    before: &'t [u8],
     end: u64,
-    behind: &[u8],
+    behind: &'t [u8],
     text: &mut Vec<u8, A>,
 ) -> Result<(), Memory>
     ensures { OnOk result (text.new.items ≡ text.old.items ++ concat (before.now ∷ decimal end ∷ behind.now ∷ [])) }
 {
     write_parts(
-        &[
-            Part::Words(before),
-            Part::Number(end),
-            Part::Words(behind),
-        ],
+        &[Part::Words(before), Part::Number(end), Part::Words(behind)],
         text,
     )
 }
@@ -295,5 +302,11 @@ pub(crate) fn write_happening<A: Allocator + Copy, B: Allocator, C: Allocator>(
     let events = collect_events(alloc, timeline, sorted, transcript)?;
     let by_tick = sort_events(alloc, &events, end)?;
     write_words(b"what happened:\n", text)?;
-    write_events(timeline, transcript.attempts(), width_of(end) + 2, &by_tick, text)
+    write_events(
+        timeline,
+        transcript.attempts(),
+        width_of(end) + 2,
+        &by_tick,
+        text,
+    )
 }

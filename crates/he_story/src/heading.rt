@@ -34,7 +34,7 @@ fn write_won<A: Allocator + Copy>(
     )
 }
 
-fn write_ending<A: Allocator + Copy>(
+pub(crate) fn write_ending<A: Allocator + Copy>(
     lines: &[Line],
     ending: Outcome3,
     text: &mut Vec<u8, A>,
@@ -68,7 +68,7 @@ fn write_ending<A: Allocator + Copy>(
     }
 }
 
-// race NUMBER, line LINE: ENDING
+// race NUMBER, line LINE: ENDING, behind a blank line where it is not the first race.
 pub(crate) fn write_heading<A: Allocator + Copy, B: Allocator>(
     number: usize,
     line: u64,
@@ -77,8 +77,10 @@ pub(crate) fn write_heading<A: Allocator + Copy, B: Allocator>(
 ) -> Result<(), Memory>
     ensures { OnOk result (text.new.items ≡ text.old.items ++ heading_text number line transcript.now) }
 {
+    let gap: &[u8] = if number == 1 { b"" } else { b"\n" };
     write_parts(
         &[
+            Part::Words(gap),
             Part::Words(b"race "),
             Part::Number(number as u64),
             Part::Words(b", line "),

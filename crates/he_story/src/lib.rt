@@ -12,6 +12,7 @@
 #![tactic(auto)]
 
 mod closing;
+mod floor;
 mod happening;
 mod heading;
 mod parts;

@@ -1,6 +1,6 @@
 // Parts of lines, written to a text.
 
-ghost use Rattle.std.specs.Prelude.{◌≡◌, ◌++◌, decimal, length, OnOk};
+ghost use Rattle.std.specs.Prelude.{◌≡◌, ◌≤◌, ◌++◌, ◌+◌, decimal, length, OnOk};
 ghost use Rattle.std.specs.List.{flat_map};
 ghost use Rattle.he_story.specs.Parts.{noun, part_text, right_aligned, spaces};
 
@@ -67,7 +67,8 @@ pub(crate) fn noun<'t>(count: usize, one: &'t [u8], many: &'t [u8]) -> &'t [u8]
 
 // How many digits a number has.
 pub(crate) fn width_of(number: u64) -> usize
-    ensures { result ≡ length (decimal number) }
+    ensures width { result ≡ length (decimal number) }
+    ensures range { result ≤ 20 }
 {
     let mut digits = Buffer::new();
     digits.format(number).len()

@@ -4,7 +4,7 @@ ghost use Rattle.std.specs.Prelude.{◌≡◌, ◌++◌, ◌+◌, decimal, lengt
 ghost use Rattle.he_select.specs.Selection.{serves};
 ghost use Rattle.he_select.specs.Standing.{rule_between};
 ghost use Rattle.he_explain.specs.Reasons.{of_source, standings_of};
-ghost use Rattle.he_story.specs.Preferred.{address_line, address_lines, behind_text, is_routed, kind_text, listed_text, preferred_text, reached_text, reason_text, rtts_text, unlike_text, values_text};
+ghost use Rattle.he_story.specs.Preferred.{address_line, address_lines, behind_text, is_routed, kind_text, listed_text, preferred_text, reached_text, reason_text, rtts_text, title_text, unlike_text, values_text};
 
 use crate::parts::{Part, width_of, write_aligned, write_parts, write_words};
 use he_addr::{Family, Ip, Memory};
@@ -56,11 +56,11 @@ fn write_reached<A: Allocator + Copy>(
 }
 
 // A value of the later address and one of the address before it.
-fn write_values<A: Allocator + Copy>(
-    name: &[u8],
+fn write_values<'t, A: Allocator + Copy>(
+    name: &'t [u8],
     later: u64,
     earlier: u64,
-    rule: &[u8],
+    rule: &'t [u8],
     text: &mut Vec<u8, A>,
 ) -> Result<(), Memory>
     ensures { OnOk result (text.new.items ≡ text.old.items ++ values_text name.now later earlier rule.now) }
@@ -78,11 +78,11 @@ fn write_values<A: Allocator + Copy>(
 }
 
 // A value of the later address and one of its source.
-fn write_unlike<A: Allocator + Copy>(
-    name: &[u8],
+fn write_unlike<'t, A: Allocator + Copy>(
+    name: &'t [u8],
     later: u64,
     source: u64,
-    rule: &[u8],
+    rule: &'t [u8],
     text: &mut Vec<u8, A>,
 ) -> Result<(), Memory>
     ensures { OnOk result (text.new.items ≡ text.old.items ++ unlike_text name.now later source rule.now) }
@@ -241,14 +241,23 @@ fn write_addresses<A: Allocator + Copy>(
     ensures { OnOk result (text.new.items ≡ text.old.items ++ address_lines routes.now rule_between (length (decimal (length sorted.now)) + 2) 1 None sorted.now) }
 {
     let width = width_of(sorted.len() as u64) + 2;
-    let mut number = 1;
     let mut earlier = None;
-    for standing in sorted {
-        write_address(routes, width, number, earlier, standing, text)?;
-        number += 1;
+    for (place, standing) in sorted.iter().enumerate() {
+        write_address(routes, width, place as u64 + 1, earlier, standing, text)?;
         earlier = Some(*standing);
     }
     Ok(())
+}
+
+// What stands above the addresses.
+fn title_text(sorted: &[Standing]) -> &'static [u8]
+    ensures { result.now ≡ title_text sorted.now }
+{
+    if sorted.is_empty() {
+        b"no address to try\n"
+    } else {
+        b"preferred, once every answer is known:\n"
+    }
 }
 
 fn write_listed<A: Allocator + Copy>(
@@ -258,10 +267,7 @@ fn write_listed<A: Allocator + Copy>(
 ) -> Result<(), Memory>
     ensures { OnOk result (text.new.items ≡ text.old.items ++ listed_text routes.now rule_between sorted.now) }
 {
-    if sorted.is_empty() {
-        return write_words(b"no address to try\n", text);
-    }
-    write_words(b"preferred, once every answer is known:\n", text)?;
+    write_words(title_text(sorted), text)?;
     write_addresses(routes, sorted, text)
 }
 

@@ -5,6 +5,7 @@ ghost use Rattle.he_explain.specs.Reasons.{standings_of};
 ghost use Rattle.he_story.specs.Story.{IsStory, Tells, story_text};
 
 use crate::closing::write_closing;
+use crate::floor::{floored_transcript, write_floor};
 use crate::happening::write_happening;
 use crate::heading::write_heading;
 use crate::preferred::write_preferred;
@@ -19,15 +20,17 @@ fn write_told<A: Allocator + Copy, B: Allocator, C: Allocator>(
     number: usize,
     line: u64,
     transcript: &Transcript<C>,
+    with_floor: &Transcript<C>,
     text: &mut Vec<u8, A>,
 ) -> Result<(), Memory>
-    ensures { OnOk result (text.new.items ≡ text.old.items ++ story_text number line timeline.now transcript.now) }
+    ensures { OnOk result (text.new.items ≡ text.old.items ++ story_text number line timeline.now transcript.now with_floor.now) }
 {
     let sorted = sorted_standings(alloc, timeline)?;
     write_heading(number, line, transcript, text)?;
     write_preferred(timeline, &sorted, text)?;
     write_happening(alloc, timeline, &sorted, transcript, text)?;
-    write_closing(timeline, transcript, text)
+    write_closing(timeline, transcript, text)?;
+    write_floor(timeline, transcript, with_floor, text)
 }
 
 // The story in a text of its own, so that nothing is appended of one that memory does not suffice for.
@@ -40,15 +43,24 @@ fn story<A: Allocator + Copy, B: Allocator>(
     ensures { IfOk result (λ text. IsStory number line text.items timeline.now) }
 {
     let transcript = transcript_of(alloc, timeline)?;
+    let with_floor = floored_transcript(alloc, timeline)?;
     let mut text = Vec::new(alloc);
-    write_told(alloc, timeline, number, line, &transcript, &mut text)?;
+    write_told(
+        alloc,
+        timeline,
+        number,
+        line,
+        &transcript,
+        &with_floor,
+        &mut text,
+    )?;
     Ok(text)
 }
 
 /// Appends the story of the race: a line on how it ended; its usable addresses in order of preference, each with its
 /// source and what puts it behind the one before; its events in order of ticks, each behind its tick in milliseconds;
-/// then the answers that did not come, or came after the end, and how long an answer waited for the first attempt at
-/// one of its addresses. `number` is the race's number in its input, counted from 1, and `line` the line at which it
+/// then the answers that did not come, or came after the end, how long an answer waited for the first attempt at one of
+/// its addresses, and how the race would have ended with a floor, if earlier. `number` is the race's number in its input, counted from 1, and `line` the line at which it
 /// begins. After `Memory` the vector holds what it held.
 pub fn write_story<A: Allocator + Copy, B: Allocator>(
     alloc: A,
