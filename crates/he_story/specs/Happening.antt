@@ -20,7 +20,7 @@ use Rattle.he_explain.specs.declared.listing.Turn.{Turn}
 use Rattle.he_explain.specs.declared.listing.Turn.TheVariants as turns
 use Rattle.he_explain.specs.Course.{course}
 use Rattle.he_explain.specs.Events.{end_event, is_seen_by}
-use Rattle.he_story.specs.Parts.{noun, right_aligned}
+use Rattle.he_story.specs.Parts.{noun, right_aligned, unless}
 
 -- why an attempt starts now (RFC 8305 sections 3 and 5, and the floor of our own)
 abbrev pub cause_text : Cause → List ℕ
@@ -70,7 +70,7 @@ became_text lines tick place what =
 -- an answer with so many addresses, and whether the other one is still to come
 abbrev pub answer_text : List ℕ → ℕ → Bool → List ℕ → List ℕ
 answer_text name count other_seen missing =
-    concat (name ∷ decimal count ∷ noun count (codes " address to try") (codes " addresses to try") ∷ (if other_seen then [] else missing) ∷ [])
+    concat (name ∷ decimal count ∷ noun count (codes " address to try") (codes " addresses to try") ∷ unless other_seen missing ∷ [])
 
 abbrev pub answered_text : Race → ℕ → Family → ℕ → List ℕ
 answered_text race tick families.V6 count =
@@ -95,8 +95,13 @@ abbrev pub event_line : Race → List Line → ℕ → Event → List ℕ
 event_line race lines width event =
     (right_aligned width event.tick ++ codes " ms  ") ++ (kind_text race lines event.tick event.kind ++ codes "\n")
 
--- the events in order of ticks, which stand at the right of the width of the last one
+-- ticks are as wide as the last one, two columns in
+abbrev pub tick_width : Report → ℕ
+tick_width report = length (decimal (end_event report.result).tick) + 2
+
+-- the events in order of ticks
+abbrev pub events_text : Race → Report → List ℕ
+events_text race report = flat_map (event_line race report.lines (tick_width report)) (course race report)
+
 abbrev pub happening_text : Race → Report → List ℕ
-happening_text race report =
-    codes "what happened:\n"
-    ++ flat_map (event_line race report.lines (length (decimal (end_event report.result).tick) + 2)) (course race report)
+happening_text race report = codes "what happened:\n" ++ events_text race report

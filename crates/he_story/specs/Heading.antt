@@ -1,12 +1,12 @@
 -- The first line of a story: which race it is, and how it ended.
-use Rattle.std.specs.Prelude.{ℕ, ◌+◌, ◌==◌, ◌++◌, if◌then◌else◌, List, [], ◌∷◌, length, decimal, codes, slice_get, Option, Some, None}
+use Rattle.std.specs.Prelude.{ℕ, ◌+◌, ◌==◌, ◌++◌, List, [], ◌∷◌, length, decimal, codes, slice_get, Option, Some, None}
 use Rattle.std.specs.List.{concat}
 use Rattle.he_addr.specs.Printing.{printed}
 use Rattle.he_plan.specs.declared.transcript.Line.{Line}
 use Rattle.he_plan.specs.declared.transcript.Outcome3.{Outcome3}
 use Rattle.he_plan.specs.declared.transcript.Outcome3.TheVariants as results
 use Rattle.he_plan.specs.Transcript.{Report}
-use Rattle.he_story.specs.Parts.{noun}
+use Rattle.he_story.specs.Parts.{noun, unless}
 
 -- connected by this attempt, of so many
 abbrev pub won_text : ℕ → ℕ → Option Line → List ℕ
@@ -24,5 +24,5 @@ ending_text lines (results.Limit tick) =
 -- race NUMBER, line LINE: ENDING, behind a blank line where it is not the first race
 abbrev pub heading_text : ℕ → ℕ → Report → List ℕ
 heading_text number line report =
-    concat ((if number == 1 then [] else codes "\n") ∷ codes "race " ∷ decimal number ∷ codes ", line " ∷ decimal line ∷ codes ": " ∷ [])
+    concat (unless (number == 1) (codes "\n") ∷ codes "race " ∷ decimal number ∷ codes ", line " ∷ decimal line ∷ codes ": " ∷ [])
     ++ (ending_text report.lines report.result ++ codes "\n")

@@ -3,7 +3,7 @@
 ghost use Rattle.std.specs.Prelude.{◌≡◌, ◌++◌, None, Some, IfOk, OnOk};
 ghost use Rattle.he_plan.specs.declared.limits.TheConstants.{MIN_FLOOR};
 ghost use Rattle.he_plan.specs.Transcript.{IsTranscript};
-ghost use Rattle.he_story.specs.Floor.{floor_text, floored};
+ghost use Rattle.he_story.specs.Floor.{ends_sooner, floor_text, floored};
 
 use crate::heading::write_ending;
 use crate::parts::{Part, write_parts, write_words};
@@ -31,7 +31,19 @@ fn least_floor() -> Changes
     Changes::new(None, None, None, None, Some(MIN_FLOOR)).unwrap_or(Changes::none())
 }
 
-// How the race ends with that floor, where it has none and would have ended earlier.
+// Whether the race has no floor, and would have ended earlier with one.
+fn ends_sooner<B: Allocator, C: Allocator, D: Allocator>(
+    timeline: &Timeline<B>,
+    transcript: &Transcript<C>,
+    with_floor: &Transcript<D>,
+) -> bool
+    ensures { result ≡ ends_sooner timeline.now transcript.now with_floor.now }
+{
+    timeline.settings().floor().is_none()
+        && end_tick(with_floor.result()) < end_tick(transcript.result())
+}
+
+// How the race ends with that floor, where that is earlier.
 pub(crate) fn write_floor<A: Allocator + Copy, B: Allocator, C: Allocator, D: Allocator>(
     timeline: &Timeline<B>,
     transcript: &Transcript<C>,
@@ -40,8 +52,7 @@ pub(crate) fn write_floor<A: Allocator + Copy, B: Allocator, C: Allocator, D: Al
 ) -> Result<(), Memory>
     ensures { OnOk result (text.new.items ≡ text.old.items ++ floor_text timeline.now transcript.now with_floor.now) }
 {
-    let is_earlier = end_tick(with_floor.result()) < end_tick(transcript.result());
-    if timeline.settings().floor().is_some() || !is_earlier {
+    if !ends_sooner(timeline, transcript, with_floor) {
         return Ok(());
     }
     write_parts(

@@ -7,9 +7,9 @@ ghost use Rattle.he_addr.specs.Printing.{printed};
 ghost use Rattle.he_plan.specs.Race.{reply_of};
 ghost use Rattle.he_explain.specs.Events.{is_seen_by};
 ghost use Rattle.he_explain.specs.Reasons.{standings_of};
-ghost use Rattle.he_story.specs.Happening.{answer_text, answered_text, became_text, cause_text, event_line, happening_text, held_text, kind_text, listed_text, start_text, taken, turn_text};
+ghost use Rattle.he_story.specs.Happening.{answer_text, answered_text, became_text, cause_text, event_line, events_text, happening_text, held_text, kind_text, listed_text, start_text, taken, tick_width, turn_text};
 
-use crate::parts::{Part, noun, width_of, write_aligned, write_parts, write_words};
+use crate::parts::{Part, noun, unless, width_of, write_aligned, write_parts, write_words};
 use he_addr::{Family, Memory};
 use he_explain::{
     Cause, Event, EventKind, Listed, Start, Turn, collect_events, end_tick, sort_events,
@@ -174,13 +174,12 @@ fn write_answer<'t, A: Allocator + Copy>(
 ) -> Result<(), Memory>
     ensures { OnOk result (text.new.items ≡ text.old.items ++ answer_text name.now count other_seen missing.now) }
 {
-    let rest: &[u8] = if other_seen { b"" } else { missing };
     write_parts(
         &[
             Part::Words(name),
             Part::Number(count as u64),
             Part::Words(noun(count, b" address to try", b" addresses to try")),
-            Part::Words(rest),
+            Part::Words(unless(other_seen, missing)),
         ],
         text,
     )
@@ -287,7 +286,30 @@ fn write_events<A: Allocator + Copy, B: Allocator>(
     Ok(())
 }
 
+// How wide the ticks of the events are.
+fn tick_width<A: Allocator>(transcript: &Transcript<A>) -> usize
+    ensures { result ≡ tick_width transcript.now }
+{
+    width_of(end_tick(transcript.result())) + 2
+}
+
 // The events of a race in order of ticks; its sorted addresses are given.
+fn write_course<A: Allocator + Copy, B: Allocator, C: Allocator>(
+    alloc: A,
+    timeline: &Timeline<B>,
+    sorted: &[Standing],
+    transcript: &Transcript<C>,
+    text: &mut Vec<u8, A>,
+) -> Result<(), Memory>
+    requires { sorted.now ≡ standings_of timeline.now }
+    ensures { OnOk result (text.new.items ≡ text.old.items ++ events_text timeline.now transcript.now) }
+{
+    let width = tick_width(transcript);
+    let events = collect_events(alloc, timeline, sorted, transcript)?;
+    let by_tick = sort_events(alloc, &events, end_tick(transcript.result()))?;
+    write_events(timeline, transcript.attempts(), width, &by_tick, text)
+}
+
 pub(crate) fn write_happening<A: Allocator + Copy, B: Allocator, C: Allocator>(
     alloc: A,
     timeline: &Timeline<B>,
@@ -298,15 +320,6 @@ pub(crate) fn write_happening<A: Allocator + Copy, B: Allocator, C: Allocator>(
     requires { sorted.now ≡ standings_of timeline.now }
     ensures { OnOk result (text.new.items ≡ text.old.items ++ happening_text timeline.now transcript.now) }
 {
-    let end = end_tick(transcript.result());
-    let events = collect_events(alloc, timeline, sorted, transcript)?;
-    let by_tick = sort_events(alloc, &events, end)?;
     write_words(b"what happened:\n", text)?;
-    write_events(
-        timeline,
-        transcript.attempts(),
-        width_of(end) + 2,
-        &by_tick,
-        text,
-    )
+    write_course(alloc, timeline, sorted, transcript, text)
 }

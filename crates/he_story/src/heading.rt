@@ -3,7 +3,7 @@
 ghost use Rattle.std.specs.Prelude.{◌≡◌, ◌++◌, option_map, OnOk};
 ghost use Rattle.he_story.specs.Heading.{ending_text, heading_text, won_text};
 
-use crate::parts::{Part, noun, write_parts, write_words};
+use crate::parts::{Part, noun, unless, write_parts, write_words};
 use he_addr::Memory;
 use he_plan::{Line, Outcome3, Transcript};
 use std::alloc::Allocator;
@@ -14,7 +14,7 @@ fn write_won<A: Allocator + Copy>(
     winner: Option<&Line>,
     text: &mut Vec<u8, A>,
 ) -> Result<(), Memory>
-    ensures { OnOk result (text.new.items ≡ text.old.items ++ won_text tick count (option_map (λ line. line.now) winner)) }
+    ensures { OnOk result (text.new.items ≡ text.old.items ++ won_text tick count (option_map (λ line. line.now) winner.entry)) }
 {
     let Some(line) = winner else {
         return Ok(());
@@ -77,7 +77,7 @@ pub(crate) fn write_heading<A: Allocator + Copy, B: Allocator>(
 ) -> Result<(), Memory>
     ensures { OnOk result (text.new.items ≡ text.old.items ++ heading_text number line transcript.now) }
 {
-    let gap: &[u8] = if number == 1 { b"" } else { b"\n" };
+    let gap = unless(number == 1, b"\n");
     write_parts(
         &[
             Part::Words(gap),

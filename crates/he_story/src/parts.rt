@@ -2,7 +2,7 @@
 
 ghost use Rattle.std.specs.Prelude.{◌≡◌, ◌≤◌, ◌++◌, ◌+◌, decimal, length, OnOk};
 ghost use Rattle.std.specs.List.{flat_map};
-ghost use Rattle.he_story.specs.Parts.{noun, part_text, right_aligned, spaces};
+ghost use Rattle.he_story.specs.Parts.{noun, part_text, right_aligned, spaces, unless};
 
 use he_addr::{Ip, Memory, write_ip, write_number};
 use itoa::Buffer;
@@ -63,6 +63,13 @@ pub(crate) fn noun<'t>(count: usize, one: &'t [u8], many: &'t [u8]) -> &'t [u8]
     ensures { result.now ≡ noun count one.now many.now }
 {
     if count == 1 { one } else { many }
+}
+
+// The words, but none where this holds.
+pub(crate) fn unless<'t>(holds: bool, words: &'t [u8]) -> &'t [u8]
+    ensures { result.now ≡ unless holds words.now }
+{
+    if holds { b"" } else { words }
 }
 
 // How many digits a number has.
