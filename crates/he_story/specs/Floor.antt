@@ -13,13 +13,18 @@ abbrev pub floored : Race → Race
 floored race = changed (record { resolution = None; attempt = None; count = None; limit = None; floor = Some MIN_FLOOR }) race
 
 -- the race has no floor, and would have ended earlier with one
-abbrev pub ends_sooner : Race → Report → Report → Bool
+unfoldable pub ends_sooner : Race → Report → Report → Bool
 ends_sooner race report with_floor =
     is_none race.settings.floor && nat_lt (end_event with_floor.result).tick (end_event report.result).tick
 
--- how it ends with that floor, where that is earlier
+abbrev pub setting_text : ℕ → List ℕ
+setting_text floor = concat (codes "with `set floor " ∷ decimal floor ∷ codes "`: " ∷ [])
+
+-- how it ends with that floor
+abbrev pub with_floor_text : Report → List ℕ
+with_floor_text with_floor =
+    setting_text MIN_FLOOR ++ (ending_text with_floor.lines with_floor.result ++ codes "\n")
+
+-- where that is earlier
 abbrev pub floor_text : Race → Report → Report → List ℕ
-floor_text race report with_floor =
-    if ends_sooner race report with_floor
-    then concat (codes "with `set floor " ∷ decimal MIN_FLOOR ∷ codes "`: " ∷ []) ++ (ending_text with_floor.lines with_floor.result ++ codes "\n")
-    else []
+floor_text race report with_floor = if ends_sooner race report with_floor then with_floor_text with_floor else []

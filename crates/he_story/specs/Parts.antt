@@ -15,6 +15,10 @@ part_text (parts.Address ip) = printed ip
 abbrev pub noun : ℕ → List ℕ → List ℕ → List ℕ
 noun n one many = if n == 1 then one else many
 
+-- so many of them
+abbrev pub counted : ℕ → List ℕ → List ℕ → List ℕ
+counted n one many = decimal n ++ noun n one many
+
 -- the words, but none where this holds
 abbrev pub unless : Bool → List ℕ → List ℕ
 unless holds words = if holds then [] else words

@@ -1,9 +1,9 @@
 // The first line of a story: which race it is, and how it ended.
 
 ghost use Rattle.std.specs.Prelude.{◌≡◌, ◌++◌, option_map, OnOk};
-ghost use Rattle.he_story.specs.Heading.{ending_text, heading_text, won_text};
+ghost use Rattle.he_story.specs.Heading.{ending_text, heading_text, not_connected_text, won_text};
 
-use crate::parts::{Part, noun, unless, write_parts, write_words};
+use crate::parts::{Part, unless, write_counted, write_parts, write_words};
 use he_addr::Memory;
 use he_plan::{Line, Outcome3, Transcript};
 use std::alloc::Allocator;
@@ -34,6 +34,21 @@ fn write_won<A: Allocator + Copy>(
     )
 }
 
+// How the race ended without a connection, at a tick, and after how many attempts.
+fn write_not_connected<'t, A: Allocator + Copy>(
+    how: &'t [u8],
+    tick: u64,
+    between: &'t [u8],
+    count: usize,
+    text: &mut Vec<u8, A>,
+) -> Result<(), Memory>
+    ensures { OnOk result (text.new.items ≡ text.old.items ++ not_connected_text how.now tick between.now count) }
+{
+    let parts = [Part::Words(how), Part::Number(tick), Part::Words(between)];
+    write_parts(&parts, text)?;
+    write_counted(count, b" attempt", b" attempts", text)
+}
+
 pub(crate) fn write_ending<A: Allocator + Copy>(
     lines: &[Line],
     ending: Outcome3,
@@ -42,29 +57,16 @@ pub(crate) fn write_ending<A: Allocator + Copy>(
     ensures { OnOk result (text.new.items ≡ text.old.items ++ ending_text lines.now ending) }
 {
     let count = lines.len();
-    let attempts = noun(count, b" attempt", b" attempts");
     match ending {
         Outcome3::Won(place, tick) => write_won(tick, count, lines.get(place), text),
-        Outcome3::Exhausted(tick) => write_parts(
-            &[
-                Part::Words(b"not connected: nothing is left to try after "),
-                Part::Number(tick),
-                Part::Words(b" ms and "),
-                Part::Number(count as u64),
-                Part::Words(attempts),
-            ],
-            text,
-        ),
-        Outcome3::Limit(tick) => write_parts(
-            &[
-                Part::Words(b"not connected by the limit of "),
-                Part::Number(tick),
-                Part::Words(b" ms, after "),
-                Part::Number(count as u64),
-                Part::Words(attempts),
-            ],
-            text,
-        ),
+        Outcome3::Exhausted(tick) => {
+            let how = b"not connected: nothing is left to try after ";
+            write_not_connected(how, tick, b" ms and ", count, text)
+        }
+        Outcome3::Limit(tick) => {
+            let how = b"not connected by the limit of ";
+            write_not_connected(how, tick, b" ms, after ", count, text)
+        }
     }
 }
 
