@@ -5,7 +5,7 @@ ghost use Rattle.he_plan.specs.declared.limits.TheConstants.{MIN_FLOOR};
 ghost use Rattle.he_plan.specs.Transcript.{IsTranscript};
 ghost use Rattle.he_story.specs.Floor.{ends_sooner, floor_text, floored, setting_text, with_floor_text};
 
-use crate::heading::write_ending;
+use crate::heading::write_ending_of;
 use crate::parts::{Part, write_parts, write_words};
 use he_addr::Memory;
 use he_explain::end_tick;
@@ -66,7 +66,7 @@ fn write_with_floor<A: Allocator + Copy, B: Allocator>(
     ensures { OnOk result (text.new.items ≡ text.old.items ++ with_floor_text with_floor.now) }
 {
     write_setting(text)?;
-    write_ending(with_floor.attempts(), with_floor.result(), text)?;
+    write_ending_of(with_floor, text)?;
     write_words(b"\n", text)
 }
 

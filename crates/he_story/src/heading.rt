@@ -49,7 +49,7 @@ fn write_not_connected<'t, A: Allocator + Copy>(
     write_counted(count, b" attempt", b" attempts", text)
 }
 
-pub(crate) fn write_ending<A: Allocator + Copy>(
+fn write_ending<A: Allocator + Copy>(
     lines: &[Line],
     ending: Outcome3,
     text: &mut Vec<u8, A>,
@@ -68,6 +68,16 @@ pub(crate) fn write_ending<A: Allocator + Copy>(
             write_not_connected(how, tick, b" ms, after ", count, text)
         }
     }
+}
+
+// How the race of the transcript ended.
+pub(crate) fn write_ending_of<A: Allocator + Copy, B: Allocator>(
+    transcript: &Transcript<B>,
+    text: &mut Vec<u8, A>,
+) -> Result<(), Memory>
+    ensures { OnOk result (text.new.items ≡ text.old.items ++ ending_text transcript.now.lines transcript.now.result) }
+{
+    write_ending(transcript.attempts(), transcript.result(), text)
 }
 
 // race NUMBER, line LINE: ENDING, behind a blank line where it is not the first race.
@@ -91,6 +101,6 @@ pub(crate) fn write_heading<A: Allocator + Copy, B: Allocator>(
         ],
         text,
     )?;
-    write_ending(transcript.attempts(), transcript.result(), text)?;
+    write_ending_of(transcript, text)?;
     write_words(b"\n", text)
 }

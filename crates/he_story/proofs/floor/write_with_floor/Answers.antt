@@ -11,7 +11,7 @@ returns g c =
     (setting_text MIN_FLOOR)
     (ending_text c.args.with_floor.now.lines c.args.with_floor.now.result ++ codes "\n")
     c.write_words.result c.in_ok-write_setting.ensures
-    (then_text c.write_setting.new.text.items c.write_ending.new.text.items c.write_words.new.text.items
+    (then_text c.write_setting.new.text.items c.write_ending_of.new.text.items c.write_words.new.text.items
     (ending_text c.args.with_floor.now.lines c.args.with_floor.now.result)
     (codes "\n")
-    c.write_words.result c.in_ok-write_ending.ensures c.write_words.ensures)
+    c.write_words.result c.in_ok-write_ending_of.ensures c.write_words.ensures)
