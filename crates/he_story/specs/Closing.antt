@@ -35,8 +35,12 @@ seen_text family end lines seen ips =
     else if list_any is_usable ips then gap_text family seen (first_of family lines)
     else []
 
+-- an answer that never comes
+abbrev pub missing_text : Family → List ℕ
+missing_text family = concat (codes "no " ∷ name_of family ∷ codes " answer came\n" ∷ [])
+
 abbrev pub answer_text : Race → Family → ℕ → List Line → Option Reply → List ℕ
-answer_text race family end lines None = concat (codes "no " ∷ name_of family ∷ codes " answer came\n" ∷ [])
+answer_text race family end lines None = missing_text family
 answer_text race family end lines (Some reply) = seen_text family end lines (seen race reply.tick) reply.addresses
 
 abbrev pub closing_text : Race → Report → List ℕ

@@ -1,5 +1,5 @@
 -- What happened in a race: its events, a line each.
-use Rattle.std.specs.Prelude.{ℕ, ◌+◌, ◌-◌, ◌==◌, ◌++◌, if◌then◌else◌, Bool, true, false, List, [], ◌∷◌, length, decimal, codes, slice_get, Option}
+use Rattle.std.specs.Prelude.{ℕ, ◌+◌, ◌-◌, ◌==◌, ◌++◌, if◌then◌else◌, Bool, true, false, List, [], ◌∷◌, length, decimal, codes, slice_get}
 use Rattle.std.specs.List.{concat, flat_map}
 use Rattle.std.specs.Option.{option_map_or}
 use Rattle.he_addr.specs.declared.ip.Family.{Family}
@@ -7,7 +7,7 @@ use Rattle.he_addr.specs.declared.ip.Family.TheVariants as families
 use Rattle.he_addr.specs.Ip.{family_of}
 use Rattle.he_addr.specs.Printing.{printed}
 use Rattle.he_plan.specs.declared.transcript.Line.{Line}
-use Rattle.he_plan.specs.Race.{Race, Reply}
+use Rattle.he_plan.specs.Race.{Race, reply_of}
 use Rattle.he_plan.specs.Transcript.{Report}
 use Rattle.he_explain.specs.declared.cause.Cause.{Cause}
 use Rattle.he_explain.specs.declared.cause.Cause.TheVariants as causes
@@ -20,7 +20,7 @@ use Rattle.he_explain.specs.declared.listing.Turn.{Turn}
 use Rattle.he_explain.specs.declared.listing.Turn.TheVariants as turns
 use Rattle.he_explain.specs.Course.{course}
 use Rattle.he_explain.specs.Events.{end_event, is_seen_by}
-use Rattle.he_story.specs.Parts.{noun, right_aligned}
+use Rattle.he_story.specs.Parts.{counted, right_aligned, unless}
 
 -- why an attempt starts now (RFC 8305 sections 3 and 5, and the floor of our own)
 abbrev pub cause_text : Cause → List ℕ
@@ -67,16 +67,26 @@ abbrev pub became_text : List Line → ℕ → ℕ → List ℕ → List ℕ
 became_text lines tick place what =
     concat (codes "attempt " ∷ decimal (place + 1) ∷ what ∷ decimal (taken lines place tick) ∷ codes " ms" ∷ [])
 
--- an answer with so many addresses, and whether the other one is still to come
-abbrev pub answer_text : List ℕ → ℕ → Bool → List ℕ → List ℕ
-answer_text name count other_seen missing =
-    concat (name ∷ decimal count ∷ noun count (codes " address to try") (codes " addresses to try") ∷ (if other_seen then [] else missing) ∷ [])
+abbrev pub answer_of : Family → List ℕ
+answer_of families.V6 = codes "AAAA answer: "
+answer_of families.V4 = codes "A answer: "
 
+abbrev pub other_of : Family → Family
+other_of families.V6 = families.V4
+other_of families.V4 = families.V6
+
+-- the answer of the other family is still to come
+abbrev pub still_missing : Family → List ℕ
+still_missing families.V6 = codes "; the A answer is not there yet"
+still_missing families.V4 = codes "; the AAAA answer is not there yet"
+
+abbrev pub other_text : Race → ℕ → Family → List ℕ
+other_text race tick family = unless (is_seen_by race tick (reply_of race (other_of family))) (still_missing family)
+
+-- an answer with so many addresses, and whether the other one is still to come
 abbrev pub answered_text : Race → ℕ → Family → ℕ → List ℕ
-answered_text race tick families.V6 count =
-    answer_text (codes "AAAA answer: ") count (is_seen_by race tick race.a) (codes "; the A answer is not there yet")
-answered_text race tick families.V4 count =
-    answer_text (codes "A answer: ") count (is_seen_by race tick race.aaaa) (codes "; the AAAA answer is not there yet")
+answered_text race tick family count =
+    answer_of family ++ (counted count (codes " address to try") (codes " addresses to try") ++ other_text race tick family)
 
 abbrev pub kind_text : Race → List Line → ℕ → EventKind → List ℕ
 kind_text race lines tick (kinds.Paused end) = concat (codes "pause: the client sees and starts nothing until " ∷ decimal end ∷ codes " ms" ∷ [])
@@ -95,8 +105,13 @@ abbrev pub event_line : Race → List Line → ℕ → Event → List ℕ
 event_line race lines width event =
     (right_aligned width event.tick ++ codes " ms  ") ++ (kind_text race lines event.tick event.kind ++ codes "\n")
 
--- the events in order of ticks, which stand at the right of the width of the last one
+-- ticks are as wide as the last one, two columns in
+abbrev pub tick_width : Report → ℕ
+tick_width report = length (decimal (end_event report.result).tick) + 2
+
+-- the events in order of ticks
+unfoldable pub events_text : Race → Report → List ℕ
+events_text race report = flat_map (event_line race report.lines (tick_width report)) (course race report)
+
 abbrev pub happening_text : Race → Report → List ℕ
-happening_text race report =
-    codes "what happened:\n"
-    ++ flat_map (event_line race report.lines (length (decimal (end_event report.result).tick) + 2)) (course race report)
+happening_text race report = codes "what happened:\n" ++ events_text race report

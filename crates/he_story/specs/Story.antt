@@ -17,12 +17,12 @@ story_text number line race report with_floor =
 
 -- the text is the story of the race, by its transcript and the one that it has with a floor: the race of this number in its
 -- input, counted from 1, which begins at this line
-pub record IsStory (number line : ℕ) (text : List ℕ) (race : Race) : Type 0 where
+pub record IsStory (number line : ℕ) (told : List ℕ) (race : Race) : Type 0 where
   pub report : Report
   pub with_floor : Report
   pub is : IsTranscript race report
   pub floors : IsTranscript (floored race) with_floor
-  pub text : text ≡ story_text number line race report with_floor
+  pub text : told ≡ story_text number line race report with_floor
 
 -- the story has been appended
 abbrev pub Tells : ℕ → ℕ → Race → List ℕ → List ℕ → Type 0

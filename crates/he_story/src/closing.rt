@@ -1,12 +1,12 @@
 // The last lines of a story: answers that the race did not have, and how long an answer waited for an attempt.
 
-ghost use Rattle.std.specs.Prelude.{◌≡◌, ◌++◌, find, map, option_map, OnOk};
+ghost use Rattle.std.specs.Prelude.{◌≡◌, ◌++◌, OnOk};
 ghost use Rattle.std.specs.List.{list_any};
 ghost use Rattle.he_addr.specs.Ip.{is_usable};
 ghost use Rattle.he_plan.specs.Race.{reply_of};
 ghost use Rattle.he_plan.specs.Timeline.{is_of};
 ghost use Rattle.he_explain.specs.Events.{end_event};
-ghost use Rattle.he_story.specs.Closing.{answer_text, closing_text, first_of, gap_text, name_of, seen_text};
+ghost use Rattle.he_story.specs.Closing.{answer_text, closing_text, first_of, gap_text, missing_text, name_of, seen_text};
 
 use crate::parts::{Part, write_parts};
 use he_addr::{Family, Ip, Memory};
@@ -109,6 +109,17 @@ fn write_seen<A: Allocator + Copy>(
     write_gap(family, seen, first_of(family, lines), text)
 }
 
+// An answer that never comes.
+fn write_missing<A: Allocator + Copy>(family: Family, text: &mut Vec<u8, A>) -> Result<(), Memory>
+    ensures { OnOk result (text.new.items ≡ text.old.items ++ missing_text family) }
+{
+    let name = Part::Words(name_of(family));
+    write_parts(
+        &[Part::Words(b"no "), name, Part::Words(b" answer came\n")],
+        text,
+    )
+}
+
 fn write_answer<A: Allocator + Copy, B: Allocator>(
     timeline: &Timeline<B>,
     family: Family,
@@ -118,14 +129,10 @@ fn write_answer<A: Allocator + Copy, B: Allocator>(
 ) -> Result<(), Memory>
     ensures { OnOk result (text.new.items ≡ text.old.items ++ answer_text timeline.now family end lines.now (reply_of timeline.now family)) }
 {
-    let Some((tick, ips)) = timeline.answer(family) else {
-        let name = Part::Words(name_of(family));
-        return write_parts(
-            &[Part::Words(b"no "), name, Part::Words(b" answer came\n")],
-            text,
-        );
-    };
-    write_seen(family, end, lines, timeline.seen(tick), ips, text)
+    match timeline.answer(family) {
+        Some((tick, ips)) => write_seen(family, end, lines, timeline.seen(tick), ips, text),
+        None => write_missing(family, text),
+    }
 }
 
 pub(crate) fn write_closing<A: Allocator + Copy, B: Allocator, C: Allocator>(

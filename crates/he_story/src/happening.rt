@@ -7,9 +7,11 @@ ghost use Rattle.he_addr.specs.Printing.{printed};
 ghost use Rattle.he_plan.specs.Race.{reply_of};
 ghost use Rattle.he_explain.specs.Events.{is_seen_by};
 ghost use Rattle.he_explain.specs.Reasons.{standings_of};
-ghost use Rattle.he_story.specs.Happening.{answer_text, answered_text, became_text, cause_text, event_line, happening_text, held_text, kind_text, listed_text, start_text, taken, turn_text};
+ghost use Rattle.he_story.specs.Happening.{answer_of, answered_text, became_text, cause_text, event_line, events_text, happening_text, held_text, kind_text, listed_text, other_of, other_text, start_text, still_missing, taken, tick_width, turn_text};
 
-use crate::parts::{Part, noun, width_of, write_aligned, write_parts, write_words};
+use crate::parts::{
+    Part, unless, width_of, write_aligned, write_counted, write_parts, write_words,
+};
 use he_addr::{Family, Memory};
 use he_explain::{
     Cause, Event, EventKind, Listed, Start, Turn, collect_events, end_tick, sort_events,
@@ -164,28 +166,54 @@ fn is_seen_by<A: Allocator>(timeline: &Timeline<A>, family: Family, tick: u64) -
     }
 }
 
-// An answer with so many addresses, and whether the other one is still to come.
-fn write_answer<'t, A: Allocator + Copy>(
-    name: &'t [u8],
-    count: usize,
-    other_seen: bool,
-    missing: &'t [u8],
-    text: &mut Vec<u8, A>,
-) -> Result<(), Memory>
-    ensures { OnOk result (text.new.items ≡ text.old.items ++ answer_text name.now count other_seen missing.now) }
+fn answer_of(family: Family) -> &'static [u8]
+    ensures { result.now ≡ answer_of family }
 {
-    let rest: &[u8] = if other_seen { b"" } else { missing };
-    write_parts(
-        &[
-            Part::Words(name),
-            Part::Number(count as u64),
-            Part::Words(noun(count, b" address to try", b" addresses to try")),
-            Part::Words(rest),
-        ],
-        text,
-    )
+    match family {
+        Family::V6 => b"AAAA answer: ",
+        Family::V4 => b"A answer: ",
+    }
 }
 
+fn other_of(family: Family) -> Family
+    ensures { result ≡ other_of family }
+{
+    match family {
+        Family::V6 => Family::V4,
+        Family::V4 => Family::V6,
+    }
+}
+
+// The answer of the other family is still to come.
+fn still_missing(family: Family) -> &'static [u8]
+    ensures { result.now ≡ still_missing family }
+{
+    match family {
+        Family::V6 => b"; the A answer is not there yet",
+        Family::V4 => b"; the AAAA answer is not there yet",
+    }
+}
+
+fn write_name<A: Allocator + Copy>(family: Family, text: &mut Vec<u8, A>) -> Result<(), Memory>
+    ensures { OnOk result (text.new.items ≡ text.old.items ++ answer_of family) }
+{
+    write_words(answer_of(family), text)
+}
+
+// Whether the answer of the other family is still to come at the tick.
+fn write_other<A: Allocator + Copy, B: Allocator>(
+    timeline: &Timeline<B>,
+    tick: u64,
+    family: Family,
+    text: &mut Vec<u8, A>,
+) -> Result<(), Memory>
+    ensures { OnOk result (text.new.items ≡ text.old.items ++ other_text timeline.now tick family) }
+{
+    let is_seen = is_seen_by(timeline, other_of(family), tick);
+    write_words(unless(is_seen, still_missing(family)), text)
+}
+
+// An answer with so many addresses, and whether the other one is still to come.
 fn write_answered<A: Allocator + Copy, B: Allocator>(
     timeline: &Timeline<B>,
     tick: u64,
@@ -195,18 +223,9 @@ fn write_answered<A: Allocator + Copy, B: Allocator>(
 ) -> Result<(), Memory>
     ensures { OnOk result (text.new.items ≡ text.old.items ++ answered_text timeline.now tick family count) }
 {
-    match family {
-        Family::V6 => {
-            let other = is_seen_by(timeline, Family::V4, tick);
-            let missing = b"; the A answer is not there yet";
-            write_answer(b"AAAA answer: ", count, other, missing, text)
-        }
-        Family::V4 => {
-            let other = is_seen_by(timeline, Family::V6, tick);
-            let missing = b"; the AAAA answer is not there yet";
-            write_answer(b"A answer: ", count, other, missing, text)
-        }
-    }
+    write_name(family, text)?;
+    write_counted(count, b" address to try", b" addresses to try", text)?;
+    write_other(timeline, tick, family, text)
 }
 
 fn write_kind<A: Allocator + Copy, B: Allocator>(
@@ -287,7 +306,31 @@ fn write_events<A: Allocator + Copy, B: Allocator>(
     Ok(())
 }
 
+// How wide the ticks of the events are.
+fn tick_width<A: Allocator>(transcript: &Transcript<A>) -> usize
+    ensures { result ≡ tick_width transcript.now }
+{
+    width_of(end_tick(transcript.result())) + 2
+}
+
 // The events of a race in order of ticks; its sorted addresses are given.
+#[tactic(auto, unfolding(crate::specs::Happening::events_text))]
+fn write_course<A: Allocator + Copy, B: Allocator, C: Allocator>(
+    alloc: A,
+    timeline: &Timeline<B>,
+    sorted: &[Standing],
+    transcript: &Transcript<C>,
+    text: &mut Vec<u8, A>,
+) -> Result<(), Memory>
+    requires { sorted.now ≡ standings_of timeline.now }
+    ensures { OnOk result (text.new.items ≡ text.old.items ++ events_text timeline.now transcript.now) }
+{
+    let width = tick_width(transcript);
+    let events = collect_events(alloc, timeline, sorted, transcript)?;
+    let by_tick = sort_events(alloc, &events, end_tick(transcript.result()))?;
+    write_events(timeline, transcript.attempts(), width, &by_tick, text)
+}
+
 pub(crate) fn write_happening<A: Allocator + Copy, B: Allocator, C: Allocator>(
     alloc: A,
     timeline: &Timeline<B>,
@@ -298,15 +341,6 @@ pub(crate) fn write_happening<A: Allocator + Copy, B: Allocator, C: Allocator>(
     requires { sorted.now ≡ standings_of timeline.now }
     ensures { OnOk result (text.new.items ≡ text.old.items ++ happening_text timeline.now transcript.now) }
 {
-    let end = end_tick(transcript.result());
-    let events = collect_events(alloc, timeline, sorted, transcript)?;
-    let by_tick = sort_events(alloc, &events, end)?;
     write_words(b"what happened:\n", text)?;
-    write_events(
-        timeline,
-        transcript.attempts(),
-        width_of(end) + 2,
-        &by_tick,
-        text,
-    )
+    write_course(alloc, timeline, sorted, transcript, text)
 }

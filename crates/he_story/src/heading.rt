@@ -1,9 +1,9 @@
 // The first line of a story: which race it is, and how it ended.
 
 ghost use Rattle.std.specs.Prelude.{◌≡◌, ◌++◌, option_map, OnOk};
-ghost use Rattle.he_story.specs.Heading.{ending_text, heading_text, won_text};
+ghost use Rattle.he_story.specs.Heading.{ending_text, heading_text, not_connected_text, won_text};
 
-use crate::parts::{Part, noun, write_parts, write_words};
+use crate::parts::{Part, unless, write_counted, write_parts, write_words};
 use he_addr::Memory;
 use he_plan::{Line, Outcome3, Transcript};
 use std::alloc::Allocator;
@@ -14,7 +14,7 @@ fn write_won<A: Allocator + Copy>(
     winner: Option<&Line>,
     text: &mut Vec<u8, A>,
 ) -> Result<(), Memory>
-    ensures { OnOk result (text.new.items ≡ text.old.items ++ won_text tick count (option_map (λ line. line.now) winner)) }
+    ensures { OnOk result (text.new.items ≡ text.old.items ++ won_text tick count (option_map (λ line. line.now) winner.entry)) }
 {
     let Some(line) = winner else {
         return Ok(());
@@ -34,7 +34,22 @@ fn write_won<A: Allocator + Copy>(
     )
 }
 
-pub(crate) fn write_ending<A: Allocator + Copy>(
+// How the race ended without a connection, at a tick, and after how many attempts.
+fn write_not_connected<'t, A: Allocator + Copy>(
+    how: &'t [u8],
+    tick: u64,
+    between: &'t [u8],
+    count: usize,
+    text: &mut Vec<u8, A>,
+) -> Result<(), Memory>
+    ensures { OnOk result (text.new.items ≡ text.old.items ++ not_connected_text how.now tick between.now count) }
+{
+    let parts = [Part::Words(how), Part::Number(tick), Part::Words(between)];
+    write_parts(&parts, text)?;
+    write_counted(count, b" attempt", b" attempts", text)
+}
+
+fn write_ending<A: Allocator + Copy>(
     lines: &[Line],
     ending: Outcome3,
     text: &mut Vec<u8, A>,
@@ -42,30 +57,27 @@ pub(crate) fn write_ending<A: Allocator + Copy>(
     ensures { OnOk result (text.new.items ≡ text.old.items ++ ending_text lines.now ending) }
 {
     let count = lines.len();
-    let attempts = noun(count, b" attempt", b" attempts");
     match ending {
         Outcome3::Won(place, tick) => write_won(tick, count, lines.get(place), text),
-        Outcome3::Exhausted(tick) => write_parts(
-            &[
-                Part::Words(b"not connected: nothing is left to try after "),
-                Part::Number(tick),
-                Part::Words(b" ms and "),
-                Part::Number(count as u64),
-                Part::Words(attempts),
-            ],
-            text,
-        ),
-        Outcome3::Limit(tick) => write_parts(
-            &[
-                Part::Words(b"not connected by the limit of "),
-                Part::Number(tick),
-                Part::Words(b" ms, after "),
-                Part::Number(count as u64),
-                Part::Words(attempts),
-            ],
-            text,
-        ),
+        Outcome3::Exhausted(tick) => {
+            let how = b"not connected: nothing is left to try after ";
+            write_not_connected(how, tick, b" ms and ", count, text)
+        }
+        Outcome3::Limit(tick) => {
+            let how = b"not connected by the limit of ";
+            write_not_connected(how, tick, b" ms, after ", count, text)
+        }
     }
+}
+
+// How the race of the transcript ended.
+pub(crate) fn write_ending_of<A: Allocator + Copy, B: Allocator>(
+    transcript: &Transcript<B>,
+    text: &mut Vec<u8, A>,
+) -> Result<(), Memory>
+    ensures { OnOk result (text.new.items ≡ text.old.items ++ ending_text transcript.now.lines transcript.now.result) }
+{
+    write_ending(transcript.attempts(), transcript.result(), text)
 }
 
 // race NUMBER, line LINE: ENDING, behind a blank line where it is not the first race.
@@ -77,7 +89,7 @@ pub(crate) fn write_heading<A: Allocator + Copy, B: Allocator>(
 ) -> Result<(), Memory>
     ensures { OnOk result (text.new.items ≡ text.old.items ++ heading_text number line transcript.now) }
 {
-    let gap: &[u8] = if number == 1 { b"" } else { b"\n" };
+    let gap = unless(number == 1, b"\n");
     write_parts(
         &[
             Part::Words(gap),
@@ -89,6 +101,6 @@ pub(crate) fn write_heading<A: Allocator + Copy, B: Allocator>(
         ],
         text,
     )?;
-    write_ending(transcript.attempts(), transcript.result(), text)?;
+    write_ending_of(transcript, text)?;
     write_words(b"\n", text)
 }

@@ -2,7 +2,7 @@
 
 ghost use Rattle.std.specs.Prelude.{◌≡◌, ◌≤◌, ◌++◌, ◌+◌, decimal, length, OnOk};
 ghost use Rattle.std.specs.List.{flat_map};
-ghost use Rattle.he_story.specs.Parts.{noun, part_text, right_aligned, spaces};
+ghost use Rattle.he_story.specs.Parts.{counted, noun, part_text, right_aligned, spaces, unless};
 
 use he_addr::{Ip, Memory, write_ip, write_number};
 use itoa::Buffer;
@@ -59,10 +59,30 @@ pub(crate) fn write_parts<A: Allocator + Copy>(
 }
 
 // The word for one, or for another number.
-pub(crate) fn noun<'t>(count: usize, one: &'t [u8], many: &'t [u8]) -> &'t [u8]
+fn noun<'t>(count: usize, one: &'t [u8], many: &'t [u8]) -> &'t [u8]
     ensures { result.now ≡ noun count one.now many.now }
 {
     if count == 1 { one } else { many }
+}
+
+// So many of them.
+pub(crate) fn write_counted<'t, A: Allocator + Copy>(
+    count: usize,
+    one: &'t [u8],
+    many: &'t [u8],
+    text: &mut Vec<u8, A>,
+) -> Result<(), Memory>
+    ensures { OnOk result (text.new.items ≡ text.old.items ++ counted count one.now many.now) }
+{
+    write_number(count as u64, text)?;
+    write_words(noun(count, one, many), text)
+}
+
+// The words, but none where this holds.
+pub(crate) fn unless<'t>(holds: bool, words: &'t [u8]) -> &'t [u8]
+    ensures { result.now ≡ unless holds words.now }
+{
+    if holds { b"" } else { words }
 }
 
 // How many digits a number has.
