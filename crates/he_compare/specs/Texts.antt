@@ -1,5 +1,5 @@
 -- The lines of a comparison.
-use Rattle.std.specs.Prelude.{ℕ, ◌≡◌, ◌==◌, ◌×◌, ◌++◌, if◌then◌else◌, List, [], ◌∷◌, length, find, map, decimal, codes, option_map, IsPermutation, IsSorted, Option, Some, None}
+use Rattle.std.specs.Prelude.{ℕ, ◌≡◌, ◌==◌, ◌++◌, if◌then◌else◌, List, [], ◌∷◌, length, find, map, decimal, codes, option_map, IsPermutation, IsSorted, Option, Some, None}
 use Rattle.std.specs.List.{filter_map, flat_map}
 use Rattle.std.specs.Ordering.{nat_cmp}
 use Rattle.he_addr.specs.Printing.{printed}
@@ -65,10 +65,10 @@ counts_text counts =
 
 -- the median and the greatest of the differences, which are in order
 abbrev pub spread_text : List ℕ → List ℕ
-spread_text [] = codes "; no race was won both ways\n"
-spread_text (least ∷ more) =
-    codes "; difference where both won: median " ++ (decimal (median (least ∷ more)) ++ (codes " ms, greatest "
-    ++ (decimal (greatest (least ∷ more)) ++ codes " ms\n")))
+spread_text sorted =
+    if length sorted == 0
+    then codes "; no race was won both ways\n"
+    else codes "; difference where both won: median " ++ (decimal (median sorted) ++ (codes " ms, greatest " ++ (decimal (greatest sorted) ++ codes " ms\n")))
 
 -- a line for each race, in their order, and one with the sums: the differences of the races that are won both ways are
 -- sorted for it
