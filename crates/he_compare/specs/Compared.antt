@@ -1,5 +1,5 @@
 -- The comparison of an input.
-use Rattle.std.specs.Prelude.{ℕ, ◌≡◌, ◌+◌, ◌×◌, ◌++◌, Bool, List, [], ◌∷◌, Option}
+use Rattle.std.specs.Prelude.{ℕ, ◌≡◌, ◌+◌, ◌++◌, Bool, List, [], ◌∷◌, Option}
 use Rattle.he_plan.specs.Changes.{ChangeValues, changed}
 use Rattle.he_plan.specs.Race.{Race}
 use Rattle.he_plan.specs.Transcript.{IsTranscript}
@@ -10,10 +10,10 @@ use Rattle.he_compare.specs.Texts.{Compared, IsTold}
 
 -- the race with this number, which begins with this line, by its transcript and that of the race with the changes
 pub record IsCompared (changes : ChangeValues) (race : Race) (number line : ℕ) (compared : Compared) : Type 0 where
-  pub number : compared.number ≡ number
-  pub line : compared.line ≡ line
-  pub stands : IsTranscript race compared.stands
-  pub changed : IsTranscript (changed changes race) compared.changed
+  pub numbered : compared.number ≡ number
+  pub lined : compared.line ≡ line
+  pub as_it_stands : IsTranscript race compared.stands
+  pub with_changes : IsTranscript (changed changes race) compared.changed
 
 -- behind so many races and lines the text is, one after the other, a text of each of these races, compared in their order
 abbrev pub AreCompared : ChangeValues → ℕ → ℕ → List Race → List ℕ → List Compared → Type 0

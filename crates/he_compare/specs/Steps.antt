@@ -1,5 +1,5 @@
 -- Mirrors the code: what is told while the walk over an input goes on. What a comparison is stands in `Compared`.
-use Rattle.std.specs.Prelude.{ℕ, ◌≡◌, ◌<◌, ◌^◌, ◌×◌, ⊤, Bool, true, false, List, [], ◌∷◌, ◌++◌, length, map, take, Some, None, Result, Ok, Err}
+use Rattle.std.specs.Prelude.{ℕ, ◌≡◌, ◌<◌, ◌^◌, ⊤, Bool, true, false, List, [], ◌∷◌, ◌++◌, length, map, take, Some, None, Result, Ok, Err}
 use Rattle.std.specs.List.{filter_map, flat_map}
 use Rattle.he_plan.specs.Changes.{ChangeValues}
 use Rattle.he_plan.specs.Race.{Race}
@@ -12,7 +12,6 @@ use Rattle.he_compare.specs.Texts.{Compared, line_text, verdict_on}
 use Rattle.he_compare.specs.Verdicts.{counts_of, difference_of}
 use Rattle.he_compare.specs.declared.told.Counts.{Counts}
 use Rattle.he_compare.specs.declared.told.Told.{Told}
-use Rattle.he_compare.specs.declared.verdict.Verdict.{Verdict}
 
 -- what is kept of these races
 pub record HasTold {A : Type 0} (kept : Told A) (told : List Compared) : Type 0 where
@@ -22,12 +21,13 @@ pub record HasTold {A : Type 0} (kept : Told A) (told : List Compared) : Type 0 
 
 -- one more can be counted
 pub record MayCount (counts : Counts) : Type 0 where
-  pub verdicts : List Verdict
-  pub are : counts ≡ counts_of verdicts
-  pub few : length verdicts < 2 ^ 32
-
-abbrev pub HasRoom : {A : Type 0} → Told A → Type 0
-HasRoom kept = (told : List Compared) × HasTold kept told × (length told < 2 ^ 32)
+  pub races : counts.races < 2 ^ 32
+  pub sooner : counts.sooner < 2 ^ 32
+  pub later : counts.later < 2 ^ 32
+  pub same : counts.same < 2 ^ 32
+  pub only_with : counts.only_with < 2 ^ 32
+  pub only_without : counts.only_without < 2 ^ 32
+  pub neither : counts.neither < 2 ^ 32
 
 -- the race is told behind those that were told before
 abbrev pub TellsRace : {A : Type 0} → ChangeValues → Race → ℕ → ℕ → Told A → Told A → Type 0

@@ -1,5 +1,5 @@
 -- The lines of a comparison.
-use Rattle.std.specs.Prelude.{ℕ, ◌≡◌, ◌==◌, ◌×◌, ◌++◌, if◌then◌else◌, List, [], ◌∷◌, length, find, map, decimal, codes, option_map, IsPermutation, IsSorted, Option, Some, None}
+use Rattle.std.specs.Prelude.{ℕ, ◌≡◌, ◌==◌, ◌++◌, if◌then◌else◌, List, [], ◌∷◌, length, find, map, decimal, codes, option_map, IsPermutation, IsSorted, Option, Some, None}
 use Rattle.std.specs.List.{filter_map, flat_map}
 use Rattle.std.specs.Ordering.{nat_cmp}
 use Rattle.he_addr.specs.Printing.{printed}
@@ -56,19 +56,22 @@ line_text race =
 abbrev pub races_text : ℕ → List ℕ
 races_text races = decimal races ++ (if races == 1 then codes " race: " else codes " races: ")
 
+abbrev pub counted : ℕ → List ℕ → List ℕ
+counted number words = decimal number ++ words
+
 abbrev pub counts_text : Counts → List ℕ
 counts_text counts =
     races_text counts.races
-    ++ (decimal counts.sooner ++ (codes " sooner, " ++ (decimal counts.later ++ (codes " later, "
-    ++ (decimal counts.same ++ (codes " at the same time, " ++ (decimal counts.only_with ++ (codes " won only with the changes, "
-    ++ (decimal counts.only_without ++ (codes " won only without them, " ++ (decimal counts.neither ++ codes " not won either way")))))))))))
+    ++ (counted counts.sooner (codes " sooner, ") ++ (counted counts.later (codes " later, ")
+    ++ (counted counts.same (codes " at the same time, ") ++ (counted counts.only_with (codes " won only with the changes, ")
+    ++ (counted counts.only_without (codes " won only without them, ") ++ counted counts.neither (codes " not won either way"))))))
 
 -- the median and the greatest of the differences, which are in order
 abbrev pub spread_text : List ℕ → List ℕ
-spread_text [] = codes "; no race was won both ways\n"
-spread_text (least ∷ more) =
-    codes "; difference where both won: median " ++ (decimal (median (least ∷ more)) ++ (codes " ms, greatest "
-    ++ (decimal (greatest (least ∷ more)) ++ codes " ms\n")))
+spread_text sorted =
+    if length sorted == 0
+    then codes "; no race was won both ways\n"
+    else (codes "; difference where both won: median " ++ counted (median sorted) (codes " ms, greatest ")) ++ counted (greatest sorted) (codes " ms\n")
 
 -- a line for each race, in their order, and one with the sums: the differences of the races that are won both ways are
 -- sorted for it

@@ -39,8 +39,7 @@ pub fn compare<A: Allocator + Copy, I: InputStream, O: OutputStream>(
         (PutsPart O.contents O.puts O.flushes output.old output.new) (output.new ≡ output.old) result }
 {
     let given = take_input(alloc, input)?;
-    let (text, fault) = compare_races(alloc, changes, given.bytes.as_slice(), given.is_broken)
-        .map_err(|_| CompareFault::Memory)?;
+    let (text, fault) = compare_races(alloc, changes, given.bytes.as_slice(), given.is_broken)?;
     write_whole(output, text.as_slice())?;
     match fault {
         None => Ok(()),

@@ -2,6 +2,7 @@
 ghost use Rattle.std.specs.Prelude.{◌≡◌};
 ghost use Rattle.he_compare.specs.declared.fault.CompareFault.TheVariants.{Memory, Write};
 
+use he_addr::Memory;
 use he_stream::WriteFault;
 use he_text::TextFault;
 use std::alloc::AllocError;
@@ -28,6 +29,14 @@ impl From<AllocError> for CompareFault {
     ghost from_gives = { λ _ fault. fault ≡ Memory };
 
     fn from(_refused: AllocError) -> CompareFault {
+        CompareFault::Memory
+    }
+}
+
+impl From<Memory> for CompareFault {
+    ghost from_gives = { λ _ fault. fault ≡ Memory };
+
+    fn from(_refused: Memory) -> CompareFault {
         CompareFault::Memory
     }
 }

@@ -1,7 +1,7 @@
 // The races of an input, each told with its changes before the next is read.
 ghost use Rattle.std.specs.Prelude.{[], IfOk, OnOk};
 ghost use Rattle.he_compare.specs.Compared.{IsComparison};
-ghost use Rattle.he_compare.specs.Steps.{EndsWalk, HasRoom, HasTold, HasWalked, TellsNext, TellsRace};
+ghost use Rattle.he_compare.specs.Steps.{EndsWalk, HasTold, HasWalked, MayCount, TellsNext, TellsRace};
 
 use crate::told::Told;
 use bumpalo::Bump;
@@ -24,13 +24,11 @@ pub(crate) fn compare_races<A: Allocator + Copy>(
     ensures { IfOk result (λ found. IsComparison changes input.now is_broken found.1 found.0.items) }
 {
     let mut told = Told::new(alloc);
-    let fault = match tell_races(alloc, changes, input, is_broken, &mut told) {
-        Ok(()) => None,
-        Err(WalkFault::Input(fault)) => Some(fault),
-        Err(WalkFault::Memory) => return Err(Memory),
-    };
-    let text = told.end()?;
-    Ok((text, fault))
+    match tell_races(alloc, changes, input, is_broken, &mut told) {
+        Ok(()) => Ok((told.end()?, None)),
+        Err(WalkFault::Input(fault)) => Ok((told.end()?, Some(fault))),
+        Err(WalkFault::Memory) => Err(Memory),
+    }
 }
 
 // Tells the races of an input up to its first fault. No race is kept when the walk goes on to the next: a race and its
@@ -70,9 +68,10 @@ fn tell_next<A: Allocator + Copy, B: Allocator + Copy>(
     let Some(race) = walk.next(arena, input, Ending::of(is_broken))? else {
         return Ok(false);
     };
-    tell_race(arena, race, changes, walk.races as u64, line, told)
-        .map_err(|_| WalkFault::Memory)?;
-    Ok(true)
+    match tell_race(arena, race, changes, walk.races as u64, line, told) {
+        Ok(()) => Ok(true),
+        Err(_) => Err(WalkFault::Memory),
+    }
 }
 
 // Tells a race, which has this number and begins with this line, by its transcripts.
@@ -84,7 +83,7 @@ fn tell_race<A: Allocator + Copy, B: Allocator + Copy>(
     line: u64,
     told: &mut Told<A>,
 ) -> Result<(), Memory>
-    requires { HasRoom told.old }
+    requires { MayCount told.old.counts }
     ensures { OnOk result (TellsRace changes race number line told.old told.new) }
 {
     let stands = transcript_of(arena, &race);

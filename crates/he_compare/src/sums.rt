@@ -1,7 +1,7 @@
 // The line of the sums.
 ghost use Rattle.std.specs.Prelude.{◌≡◌, ◌++◌, ◌<◌, length, IsPermutation, IsSorted, OnOk};
 ghost use Rattle.std.specs.Ordering.{nat_cmp};
-ghost use Rattle.he_compare.specs.Texts.{counts_text, spread_text};
+ghost use Rattle.he_compare.specs.Texts.{counts_text, races_text, spread_text};
 ghost use Rattle.he_compare.specs.Verdicts.{greatest, median};
 
 use crate::lines::append_number;
@@ -16,17 +16,24 @@ pub(crate) fn append_counts<A: Allocator + Copy>(
 ) -> Result<(), Memory>
     ensures { OnOk result (text.new.items ≡ text.old.items ++ counts_text counts) }
 {
-    if counts.races == 1 {
-        append_number(b"", counts.races, b" race: ", text)?;
-    } else {
-        append_number(b"", counts.races, b" races: ", text)?;
-    }
+    append_races(counts.races, text)?;
     append_number(b"", counts.sooner, b" sooner, ", text)?;
     append_number(b"", counts.later, b" later, ", text)?;
     append_number(b"", counts.same, b" at the same time, ", text)?;
     append_number(b"", counts.only_with, b" won only with the changes, ", text)?;
     append_number(b"", counts.only_without, b" won only without them, ", text)?;
-    append_number(b"", counts.neither, b" not won either way", text)
+    append_number(b"", counts.neither, b" not won either way", text)?;
+    Ok(())
+}
+
+fn append_races<A: Allocator + Copy>(races: u64, text: &mut Vec<u8, A>) -> Result<(), Memory>
+    ensures { OnOk result (text.new.items ≡ text.old.items ++ races_text races) }
+{
+    if races == 1 {
+        append_number(b"", races, b" race: ", text)
+    } else {
+        append_number(b"", races, b" races: ", text)
+    }
 }
 
 // Appends the median and the greatest of the sorted differences.
@@ -46,7 +53,8 @@ pub(crate) fn append_spread<A: Allocator + Copy>(
         b" ms, greatest ",
         text,
     )?;
-    append_number(b"", sorted[sorted.len() - 1], b" ms\n", text)
+    append_number(b"", sorted[sorted.len() - 1], b" ms\n", text)?;
+    Ok(())
 }
 
 fn median(sorted: &[u64]) -> u64

@@ -1,8 +1,9 @@
 // What is told of an input, race by race.
 ghost use Rattle.std.specs.Prelude.{◌≡◌, ◌++◌, [], ◌∷◌, List, IfOk, OnOk};
-ghost use Rattle.he_compare.specs.Steps.{HasRoom, HasTold, MayCount};
+ghost use Rattle.std.specs.List.{filter_map};
+ghost use Rattle.he_compare.specs.Steps.{HasTold, MayCount};
 ghost use Rattle.he_compare.specs.Texts.{Compared, IsTold};
-ghost use Rattle.he_compare.specs.Verdicts.{counts_of};
+ghost use Rattle.he_compare.specs.Verdicts.{counts_of, difference_of};
 ghost use Rattle.he_compare.specs.declared.verdict.Verdict.{Verdict};
 
 use crate::lines::append_line;
@@ -10,7 +11,7 @@ use crate::sums::{append_counts, append_spread, sort};
 use crate::verdict::Verdict;
 use he_addr::Memory;
 use he_plan::Transcript;
-use std::alloc::Allocator;
+use std::alloc::{AllocError, Allocator};
 
 // How many races there are, and how many of them have each verdict.
 #[derive(Clone, Copy)]
@@ -36,20 +37,40 @@ impl Counts {
     };
 
     // With one race more, which has this verdict.
-    fn with(mut self, verdict: Verdict) -> Counts
+    fn with(self, verdict: Verdict) -> Counts
         requires { MayCount self }
         ensures { (verdicts : List Verdict) → self ≡ counts_of verdicts → result ≡ counts_of (verdicts ++ verdict ∷ []) }
     {
-        self.races += 1;
+        let counts = Counts {
+            races: self.races + 1,
+            ..self
+        };
         match verdict {
-            Verdict::Sooner(_) => self.sooner += 1,
-            Verdict::Later(_) => self.later += 1,
-            Verdict::Same => self.same += 1,
-            Verdict::OnlyWith => self.only_with += 1,
-            Verdict::OnlyWithout => self.only_without += 1,
-            Verdict::Neither => self.neither += 1,
+            Verdict::Sooner(_) => Counts {
+                sooner: self.sooner + 1,
+                ..counts
+            },
+            Verdict::Later(_) => Counts {
+                later: self.later + 1,
+                ..counts
+            },
+            Verdict::Same => Counts {
+                same: self.same + 1,
+                ..counts
+            },
+            Verdict::OnlyWith => Counts {
+                only_with: self.only_with + 1,
+                ..counts
+            },
+            Verdict::OnlyWithout => Counts {
+                only_without: self.only_without + 1,
+                ..counts
+            },
+            Verdict::Neither => Counts {
+                neither: self.neither + 1,
+                ..counts
+            },
         }
-        self
     }
 }
 
@@ -80,14 +101,12 @@ impl<A: Allocator + Copy> Told<A> {
         stands: &Transcript<B>,
         changed: &Transcript<B>,
     ) -> Result<(), Memory>
-        requires { HasRoom self.old }
+        requires { MayCount self.old.counts }
         ensures { (told : List Compared) → HasTold self.old told → OnOk result (HasTold self.new (told ++ record { number = number; line = line; stands = stands.now; changed = changed.now } ∷ [])) }
     {
         append_line(number, line, stands, changed, &mut self.text)?;
         let verdict = Verdict::of(stands.result(), changed.result());
-        if let Some(difference) = verdict.difference() {
-            self.differences.push(difference)?;
-        }
+        push_difference(verdict, &mut self.differences)?;
         self.counts = self.counts.with(verdict);
         Ok(())
     }
@@ -96,9 +115,25 @@ impl<A: Allocator + Copy> Told<A> {
     pub(crate) fn end(mut self) -> Result<Vec<u8, A>, Memory>
         ensures { (told : List Compared) → HasTold self told → IfOk result (λ text. IsTold told text.items) }
     {
-        sort(&mut self.differences);
+        let differences = self.differences.as_mut_slice();
+        sort(differences);
         append_counts(self.counts, &mut self.text)?;
-        append_spread(&self.differences, &mut self.text)?;
+        append_spread(differences, &mut self.text)?;
         Ok(self.text)
+    }
+}
+
+fn push_difference<A: Allocator>(
+    verdict: Verdict,
+    differences: &mut Vec<u64, A>,
+) -> Result<(), AllocError>
+    ensures { OnOk result (differences.new.items ≡ differences.old.items ++ filter_map difference_of (verdict ∷ [])) }
+{
+    match verdict.difference() {
+        Some(difference) => {
+            differences.push(difference)?;
+            Ok(())
+        }
+        None => Ok(()),
     }
 }
