@@ -1,6 +1,7 @@
 -- An input has one output: it has one list of races, and each of them has one text.
 use Rattle.std.proofs.Common.{ℕ, ◌≡◌, ◌++◌, List, [], ◌∷◌, Bool, Option, ap, sym, ◌∙◌, subst}
 use Rattle.he_explain.specs.Course.{explanation_text}
+use Rattle.he_plan.specs.Changes.{ChangeValues, changed}
 use Rattle.he_plan.specs.Race.{Race}
 use Rattle.he_plan.specs.Transcript.{Report, IsTranscript}
 use Rattle.he_text.specs.declared.inputs.InputFault.{InputFault}
@@ -21,16 +22,16 @@ module _
     (one_input : (input : List ℕ) (is_broken : Bool) (races others : List Race) (fault other_fault : Option InputFault) → HasRaces input is_broken races fault → HasRaces input is_broken others other_fault → (races ≡ others) × (fault ≡ other_fault))
     (one_transcript : (race : Race) (x y : Report) → IsTranscript race x → IsTranscript race y → x ≡ y)
   where
-    one_text : (content : Content) (race : Race) (text other : List ℕ) → IsTextOf content text race → IsTextOf content other race → text ≡ other
-    one_text contents.Transcript race text other (report, is, written) (other_report, other_is, other_written) =
-        written ∙ ap transcript_text (one_transcript race report other_report is other_is) ∙ sym other_written
-    one_text contents.Order race text other is other_is = is ∙ sym other_is
-    one_text contents.Explanation race text other (report, is, written) (other_report, other_is, other_written) =
-        written ∙ ap (explanation_text race) (one_transcript race report other_report is other_is) ∙ sym other_written
+    one_text : (content : Content) (changes : ChangeValues) (race : Race) (text other : List ℕ) → IsTextOf content changes text race → IsTextOf content changes other race → text ≡ other
+    one_text contents.Transcript changes race text other (report, is, written) (other_report, other_is, other_written) =
+        written ∙ ap transcript_text (one_transcript (changed changes race) report other_report is other_is) ∙ sym other_written
+    one_text contents.Order changes race text other is other_is = is ∙ sym other_is
+    one_text contents.Explanation changes race text other (report, is, written) (other_report, other_is, other_written) =
+        written ∙ ap (explanation_text (changed changes race)) (one_transcript (changed changes race) report other_report is other_is) ∙ sym other_written
 
-    pub one_output : (content : Content) (input : List ℕ) (is_broken : Bool) (text other : List ℕ) (fault other_fault : Option InputFault)
-        → IsOutput (IsTextOf content) input is_broken text fault → IsOutput (IsTextOf content) input is_broken other other_fault → (text ≡ other) × (fault ≡ other_fault)
-    one_output content input is_broken text other fault other_fault x y =
+    pub one_output : (content : Content) (changes : ChangeValues) (input : List ℕ) (is_broken : Bool) (text other : List ℕ) (fault other_fault : Option InputFault)
+        → IsOutput (IsTextOf content changes) input is_broken text fault → IsOutput (IsTextOf content changes) input is_broken other other_fault → (text ≡ other) × (fault ≡ other_fault)
+    one_output content changes input is_broken text other fault other_fault x y =
         let same = one_input input is_broken x.races y.races fault other_fault x.has y.has in
-        let Told : List Race → Type 0 = λ races. AreTexts (IsTextOf content) races text in
-        (same_texts (IsTextOf content) (one_text content) y.races text other (subst Told same.0 x.told) y.told, same.1)
+        let Told : List Race → Type 0 = λ races. AreTexts (IsTextOf content changes) races text in
+        (same_texts (IsTextOf content changes) (one_text content changes) y.races text other (subst Told same.0 x.told) y.told, same.1)

@@ -1,6 +1,7 @@
 -- What is written for an input.
 use Rattle.std.specs.Prelude.{ℕ, ◌≡◌, Bool, List, Option}
 use Rattle.he_explain.specs.Course.{IsExplanation}
+use Rattle.he_plan.specs.Changes.{ChangeValues, changed}
 use Rattle.he_plan.specs.Race.{Race}
 use Rattle.he_plan.specs.Transcript.{IsTranscript, Report}
 use Rattle.he_text.specs.declared.inputs.InputFault.{InputFault}
@@ -18,11 +19,11 @@ IsTranscriptText text race = (report : Report) × IsTranscript race report × (t
 abbrev pub IsOrderText : List ℕ → Race → Type 0
 IsOrderText text race = text ≡ order_text race
 
--- the text of what is asked for of the race
-abbrev pub IsTextOf : Content → List ℕ → Race → Type 0
-IsTextOf contents.Transcript = IsTranscriptText
-IsTextOf contents.Order = IsOrderText
-IsTextOf contents.Explanation = IsExplanation
+-- the text of what is asked for of the race, which has these changes of its settings. They don't move an order.
+abbrev pub IsTextOf : Content → ChangeValues → List ℕ → Race → Type 0
+IsTextOf contents.Transcript changes text race = IsTranscriptText text (changed changes race)
+IsTextOf contents.Order changes text race = IsOrderText text race
+IsTextOf contents.Explanation changes text race = IsExplanation text (changed changes race)
 
 -- the text that is written for an input, and what is wrong with the input: a text of each of its races up to the
 -- first fault

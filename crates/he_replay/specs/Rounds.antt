@@ -15,7 +15,13 @@ use Rattle.he_text.specs.Ranges.{most_races}
 use Rattle.he_text.specs.Walks.{HasPassed, MayFollow}
 use Rattle.he_replay.specs.declared.fault.ReplayFault.{ReplayFault}
 use Rattle.he_replay.specs.declared.fault.ReplayFault.TheVariants as faults
+use Rattle.he_replay.specs.declared.race_texts.Asked.{Asked}
 use Rattle.he_replay.specs.declared.rounds.Told.{Told}
+use Rattle.he_replay.specs.Output.{IsTextOf}
+
+-- the text of what is asked for of the race
+abbrev pub IsAsked : Asked → List ℕ → Race → Type 0
+IsAsked asked = IsTextOf asked.content asked.changes
 
 -- a text of the race was appended
 pub record WritesRace (IsText : List ℕ → Race → Type 0) (race : Race) (old new : List ℕ) : Type 0 where

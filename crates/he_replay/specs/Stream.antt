@@ -1,6 +1,6 @@
 -- What is taken from an input of races and put into an output.
 use Rattle.std.specs.Prelude.{ℕ, ◌≡◌, ◌≤◌, ◌⊎◌, ◌++◌, Bool, List, Option, None, Some, Result, Ok, Err, length}
-use Rattle.he_explain.specs.Course.{IsExplanation}
+use Rattle.he_plan.specs.Changes.{ChangeValues}
 use Rattle.he_plan.specs.Race.{Race}
 use Rattle.he_text.specs.declared.fault.TextFault.{TextFault}
 use Rattle.he_text.specs.declared.inputs.InputFault.{InputFault}
@@ -8,7 +8,8 @@ use Rattle.he_text.specs.declared.inputs.InputFault.TheVariants as inputs
 use Rattle.he_text.specs.Inputs.{AreRaceTexts, AreTexts}
 use Rattle.he_text.specs.Ranges.{most_races}
 use Rattle.he_replay.specs.Known.{Stands}
-use Rattle.he_replay.specs.Output.{IsOutput, IsTranscriptText, IsOrderText}
+use Rattle.he_replay.specs.Output.{IsOutput, IsOrderText, IsTextOf}
+use Rattle.he_replay.specs.declared.race_texts.Content.TheVariants as contents
 use Rattle.he_replay.specs.declared.fault.ReplayFault.{ReplayFault}
 use Rattle.he_replay.specs.declared.fault.ReplayFault.TheVariants.{Text, Read, Write, Memory}
 
@@ -61,14 +62,14 @@ Streams IsText Gave Taken Whole Part Put (Err Read) = PutsOutput IsText Gave Who
 Streams IsText Gave Taken Whole Part Put (Err Write) = PutsSome IsText Gave Taken Part
 Streams IsText Gave Taken Whole Part Put (Err Memory) = PutsSome IsText Gave Taken Put
 
--- the transcripts of the input's races
-abbrev pub Replays : (List ℕ → Bool → Type 0) → (List ℕ → Type 0) → (List ℕ → Type 0) → (List ℕ → Type 0) → (List ℕ → Type 0) → Result (Unit {0}) ReplayFault → Type 0
-Replays = Streams IsTranscriptText
+-- the transcripts of the input's races, each with the changes of its settings
+abbrev pub Replays : ChangeValues → (List ℕ → Bool → Type 0) → (List ℕ → Type 0) → (List ℕ → Type 0) → (List ℕ → Type 0) → (List ℕ → Type 0) → Result (Unit {0}) ReplayFault → Type 0
+Replays changes = Streams (IsTextOf contents.Transcript changes)
 
 -- the orders of the addresses of the input's races
 abbrev pub Orders : (List ℕ → Bool → Type 0) → (List ℕ → Type 0) → (List ℕ → Type 0) → (List ℕ → Type 0) → (List ℕ → Type 0) → Result (Unit {0}) ReplayFault → Type 0
 Orders = Streams IsOrderText
 
--- the explanations of the input's races
-abbrev pub Explanations : (List ℕ → Bool → Type 0) → (List ℕ → Type 0) → (List ℕ → Type 0) → (List ℕ → Type 0) → (List ℕ → Type 0) → Result (Unit {0}) ReplayFault → Type 0
-Explanations = Streams IsExplanation
+-- the explanations of the input's races, each with the changes of its settings
+abbrev pub Explanations : ChangeValues → (List ℕ → Bool → Type 0) → (List ℕ → Type 0) → (List ℕ → Type 0) → (List ℕ → Type 0) → (List ℕ → Type 0) → Result (Unit {0}) ReplayFault → Type 0
+Explanations changes = Streams (IsTextOf contents.Explanation changes)

@@ -7,6 +7,7 @@ use crate::explaining::explanations;
 use crate::fault::ReplayFault;
 use crate::ordering::orders;
 use crate::replaying::replay;
+use he_plan::Changes;
 use he_stream::{InputStream, OutputStream};
 use std::alloc::Allocator;
 use std::thread::Threads;
@@ -28,17 +29,24 @@ pub fn run_action<
     A: Allocator + Copy + Send + Sync,
     I: InputStream,
     O: OutputStream,
->(rt: &R, alloc: A, action: Action, input: &mut I, output: &mut O) -> Result<(), ReplayFault>
+>(
+    rt: &R,
+    alloc: A,
+    action: Action,
+    changes: Changes,
+    input: &mut I,
+    output: &mut O,
+) -> Result<(), ReplayFault>
     requires { HasWorkers action }
-    ensures { RunsAction action (Gives I.remaining I.takes input.old input.new)
+    ensures { RunsAction action changes (Gives I.remaining I.takes input.old input.new)
         (GivesSoFar I.remaining I.takes input.old input.new)
         (PutsAndEnds O.contents O.puts O.flushes output.old output.new)
         (PutsRoundsPart O.contents O.puts O.flushes output.old output.new)
         (PutsInRounds O.contents O.puts O.flushes output.old output.new) result }
 {
     match action {
-        Action::Replay { workers } => replay(rt, alloc, input, output, workers),
+        Action::Replay { workers } => replay(rt, alloc, changes, input, output, workers),
         Action::Order => orders(alloc, input, output),
-        Action::Explain => explanations(alloc, input, output),
+        Action::Explain => explanations(alloc, changes, input, output),
     }
 }

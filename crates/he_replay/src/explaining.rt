@@ -4,8 +4,9 @@ ghost use Rattle.he_stream.specs.Output.{PutsAndEnds, PutsInRounds, PutsRoundsPa
 ghost use Rattle.he_replay.specs.Stream.{Explanations};
 
 use crate::fault::ReplayFault;
-use crate::race_texts::Content;
+use crate::race_texts::{Asked, Content};
 use crate::streaming::stream_races;
+use he_plan::Changes;
 use he_stream::{InputStream, OutputStream};
 use std::alloc::Allocator;
 
@@ -31,14 +32,19 @@ use std::alloc::Allocator;
 /// - `Memory` where an allocation was refused.
 pub fn explanations<A: Allocator + Copy, I: InputStream, O: OutputStream>(
     alloc: A,
+    changes: Changes,
     input: &mut I,
     output: &mut O,
 ) -> Result<(), ReplayFault>
-    ensures { Explanations (Gives I.remaining I.takes input.old input.new)
+    ensures { Explanations changes (Gives I.remaining I.takes input.old input.new)
         (GivesSoFar I.remaining I.takes input.old input.new)
         (PutsAndEnds O.contents O.puts O.flushes output.old output.new)
         (PutsRoundsPart O.contents O.puts O.flushes output.old output.new)
         (PutsInRounds O.contents O.puts O.flushes output.old output.new) result }
 {
-    stream_races(alloc, Content::Explanation, input, output)
+    let asked = Asked {
+        content: Content::Explanation,
+        changes,
+    };
+    stream_races(alloc, &asked, input, output)
 }

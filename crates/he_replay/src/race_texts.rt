@@ -2,12 +2,12 @@
 ghost use Rattle.std.specs.Prelude.{◌≡◌, ◌++◌, OnOk};
 ghost use Rattle.he_explain.specs.Course.{IsExplanation};
 ghost use Rattle.he_text.specs.Written.{transcript_text};
-ghost use Rattle.he_replay.specs.Output.{IsOrderText, IsTextOf, IsTranscriptText};
-ghost use Rattle.he_replay.specs.Rounds.{WritesRace};
+ghost use Rattle.he_replay.specs.Output.{IsOrderText, IsTranscriptText};
+ghost use Rattle.he_replay.specs.Rounds.{IsAsked, WritesRace};
 
 use crate::limits::ORDER_ROOM;
 use he_explain::write_explanation;
-use he_plan::{Timeline, Transcript, transcript_of};
+use he_plan::{Changes, Timeline, Transcript, transcript_of};
 use he_text::{write_order, write_transcript};
 use std::alloc::{AllocError, Allocator};
 
@@ -22,20 +22,29 @@ pub enum Content {
     Explanation,
 }
 
-impl Content {
-    // Appends the text that the race has of it. What is needed for that alone is taken from `alloc`.
+// What is asked for of each race of an input.
+#[derive(Clone, Copy)]
+pub(crate) struct Asked {
+    pub(crate) content: Content,
+    // The settings with which it is taken in place of its own.
+    pub(crate) changes: Changes,
+}
+
+impl Asked {
+    // Appends the text that is asked for of the race. What is needed for that alone is taken from `alloc`.
     pub(crate) fn write<A: Allocator + Copy, T: Allocator + Copy>(
-        self,
+        &self,
         alloc: A,
-        timeline: &Timeline<A>,
+        race: Timeline<A>,
         text: &mut Vec<u8, T>,
     ) -> Result<(), AllocError>
-        ensures { OnOk result (WritesRace (IsTextOf self) timeline.now text.old.items text.new.items) }
+        ensures { OnOk result (WritesRace (IsAsked self.now) race text.old.items text.new.items) }
     {
-        match self {
-            Content::Transcript => append_transcript(alloc, timeline, text),
-            Content::Order => append_order(alloc, timeline, text),
-            Content::Explanation => append_explanation(alloc, timeline, text),
+        let timeline = race.with_changes(self.changes);
+        match self.content {
+            Content::Transcript => append_transcript(alloc, &timeline, text),
+            Content::Order => append_order(alloc, &timeline, text),
+            Content::Explanation => append_explanation(alloc, &timeline, text),
         }
     }
 }
