@@ -1,12 +1,14 @@
 -- What is written for an input.
-use Rattle.std.specs.Prelude.{ℕ, ◌≡◌, Bool, List, Option}
+use Rattle.std.specs.Prelude.{ℕ, ◌≡◌, ◌+◌, ◌++◌, Bool, List, [], ◌∷◌, Option}
 use Rattle.he_explain.specs.Course.{IsExplanation}
 use Rattle.he_plan.specs.Changes.{ChangeValues, changed}
 use Rattle.he_plan.specs.Race.{Race}
 use Rattle.he_plan.specs.Transcript.{IsTranscript, Report}
+use Rattle.he_story.specs.Story.{IsStory}
 use Rattle.he_text.specs.declared.inputs.InputFault.{InputFault}
-use Rattle.he_text.specs.Inputs.{AreTexts, HasRaces}
+use Rattle.he_text.specs.Inputs.{HasRaces, line_count}
 use Rattle.he_text.specs.Orders.{order_text}
+use Rattle.he_text.specs.Text.{IsRaceText}
 use Rattle.he_text.specs.Written.{transcript_text}
 use Rattle.he_replay.specs.declared.race_texts.Content.{Content}
 use Rattle.he_replay.specs.declared.race_texts.Content.TheVariants as contents
@@ -19,15 +21,29 @@ IsTranscriptText text race = (report : Report) × IsTranscript race report × (t
 abbrev pub IsOrderText : List ℕ → Race → Type 0
 IsOrderText text race = text ≡ order_text race
 
+-- which texts a race may have, by its number in the input and the line where it begins, both counted from 1
+abbrev pub TextRelation : Type 1
+TextRelation = ℕ → ℕ → List ℕ → Race → Type 0
+
 -- the text of what is asked for of the race, which has these changes of its settings. They don't move an order.
-abbrev pub IsTextOf : Content → ChangeValues → List ℕ → Race → Type 0
-IsTextOf contents.Transcript changes text race = IsTranscriptText text (changed changes race)
-IsTextOf contents.Order changes text race = IsOrderText text race
-IsTextOf contents.Explanation changes text race = IsExplanation text (changed changes race)
+abbrev pub IsTextOf : Content → ChangeValues → ℕ → ℕ → List ℕ → Race → Type 0
+IsTextOf contents.Transcript changes number line text race = IsTranscriptText text (changed changes race)
+IsTextOf contents.Order changes number line text race = IsOrderText text race
+IsTextOf contents.Explanation changes number line text race = IsExplanation text (changed changes race)
+IsTextOf contents.Story changes number line text race = IsStory number line text (changed changes race)
+
+-- the bytes are timeline texts of the races, one behind the other, and the text has a text of each; of the first, which
+-- has this number and begins at this line, and so on
+abbrev pub AreTold : TextRelation → ℕ → ℕ → List Race → List ℕ → List ℕ → Type 0
+AreTold IsText number line [] bytes text = (bytes ≡ []) × (text ≡ [])
+AreTold IsText number line (race ∷ races) bytes text =
+    (own : List ℕ) × (behind : List ℕ) × (bytes ≡ own ++ behind) × IsRaceText own race
+    × (told : List ℕ) × (more : List ℕ) × (text ≡ told ++ more) × IsText number line told race
+    × AreTold IsText (number + 1) (line + line_count own) races behind more
 
 -- the text that is written for an input, and what is wrong with the input: a text of each of its races up to the
 -- first fault
-pub record IsOutput (IsText : List ℕ → Race → Type 0) (input : List ℕ) (is_broken : Bool) (text : List ℕ) (fault : Option InputFault) : Type 0 where
+pub record IsOutput (IsText : TextRelation) (input : List ℕ) (is_broken : Bool) (text : List ℕ) (fault : Option InputFault) : Type 0 where
   pub races : List Race
   pub has : HasRaces input is_broken races fault
-  pub told : AreTexts IsText races text
+  pub told : AreTold IsText 1 1 races has.before text

@@ -7,6 +7,7 @@ use crate::explaining::explanations;
 use crate::fault::ReplayFault;
 use crate::ordering::orders;
 use crate::replaying::replay;
+use crate::telling::stories;
 use he_plan::Changes;
 use he_stream::{InputStream, OutputStream};
 use std::alloc::Allocator;
@@ -21,9 +22,12 @@ pub enum Action {
     Order,
     /// Write why their races went as they did.
     Explain,
+    /// Write the stories of their races.
+    Tell,
 }
 
-/// Does what the action asks for: [`replay`], [`orders`] or [`explanations`], with the faults of that call.
+/// Does what the action asks for: [`replay`], [`orders`], [`explanations`] or [`stories`], with the faults of that call.
+/// Each race has these changes of its settings.
 pub fn run_action<
     R: Threads + Sync,
     A: Allocator + Copy + Send + Sync,
@@ -48,5 +52,6 @@ pub fn run_action<
         Action::Replay { workers } => replay(rt, alloc, changes, input, output, workers),
         Action::Order => orders(alloc, input, output),
         Action::Explain => explanations(alloc, changes, input, output),
+        Action::Tell => stories(alloc, changes, input, output),
     }
 }

@@ -10,9 +10,9 @@ use he_plan::Changes;
 use he_stream::{InputStream, OutputStream};
 use std::alloc::Allocator;
 
-/// Reads timelines to the end of the input and writes for each why it went as it did: the order of its addresses,
-/// each from the second on with the rule that puts it behind the one before (RFC 6724 section 6), then what happened
-/// at which tick, each attempt with what started it (RFC 8305 sections 3 to 5).
+/// Reads timelines to the end of the input and writes for each, with these changes of its settings, why it went as it
+/// did: the order of its addresses, each from the second on with the rule that puts it behind the one before (RFC 6724
+/// section 6), then what happened at which tick, each attempt with what started it (RFC 8305 sections 3 to 5).
 ///
 /// The explanations are written as the races come: when a step of the input has given the last line of a race, what
 /// is asked for of all races that are whole by then is written and flushed before the next step. No more is held than

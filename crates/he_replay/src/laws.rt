@@ -12,7 +12,7 @@ ghost use Rattle.he_replay.specs.Output.{IsOutput, IsTextOf};
 
 use he_plan::laws::one_transcript;
 use he_text::inputs::one_input;
-use he_text::laws::faults_stand;
+use he_text::laws::{faults_stand, one_race_first};
 
 /// An input, and whether it broke off, have one output and one fault.
 pub fn one_output()
@@ -20,6 +20,7 @@ pub fn one_output()
 {
     one_input();
     one_transcript();
+    one_race_first();
 }
 
 /// A fault of the text is known in one of three ways: the input ended; or each longer input has this output and this

@@ -6,7 +6,7 @@ ghost use denote.Param.Send.{Frees, IsSend, IsSync};
 ghost use Rattle.he_board.specs.Passes.{IsPassOf, jobs_of};
 ghost use Rattle.he_pool.specs.declared.limits.TheConstants.{LEAST_WORKERS, MOST_WORKERS};
 ghost use Rattle.he_text.specs.Walks.{IsWithin};
-ghost use Rattle.he_replay.specs.Pieces.{ArePieces, IsPiece, MayTake};
+ghost use Rattle.he_replay.specs.Pieces.{ArePieces, IsAnywhere, IsPiece, MayTake};
 ghost use Rattle.he_replay.specs.Rounds.{HasTold, IsAsked, TellsOn};
 
 use crate::limits::{LEAST_WORKERS, MOST_PIECES, MOST_RACES, MOST_WORKERS, PIECE_BYTES};
@@ -228,6 +228,7 @@ pub(crate) fn join_pieces<A: Allocator>(
     pieces: &[Piece<A>],
     text: &mut Vec<u8, A>,
 ) -> Result<Walk, AllocError>
+    requires anywhere { IsAnywhere (IsAsked asked.now) }
     requires within { IsWithin bytes.now walk }
     requires told { ArePieces (IsAsked asked.now) bytes.now pieces.now }
     ensures { IfOk result (TellsOn (IsAsked asked.now) bytes.now walk text.old.items text.new.items) }
@@ -251,6 +252,7 @@ fn join_some<A: Allocator>(
     pieces: &[Piece<A>],
     text: &mut Vec<u8, A>,
 ) -> Result<Walk, AllocError>
+    requires anywhere { IsAnywhere (IsAsked asked.now) }
     requires within { IsWithin bytes.now before }
     requires told { ArePieces (IsAsked asked.now) bytes.now pieces.now }
     ensures within { IfOk result (IsWithin bytes.now) }

@@ -1,6 +1,7 @@
 //! What is written of a race, and its text.
 ghost use Rattle.std.specs.Prelude.{◌≡◌, ◌++◌, OnOk};
 ghost use Rattle.he_explain.specs.Course.{IsExplanation};
+ghost use Rattle.he_story.specs.Story.{IsStory};
 ghost use Rattle.he_text.specs.Written.{transcript_text};
 ghost use Rattle.he_replay.specs.Output.{IsOrderText, IsTranscriptText};
 ghost use Rattle.he_replay.specs.Rounds.{IsAsked, WritesRace};
@@ -8,6 +9,7 @@ ghost use Rattle.he_replay.specs.Rounds.{IsAsked, WritesRace};
 use crate::limits::ORDER_ROOM;
 use he_explain::write_explanation;
 use he_plan::{Changes, Timeline, Transcript, transcript_of};
+use he_story::write_story;
 use he_text::{write_order, write_transcript};
 use std::alloc::{AllocError, Allocator};
 
@@ -20,6 +22,8 @@ pub enum Content {
     Order,
     /// Why it went as it did.
     Explanation,
+    /// Its story, for a person to read, behind its number in the input and the line where it begins.
+    Story,
 }
 
 // What is asked for of each race of an input.
@@ -31,20 +35,24 @@ pub(crate) struct Asked {
 }
 
 impl Asked {
-    // Appends the text that is asked for of the race. What is needed for that alone is taken from `alloc`.
+    // Appends the text that is asked for of the race, which has this number in the input and begins at this line. What
+    // is needed for that alone is taken from `alloc`.
     pub(crate) fn write<A: Allocator + Copy, T: Allocator + Copy>(
         &self,
         alloc: A,
         race: Timeline<A>,
+        number: usize,
+        line: u64,
         text: &mut Vec<u8, T>,
     ) -> Result<(), AllocError>
-        ensures { OnOk result (WritesRace (IsAsked self.now) race text.old.items text.new.items) }
+        ensures { OnOk result (WritesRace (IsAsked self.now number line) race text.old.items text.new.items) }
     {
         let timeline = race.with_changes(self.changes);
         match self.content {
             Content::Transcript => append_transcript(alloc, &timeline, text),
             Content::Order => append_order(alloc, &timeline, text),
             Content::Explanation => append_explanation(alloc, &timeline, text),
+            Content::Story => append_story(alloc, &timeline, number, line, text),
         }
     }
 }
@@ -91,4 +99,18 @@ fn append_explanation<A: Allocator + Copy, T: Allocator + Copy>(
     let mut explanation = Vec::new(alloc);
     write_explanation(alloc, timeline, &mut explanation).map_err(|_| AllocError)?;
     text.extend_from_slice(&explanation)
+}
+
+fn append_story<A: Allocator + Copy, T: Allocator + Copy>(
+    alloc: A,
+    timeline: &Timeline<A>,
+    number: usize,
+    line: u64,
+    text: &mut Vec<u8, T>,
+) -> Result<(), AllocError>
+    ensures { OnOk result (WritesRace (IsStory number line) timeline.now text.old.items text.new.items) }
+{
+    let mut story = Vec::new(alloc);
+    write_story(alloc, timeline, number, line, &mut story).map_err(|_| AllocError)?;
+    text.extend_from_slice(&story)
 }

@@ -152,8 +152,10 @@ pub(crate) fn tell_races<A: Allocator + Copy>(
     let mut arena = Bump::try_with_capacity(alloc, ARENA_BYTES)?;
     let mut walk = part.begun;
     while part.goes_on(walk) {
+        let number = walk.races + 1;
+        let line = walk.lines + 1;
         match walk.next(&arena, bytes, part.ending) {
-            Ok(Some(race)) => asked.write(&arena, race, text)?,
+            Ok(Some(race)) => asked.write(&arena, race, number, line, text)?,
             Ok(None) => break,
             Err(WalkFault::Input(fault)) => {
                 return Ok(Told {

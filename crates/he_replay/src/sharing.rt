@@ -4,6 +4,7 @@ ghost use Rattle.he_stream.specs.Input.{Gives, GivesSoFar};
 ghost use Rattle.he_stream.specs.Output.{PutsAndEnds, PutsInRounds, PutsRoundsPart};
 ghost use Rattle.he_pool.specs.declared.limits.TheConstants.{LEAST_WORKERS, MOST_WORKERS};
 ghost use Rattle.he_text.specs.Ranges.{most_races};
+ghost use Rattle.he_replay.specs.Pieces.{IsAnywhere};
 ghost use Rattle.he_replay.specs.Rounds.{HasTold, IsAsked};
 ghost use Rattle.he_replay.specs.Stream.{Streams};
 
@@ -36,6 +37,7 @@ pub(crate) fn stream_shared<
     input: &mut I,
     output: &mut O,
 ) -> Result<(), ReplayFault>
+    requires anywhere { IsAnywhere (IsAsked asked.now) }
     requires some { LEAST_WORKERS ≤ workers }
     requires few { workers ≤ MOST_WORKERS }
     ensures { Streams (IsAsked asked.now) (Gives I.remaining I.takes input.old input.new)
@@ -71,6 +73,7 @@ fn begin_shared<R: Threads + Sync, A: Allocator + Copy + Send + Sync>(
     asked: &Asked,
     text: &mut Vec<u8, A>,
 ) -> Result<Walk, AllocError>
+    requires anywhere { IsAnywhere (IsAsked asked.now) }
     requires some { LEAST_WORKERS ≤ workers }
     requires few { workers ≤ MOST_WORKERS }
     requires within { held.now.filled + count ≤ vec_len held.now.bytes }

@@ -25,7 +25,7 @@ loop-piece-preserved g c =
           let few = before.0.few in
           let place = before.0.place in
           let left = before.0.room in
-          let beyond = here.told.passed.within in
+          let beyond = here.told.within in
           let lines = told_lines (IsAsked c.args.asked.now) (drop piece.from bytes) piece.text.items 0 0 piece.walk here.told in
           let Told : ℕ → Type 0 = λ (from : ℕ). HasTold (IsAsked c.args.asked.now) (drop from bytes) 0 0 piece.text.items piece.walk in
           let joined : w.extend_from_slice.new.self.items ≡ c.loop-piece.text.items ++ piece.text.items = w.in_ok-extend_from_slice.ensures.items ∙ ap (λ (xs : List ℕ). c.loop-piece.text.items ++ xs) w.deref.ensures.value in
@@ -37,7 +37,7 @@ loop-piece-preserved g c =
               room = omega (arith, left, lines, beyond, next, place, length-drop {A = ℕ});
             },
             λ races lines told. subst (λ (text : List ℕ). HasTold (IsAsked c.args.asked.now) bytes races lines text _) (sym joined)
-                (more_told (IsAsked c.args.asked.now) bytes c.loop-piece.text.items piece.text.items races lines c.loop-piece.begun piece.walk _ (before.1 races lines told) (subst Told next here.told) refl most),
+                (more_told (IsAsked c.args.asked.now) c.requires.anywhere bytes c.loop-piece.text.items piece.text.items races lines c.loop-piece.begun piece.walk _ (before.1 races lines told) (subst Told next here.told) refl most),
           ))
       | else-piece-begun w ↦ rw w.text-is (rw w.begun-is before)
     ]

@@ -29,14 +29,14 @@ pub forget-requires-clause-place : goal.forget-requires-clause-place
 forget-requires-clause-place g c =
     let size = c.args.held.now.filled in
     let has = told_by (IsAsked c.args.asked.now) c.args.part.ending (take size c.args.held.now.bytes.items) (take size c.deref.result.now) _ _ _ _ c.args.part.begun c.in_ok-walk.walk c.in_ok-told.told (ap (λ (b : List ℕ). take size b) c.deref.ensures.value) c.requires.begun c.in_ok-told.ensures c.in_ok-walk.ensures.0 in
-    let within = has.passed.within in
+    let within = has.within in
     omega (arith, within, length-take {A = ℕ})
 
 pub overflow_sub-held : goal.overflow_sub-held
 overflow_sub-held g c =
     let size = c.args.held.now.filled in
     let has = told_by (IsAsked c.args.asked.now) c.args.part.ending (take size c.args.held.now.bytes.items) (take size c.deref.result.now) _ _ _ _ c.args.part.begun c.in_ok-walk.walk c.in_ok-told.told (ap (λ (b : List ℕ). take size b) c.deref.ensures.value) c.requires.begun c.in_ok-told.ensures c.in_ok-walk.ensures.0 in
-    let within = has.passed.within in
+    let within = has.within in
     omega (arith, within, length-take {A = ℕ})
 
 pub returns-clause-size : goal.returns-clause-size
@@ -44,7 +44,7 @@ returns-clause-size g c =
     let size = c.args.held.now.filled in
     let bytes = take size c.args.held.now.bytes.items in
     let has = told_by (IsAsked c.args.asked.now) c.args.part.ending bytes (take size c.deref.result.now) _ _ _ _ c.args.part.begun c.in_ok-walk.walk c.in_ok-told.told (ap (λ (b : List ℕ). take size b) c.deref.ensures.value) c.requires.begun c.in_ok-told.ensures c.in_ok-walk.ensures.0 in
-    let within = has.passed.within in
+    let within = has.within in
     let lines = told_lines (IsAsked c.args.asked.now) bytes _ _ _ c.in_ok-walk.walk has in
     omega (arith, within, lines, length-take {A = ℕ})
 
