@@ -1,5 +1,5 @@
 -- A round more: where a call stands after it, and what it comes to when it ends there.
-use Rattle.std.proofs.Common.{ℕ, ◌≡◌, ◌≤◌, ◌++◌, ◌∙◌, List, [], ◌∷◌, length, take, drop, Bool, true, false, Option, Some, None, Result, Ok, Err, ◌⊎◌, ap, sym, subst, refl, arith, inl, inr, append_assoc, length-append, take-append-drop}
+use Rattle.std.proofs.Common.{ℕ, ◌≡◌, ◌+◌, ◌≤◌, ◌++◌, ◌∙◌, List, [], ◌∷◌, length, take, drop, Bool, true, false, Option, Some, None, Result, Ok, Err, ◌⊎◌, ap, sym, subst, refl, arith, inl, inr, append_assoc, length-append, take-append-drop}
 use Rattle.std.proofs.lemmas.List.{append-nil}
 use Rattle.he_stream.specs.declared.answer.Flushed.{Flushed}
 use Rattle.he_stream.specs.declared.answer.Put.{Put}

@@ -55,7 +55,7 @@ one_more_told IsText bytes from text new begun walk next race on passes few writ
     let Bytes : List ℕ → Type 0 = λ b. AreTold IsText (races + 1) (lines + 1) (told.races ++ race ∷ []) b new in
     let Text : List ℕ → Type 0 = λ t. AreTold IsText (races + 1) (lines + 1) (told.races ++ race ∷ []) (front ++ own) t in
     let last : AreTold IsText (walk.races + 1) (walk.lines + 1) (race ∷ []) own written.told =
-    (own, [], sym (append-nil own), passes.read, written.told, [], sym (append-nil written.told), written.is_told, refl, refl) in
+    (own, [], sym (append-nil own), passes.read, written.told, [], sym (append-nil written.told), written.is_told, (refl, refl)) in
     let placed = told_at IsText (race ∷ []) own written.told _ _ (races + 1 + length told.races) (lines + 1 + line_count front) (omega arith) (omega arith) last in
     record {
       races = told.races ++ race ∷ [];
