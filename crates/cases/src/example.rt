@@ -2,9 +2,10 @@
 
 use crate::resolving::Heard;
 use crate::turns::run_turns;
-use he_check::check;
+use he_check::{check, check_all};
 use he_replay::limits::{LEAST_WORKERS, MOST_WORKERS};
-use he_replay::{ReplayFault, explanations, orders, replay};
+use he_plan::Changes;
+use he_replay::{ReplayFault, explanations, orders, replay, stories};
 use he_stream::{FromReader, ToWriter};
 use std::alloc::{AllocError, Global};
 use std::fmt::Display;
@@ -106,6 +107,7 @@ enum Asked {
     Transcript(u16),
     Order,
     Explanation,
+    Story,
 }
 
 impl Asked {
@@ -119,10 +121,11 @@ impl Asked {
         match self {
             Asked::Transcript(workers) => {
                 let workers = workers.max(LEAST_WORKERS).min(MOST_WORKERS);
-                replay(threads, alloc, input, output, workers)
+                replay(threads, alloc, Changes::none(), input, output, workers)
             }
             Asked::Order => orders(alloc, input, output),
-            Asked::Explanation => explanations(alloc, input, output),
+            Asked::Explanation => explanations(alloc, Changes::none(), input, output),
+            Asked::Story => stories(alloc, Changes::none(), input, output),
         }
     }
 
@@ -134,12 +137,23 @@ impl Asked {
         }
     }
 
+    // The ending of the file that has what is written.
+    fn ending(self) -> &'static str {
+        match self {
+            Asked::Transcript(_) => "transcript",
+            Asked::Order => "order",
+            Asked::Explanation => "explanation",
+            Asked::Story => "story",
+        }
+    }
+
     // What is said of a run that writes something else.
     fn difference(self) -> &'static str {
         match self {
             Asked::Transcript(_) => "the transcript differs",
             Asked::Order => "the order differs",
             Asked::Explanation => "the explanation differs",
+            Asked::Story => "the story differs",
         }
     }
 }
@@ -164,10 +178,11 @@ pub fn run_example<R: Threads + Sync>(
         fault: &fault,
     };
     run_check(rt, example, counts)?;
+    run_check_all(rt, example, counts)?;
     run_all(rt, threads, example, counts, heard)
 }
 
-// Runs the text through `replay`, `orders` and `explanations`, where what they write stands beside it.
+// Runs the text through `replay`, `orders`, `explanations` and `stories`, where what they write stands beside it.
 fn run_all<R: Threads + Sync>(
     rt: &HostRuntime,
     threads: &R,
@@ -185,15 +200,13 @@ fn run_all<R: Threads + Sync>(
         let is_same = run_turns(rt, text, heard)?.as_slice() == transcript.as_slice();
         counts.count(rt, name, "the transcript by turns differs", is_same)?;
     }
-    if let Some(order) = read_beside(rt, name, "order")? {
-        run_asked(rt, threads, example, Asked::Order, &order, counts)?;
-    }
-    if let Some(explanation) = read_beside(rt, name, "explanation")? {
-        let asked = Asked::Explanation;
-        run_asked(rt, threads, example, asked, &explanation, counts)?;
+    for asked in [Asked::Order, Asked::Explanation, Asked::Story] {
+        if let Some(wanted) = read_beside(rt, name, asked.ending())? {
+            run_asked(rt, threads, example, asked, &wanted, counts)?;
+        }
     }
     if counts.ran == ran {
-        let what = "no transcript, order or explanation stands beside it";
+        let what = "no transcript, order, explanation or story stands beside it";
         counts.count(rt, name, what, false)?;
     }
     Ok(())
@@ -239,6 +252,27 @@ fn run_check(rt: &HostRuntime, example: Example<'_>, counts: &mut Counts) -> io:
         let is_explained = explains(&explanation, fault, told.as_ref());
         drop(explanation);
         counts.count(rt, name, "the explanation differs", is_explained)?;
+    }
+    Ok(())
+}
+
+// Runs the text through `check_all`, where what it says stands beside the example: each fault, with its line.
+fn run_check_all(rt: &HostRuntime, example: Example<'_>, counts: &mut Counts) -> io::Result<()> {
+    let Example { name, text, fault } = example;
+    let Some(told) = read_beside(rt, name, "check-all")? else {
+        return Ok(());
+    };
+    for number in 0..way_count(text) {
+        let mut input = input_of(text, way(text, number));
+        let mut output = ToWriter::new(FakeWriter::new(rt.alloc()));
+        let mut explanation = Vec::new(rt.alloc());
+        let ended = check_all(rt.alloc(), &mut input, &mut output, &mut explanation);
+        let is_told = explanation.as_slice() == told.as_slice();
+        drop(input);
+        drop(output);
+        drop(explanation);
+        let is_same = tells(rt, ended, fault)? && is_told;
+        counts.count(rt, name, "what is told of all faults differs", is_same)?;
     }
     Ok(())
 }

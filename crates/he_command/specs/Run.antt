@@ -1,8 +1,7 @@
 -- What a run of the program has done, by its exit status.
-use Rattle.std.specs.Prelude.{◌≡◌, ◌≢◌, ◌≤◌, ◌⊎◌, ℕ, Bool, List, [], Option, Some, None, IsSome, MatchOption, Result, Ok, Err}
+use Rattle.std.specs.Prelude.{◌≡◌, ◌≢◌, ◌≤◌, ◌⊎◌, ℕ, Bool, List, [], Option, Some, None, IsSome, MatchOption, option_map, Result, Ok, Err}
 use Rattle.std.specs.Borrow.{Bor}
-use Rattle.std.specs.Option.{option_and_then, unwrap_or}
-use Rattle.std.specs.Result.{result_ok}
+use Rattle.std.specs.Option.{option_and_then}
 use Rattle.clap.specs.Values.{kind_of}
 use Rattle.clap.specs.declared.error.Error.{Error}
 use Rattle.clap.specs.declared.error.kind.ErrorKind.{ErrorKind}
@@ -10,16 +9,14 @@ use Rattle.clap.specs.declared.error.kind.ErrorKind.TheVariants as kinds
 use Rattle.he_connect.specs.Connects.{Connects, Ran}
 use Rattle.he_connect.specs.declared.connecting.Ended.{Ended}
 use Rattle.he_connect.specs.declared.fault.ConnectFault.{ConnectFault}
-use Rattle.he_live.specs.Changed.{changed_settings}
 use Rattle.he_live.specs.Live.{Lives}
-use Rattle.he_live.specs.declared.changes.Changes.{Changes}
 use Rattle.he_live.specs.declared.fault.LiveFault.{LiveFault}
 use Rattle.he_live.specs.declared.recording.Told.{Told}
 use Rattle.he_resolver.specs.Told.{TellsNames}
 use Rattle.he_resolver.specs.declared.choice.Choice.{Choice}
 use Rattle.he_resolver.specs.declared.fault.TellFault.{TellFault}
-use Rattle.he_plan.specs.Settings.{IsSettings, SettingValues, settings_of, with_floor}
-use Rattle.he_plan.specs.declared.settings.Range.{Range}
+use Rattle.he_plan.specs.Changes.{ChangeValues, changed_settings}
+use Rattle.he_plan.specs.Settings.{SettingValues}
 use Rattle.he_plan.specs.declared.limits.TheConstants.{DEFAULT_ATTEMPT, DEFAULT_COUNT, DEFAULT_LIMIT, DEFAULT_RESOLUTION, MIN_FLOOR}
 use Rattle.he_plan.specs.declared.transcript.Outcome3.{Outcome3}
 use Rattle.he_command.specs.declared.asking.Options.{Options}
@@ -66,14 +63,6 @@ RunsNames None Whole Part Kept status = (status ≡ USAGE) × Kept
 RunsNames (Some choice) Whole Part Kept status =
     (result : Result (Unit {0}) TellFault) × TellsNames Whole Part Kept result × (status ≡ status_of result)
 
--- there are settings of a race that can be changed so
-abbrev pub FitSome : Changes → Type 0
-FitSome changes = (own : SettingValues) × (new : SettingValues) × IsSettings own × (changed_settings changes own ≡ Ok new)
-
--- whatever the settings of a race are, this is then out of its range
-abbrev pub FitNone : Changes → Type 0
-FitNone changes = (range : Range) × ((own : SettingValues) → IsSettings own → changed_settings changes own ≡ Err range)
-
 -- the status tells how a live race ended, or that its record could not be written to the file that was named
 abbrev pub TellsRace : LiveOptions → Told → Result Outcome3 LiveFault → ℕ → Type 0
 TellsRace options told result status =
@@ -81,28 +70,27 @@ TellsRace options told result status =
     ⊎ (IsSome options.record × (told.record.items ≢ []) × (status ≡ FAULT))
 
 -- a live race was run with these changes
-abbrev pub RunsRace : LiveOptions → Changes → (List ℕ → Bool → Type 0) → (List ℕ → Type 0) → (List ℕ → Type 0) → Type 0 → ℕ → Type 0
+abbrev pub RunsRace : LiveOptions → ChangeValues → (List ℕ → Bool → Type 0) → (List ℕ → Type 0) → (List ℕ → Type 0) → Type 0 → ℕ → Type 0
 RunsRace options changes Given Whole Part Kept status =
     (result : Result Outcome3 LiveFault) × (told : Told) × Lives Given Whole Part Kept changes told result × TellsRace options told result status
 
--- what comes of a live race that is asked for: a setting is none, or the settings fit no race, and the line is refused; or
--- it was run
+-- what comes of a live race that is asked for: a setting is none, or out of its range, and the line is refused; or it was run
 abbrev pub RunsLive : LiveOptions → (List ℕ → Bool → Type 0) → (List ℕ → Type 0) → (List ℕ → Type 0) → Type 0 → ℕ → Type 0
 RunsLive options Given Whole Part Kept status =
     MatchOption options.changes
     ((status ≡ USAGE) × Kept)
-    (λ changes. (FitNone changes × (status ≡ USAGE) × Kept) ⊎ (FitSome changes × RunsRace options changes Given Whole Part Kept status))
+    (λ changes. RunsRace options changes Given Whole Part Kept status)
 
 -- the settings of a connection that is asked for: where a number is not given that of RFC 8305 section 8, and the least
--- floor. None where a number is out of its range
-abbrev pub connect_settings : Changes → Option SettingValues
+-- floor
+abbrev pub connect_settings : ChangeValues → SettingValues
 connect_settings given =
-    option_and_then (λ settings. result_ok (with_floor settings (unwrap_or given.floor MIN_FLOOR)))
-    (result_ok (settings_of (unwrap_or given.resolution DEFAULT_RESOLUTION) (unwrap_or given.attempt DEFAULT_ATTEMPT) (unwrap_or given.count DEFAULT_COUNT) (unwrap_or given.limit DEFAULT_LIMIT)))
+    changed_settings given
+    (record { resolution = DEFAULT_RESOLUTION; attempt = DEFAULT_ATTEMPT; count = DEFAULT_COUNT; limit = DEFAULT_LIMIT; floor = Some MIN_FLOOR })
 
 -- the settings of the race; None where an option has no value that it may have
 abbrev pub asked_settings : Options → Option SettingValues
-asked_settings options = option_and_then (λ resolver. option_and_then connect_settings options.changes) options.resolver
+asked_settings options = option_and_then (λ resolver. option_map connect_settings options.changes) options.resolver
 
 -- what comes of a connection that is asked for: an option has no value that it may have; or the connection was made and
 -- relayed, or not
@@ -112,18 +100,20 @@ RunsConnect options Put PutPart Kept status =
     ((status ≡ USAGE) × Kept)
     (λ settings. (result : Result Ended ConnectFault) × Connects (Ran settings options.families) Put PutPart Kept result × (status ≡ status_of_connection result))
 
--- what was asked for was done, and the status tells how that ended. Given, Taken, Ended, Failed and Put as `RunsAction` has
+-- what was asked for was done, and the status tells how that ended; or a setting is none, or out of its range. Given, Taken, Ended, Failed and Put as `RunsAction` has
 -- them: of a text that is put in rounds; Whole, Part and Kept as `Lives` has them: of one text; OfFiles: what comes of
 -- the texts of files
-abbrev pub RunsRequest : Request → (List ℕ → Bool → Type 0) → (List ℕ → Type 0) → (List ℕ → Type 0) → (List ℕ → Type 0) → (List ℕ → Type 0) → (List ℕ → Type 0) → (List ℕ → Type 0) → Type 0 → (Task → List (Bor (List ℕ)) → ℕ → Type 0) → ℕ → Type 0
+abbrev pub RunsRequest : Request → (List ℕ → Bool → Type 0) → (List ℕ → Type 0) → (List ℕ → Type 0) → (List ℕ → Type 0) → (List ℕ → Type 0) → (List ℕ → Type 0) → (List ℕ → Type 0) → Type 0 → (Task → ChangeValues → List (Bor (List ℕ)) → ℕ → Type 0) → ℕ → Type 0
 RunsRequest (Texts texts) Given Taken Ended Failed Put Whole Part Kept OfFiles status =
-    RunsTexts texts.files.items (RunsText texts.task Given Taken Ended Failed Put Whole Part Kept status) (OfFiles texts.task texts.files.items status)
+    MatchOption texts.changes
+    ((status ≡ USAGE) × Kept)
+    (λ changes. RunsTexts texts.files.items (RunsText texts.task changes Given Taken Ended Failed Put Whole Part Kept status) (OfFiles texts.task changes texts.files.items status))
 RunsRequest (Live options) Given Taken Ended Failed Put Whole Part Kept OfFiles status = RunsLive options Given Whole Part Kept status
 RunsRequest Host Given Taken Ended Failed Put Whole Part Kept OfFiles status = Shows Whole Part Kept status
 RunsRequest (Names host resolver) Given Taken Ended Failed Put Whole Part Kept OfFiles status = RunsNames resolver Whole Part Kept status
 RunsRequest (Connect options) Given Taken Ended Failed Put Whole Part Kept OfFiles status = RunsConnect options Put Failed Kept status
 
 -- what comes of a line: what it asks for was done; or it asks for nothing that is done, and the input is Unread
-abbrev pub RunsLine : Result Request Error → (List ℕ → Bool → Type 0) → (List ℕ → Type 0) → Type 0 → (List ℕ → Type 0) → (List ℕ → Type 0) → (List ℕ → Type 0) → (List ℕ → Type 0) → (List ℕ → Type 0) → Type 0 → (Task → List (Bor (List ℕ)) → ℕ → Type 0) → ℕ → Type 0
+abbrev pub RunsLine : Result Request Error → (List ℕ → Bool → Type 0) → (List ℕ → Type 0) → Type 0 → (List ℕ → Type 0) → (List ℕ → Type 0) → (List ℕ → Type 0) → (List ℕ → Type 0) → (List ℕ → Type 0) → Type 0 → (Task → ChangeValues → List (Bor (List ℕ)) → ℕ → Type 0) → ℕ → Type 0
 RunsLine (Ok request) Given Taken Unread Ended Failed Put Whole Part Kept OfFiles status = RunsRequest request Given Taken Ended Failed Put Whole Part Kept OfFiles status
 RunsLine (Err error) Given Taken Unread Ended Failed Put Whole Part Kept OfFiles status = Unread × AnswersLine (kind_of error) Whole Part Kept status

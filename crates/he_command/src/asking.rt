@@ -7,7 +7,7 @@ use crate::numbers::{changes_of, set, timeout};
 use clap::{Arg, ArgMatches, Command};
 use he_addr::Family;
 use he_connect::Families;
-use he_live::Changes;
+use he_plan::Changes;
 use he_resolver::Choice;
 use std::alloc::{AllocError, Global};
 
@@ -111,7 +111,8 @@ pub struct Options<'a> {
     /// 1 to 65,535.
     pub port: u16,
     pub families: Families,
-    /// The settings that are given; None where one isn't a number, or has a name that there isn't.
+    /// The settings that are given; None where one isn't a number, is out of its range, or
+    /// has a name that there isn't.
     pub changes: Option<Changes>,
     /// The resolver; None where the line names none that there is.
     pub resolver: Option<Choice>,

@@ -5,9 +5,11 @@ ghost use Rattle.he_command.specs.Texts.{HasTaskWorkers};
 
 use crate::arguments::{plain, resolver, resolver_of};
 use crate::asking::{Options, connect_command, options_of};
+use crate::numbers::changes_of;
 use crate::racing::{LiveOptions, live_command, live_options_of};
 use crate::texts::{
-    Task, Texts, check_command, explain_command, files_of, order_command, replay_command, replay_of,
+    Task, Texts, check_command, check_of, compare_command, explain_command, explain_of, files_of,
+    order_command, replay_command, replay_of,
 };
 use clap::{Arg, ArgMatches, Command, Error};
 use he_replay::Action;
@@ -125,6 +127,7 @@ fn commands<'a>(alloc: Global) -> Result<Vec<Command<'a>>, AllocError> {
     commands.push(replay_command(alloc)?)?;
     commands.push(order_command(alloc)?)?;
     commands.push(explain_command(alloc)?)?;
+    commands.push(compare_command(alloc)?)?;
     commands.push(check_command(alloc)?)?;
     commands.push(live_command(alloc)?)?;
     commands.push(plain(alloc, "host", HOST_ABOUT, HOST_EXAMPLE))?;
@@ -164,8 +167,9 @@ fn request_of<'a>(alloc: Global, matches: &ArgMatches<'a>) -> Result<Request<'a>
 {
     match matches.subcommand() {
         Some(("order", order)) => texts_of(alloc, Task::Action(Action::Order), order),
-        Some(("explain", explain)) => texts_of(alloc, Task::Action(Action::Explain), explain),
-        Some(("check", check)) => texts_of(alloc, Task::Check, check),
+        Some(("explain", explain)) => texts_of(alloc, Task::Action(explain_of(explain)), explain),
+        Some(("compare", compare)) => texts_of(alloc, Task::Compare, compare),
+        Some(("check", check)) => texts_of(alloc, check_of(check), check),
         Some(("live", live)) => Ok(Request::Live(live_options_of(live))),
         Some(("host", _)) => Ok(Request::Host),
         Some(("names", names)) => Ok(Request::Names {
@@ -189,6 +193,7 @@ fn texts_of<'a>(
 {
     Ok(Request::Texts(Texts {
         task,
+        changes: changes_of(matches),
         files: files_of(alloc, matches)?,
         explains: matches.get_flag("verbose"),
     }))

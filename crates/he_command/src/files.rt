@@ -1,16 +1,20 @@
 //! Texts of races, of standard input or of files, one after the other.
-ghost use Rattle.std.specs.Prelude.{◌≡◌};
+ghost use Rattle.std.specs.Prelude.{◌≡◌, MatchOption};
 ghost use Rattle.he_stream.specs.Input.{Gives, GivesSoFar};
 ghost use Rattle.he_stream.specs.Output.{PutsAndEnds, PutsInRounds, PutsPart, PutsRoundsPart, PutsWhole};
 ghost use Rattle.he_command.specs.Status.{status_of};
-ghost use Rattle.he_command.specs.Texts.{HasTaskWorkers, RunsFile, RunsFiles, RunsOver, RunsText, RunsTexts};
-ghost use Rattle.he_command.specs.declared.texts.Task.TheVariants.{Check};
+ghost use Rattle.he_command.specs.Texts.{HasTaskWorkers, RunsChecked, RunsFile, RunsFiles, RunsOver, RunsText, RunsTexts};
+ghost use Rattle.he_command.specs.declared.run.TheConstants.{USAGE};
 
-use crate::run::{DONE, FAULT, report};
+use crate::arguments::OptionFault;
+use crate::run::{DONE, FAULT, refuse_option, report};
 use crate::texts::{Task, Texts};
-use he_check::{check, explain_fault};
+use he_check::{CheckFault, check, check_all, explain_fault};
+use he_compare::{CompareFault, compare};
+use he_plan::Changes;
 use he_replay::{ReplayFault, run_action};
 use he_stream::{FromReader, InputStream, OutputStream};
+use he_text::TextFault;
 use std::alloc::{AllocGlobal, Global};
 use std::fmt::Display;
 use std::fs;
@@ -21,6 +25,15 @@ use std::thread::Threads;
 
 // The name that stands for standard input.
 const STANDARD_INPUT: &str = "-";
+
+// What is done with each text.
+#[derive(Clone, Copy)]
+struct Work {
+    task: Task,
+    changes: Changes,
+    // Whether the fault of a file is explained.
+    explains: bool,
+}
 
 // Whose text it is, for what is said of its faults.
 #[derive(Clone, Copy)]
@@ -46,18 +59,28 @@ where
     O: OutputStream,
     F: Write,
     requires { HasTaskWorkers texts.now.task }
-    ensures { RunsTexts texts.now.files.items
-        (RunsOver I.remaining I.takes O.contents O.puts O.flushes texts.now.task input.old input.new output.old output.new result)
-        (RunsFiles (λ name. RunsFile (RunsOver I.remaining I.takes O.contents O.puts O.flushes texts.now.task) (RunsOver ⟦<FromReader<R::File> as InputStream>⟧.remaining ⟦<FromReader<R::File> as InputStream>⟧.takes O.contents O.puts O.flushes texts.now.task) name.now) texts.now.files.items input.old input.new output.old output.new result) }
+    ensures { MatchOption texts.now.changes
+        ((result ≡ USAGE) × (output.new ≡ output.old))
+        (λ changes. RunsTexts texts.now.files.items
+        (RunsOver I.remaining I.takes O.contents O.puts O.flushes texts.now.task changes input.old input.new output.old output.new result)
+        (RunsFiles (λ name. RunsFile (RunsOver I.remaining I.takes O.contents O.puts O.flushes texts.now.task changes) (RunsOver ⟦<FromReader<R::File> as InputStream>⟧.remaining ⟦<FromReader<R::File> as InputStream>⟧.takes O.contents O.puts O.flushes texts.now.task changes) name.now) texts.now.files.items input.old input.new output.old output.new result)) }
 {
+    let Some(changes) = texts.changes else {
+        return refuse_option(OptionFault::Setting, faults);
+    };
+    let work = Work {
+        task: texts.task,
+        changes,
+        explains: texts.explains,
+    };
     if texts.files.is_empty() {
         let place = Place {
             name: None,
             explains: false,
         };
-        run_text(rt, alloc, texts.task, place, input, output, faults)
+        run_text(rt, alloc, work, place, input, output, faults)
     } else {
-        run_files(rt, alloc, texts, &texts.files, input, output, faults)
+        run_files(rt, alloc, work, &texts.files, input, output, faults)
     }
 }
 
@@ -65,7 +88,7 @@ where
 fn run_files<R, I, O, F>(
     rt: &R,
     alloc: Global,
-    texts: &Texts<'_>,
+    work: Work,
     names: &[&str],
     input: &mut I,
     output: &mut O,
@@ -76,14 +99,14 @@ where
     I: InputStream,
     O: OutputStream,
     F: Write,
-    requires { HasTaskWorkers texts.now.task }
-    ensures { RunsFiles (λ name. RunsFile (RunsOver I.remaining I.takes O.contents O.puts O.flushes texts.now.task) (RunsOver ⟦<FromReader<R::File> as InputStream>⟧.remaining ⟦<FromReader<R::File> as InputStream>⟧.takes O.contents O.puts O.flushes texts.now.task) name.now) names.now input.old input.new output.old output.new result }
+    requires { HasTaskWorkers work.task }
+    ensures { RunsFiles (λ name. RunsFile (RunsOver I.remaining I.takes O.contents O.puts O.flushes work.task work.changes) (RunsOver ⟦<FromReader<R::File> as InputStream>⟧.remaining ⟦<FromReader<R::File> as InputStream>⟧.takes O.contents O.puts O.flushes work.task work.changes) name.now) names.now input.old input.new output.old output.new result }
 {
     let Some((name, more)) = names.split_first() else {
         return DONE;
     };
-    match run_name(rt, alloc, texts, name, input, output, faults) {
-        DONE => run_files(rt, alloc, texts, more, input, output, faults),
+    match run_name(rt, alloc, work, name, input, output, faults) {
+        DONE => run_files(rt, alloc, work, more, input, output, faults),
         status => status,
     }
 }
@@ -92,7 +115,7 @@ where
 fn run_name<R, I, O, F>(
     rt: &R,
     alloc: Global,
-    texts: &Texts<'_>,
+    work: Work,
     name: &str,
     input: &mut I,
     output: &mut O,
@@ -103,18 +126,18 @@ where
     I: InputStream,
     O: OutputStream,
     F: Write,
-    requires { HasTaskWorkers texts.now.task }
-    ensures { RunsFile (RunsOver I.remaining I.takes O.contents O.puts O.flushes texts.now.task) (RunsOver ⟦<FromReader<R::File> as InputStream>⟧.remaining ⟦<FromReader<R::File> as InputStream>⟧.takes O.contents O.puts O.flushes texts.now.task) name.now input.old input.new output.old output.new result }
+    requires { HasTaskWorkers work.task }
+    ensures { RunsFile (RunsOver I.remaining I.takes O.contents O.puts O.flushes work.task work.changes) (RunsOver ⟦<FromReader<R::File> as InputStream>⟧.remaining ⟦<FromReader<R::File> as InputStream>⟧.takes O.contents O.puts O.flushes work.task work.changes) name.now input.old input.new output.old output.new result }
 {
     if name == STANDARD_INPUT {
         let place = Place {
             name: Some(name),
             explains: false,
         };
-        return run_text(rt, alloc, texts.task, place, input, output, faults);
+        return run_text(rt, alloc, work, place, input, output, faults);
     }
     match fs::open(rt, name) {
-        Ok(file) => run_file(rt, alloc, texts, name, file, output, faults),
+        Ok(file) => run_file(rt, alloc, work, name, file, output, faults),
         Err(error) => report_in(Some(name), error, faults),
     }
 }
@@ -123,7 +146,7 @@ where
 fn run_file<R, O, F>(
     rt: &R,
     alloc: Global,
-    texts: &Texts<'_>,
+    work: Work,
     name: &str,
     file: R::File,
     output: &mut O,
@@ -133,15 +156,15 @@ where
     R: Threads + AllocGlobal + Files + Sync,
     O: OutputStream,
     F: Write,
-    requires { HasTaskWorkers texts.now.task }
-    ensures { (opened : FromReader R.File) × (closed : FromReader R.File) × RunsOver ⟦<FromReader<R::File> as InputStream>⟧.remaining ⟦<FromReader<R::File> as InputStream>⟧.takes O.contents O.puts O.flushes texts.now.task opened closed output.old output.new result }
+    requires { HasTaskWorkers work.task }
+    ensures { (opened : FromReader R.File) × (closed : FromReader R.File) × RunsOver ⟦<FromReader<R::File> as InputStream>⟧.remaining ⟦<FromReader<R::File> as InputStream>⟧.takes O.contents O.puts O.flushes work.task work.changes opened closed output.old output.new result }
 {
     let mut input = FromReader::new(file);
     let place = Place {
         name: Some(name),
-        explains: texts.explains,
+        explains: work.explains,
     };
-    let status = run_text(rt, alloc, texts.task, place, &mut input, output, faults);
+    let status = run_text(rt, alloc, work, place, &mut input, output, faults);
     drop(input);
     status
 }
@@ -150,7 +173,7 @@ where
 fn run_text<R, I, O, F>(
     rt: &R,
     alloc: Global,
-    task: Task,
+    work: Work,
     place: Place<'_>,
     input: &mut I,
     output: &mut O,
@@ -161,45 +184,44 @@ where
     I: InputStream,
     O: OutputStream,
     F: Write,
-    requires { HasTaskWorkers task }
-    ensures { RunsOver I.remaining I.takes O.contents O.puts O.flushes task input.old input.new output.old output.new result }
+    requires { HasTaskWorkers work.task }
+    ensures { RunsOver I.remaining I.takes O.contents O.puts O.flushes work.task work.changes input.old input.new output.old output.new result }
 {
-    match task {
+    match work.task {
         Task::Action(action) => {
-            let end = run_action(rt, alloc, action, input, output);
-            report_action(rt, alloc, place, end, faults)
+            let end = run_action(rt, alloc, action, work.changes, input, output);
+            let status = report_end_in(place.name, end, faults);
+            if let Err(ReplayFault::Text(fault)) = end {
+                explain_in(rt, alloc, place, fault, faults);
+            }
+            status
         }
-        Task::Check => run_check(alloc, place, input, output, faults),
+        Task::Compare => {
+            let end = compare(alloc, work.changes, input, output);
+            let status = report_end_in(place.name, end, faults);
+            if let Err(CompareFault::Text(fault)) = end {
+                explain_in(rt, alloc, place, fault, faults);
+            }
+            status
+        }
+        Task::Check => run_check(alloc, false, place, input, output, faults),
+        Task::CheckAll => run_check(alloc, true, place, input, output, faults),
     }
 }
 
-// Says how an action ended, and answers the exit status.
-fn report_action<R: AllocGlobal + Files, F: Write>(
-    rt: &R,
-    alloc: Global,
-    place: Place<'_>,
-    end: Result<(), ReplayFault>,
-    faults: &mut F,
-) -> u8
-    ensures { result ≡ status_of end }
-{
-    let status = report_end_in(place.name, end, faults);
-    if let (true, Some(path), Err(fault)) = (place.explains, place.name, end) {
-        explain_in(rt, alloc, path, fault, faults);
-    }
-    status
-}
-
-// Explains a fault of the text of a file, which is read again: what was read is not kept. Where it can't be read any
-// more nothing is said; the fault itself stands.
+// Explains a fault of the text of a file, where that is asked for. The file is read again: what was read is not kept.
+// Where it can't be read any more nothing is said; the fault itself stands.
 fn explain_in<R: AllocGlobal + Files, F: Write>(
     rt: &R,
     alloc: Global,
-    path: &str,
-    fault: ReplayFault,
+    place: Place<'_>,
+    fault: TextFault,
     faults: &mut F,
 ) {
-    if let (ReplayFault::Text(fault), Ok(text)) = (fault, fs::read(rt, path)) {
+    let (true, Some(path)) = (place.explains, place.name) else {
+        return;
+    };
+    if let Ok(text) = fs::read(rt, path) {
         let mut explanation = Vec::new(alloc);
         if explain_fault(alloc, &text, fault, &mut explanation).is_ok() {
             let _ = faults.write_all(explanation.as_slice());
@@ -207,19 +229,30 @@ fn explain_in<R: AllocGlobal + Files, F: Write>(
     }
 }
 
-// Checks a text, and explains its first fault behind the line that tells it, or warns of its slips.
+// Checks a text, and explains its first fault behind the line that tells it, or warns of its slips. Where all faults are
+// explained, each has its line there.
 fn run_check<I: InputStream, O: OutputStream, F: Write>(
     alloc: Global,
+    is_all: bool,
     place: Place<'_>,
     input: &mut I,
     output: &mut O,
     faults: &mut F,
 ) -> u8
-    ensures { RunsOver I.remaining I.takes O.contents O.puts O.flushes Check input.old input.new output.old output.new result }
+    ensures { RunsChecked (Gives I.remaining I.takes input.old input.new)
+        (PutsWhole O.contents O.puts O.flushes output.old output.new)
+        (PutsPart O.contents O.puts O.flushes output.old output.new) (output.new ≡ output.old) result }
 {
     let mut explanation = Vec::new(alloc);
-    let end = check(alloc, input, output, &mut explanation);
-    let status = report_end_in(place.name, end, faults);
+    let end = if is_all {
+        check_all(alloc, input, output, &mut explanation)
+    } else {
+        check(alloc, input, output, &mut explanation)
+    };
+    let status = match end {
+        Err(CheckFault::Text(_) | CheckFault::Read) if is_all => FAULT,
+        _ => report_end_in(place.name, end, faults),
+    };
     tell_lines(place.name, explanation.as_slice(), faults);
     status
 }

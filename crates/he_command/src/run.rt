@@ -1,6 +1,5 @@
 //! A whole run of the program over an input, an output and a writer of faults.
-ghost use Rattle.std.specs.Prelude.{◌≡◌, ◌≢◌, [], IfOk, IsSome, OnErr, Result};
-ghost use Rattle.std.specs.Option.{option_and_then};
+ghost use Rattle.std.specs.Prelude.{◌≡◌, ◌≢◌, [], IfOk, IsSome, OnErr, Result, option_map};
 ghost use Rattle.clap.specs.Values.{kind_of};
 ghost use Rattle.he_stream.specs.Input.{Gives, GivesSoFar};
 ghost use Rattle.he_stream.specs.Output.{PutsAndEnds, PutsInRounds, PutsPart, PutsRoundsPart, PutsWhole};
@@ -18,8 +17,8 @@ use clap::Error;
 use clap::error::ErrorKind;
 use he_connect::{Asked, ConnectFault, Ended, Lines, connect};
 use he_host::machine::write_machine;
-use he_live::{Changes, FailedAttempt, LiveFault, Told, first_local, live, write_failures};
-use he_plan::{Outcome3, Settings};
+use he_live::{FailedAttempt, LiveFault, Told, first_local, live, write_failures};
+use he_plan::{Changes, Outcome3, Settings};
 use he_replay::ReplayFault;
 use he_resolver::{Choice, SystemResolver, TellFault, write_names};
 use he_stream::{FromReader, InputStream, OutputStream, write_whole};
@@ -72,7 +71,7 @@ where
         (PutsInRounds O.contents O.puts O.flushes output.old output.new)
         (PutsWhole O.contents O.puts O.flushes output.old output.new)
         (PutsPart O.contents O.puts O.flushes output.old output.new) (output.new ≡ output.old)
-        (λ task files status. RunsFiles (λ name. RunsFile (RunsOver I.remaining I.takes O.contents O.puts O.flushes task) (RunsOver ⟦<FromReader<R::File> as InputStream>⟧.remaining ⟦<FromReader<R::File> as InputStream>⟧.takes O.contents O.puts O.flushes task) name.now) files input.old input.new output.old output.new status) result }
+        (λ task changes files status. RunsFiles (λ name. RunsFile (RunsOver I.remaining I.takes O.contents O.puts O.flushes task changes) (RunsOver ⟦<FromReader<R::File> as InputStream>⟧.remaining ⟦<FromReader<R::File> as InputStream>⟧.takes O.contents O.puts O.flushes task changes) name.now) files input.old input.new output.old output.new status) result }
 {
     run_line(rt, alloc, read_words(alloc, words), input, output, faults)
 }
@@ -100,7 +99,7 @@ where
         (PutsInRounds O.contents O.puts O.flushes output.old output.new)
         (PutsWhole O.contents O.puts O.flushes output.old output.new)
         (PutsPart O.contents O.puts O.flushes output.old output.new) (output.new ≡ output.old)
-        (λ task files status. RunsFiles (λ name. RunsFile (RunsOver I.remaining I.takes O.contents O.puts O.flushes task) (RunsOver ⟦<FromReader<R::File> as InputStream>⟧.remaining ⟦<FromReader<R::File> as InputStream>⟧.takes O.contents O.puts O.flushes task) name.now) files input.old input.new output.old output.new status) result }
+        (λ task changes files status. RunsFiles (λ name. RunsFile (RunsOver I.remaining I.takes O.contents O.puts O.flushes task changes) (RunsOver ⟦<FromReader<R::File> as InputStream>⟧.remaining ⟦<FromReader<R::File> as InputStream>⟧.takes O.contents O.puts O.flushes task changes) name.now) files input.old input.new output.old output.new status) result }
 {
     match line {
         Ok(request) => run_request(rt, alloc, request, input, output, faults),
@@ -131,7 +130,7 @@ where
         (PutsInRounds O.contents O.puts O.flushes output.old output.new)
         (PutsWhole O.contents O.puts O.flushes output.old output.new)
         (PutsPart O.contents O.puts O.flushes output.old output.new) (output.new ≡ output.old)
-        (λ task files status. RunsFiles (λ name. RunsFile (RunsOver I.remaining I.takes O.contents O.puts O.flushes task) (RunsOver ⟦<FromReader<R::File> as InputStream>⟧.remaining ⟦<FromReader<R::File> as InputStream>⟧.takes O.contents O.puts O.flushes task) name.now) files input.old input.new output.old output.new status) result }
+        (λ task changes files status. RunsFiles (λ name. RunsFile (RunsOver I.remaining I.takes O.contents O.puts O.flushes task changes) (RunsOver ⟦<FromReader<R::File> as InputStream>⟧.remaining ⟦<FromReader<R::File> as InputStream>⟧.takes O.contents O.puts O.flushes task changes) name.now) files input.old input.new output.old output.new status) result }
 {
     match request {
         Request::Texts(texts) => run_texts(rt, alloc, &texts, input, output, faults),
@@ -144,7 +143,7 @@ where
     }
 }
 
-// Runs the race of the input. Settings that fit no race are a line that is refused.
+// Runs the race of the input. A setting that is none, or out of its range, is a line that is refused.
 fn run_live<R, I, O, F>(
     rt: &R,
     alloc: Global,
@@ -162,12 +161,9 @@ where
         (PutsWhole O.contents O.puts O.flushes output.old output.new)
         (PutsPart O.contents O.puts O.flushes output.old output.new) (output.new ≡ output.old) result }
 {
-    let Some(changes) = options.changes else {
-        return refuse_option(OptionFault::Setting, faults);
-    };
-    match changes.check() {
-        Ok(()) => run_changed(rt, alloc, options, changes, input, output, faults),
-        Err(_) => refuse_option(OptionFault::Setting, faults),
+    match options.changes {
+        Some(changes) => run_changed(rt, alloc, options, changes, input, output, faults),
+        None => refuse_option(OptionFault::Setting, faults),
     }
 }
 
@@ -326,7 +322,7 @@ where
 }
 
 fn settings_asked(options: &Options<'_>) -> Option<Settings>
-    ensures { result ≡ option_and_then connect_settings options.now.changes }
+    ensures { result ≡ option_map connect_settings options.now.changes }
 {
     settings_of(options.changes?)
 }
@@ -363,7 +359,7 @@ fn report_of<E: Display + Drop, F: Write>(fault: E, host: &str, faults: &mut F) 
 }
 
 // Says which option has no value that it may have.
-fn refuse_option<F: Write>(fault: OptionFault, faults: &mut F) -> u8
+pub(crate) fn refuse_option<F: Write>(fault: OptionFault, faults: &mut F) -> u8
     ensures { result ≡ USAGE }
 {
     let _ = writeln!(

@@ -1,10 +1,13 @@
-//! The words of `he replay`, `he order`, `he explain` and `he check`, which read texts of races.
+//! The words of `he replay`, `he order`, `he explain`, `he compare` and `he check`, which read texts of races.
 ghost use Rattle.std.specs.Prelude.{◌≤◌};
 ghost use Rattle.he_replay.specs.Actions.{HasWorkers};
+ghost use Rattle.he_command.specs.Texts.{HasTaskWorkers};
 
 use crate::arguments::{flag, plain};
 use crate::limits::{DEFAULT_WORKERS, DEFAULT_WORKERS_TEXT};
+use crate::numbers::set;
 use clap::{Arg, ArgAction, ArgMatches, Command, value_parser};
+use he_plan::Changes;
 use he_replay::Action;
 use he_replay::limits::{LEAST_WORKERS, MOST_WORKERS};
 use std::alloc::{AllocError, Global};
@@ -15,6 +18,9 @@ const ORDER_ABOUT: &str = "Reads timelines of races and writes the order of thei
 
 const EXPLAIN_ABOUT: &str = "Reads timelines of races and writes why they went as they did";
 
+const COMPARE_ABOUT: &str =
+    "Reads timelines of races and writes what other settings would do to each";
+
 const CHECK_ABOUT: &str =
     "Checks timelines of races, and explains the first fault or warns of slips";
 
@@ -22,6 +28,14 @@ const FILE_HELP: &str =
     "A file with a text, `-` for standard input; of several one after the other. Standard input where none is given";
 
 const VERBOSE_HELP: &str = "Explains the fault of a file, as `he check` does";
+
+const SET_HELP: &str =
+    "A setting that every race has in place of its own: attempt=250, resolution=50, count=1, limit=30000 or floor=10, or with another number";
+
+const LINES_HELP: &str = "Writes lines for scripts, as they always were";
+
+const ALL_HELP: &str =
+    "Goes on behind a faulty race, at the next line `race 1` or `race 2`, and tells each fault";
 
 const WORKERS_HELP: &str =
     "The most workers that share the races, 1 to 64; the output is the same for each number";
@@ -78,11 +92,12 @@ Exit status: 0 when all is done; 1 after a fault, which standard error tells, an
 ends it; 2 for a command line that is refused.";
 
 const EXPLAIN_EXAMPLE: &str = "\
-The text is a timeline text, as for `he replay`. Standard output has, for each
-race, its usable addresses in the order of preference, from the second on with the rule
-(RFC 6724 section 6, RFC 8305 section 4) that puts it behind the one before; then what
-happened at which tick (millisecond), each attempt with what started it (RFC 8305
-sections 3 to 5), and with the place of its address in the interlaced list.
+The text is a timeline text, as for `he replay`. Standard output has, for each race, how
+it ended; its usable addresses in the order of preference, each with the source that the
+host uses for it, from the second on with what puts it behind the one before (RFC 6724
+section 6, RFC 8305 section 4); what happened at which millisecond, each attempt with what
+started it (RFC 8305 sections 3 to 5); and last what had to wait, and whether a floor
+(`set floor 10`) would have helped. Attempts and addresses are counted from 1.
 
 Example input:
 
@@ -96,7 +111,21 @@ Example input:
   connect 2001:db8:1::1 ok 35
   end
 
-Its output (the second line is one line):
+Its output:
+
+  race 1, line 1: connected to 2001:db8:1::1 after 55 ms, by attempt 1 of 1
+  preferred, once every answer is known:
+    1. 2001:db8:1::1 from 2001:db8::2
+    2. 198.51.100.1 from 192.0.2.2; precedence 35, the one before 40 (RFC 6724 rule 6)
+  what happened:
+    20 ms  AAAA answer: 1 address to try; the A answer is not there yet
+    20 ms  attempt 1 to 2001:db8:1::1: the AAAA answer is there; the only address known
+    25 ms  A answer: 1 address to try
+    55 ms  attempt 1 connected after 35 ms
+  no address of the A answer was tried
+
+With --lines it is told in lines that a script cuts at their spaces, counted from 0, with
+`end` behind each race (the second line is one line):
 
   order 0 2001:db8:1::1 source 2001:db8::2
   order 1 198.51.100.1 source 192.0.2.2, behind 0 by rule 6, prefer higher precedence:
@@ -110,6 +139,37 @@ Its output (the second line is one line):
 Exit status: 0 when all is done; 1 after a fault, which standard error tells, and which
 ends it; 2 for a command line that is refused.";
 
+const COMPARE_EXAMPLE: &str = "\
+The text is a timeline text, as for `he replay`. Standard output has a line for each race:
+how it ends, how it would end with the settings that are given, and what they do to it;
+and a last line with the sums. Nothing is written before the end of the text.
+
+Example input:
+
+  race 1
+  source 2001:db8::2/64 1
+  source 192.0.2.2/24 1
+  route ::/0 1
+  route 0.0.0.0/0 1
+  aaaa 20 2001:db8:1::1
+  a 25 198.51.100.1
+  connect 2001:db8:1::1 fail 1
+  connect 198.51.100.1 ok 30
+  end
+
+Output of `he compare --set floor=10` (two lines):
+
+  race 1, line 1: won after 300 ms by 198.51.100.1; with the changes won after 60 ms by
+    198.51.100.1, 240 ms sooner
+  1 race: 1 sooner, 0 later, 0 at the same time, 0 won only with the changes, 0 won only
+    without them, 0 not won either way; difference where both won: median 240 ms,
+    greatest 240 ms
+
+A floor above the attempt delay of a race changes nothing: the delay is over before.
+
+Exit status: 0 when all is done; 1 after a fault, which standard error tells, and which
+ends it; 2 for a command line that is refused.";
+
 const CHECK_EXAMPLE: &str = "\
 The text is a timeline text, as for `he replay`. Where nothing is wrong with it,
 standard output has one line, as
@@ -119,7 +179,8 @@ standard output has one line, as
 and standard error a warning of what is allowed and surely not meant, as a race without an
 `aaaa` line, which can't be exhausted. Else standard output has nothing, and standard error
 the first fault: its line by number and by its text, a mark below what is wrong there, and
-what was expected.
+what was expected. With --all it goes on behind a faulty race, at the next line `race 1` or
+`race 2`, and tells each fault so.
 
 Example input:
 
@@ -139,7 +200,7 @@ refused.";
 
 // The command `he replay`.
 pub(crate) fn replay_command<'a>(alloc: Global) -> Result<Command<'a>, AllocError> {
-    let args = vec![in alloc; files(alloc), workers(alloc), verbose(alloc)]?;
+    let args = vec![in alloc; files(alloc), workers(alloc), set(alloc, SET_HELP), verbose(alloc)]?;
     plain(alloc, "replay", REPLAY_ABOUT, REPLAY_EXAMPLE).args(args)
 }
 
@@ -151,13 +212,22 @@ pub(crate) fn order_command<'a>(alloc: Global) -> Result<Command<'a>, AllocError
 
 // The command `he explain`.
 pub(crate) fn explain_command<'a>(alloc: Global) -> Result<Command<'a>, AllocError> {
-    let args = vec![in alloc; files(alloc), verbose(alloc)]?;
+    let lines = flag(alloc, "lines", LINES_HELP).long("lines");
+    let args = vec![in alloc; files(alloc), lines, set(alloc, SET_HELP), verbose(alloc)]?;
     plain(alloc, "explain", EXPLAIN_ABOUT, EXPLAIN_EXAMPLE).args(args)
+}
+
+// The command `he compare`.
+pub(crate) fn compare_command<'a>(alloc: Global) -> Result<Command<'a>, AllocError> {
+    let set = set(alloc, SET_HELP).required(true);
+    let args = vec![in alloc; files(alloc), set, verbose(alloc)]?;
+    plain(alloc, "compare", COMPARE_ABOUT, COMPARE_EXAMPLE).args(args)
 }
 
 // The command `he check`.
 pub(crate) fn check_command<'a>(alloc: Global) -> Result<Command<'a>, AllocError> {
-    plain(alloc, "check", CHECK_ABOUT, CHECK_EXAMPLE).arg(files(alloc))
+    let args = vec![in alloc; files(alloc), flag(alloc, "all", ALL_HELP).long("all")]?;
+    plain(alloc, "check", CHECK_ABOUT, CHECK_EXAMPLE).args(args)
 }
 
 // The files of the texts.
@@ -189,14 +259,21 @@ fn verbose<'a>(alloc: Global) -> Arg<'a> {
 #[derive(Clone, Copy)]
 pub enum Task {
     Action(Action),
+    /// To compare its races with what they would be with other settings.
+    Compare,
     /// To check it, and to explain its first fault or to warn of its slips.
     Check,
+    /// The same, but to go on behind a faulty race and to explain each fault.
+    CheckAll,
 }
 
 /// Texts that something is done with.
 #[derive(Drop)]
 pub struct Texts<'a> {
     pub task: Task,
+    /// The settings that each race has in place of its own; None where one isn't a number, is out of its range, or has a
+    /// name that there isn't.
+    pub changes: Option<Changes>,
     /// The files that have them, one after the other, `-` for standard input; where there are none, it has one.
     pub files: Vec<&'a str>,
     /// Whether the fault of a file is explained, as a check does.
@@ -211,6 +288,28 @@ pub(crate) fn files_of<'a>(
     match matches.get_strs("file") {
         Some(files) => Vec::from_slice(alloc, files),
         None => Ok(Vec::new(alloc)),
+    }
+}
+
+// To explain, to a person or in lines.
+pub(crate) fn explain_of(matches: &ArgMatches<'_>) -> Action
+    ensures { HasWorkers result }
+{
+    if matches.get_flag("lines") {
+        Action::Explain
+    } else {
+        Action::Tell
+    }
+}
+
+// To check up to the first fault, or all.
+pub(crate) fn check_of(matches: &ArgMatches<'_>) -> Task
+    ensures { HasTaskWorkers result }
+{
+    if matches.get_flag("all") {
+        Task::CheckAll
+    } else {
+        Task::Check
     }
 }
 

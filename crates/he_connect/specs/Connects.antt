@@ -1,6 +1,5 @@
 -- What a connection that is asked for did.
 use Rattle.std.specs.Prelude.{ℕ, ◌≡◌, ◌⊎◌, List, [], Bool, true, false, Result, Ok, Err}
-use Rattle.he_explain.specs.Course.{Explains}
 use Rattle.he_plan.specs.Race.{Race}
 use Rattle.he_plan.specs.Settings.{SettingValues}
 use Rattle.he_plan.specs.Transcript.{IsTranscript, Report}
@@ -8,6 +7,7 @@ use Rattle.he_race.specs.Recording.{is_won}
 use Rattle.he_race.specs.Resolving.{KeepsGiven}
 use Rattle.he_relay.specs.declared.fault.RelayFault.{RelayFault}
 use Rattle.he_relay.specs.Relays.{Relays}
+use Rattle.he_story.specs.Story.{Tells}
 use Rattle.he_text.specs.Written.{timeline_text}
 use Rattle.he_connect.specs.declared.asked.Families.{Families}
 use Rattle.he_connect.specs.declared.connecting.Ended.{Ended}
@@ -42,9 +42,9 @@ pub record IsRun (settings : SettingValues) (families : Families) (text : List �
 abbrev pub Ran : SettingValues → Families → Bool → Type 0
 Ran settings families won = (text : List ℕ) × IsRun settings families text won
 
--- an explanation that is asked for is that of the record
+-- what explains a race, where that is asked for, is the story of its record
 abbrev pub IsExplained : Bool → Race → List ℕ → Type 0
-IsExplained true recorded text = Explains recorded [] text
+IsExplained true recorded text = Tells 1 1 recorded [] text
 IsExplained false recorded text = text ≡ []
 
 -- RanTo: a race was run, and won or not; Put, PutPart and Kept as `Relays` has them

@@ -11,11 +11,11 @@ use crate::source::{HostAnswers, WhyNone};
 use crate::start::start_race;
 use crate::telling::Telling;
 use crate::tried::write_tried;
-use he_explain::write_explanation;
 use he_live::{Steps, resolving_race_on};
 use he_plan::Timeline;
 use he_race::Raced;
 use he_resolver::{Lookup, NamesFault, SystemResolver};
+use he_story::write_story;
 use he_text::write_timeline;
 use std::alloc::{AllocGlobal, Global};
 use std::io::Write;
@@ -175,14 +175,14 @@ fn texts_of<R: Net>(
     Ok(Texts { text, told })
 }
 
-// The explanation of a race, where it is asked for.
+// The story of a race, where it is asked for.
 fn explain(alloc: Global, is_asked: bool, recorded: &Timeline) -> Result<Vec<u8>, ConnectFault>
     ensures text { IfOk result (λ text. IsExplained is_asked recorded.now text.items) }
     ensures fault { IfErr result IsBefore }
 {
     let mut text = Vec::new(alloc);
     if is_asked {
-        write_explanation(alloc, recorded, &mut text)?;
+        write_story(alloc, recorded, 1, 1, &mut text)?;
     }
     Ok(text)
 }

@@ -21,8 +21,8 @@ use std::alloc::{AllocError, Allocator};
 // The two answers, the wait for the AAAA answer, the Resolution Delay's end, and the race's end.
 const OTHER_EVENTS: usize = 5;
 
-// The events of the race with this transcript, by kind.
-pub(crate) fn collect_events<A: Allocator + Copy, B: Allocator, C: Allocator>(
+/// The events of the race with this transcript, by kind, also those after its end; its standings are given sorted.
+pub fn collect_events<A: Allocator + Copy, B: Allocator, C: Allocator>(
     alloc: A,
     timeline: &Timeline<B>,
     sorted: &[Standing],
@@ -48,7 +48,7 @@ fn most_events(pauses: &[(u64, u64)], lines: &[Line]) -> usize {
 }
 
 /// The tick at which the race ends.
-pub(crate) fn end_tick(ending: Outcome3) -> u64
+pub fn end_tick(ending: Outcome3) -> u64
     ensures { result ≡ (end_event ending).tick }
 {
     match ending {

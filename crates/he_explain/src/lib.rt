@@ -16,17 +16,20 @@
 #![tactic(auto)]
 
 pub mod cause;
-mod collecting;
+pub mod collecting;
 pub mod course;
-mod events;
+pub mod events;
 pub mod explanation;
 mod interlaced;
 pub mod laws;
-mod listing;
+pub mod listing;
 pub mod reasons;
 mod writing;
 
 pub use cause::{Cause, cause_of, is_held};
-pub use course::write_course;
+pub use collecting::{collect_events, end_tick};
+pub use course::{sort_events, write_course};
+pub use events::{Event, EventKind, Start};
 pub use explanation::write_explanation;
+pub use listing::{Listed, Turn};
 pub use reasons::write_order_reasons;

@@ -1,5 +1,2 @@
 mod LoopLaws
 mod Records
-mod Rebuilding
-mod Fitting
-mod Running

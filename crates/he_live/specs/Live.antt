@@ -1,6 +1,7 @@
 -- What a race on real sockets gives, and what is written for one.
 use Rattle.std.specs.Prelude.{ℕ, ◌≡◌, ◌⊎◌, ⊤, ◌++◌, Bool, List, [], ◌∷◌, None, Result, Ok, Err}
 use Rattle.he_plan.specs.Agreement.{AreAlike}
+use Rattle.he_plan.specs.Changes.{ChangeValues, changed}
 use Rattle.he_plan.specs.Race.{Race}
 use Rattle.he_plan.specs.Transcript.{IsTranscript, Report}
 use Rattle.he_plan.specs.declared.transcript.Outcome3.{Outcome3}
@@ -9,10 +10,7 @@ use Rattle.he_text.specs.Written.{timeline_text, transcript_text}
 use Rattle.he_text.specs.declared.inputs.InputFault.TheVariants as inputs
 use Rattle.he_text.specs.declared.inputs.NotOneRace.{NotOneRace}
 use Rattle.he_text.specs.declared.inputs.NotOneRace.TheVariants as ones
-use Rattle.he_plan.specs.declared.settings.Range.{Range}
-use Rattle.he_live.specs.Changed.{IsChanged, changed_settings}
 use Rattle.he_live.specs.Reasons.{AreFailed}
-use Rattle.he_live.specs.declared.changes.Changes.{Changes}
 use Rattle.he_live.specs.declared.recording.Told.{Told}
 use Rattle.he_live.specs.declared.fault.LiveFault.{LiveFault}
 use Rattle.he_live.specs.declared.fault.LiveFault.TheVariants as faults
@@ -54,20 +52,14 @@ pub record GivesNone (Given : List ℕ → Bool → Type 0) (why : NotOneRace) :
   pub given : Given input is_broken
   pub none : IsNotOne input is_broken why
 
--- the input is one race, and this is it with the changes
-pub record GivesChanged (Given : List ℕ → Bool → Type 0) (changes : Changes) (race : Race) : Type 0 where
+-- the input is one race, and this is it with the changes of its settings
+pub record GivesChanged (Given : List ℕ → Bool → Type 0) (changes : ChangeValues) (race : Race) : Type 0 where
   pub own : Race
   pub given : GivesOne Given own
-  pub changed : IsChanged changes own race
-
--- the input is one race, whose settings can't be changed so, for this reason
-pub record GivesUnfit (Given : List ℕ → Bool → Type 0) (changes : Changes) (range : Range) : Type 0 where
-  pub own : Race
-  pub given : GivesOne Given own
-  pub unfit : changed_settings changes own.settings ≡ Err range
+  pub is : race ≡ changed changes own
 
 -- the input is one race, and this is the text of a run of it with the changes, of which this is told, and which ended so
-pub record GivesText (Given : List ℕ → Bool → Type 0) (changes : Changes) (text : List ℕ) (told : Told) (result : Outcome3) : Type 0 where
+pub record GivesText (Given : List ℕ → Bool → Type 0) (changes : ChangeValues) (text : List ℕ) (told : Told) (result : Outcome3) : Type 0 where
   pub race : Race
   pub given : GivesChanged Given changes race
   pub run : IsLiveText race text told result
@@ -75,14 +67,13 @@ pub record GivesText (Given : List ℕ → Bool → Type 0) (changes : Changes) 
 -- Given: what the input gave, and whether it broke off after that; Whole and Part: the text of which all was put into
 -- the output and then flushed, or a first part until that failed; Kept: nothing was put into the output; told: what is
 -- told of the run.
--- A run's text is written whole, and how it ended is told; a fault of the input, of the changes, of the event loop or of
--- memory comes before any of it is.
-abbrev pub Lives : (List ℕ → Bool → Type 0) → (List ℕ → Type 0) → (List ℕ → Type 0) → Type 0 → Changes → Told → Result Outcome3 LiveFault → Type 0
+-- A run's text is written whole, and how it ended is told; a fault of the input, of the event loop or of memory
+-- comes before any of it is.
+abbrev pub Lives : (List ℕ → Bool → Type 0) → (List ℕ → Type 0) → (List ℕ → Type 0) → Type 0 → ChangeValues → Told → Result Outcome3 LiveFault → Type 0
 Lives Given Whole Part Kept changes told (Ok result) = (text : List ℕ) × GivesText Given changes text told result × Whole text
 Lives Given Whole Part Kept changes told (Err (faults.Text fault)) = GivesNone Given (ones.Fault (inputs.Text fault)) × Kept
 Lives Given Whole Part Kept changes told (Err faults.OneRace) = GivesNone Given ones.Count × Kept
 Lives Given Whole Part Kept changes told (Err faults.Read) = GivesNone Given (ones.Fault inputs.Read) × Kept
-Lives Given Whole Part Kept changes told (Err (faults.Setting range)) = GivesUnfit Given changes range × Kept
 Lives Given Whole Part Kept changes told (Err faults.Write) = (text : List ℕ) × (result : Outcome3) × GivesText Given changes text told result × Part text
 Lives Given Whole Part Kept changes told (Err faults.Runtime) = (race : Race) × GivesChanged Given changes race × Kept
 Lives Given Whole Part Kept changes told (Err faults.Memory) = Kept

@@ -1,9 +1,8 @@
 //! Why a live race gave nothing.
 ghost use Rattle.std.specs.Prelude.{◌≡◌};
-ghost use Rattle.he_live.specs.declared.fault.LiveFault.TheVariants.{Memory, Setting};
+ghost use Rattle.he_live.specs.declared.fault.LiveFault.TheVariants.{Memory};
 ghost use Rattle.he_live.specs.Live.{IsRunFault, fault_of_input};
 
-use he_plan::Range;
 use he_text::{InputFault, NotOneRace, TextFault};
 use std::alloc::AllocError;
 use std::io;
@@ -18,9 +17,6 @@ pub enum LiveFault {
     /// The input has no race, or more than one.
     #[error("live needs one race")]
     OneRace,
-    /// The race has settings that the changes do not fit: this one is then out of its range.
-    #[error("the settings do not fit the race: {0}")]
-    Setting(Range),
     /// A step of the input failed, or the bound of steps was reached.
     #[error("cannot read the input")]
     Read,
@@ -48,14 +44,6 @@ impl From<he_addr::Memory> for LiveFault {
 
     fn from(_refused: he_addr::Memory) -> LiveFault {
         LiveFault::Memory
-    }
-}
-
-impl From<Range> for LiveFault {
-    ghost from_gives = { λ range fault. fault ≡ Setting range };
-
-    fn from(range: Range) -> LiveFault {
-        LiveFault::Setting(range)
     }
 }
 

@@ -39,10 +39,8 @@
 //!   host, history and answers, and of the other families what the source told (`ReplaysGiven` of `he_race`).
 //! - [`live`] writes the transcript's text and then the record's, of the input's one race with the given changes of its
 //!   settings, and hands out the record's text; it makes all of it before it writes the first byte, and after any fault
-//!   but `Write` nothing was written. `Text`, `Read` and `OneRace` come only where the input has this fault, `Setting`
-//!   only where the race's settings can't be changed so (`specs/Live`, `specs/Changed`). It tells each attempt of the
-//!   transcript that failed, and no other, by place and address.
-//! - Which changes fit the settings of a race, and which fit none ([`Changes::apply`], [`Changes::check`]).
+//!   but `Write` nothing was written. `Text`, `Read` and `OneRace` come only where the input has this fault
+//!   (`specs/Live`). It tells each attempt of the transcript that failed, and no other, by place and address.
 //! - Which reason an error of the system is, which reasons are the host's own, and the lines that tell failed attempts
 //!   ([`Reason::of`], [`Reason::is_local`], [`write_failures`]; `specs/Reasons`).
 //!
@@ -53,7 +51,6 @@
 //! the winner's stream is connected and waits; and that no socket of a race is left but the winner's.
 #![tactic(auto)]
 
-pub mod changes;
 mod clock;
 mod dialing;
 pub mod failures;
@@ -64,7 +61,6 @@ pub mod recording;
 mod sockets;
 pub mod steps;
 
-pub use changes::Changes;
 pub use failures::{FailedAttempt, failed_attempts, first_local, write_failures};
 pub use fault::LiveFault;
 pub use racing::{live_race, live_race_on, resolving_race_on};

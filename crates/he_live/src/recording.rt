@@ -4,14 +4,13 @@ ghost use Rattle.he_stream.specs.Input.{Gives};
 ghost use Rattle.he_stream.specs.Output.{PutsPart, PutsWhole};
 ghost use Rattle.he_text.specs.Written.{timeline_text};
 ghost use Rattle.he_live.specs.Live.{IsLiveText, IsRunFault, KeepsTold, Lives};
-ghost use Rattle.he_live.specs.Reading.{IsTold, ReadsOne, RunsChanged};
+ghost use Rattle.he_live.specs.Reading.{IsTold, ReadsOne};
 
-use crate::changes::{Changes, with_settings};
 use crate::failures::{FailedAttempt, failed_attempts};
 use crate::fault::LiveFault;
 use crate::racing::live_race;
 use crate::steps::Steps;
-use he_plan::{Outcome3, Timeline};
+use he_plan::{Changes, Outcome3, Timeline};
 use he_race::Raced;
 use he_stream::{InputStream, OutputStream, take_input, write_whole};
 use he_text::{NotOneRace, read_one_race, write_timeline, write_transcript};
@@ -60,7 +59,6 @@ impl Told {
 /// - `Read` where a step of the input failed before a fault of the text was found, or the bound of 4,294,967,296 steps
 ///   was reached.
 /// - `OneRace` where nothing is wrong with the input, but it has no race, or more than one.
-/// - `Setting` where the changes do not fit the settings of the input's race ([`Changes::apply`]).
 /// - `Runtime` and `Memory` as `live_race`, and `Memory` where an allocation was refused.
 /// - `Write` where a step of the output failed or took no byte, the flush failed, or the bound of 4,294,967,296 steps
 ///   was reached.
@@ -82,8 +80,8 @@ where
         (PutsPart O.contents O.puts O.flushes output.old output.new) (output.new ≡ output.old) changes told.new result }
     ensures quiet { KeepsTold told.old told.new result }
 {
-    let timeline = take_race(alloc, input)?;
-    let run = run_changed(rt, alloc, &timeline, changes, port);
+    let timeline = take_race(alloc, input)?.with_changes(changes);
+    let run = run_race(rt, alloc, &timeline, port);
     drop(timeline);
     let run = run?;
     *told = run.told;
@@ -109,25 +107,6 @@ struct Run {
     text: Vec<u8>,
     told: Told,
     ended: Outcome3,
-}
-
-// Runs the race with the changes.
-fn run_changed<R>(
-    rt: &R,
-    alloc: Global,
-    own: &Timeline,
-    changes: Changes,
-    port: u16,
-) -> Result<Run, LiveFault>
-where
-    R: Wait + Clock + RandomSource + AllocGlobal + Net,
-    ensures { RunsChanged changes own.now result }
-{
-    let settings = changes.apply(own.settings())?;
-    let timeline = with_settings(alloc, own, settings)?;
-    let run = run_race(rt, alloc, &timeline, port);
-    drop(timeline);
-    run
 }
 
 // Runs the race.

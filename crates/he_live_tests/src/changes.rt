@@ -1,8 +1,8 @@
 // Races of which some settings are changed.
 
 use crate::homes::{Lender, free_port, replays};
-use he_live::{Changes, LiveFault, Told, live};
-use he_plan::{Outcome3, Range};
+use he_live::{Told, live};
+use he_plan::{Changes, Outcome3, Range};
 use he_stream::{FromReader, ToWriter};
 use std::mem::drop;
 use std::net::{Net, TcpListener, TcpStream};
@@ -19,12 +19,6 @@ a 0 127.0.0.1 127.0.0.2
 end
 ";
 
-const SLOWER: Changes = Changes {
-    attempt: Some(150),
-    limit: Some(4000),
-    ..Changes::NONE
-};
-
 // The settings in the record; the others are the race's own.
 const SLOWER_LINES: &[u8] = b"race 1
 set resolution 50
@@ -33,30 +27,23 @@ set count 1
 set limit 4000
 ";
 
-// More than the delay of the race.
-const FLOOR: Changes = Changes {
-    floor: Some(21),
-    ..Changes::NONE
-};
+// A floor above the delay of the race is that delay.
+const FLOOR_LINES: &[u8] = b"race 2
+set resolution 50
+set attempt 20
+set count 1
+set limit 30000
+set floor 20
+";
 
-// Less than any delay.
-const DELAY: Changes = Changes {
-    attempt: Some(9),
-    ..Changes::NONE
-};
-
-const GREATEST_FLOOR: Changes = Changes {
-    floor: Some(2000),
-    ..Changes::NONE
-};
-
-// More than any delay.
-const NO_FLOOR: Changes = Changes {
-    floor: Some(2001),
-    ..Changes::NONE
-};
-
-fn is_slower<R: Lender + Net>(rt: &R, port: u16) -> Result<bool, Fail> {
+// Whether the race, run with these changes, takes so long or longer, and its record begins so and replays.
+fn is_run<R: Lender + Net>(
+    rt: &R,
+    port: u16,
+    changes: Changes,
+    least: u64,
+    lines: &[u8],
+) -> Result<bool, Fail> {
     let mut input = FromReader::new(FakeReader::new(TWO, usize::MAX));
     let mut output = ToWriter::new(Vec::new(rt.alloc()));
     let mut told = Told::new(rt.alloc());
@@ -66,59 +53,38 @@ fn is_slower<R: Lender + Net>(rt: &R, port: u16) -> Result<bool, Fail> {
         &mut input,
         &mut output,
         port,
-        SLOWER,
+        changes,
         &mut told,
     );
-    let is_late = matches!(ended, Ok(Outcome3::Exhausted(tick)) if tick >= 150);
+    let is_late = matches!(ended, Ok(Outcome3::Exhausted(tick)) if tick >= least);
     let is_replayed = match output.writer().strip_suffix(told.record.as_slice()) {
         Some(transcript) => replays(rt, transcript, &told.record),
         None => Ok(false),
     };
-    let is_recorded = told.record.starts_with(SLOWER_LINES) && told.failed.len() == 2;
+    let is_recorded = told.record.starts_with(lines) && told.failed.len() == 2;
     drop(told);
     let is_replayed = is_replayed?;
     Ok(is_late && is_recorded && is_replayed)
 }
 
-// Whether the race is refused so, with nothing written or told.
-fn is_refused<R: Lender + Net>(rt: &R, changes: Changes, range: Range) -> bool {
-    let mut input = FromReader::new(FakeReader::new(TWO, usize::MAX));
-    let mut output = ToWriter::new(Vec::new(rt.alloc()));
-    let mut told = Told::new(rt.alloc());
-    let ended = live(
-        rt,
-        rt.alloc(),
-        &mut input,
-        &mut output,
-        1,
-        changes,
-        &mut told,
-    );
-    let is_quiet = output.writer().is_empty() && told.record.is_empty() && told.failed.is_empty();
-    drop(told);
-    ended == Err(LiveFault::Setting(range)) && is_quiet
-}
-
-fn is_slower_at_a_free_port<R: Lender + Net<Listener = TcpListener, Stream = TcpStream>>(
+fn is_run_at_a_free_port<R: Lender + Net<Listener = TcpListener, Stream = TcpStream>>(
     rt: &R,
+    changes: Result<Changes, Range>,
+    least: u64,
+    lines: &[u8],
 ) -> Result<bool, Fail> {
     let port = free_port(rt)?;
-    is_slower(rt, port)
+    match changes {
+        Ok(changes) => is_run(rt, port, changes, least, lines),
+        Err(_) => Ok(false),
+    }
 }
 
 #[test]
 fn changed_settings_are_those_of_the_race(rt: HostRuntime) -> Result<(), Fail> {
-    assert!(rt; is_slower_at_a_free_port(&rt)?);
-    assert!(rt; is_refused(&rt, FLOOR, Range::Floor));
-    assert!(rt; is_refused(&rt, DELAY, Range::Attempt));
+    let slower = Changes::new(None, Some(150), None, Some(4000), None);
+    assert!(rt; is_run_at_a_free_port(&rt, slower, 150, SLOWER_LINES)?);
+    let floor = Changes::new(None, None, None, None, Some(21));
+    assert!(rt; is_run_at_a_free_port(&rt, floor, 20, FLOOR_LINES)?);
     Ok(())
-}
-
-#[test]
-fn changes_that_fit_no_race_are_known_without_one(rt: HostRuntime) {
-    assert_eq!(rt; Changes::NONE.check(), Ok(()));
-    assert_eq!(rt; FLOOR.check(), Ok(()));
-    assert_eq!(rt; GREATEST_FLOOR.check(), Ok(()));
-    assert_eq!(rt; NO_FLOOR.check(), Err(Range::Floor));
-    assert_eq!(rt; DELAY.check(), Err(Range::Attempt));
 }

@@ -1,7 +1,8 @@
 // What each fault leaves, and what is written of a race that is read and run.
 
 use crate::homes::{Lender, ONE, REFUSED, Wanted, race_on};
-use he_live::{Changes, LiveFault, Reason, Told, live};
+use he_live::{LiveFault, Reason, Told, live};
+use he_plan::Changes;
 use he_stream::{FromReader, ToWriter};
 use he_text::{TextFault, TextKind};
 use std::fs::File;
@@ -115,7 +116,7 @@ fn is_right<R: Lender + Net>(rt: &R, row: &Row) -> bool {
         &mut input,
         &mut output,
         1,
-        Changes::NONE,
+        Changes::none(),
         &mut told,
     );
     drop(told);

@@ -4,8 +4,8 @@ use crate::homes::{
     End, Lender, ONE, REFUSED, Result3, Wanted, descriptors, free_port, listen, race, replays,
 };
 use he_addr::Ip;
-use he_live::{Changes, FailedAttempt, Reason, Told, live};
-use he_plan::Outcome3;
+use he_live::{FailedAttempt, Reason, Told, live};
+use he_plan::{Changes, Outcome3};
 use he_stream::{FromReader, ToWriter};
 use std::io::Read;
 use std::mem::drop;
@@ -233,7 +233,7 @@ fn is_told<R: Lender + Net<Listener = TcpListener, Stream = StdStream>>(
         &mut input,
         &mut output,
         port,
-        Changes::NONE,
+        Changes::none(),
         &mut told,
     );
     let is_one = told.failed.as_slice() == [FIRST_REFUSED].as_slice();
