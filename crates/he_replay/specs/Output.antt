@@ -21,19 +21,20 @@ IsTranscriptText text race = (report : Report) × IsTranscript race report × (t
 abbrev pub IsOrderText : List ℕ → Race → Type 0
 IsOrderText text race = text ≡ order_text race
 
--- which texts a race may have, by its number in the input and the line where it begins, both counted from 1
+-- what text a race has, by its number in the input and the line where it begins, both counted from 1
 abbrev pub TextRelation : Type 1
 TextRelation = ℕ → ℕ → List ℕ → Race → Type 0
 
--- the text of what is asked for of the race, which has these changes of its settings. They don't move an order.
+-- the text of what is asked for of the race of this number, which begins at this line and has these changes of its
+-- settings. Changes don't move an order.
 abbrev pub IsTextOf : Content → ChangeValues → ℕ → ℕ → List ℕ → Race → Type 0
 IsTextOf contents.Transcript changes number line text race = IsTranscriptText text (changed changes race)
 IsTextOf contents.Order changes number line text race = IsOrderText text race
 IsTextOf contents.Explanation changes number line text race = IsExplanation text (changed changes race)
 IsTextOf contents.Story changes number line text race = IsStory number line text (changed changes race)
 
--- the bytes are timeline texts of the races, one behind the other, and the text has a text of each; of the first, which
--- has this number and begins at this line, and so on
+-- the bytes are, one after the other, a timeline text of each of the races, of which the first has this number and begins
+-- at this line; and the text is, one after the other, a text of each, by its number and its line
 abbrev pub AreTold : TextRelation → ℕ → ℕ → List Race → List ℕ → List ℕ → Type 0
 AreTold IsText number line [] bytes text = (bytes ≡ []) × (text ≡ [])
 AreTold IsText number line (race ∷ races) bytes text =
