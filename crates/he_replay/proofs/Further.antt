@@ -37,7 +37,7 @@ module _ (IsText : TextRelation) (bytes : List ℕ) (from : Walk) (Took Done : L
         let counted = at.counted in
         let lined = at.lined in
         AreTold-append IsText 1 1 at.races at.before at.text at.told told.races front text
-            (told_at IsText told.races front text _ _ (1 + length at.races) (1 + line_count at.before) (omega arith) (omega arith) told.told)
+        (told_at IsText told.races front text _ _ (1 + length at.races) (1 + line_count at.before) (omega arith) (omega arith) told.told)
 
     counted : walk.races ≡ length (at.races ++ told.races)
     counted = let before = at.counted in let more = told.counted in let longer = length-append at.races told.races in omega arith

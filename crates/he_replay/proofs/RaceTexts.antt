@@ -27,9 +27,17 @@ AreTold-append IsText number line [] bytes text (none, nothing) others rest more
     subst Bytes (sym none) (subst Text (sym nothing) (told_at IsText others rest more _ _ number line (omega arith) (omega arith) are))
 AreTold-append IsText number line (race ∷ races) bytes text (own, behind, split, is, told, after, written, is_told, later) others rest more are =
     let lines : line_count bytes ≡ line_count own + line_count behind = ap line_count split ∙ line_count-append own behind in
-    let next = told_at IsText others rest more _ _ (number + 1 + length races) (line + line_count own + line_count behind) (omega arith) (omega arith) are in
-    (own, behind ++ rest, ap (λ (b : List ℕ). b ++ rest) split ∙ append_assoc own behind rest, is, told, after ++ more, ap (λ (t : List ℕ). t ++ more) written ∙ append_assoc told after more, is_told,
-    AreTold-append IsText (number + 1) (line + line_count own) races behind after later others rest more next)
+    let next = told_at IsText others rest more _ _ (number + 1 + length races) (line + line_count own + line_count behind) (omega arith) (omega arith) are in (
+      own,
+      behind ++ rest,
+      ap (λ (b : List ℕ). b ++ rest) split ∙ append_assoc own behind rest,
+      is,
+      told,
+      after ++ more,
+      ap (λ (t : List ℕ). t ++ more) written ∙ append_assoc told after more,
+      is_told,
+      AreTold-append IsText (number + 1) (line + line_count own) races behind after later others rest more next,
+    )
 
 -- their bytes are timeline texts of the races
 pub told_texts : (IsText : TextRelation) (number line : ℕ) (races : List Race) (bytes text : List ℕ) → AreTold IsText number line races bytes text → AreRaceTexts races bytes
@@ -41,9 +49,17 @@ told_texts IsText number line (race ∷ races) bytes text (own, behind, split, i
 pub told_anywhere : (IsText : TextRelation) → IsAnywhere IsText → (number line other_number other_line : ℕ) (races : List Race) (bytes text : List ℕ) → AreTold IsText number line races bytes text
     → AreTold IsText other_number other_line races bytes text
 told_anywhere IsText anywhere number line other_number other_line [] bytes text are = are
-told_anywhere IsText anywhere number line other_number other_line (race ∷ races) bytes text (own, behind, split, is, told, more, written, is_told, later) =
-    (own, behind, split, is, told, more, written, anywhere number line other_number other_line told race is_told,
-    told_anywhere IsText anywhere (number + 1) (line + line_count own) (other_number + 1) (other_line + line_count own) races behind more later)
+told_anywhere IsText anywhere number line other_number other_line (race ∷ races) bytes text (own, behind, split, is, told, more, written, is_told, later) = (
+  own,
+  behind,
+  split,
+  is,
+  told,
+  more,
+  written,
+  anywhere number line other_number other_line told race is_told,
+  told_anywhere IsText anywhere (number + 1) (line + line_count own) (other_number + 1) (other_line + line_count own) races behind more later,
+)
 
 -- an input that begins with the races has one text of them, where each has one
 pub one_told : (IsText : TextRelation) → ((number line : ℕ) (race : Race) (text other : List ℕ) → IsText number line text race → IsText number line other race → text ≡ other)

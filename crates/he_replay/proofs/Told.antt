@@ -14,7 +14,7 @@ use Rattle.he_text.proofs.WalkLaws.{line_count-append}
 use Rattle.he_replay.specs.declared.rounds.Told.{Told}
 use Rattle.he_replay.specs.Output.{AreTold, TextRelation}
 use Rattle.he_replay.specs.Pieces.{IsAnywhere}
-use Rattle.he_replay.specs.Rounds.{HasTold, Tells, TellsOn, WritesRace}
+use Rattle.he_replay.specs.Rounds.{HasTold, Tells, TellsOn, WritesText}
 use Rattle.he_replay.proofs.RaceTexts.{AreTold-append, told_anywhere, told_at}
 
 -- up to the end of a range: up to its start, and the range
@@ -39,7 +39,7 @@ none_told IsText bytes walk text front few none =
 
 -- one race more
 pub one_more_told : (IsText : TextRelation) (bytes from text new : List ℕ) (begun walk next : Walk) (race : Race)
-    → TellsOn IsText bytes begun from text walk → PassesRace bytes walk next race → next.races ≤ most_races → WritesRace (IsText (walk.races + 1) (walk.lines + 1)) race text new
+    → TellsOn IsText bytes begun from text walk → PassesRace bytes walk next race → next.races ≤ most_races → WritesText (λ told. IsText (walk.races + 1) (walk.lines + 1) told race) text new
     → TellsOn IsText bytes begun from new next
 one_more_told IsText bytes from text new begun walk next race on passes few written = λ races lines before.
     let told = on races lines before in

@@ -21,17 +21,21 @@ IsTranscriptText text race = (report : Report) × IsTranscript race report × (t
 abbrev pub IsOrderText : List ℕ → Race → Type 0
 IsOrderText text race = text ≡ order_text race
 
--- what text a race has, by its number in the input and the line where it begins, both counted from 1
+-- the text of what is asked for of the race, which has this number in the input and begins at this line, both counted
+-- from 1
+abbrev pub IsTextOf : Content → ℕ → ℕ → List ℕ → Race → Type 0
+IsTextOf contents.Transcript number line = IsTranscriptText
+IsTextOf contents.Order number line = IsOrderText
+IsTextOf contents.Explanation number line = IsExplanation
+IsTextOf contents.Story number line = IsStory number line
+
+-- the same of the race with these changes of its settings
+abbrev pub IsTextWith : Content → ChangeValues → ℕ → ℕ → List ℕ → Race → Type 0
+IsTextWith content changes number line text race = IsTextOf content number line text (changed changes race)
+
+-- whether a text is one of a race, by the race's number and its line
 abbrev pub TextRelation : Type 1
 TextRelation = ℕ → ℕ → List ℕ → Race → Type 0
-
--- the text of what is asked for of the race of this number, which begins at this line and has these changes of its
--- settings. Changes don't move an order.
-abbrev pub IsTextOf : Content → ChangeValues → ℕ → ℕ → List ℕ → Race → Type 0
-IsTextOf contents.Transcript changes number line text race = IsTranscriptText text (changed changes race)
-IsTextOf contents.Order changes number line text race = IsOrderText text race
-IsTextOf contents.Explanation changes number line text race = IsExplanation text (changed changes race)
-IsTextOf contents.Story changes number line text race = IsStory number line text (changed changes race)
 
 -- the bytes are, one after the other, a timeline text of each of the races, of which the first has this number and begins
 -- at this line; and the text is, one after the other, a text of each, by its number and its line

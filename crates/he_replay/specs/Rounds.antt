@@ -17,16 +17,16 @@ use Rattle.he_replay.specs.declared.fault.ReplayFault.{ReplayFault}
 use Rattle.he_replay.specs.declared.fault.ReplayFault.TheVariants as faults
 use Rattle.he_replay.specs.declared.race_texts.Asked.{Asked}
 use Rattle.he_replay.specs.declared.rounds.Told.{Told}
-use Rattle.he_replay.specs.Output.{AreTold, IsTextOf, TextRelation}
+use Rattle.he_replay.specs.Output.{AreTold, IsTextWith, TextRelation}
 
 -- the text of what is asked for of the race
 abbrev pub IsAsked : Asked → ℕ → ℕ → List ℕ → Race → Type 0
-IsAsked asked = IsTextOf asked.content asked.changes
+IsAsked asked = IsTextWith asked.content asked.changes
 
--- a text of the race was appended
-pub record WritesRace (IsText : List ℕ → Race → Type 0) (race : Race) (old new : List ℕ) : Type 0 where
+-- a text that is such was appended
+pub record WritesText (IsSuch : List ℕ → Type 0) (old new : List ℕ) : Type 0 where
   pub told : List ℕ
-  pub is_told : IsText told race
+  pub is_told : IsSuch told
   pub appended : new ≡ old ++ told
 
 -- of bytes behind so many races and lines, the races that the walk passed were told

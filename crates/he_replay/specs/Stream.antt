@@ -7,7 +7,7 @@ use Rattle.he_text.specs.declared.inputs.InputFault.{InputFault}
 use Rattle.he_text.specs.declared.inputs.InputFault.TheVariants as inputs
 use Rattle.he_text.specs.Ranges.{most_races}
 use Rattle.he_replay.specs.Known.{Stands}
-use Rattle.he_replay.specs.Output.{AreTold, IsOutput, IsOrderText, IsTextOf, TextRelation}
+use Rattle.he_replay.specs.Output.{AreTold, IsOutput, IsOrderText, IsTextWith, TextRelation}
 use Rattle.he_replay.specs.declared.race_texts.Content.TheVariants as contents
 use Rattle.he_replay.specs.declared.fault.ReplayFault.{ReplayFault}
 use Rattle.he_replay.specs.declared.fault.ReplayFault.TheVariants.{Text, Read, Write, Memory}
@@ -62,7 +62,7 @@ Streams IsText Gave Taken Whole Part Put (Err Memory) = PutsSome IsText Gave Tak
 
 -- the transcripts of the input's races, each with the changes of its settings
 abbrev pub Replays : ChangeValues → (List ℕ → Bool → Type 0) → (List ℕ → Type 0) → (List ℕ → Type 0) → (List ℕ → Type 0) → (List ℕ → Type 0) → Result (Unit {0}) ReplayFault → Type 0
-Replays changes = Streams (IsTextOf contents.Transcript changes)
+Replays changes = Streams (IsTextWith contents.Transcript changes)
 
 -- the orders of the addresses of the input's races
 abbrev pub Orders : (List ℕ → Bool → Type 0) → (List ℕ → Type 0) → (List ℕ → Type 0) → (List ℕ → Type 0) → (List ℕ → Type 0) → Result (Unit {0}) ReplayFault → Type 0
@@ -70,8 +70,8 @@ Orders = Streams (λ number line. IsOrderText)
 
 -- the explanations of the input's races, each with the changes of its settings
 abbrev pub Explanations : ChangeValues → (List ℕ → Bool → Type 0) → (List ℕ → Type 0) → (List ℕ → Type 0) → (List ℕ → Type 0) → (List ℕ → Type 0) → Result (Unit {0}) ReplayFault → Type 0
-Explanations changes = Streams (IsTextOf contents.Explanation changes)
+Explanations changes = Streams (IsTextWith contents.Explanation changes)
 
 -- the stories of the input's races, each with the changes of its settings
 abbrev pub Stories : ChangeValues → (List ℕ → Bool → Type 0) → (List ℕ → Type 0) → (List ℕ → Type 0) → (List ℕ → Type 0) → (List ℕ → Type 0) → Result (Unit {0}) ReplayFault → Type 0
-Stories changes = Streams (IsTextOf contents.Story changes)
+Stories changes = Streams (IsTextWith contents.Story changes)

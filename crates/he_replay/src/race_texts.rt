@@ -3,8 +3,8 @@ ghost use Rattle.std.specs.Prelude.{◌≡◌, ◌++◌, OnOk};
 ghost use Rattle.he_explain.specs.Course.{IsExplanation};
 ghost use Rattle.he_story.specs.Story.{IsStory};
 ghost use Rattle.he_text.specs.Written.{transcript_text};
-ghost use Rattle.he_replay.specs.Output.{IsOrderText, IsTranscriptText};
-ghost use Rattle.he_replay.specs.Rounds.{IsAsked, WritesRace};
+ghost use Rattle.he_replay.specs.Output.{IsOrderText, IsTextOf, IsTranscriptText};
+ghost use Rattle.he_replay.specs.Rounds.{IsAsked, WritesText};
 
 use crate::limits::ORDER_ROOM;
 use he_explain::write_explanation;
@@ -45,15 +45,28 @@ impl Asked {
         line: u64,
         text: &mut Vec<u8, T>,
     ) -> Result<(), AllocError>
-        ensures { OnOk result (WritesRace (IsAsked self.now number line) race text.old.items text.new.items) }
+        ensures { OnOk result (WritesText (λ told. IsAsked self.now number line told race) text.old.items text.new.items) }
     {
         let timeline = race.with_changes(self.changes);
-        match self.content {
-            Content::Transcript => append_transcript(alloc, &timeline, text),
-            Content::Order => append_order(alloc, &timeline, text),
-            Content::Explanation => append_explanation(alloc, &timeline, text),
-            Content::Story => append_story(alloc, &timeline, number, line, text),
-        }
+        append(self.content, alloc, &timeline, number, line, text)
+    }
+}
+
+fn append<A: Allocator + Copy, T: Allocator + Copy>(
+    content: Content,
+    alloc: A,
+    timeline: &Timeline<A>,
+    number: usize,
+    line: u64,
+    text: &mut Vec<u8, T>,
+) -> Result<(), AllocError>
+    ensures { OnOk result (WritesText (λ told. IsTextOf content number line told timeline.now) text.old.items text.new.items) }
+{
+    match content {
+        Content::Transcript => append_transcript(alloc, timeline, text),
+        Content::Order => append_order(alloc, timeline, text),
+        Content::Explanation => append_explanation(alloc, timeline, text),
+        Content::Story => append_story(alloc, timeline, number, line, text),
     }
 }
 
@@ -62,7 +75,7 @@ fn append_transcript<A: Allocator + Copy, T: Allocator + Copy>(
     timeline: &Timeline<A>,
     text: &mut Vec<u8, T>,
 ) -> Result<(), AllocError>
-    ensures { OnOk result (WritesRace IsTranscriptText timeline.now text.old.items text.new.items) }
+    ensures { OnOk result (WritesText (λ told. IsTranscriptText told timeline.now) text.old.items text.new.items) }
 {
     let transcript = transcript_of(alloc, timeline).map_err(|_| AllocError)?;
     append_text(&transcript, text)
@@ -82,7 +95,7 @@ fn append_order<A: Allocator + Copy, T: Allocator + Copy>(
     timeline: &Timeline<A>,
     text: &mut Vec<u8, T>,
 ) -> Result<(), AllocError>
-    ensures { OnOk result (WritesRace IsOrderText timeline.now text.old.items text.new.items) }
+    ensures { OnOk result (WritesText (λ told. IsOrderText told timeline.now) text.old.items text.new.items) }
 {
     let mut order = Vec::with_capacity(alloc, ORDER_ROOM)?;
     write_order(alloc, timeline, &mut order).map_err(|_| AllocError)?;
@@ -94,7 +107,7 @@ fn append_explanation<A: Allocator + Copy, T: Allocator + Copy>(
     timeline: &Timeline<A>,
     text: &mut Vec<u8, T>,
 ) -> Result<(), AllocError>
-    ensures { OnOk result (WritesRace IsExplanation timeline.now text.old.items text.new.items) }
+    ensures { OnOk result (WritesText (λ told. IsExplanation told timeline.now) text.old.items text.new.items) }
 {
     let mut explanation = Vec::new(alloc);
     write_explanation(alloc, timeline, &mut explanation).map_err(|_| AllocError)?;
@@ -108,7 +121,7 @@ fn append_story<A: Allocator + Copy, T: Allocator + Copy>(
     line: u64,
     text: &mut Vec<u8, T>,
 ) -> Result<(), AllocError>
-    ensures { OnOk result (WritesRace (IsStory number line) timeline.now text.old.items text.new.items) }
+    ensures { OnOk result (WritesText (λ told. IsStory number line told timeline.now) text.old.items text.new.items) }
 {
     let mut story = Vec::new(alloc);
     write_story(alloc, timeline, number, line, &mut story).map_err(|_| AllocError)?;
