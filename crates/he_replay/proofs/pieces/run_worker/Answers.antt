@@ -1,6 +1,7 @@
 use Rattle.std.proofs.Common.{All, sym, subst}
 use Rattle.std.proofs.lemmas.List.Elements.{All-push}
 use Rattle.he_replay.specs.Pieces.{IsPiece}
+use Rattle.he_replay.specs.Rounds.{IsAsked}
 use Rattle.he_replay.proofs.pieces.run_worker.Goals as goal
 use Rattle.he_replay.proofs.pieces.run_worker.Goals.{then-take+in_ok-tell_piece+in_ok-push, else-take}
 

@@ -1,5 +1,6 @@
 use Rattle.he_board.specs.Passes.{IsPassOf}
 use Rattle.he_replay.specs.Pieces.{ArePieces}
+use Rattle.he_replay.specs.Rounds.{IsAsked}
 use Rattle.he_replay.proofs.pieces.run_worker.Given as goal
 
 abbrev pub invariant-loop-number : goal.invariant-loop-number
