@@ -39,6 +39,30 @@ order 1 198.51.100.1 source 192.0.2.2, behind 0 by rule 6, prefer higher precede
 end
 ";
 
+const STORY: &[u8] =
+    b"race 1, line 1: connected to 2001:db8:1::1 after 55 ms, by attempt 1 of 1
+preferred, once every answer is known:
+  1. 2001:db8:1::1 from 2001:db8::2
+  2. 198.51.100.1 from 192.0.2.2; precedence 35, the one before 40 (RFC 6724 rule 6)
+what happened:
+  20 ms  AAAA answer: 1 address to try; the A answer is not there yet
+  20 ms  attempt 1 to 2001:db8:1::1: the AAAA answer is there; the only address known
+  25 ms  A answer: 1 address to try
+  55 ms  attempt 1 connected after 35 ms
+no address of the A answer was tried
+";
+
+// With a limit of 30.
+const SHORT_TRANSCRIPT: &[u8] = b"attempt 0 20 2001:db8:1::1 cancelled 30\nlimit 30\n";
+
+const COMPARISON: &[u8] = b"race 1, line 1: won after 55 ms by 2001:db8:1::1; \
+with the changes given up at its limit after 30 ms, won only without them
+1 race: 0 sooner, 0 later, 0 at the same time, 0 won only with the changes, \
+1 won only without them, 0 not won either way; no race was won both ways
+";
+
+const SETTING_LINE: &[u8] = b"error: invalid value for '--set <NAME=N>'";
+
 const WRONG_TEXT: &[u8] = b"race 1\nend";
 
 // A race that is over at once, without a socket.
@@ -90,7 +114,7 @@ type Row = (
 );
 
 // Commands that read a text.
-static TEXT_ROWS: [Row; 58] = [
+static TEXT_ROWS: [Row; 70] = [
     (&["he", "replay"], TEXT, Streams::Whole, 0, TRANSCRIPT, b""),
     (
         &["he", "replay", "--workers", "1"],
@@ -110,7 +134,48 @@ static TEXT_ROWS: [Row; 58] = [
     ),
     (&["he", "order"], TEXT, Streams::Whole, 0, ORDER, b""),
     (
+        &["he", "replay", "--set", "limit=30"],
+        TEXT,
+        Streams::Whole,
+        0,
+        SHORT_TRANSCRIPT,
+        b"",
+    ),
+    (
+        &["he", "replay", "--set=attempt=9"],
+        TEXT,
+        Streams::Whole,
+        2,
+        b"",
+        SETTING_LINE,
+    ),
+    (
+        &["he", "replay", "--set=floor=30", "--set=attempt=20"],
+        TEXT,
+        Streams::Whole,
+        2,
+        b"",
+        SETTING_LINE,
+    ),
+    (&["he", "explain"], TEXT, Streams::Whole, 0, STORY, b""),
+    (
         &["he", "explain"],
+        TEXT,
+        Streams::BreaksOff,
+        1,
+        STORY,
+        READ_LINE,
+    ),
+    (
+        &["he", "explain", "--set", "limit=30"],
+        TEXT,
+        Streams::Whole,
+        0,
+        b"race 1, line 1: not connected by the limit of 30 ms, after 1 attempt\n",
+        b"",
+    ),
+    (
+        &["he", "explain", "--lines"],
         TEXT,
         Streams::Whole,
         0,
@@ -118,7 +183,7 @@ static TEXT_ROWS: [Row; 58] = [
         b"",
     ),
     (
-        &["he", "explain"],
+        &["he", "explain", "--lines"],
         TEXT,
         Streams::BreaksOff,
         1,
@@ -126,12 +191,36 @@ static TEXT_ROWS: [Row; 58] = [
         READ_LINE,
     ),
     (
-        &["he", "explain"],
+        &["he", "explain", "--lines"],
         TEXT,
         Streams::Room(7),
         1,
         b"order 0",
         WRITE_LINE,
+    ),
+    (
+        &["he", "compare", "--set", "limit=30"],
+        TEXT,
+        Streams::Whole,
+        0,
+        COMPARISON,
+        b"",
+    ),
+    (
+        &["he", "compare", "--set", "limit=30"],
+        TEXT,
+        Streams::BreaksOff,
+        1,
+        COMPARISON,
+        READ_LINE,
+    ),
+    (
+        &["he", "compare"],
+        TEXT,
+        Streams::Whole,
+        2,
+        b"",
+        b"error: the following required arguments were not provided:",
     ),
     (
         &["he", "explain", "--help"],
@@ -503,6 +592,30 @@ static TEXT_ROWS: [Row; 58] = [
         1,
         b"1 race",
         WRITE_LINE,
+    ),
+    (
+        &["he", "check", "--all"],
+        TEXT,
+        Streams::Whole,
+        0,
+        b"1 race, 9 lines\n",
+        b"",
+    ),
+    (
+        &["he", "check", "--all"],
+        WRONG_TEXT,
+        Streams::Whole,
+        1,
+        b"",
+        b"he: line 2: unfinished\n  end\n     ^\n",
+    ),
+    (
+        &["he", "check", "--all"],
+        TEXT,
+        Streams::BreaksOff,
+        1,
+        b"",
+        READ_LINE,
     ),
     (
         &["he", "check", "more"],

@@ -1,2 +1,3 @@
 mod LoopLaws
 mod Records
+mod Running

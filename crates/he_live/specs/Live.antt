@@ -52,17 +52,12 @@ pub record GivesNone (Given : List ℕ → Bool → Type 0) (why : NotOneRace) :
   pub given : Given input is_broken
   pub none : IsNotOne input is_broken why
 
--- the input is one race, and this is it with the changes of its settings
-pub record GivesChanged (Given : List ℕ → Bool → Type 0) (changes : ChangeValues) (race : Race) : Type 0 where
-  pub own : Race
-  pub given : GivesOne Given own
-  pub is : race ≡ changed changes own
-
--- the input is one race, and this is the text of a run of it with the changes, of which this is told, and which ended so
+-- the input is one race, and this is the text of a run of it with the changes of its settings, of which this is told, and
+-- which ended so
 pub record GivesText (Given : List ℕ → Bool → Type 0) (changes : ChangeValues) (text : List ℕ) (told : Told) (result : Outcome3) : Type 0 where
   pub race : Race
-  pub given : GivesChanged Given changes race
-  pub run : IsLiveText race text told result
+  pub given : GivesOne Given race
+  pub run : IsLiveText (changed changes race) text told result
 
 -- Given: what the input gave, and whether it broke off after that; Whole and Part: the text of which all was put into
 -- the output and then flushed, or a first part until that failed; Kept: nothing was put into the output; told: what is
@@ -75,7 +70,7 @@ Lives Given Whole Part Kept changes told (Err (faults.Text fault)) = GivesNone G
 Lives Given Whole Part Kept changes told (Err faults.OneRace) = GivesNone Given ones.Count × Kept
 Lives Given Whole Part Kept changes told (Err faults.Read) = GivesNone Given (ones.Fault inputs.Read) × Kept
 Lives Given Whole Part Kept changes told (Err faults.Write) = (text : List ℕ) × (result : Outcome3) × GivesText Given changes text told result × Part text
-Lives Given Whole Part Kept changes told (Err faults.Runtime) = (race : Race) × GivesChanged Given changes race × Kept
+Lives Given Whole Part Kept changes told (Err faults.Runtime) = (race : Race) × GivesOne Given race × Kept
 Lives Given Whole Part Kept changes told (Err faults.Memory) = Kept
 
 -- after a fault before the race was run to its end, what is told is as it was

@@ -5,7 +5,6 @@ use Rattle.std.proofs.Math.Seq.{take-add}
 use Rattle.std.proofs.KnownBytes.{Consumes-kept, Consumes-trans}
 use Rattle.std.specs.Io.KnownBytes.{Consumes, Keeps}
 use Rattle.std.specs.Result.{IsErr, IsErrAnd}
-use Rattle.he_plan.specs.Race.{Race}
 use Rattle.he_stream.specs.declared.answer.Flushed.{Flushed}
 use Rattle.he_stream.specs.declared.answer.Put.{Put}
 use Rattle.he_stream.specs.Output.{PutsAndEnds, PutsInRounds, PutsRoundsPart, PutsWhole}
@@ -17,13 +16,14 @@ use Rattle.he_text.specs.Ranges.{most_races}
 use Rattle.he_text.specs.Walks.{ending_of}
 use Rattle.he_replay.specs.declared.fault.ReplayFault.{ReplayFault}
 use Rattle.he_replay.specs.declared.fault.ReplayFault.TheVariants as faults
+use Rattle.he_replay.specs.Output.{TextRelation}
 use Rattle.he_replay.specs.Rounds.{EndsWithFault, GoesOn, HasTold, IsAt, IsFaultPast, PutsAny, PutsRound}
 use Rattle.he_replay.specs.Stream.{PutsOutput, Streams, TellsSome}
 use Rattle.he_replay.proofs.Further.{last_output, not_broken, one_more_round, round_failed, round_on, some_told, told_output}
 use Rattle.he_replay.proofs.Told.{none_told}
 
 -- a fault that is handed on
-pub ends_handed : (IsText : List ℕ → Race → Type 0) (Gave : List ℕ → Bool → Type 0) (Taken Whole Part Put : List ℕ → Type 0) (result : Result (Unit {0}) ReplayFault) (fault : ReplayFault)
+pub ends_handed : (IsText : TextRelation) (Gave : List ℕ → Bool → Type 0) (Taken Whole Part Put : List ℕ → Type 0) (result : Result (Unit {0}) ReplayFault) (fault : ReplayFault)
     → IsErr result × IsErrAnd result (λ f. f ≡ fault) → Streams IsText Gave Taken Whole Part Put (Err fault) → Streams IsText Gave Taken Whole Part Put result
 ends_handed IsText Gave Taken Whole Part Put (Ok done) fault told ends = absurd told.1
 ends_handed IsText Gave Taken Whole Part Put (Err found) fault told ends = subst (λ (f : ReplayFault). Streams IsText Gave Taken Whole Part Put (Err f)) (sym told.1) ends
@@ -34,7 +34,7 @@ not_open true is = cc
 not_open false is = cc
 
 -- a round in which nothing was ready
-pub told_none : {S : Type 0} (IsText : List ℕ → Race → Type 0) (contents : S → Option (List ℕ)) (puts : S → Put → S → Type 0) (flushes : S → Flushed → S → Type 0)
+pub told_none : {S : Type 0} (IsText : TextRelation) (contents : S → Option (List ℕ)) (puts : S → Put → S → Type 0) (flushes : S → Flushed → S → Type 0)
     (bytes : List ℕ) (walk : Walk) (state : S) → walk.end ≡ 0 → walk.races ≤ most_races → GoesOn IsText contents puts flushes endings.Open bytes walk bytes walk state state
 told_none IsText contents puts flushes bytes walk state front few = record {
   text = [];
@@ -46,7 +46,7 @@ told_none IsText contents puts flushes bytes walk state front few = record {
   at = ap (λ (n : ℕ). record { end = n; races = walk.races; lines = walk.lines }) front;
 }
 
-module _ (IsText : List ℕ → Race → Type 0) (Done : List ℕ → Type 0) (a b c : Option (List ℕ)) (old new : List ℕ) (filled : ℕ) (walk : Walk)
+module _ (IsText : TextRelation) (Done : List ℕ → Type 0) (a b c : Option (List ℕ)) (old new : List ℕ) (filled : ℕ) (walk : Walk)
     (same : take filled new ≡ take filled old) (at : IsAt IsText (take filled old) walk (Consumes a b) Done)
   where
     -- a step gave more bytes
@@ -60,7 +60,6 @@ module _ (IsText : List ℕ → Race → Type 0) (Done : List ℕ → Type 0) (a
           races = at.races;
           before = at.before;
           text = at.text;
-          whole = at.whole;
           told = at.told;
           front = at.front;
           counted = at.counted;
@@ -76,7 +75,6 @@ module _ (IsText : List ℕ → Race → Type 0) (Done : List ℕ → Type 0) (a
       races = at.races;
       before = at.before;
       text = at.text;
-      whole = at.whole;
       told = at.told;
       front = at.front;
       counted = at.counted;
@@ -86,7 +84,7 @@ module _ (IsText : List ℕ → Race → Type 0) (Done : List ℕ → Type 0) (a
       put = at.put;
     }
 
-module _ {S : Type 0} (IsText : List ℕ → Race → Type 0) (contents : S → Option (List ℕ)) (puts : S → Put → S → Type 0) (flushes : S → Flushed → S → Type 0)
+module _ {S : Type 0} (IsText : TextRelation) (contents : S → Option (List ℕ)) (puts : S → Put → S → Type 0) (flushes : S → Flushed → S → Type 0)
     (Took : List ℕ → Type 0) (first state last : S) (bytes : List ℕ) (from : Walk) (at : IsAt IsText bytes from Took (PutsInRounds contents puts flushes first state))
   where
     abbrev Done : List ℕ → Type 0
@@ -113,7 +111,6 @@ module _ {S : Type 0} (IsText : List ℕ → Race → Type 0) (contents : S → 
       before = at.before;
       rest = bytes;
       parts = refl;
-      whole = at.whole;
       few = let same = at.counted in let few = at.few in omega arith;
       told = at.told;
     }

@@ -1,7 +1,6 @@
 -- A round more: where a call stands after it, and what it comes to when it ends there.
-use Rattle.std.proofs.Common.{ℕ, ◌≡◌, ◌≤◌, ◌++◌, ◌∙◌, List, [], ◌∷◌, length, take, drop, Bool, true, false, Option, Some, None, Result, Ok, Err, ◌⊎◌, ap, sym, subst, refl, arith, inl, inr, append_assoc, length-append, take-append-drop}
+use Rattle.std.proofs.Common.{ℕ, ◌≡◌, ◌+◌, ◌≤◌, ◌++◌, ◌∙◌, List, [], ◌∷◌, length, take, drop, Bool, true, false, Option, Some, None, Result, Ok, Err, ◌⊎◌, ap, sym, subst, refl, arith, inl, inr, append_assoc, length-append, take-append-drop}
 use Rattle.std.proofs.lemmas.List.{append-nil}
-use Rattle.he_plan.specs.Race.{Race}
 use Rattle.he_stream.specs.declared.answer.Flushed.{Flushed}
 use Rattle.he_stream.specs.declared.answer.Put.{Put}
 use Rattle.he_stream.specs.Output.{PutsInRounds, PutsPart, PutsRoundsPart, PutsAndEnds, PutsWhole}
@@ -10,40 +9,41 @@ use Rattle.he_text.specs.declared.inputs.InputFault.TheVariants as inputs
 use Rattle.he_text.specs.declared.walks.Ending.{Ending}
 use Rattle.he_text.specs.declared.walks.Ending.TheVariants as endings
 use Rattle.he_text.specs.declared.walks.Walk.{Walk}
-use Rattle.he_text.specs.Inputs.{AreRaceTexts, AreTexts, IsFaultBehind, line_count}
+use Rattle.he_text.specs.Inputs.{IsFaultBehind, line_count}
 use Rattle.he_text.specs.Ranges.{most_races}
-use Rattle.he_text.specs.Text.{IsRaceText}
 use Rattle.he_text.specs.Walks.{MayFollow, ending_of}
-use Rattle.he_text.proofs.WalkLaws.{AreTexts-append, line_count-append}
+use Rattle.he_text.proofs.WalkLaws.{line_count-append}
 use Rattle.std.specs.Result.{IsErr, IsErrAnd}
 use Rattle.he_replay.specs.declared.fault.ReplayFault.{ReplayFault}
 use Rattle.he_replay.specs.declared.fault.ReplayFault.TheVariants as faults
 use Rattle.he_replay.specs.declared.rounds.Told.{Told}
-use Rattle.he_replay.specs.Output.{IsOutput}
+use Rattle.he_replay.specs.Output.{AreTold, IsOutput, TextRelation}
 use Rattle.he_replay.specs.Rounds.{GoesOn, HasTold, IsAt, IsFaultPast, PutsRound, PutsTold}
 use Rattle.he_replay.specs.Stream.{TellsSome}
+use Rattle.he_replay.proofs.RaceTexts.{AreTold-append, told_at, told_texts}
 
 -- the bytes up to the place and those behind it are the bytes
 parts_of : (before bytes : List ℕ) (end : ℕ) → before ++ bytes ≡ (before ++ take end bytes) ++ drop end bytes
 parts_of before bytes end = ap (λ (b : List ℕ). before ++ b) (sym (take-append-drop end bytes)) ∙ sym (append_assoc before (take end bytes) (drop end bytes))
 
-module _ (IsText : List ℕ → Race → Type 0) (bytes : List ℕ) (from : Walk) (Took Done : List ℕ → Type 0) (at : IsAt IsText bytes from Took Done)
+module _ (IsText : TextRelation) (bytes : List ℕ) (from : Walk) (Took Done : List ℕ → Type 0) (at : IsAt IsText bytes from Took Done)
     (text : List ℕ) (walk : Walk) (told : HasTold IsText bytes from.races from.lines text walk)
   where
     abbrev front : List ℕ
     front = take walk.end bytes
 
-    whole : AreRaceTexts (at.races ++ told.races) (at.before ++ front)
-    whole = AreTexts-append IsRaceText at.races at.before at.whole told.races front told.passed.whole
-
-    texts : AreTexts IsText (at.races ++ told.races) (at.text ++ text)
-    texts = AreTexts-append IsText at.races at.text at.told told.races text told.told
+    texts : AreTold IsText 1 1 (at.races ++ told.races) (at.before ++ front) (at.text ++ text)
+    texts =
+        let counted = at.counted in
+        let lined = at.lined in
+        AreTold-append IsText 1 1 at.races at.before at.text at.told told.races front text
+        (told_at IsText told.races front text _ _ (1 + length at.races) (1 + line_count at.before) (omega arith) (omega arith) told.told)
 
     counted : walk.races ≡ length (at.races ++ told.races)
-    counted = let before = at.counted in let more = told.passed.counted in let longer = length-append at.races told.races in omega arith
+    counted = let before = at.counted in let more = told.counted in let longer = length-append at.races told.races in omega arith
 
     lined : walk.lines ≡ line_count (at.before ++ front)
-    lined = let before = at.lined in let more = told.passed.lined in let all = line_count-append at.before front in omega arith
+    lined = let before = at.lined in let more = told.lined in let all = line_count-append at.before front in omega arith
 
     few : length (at.races ++ told.races) ≤ most_races
     few = let same = counted in let most = told.few in omega arith
@@ -55,7 +55,6 @@ module _ (IsText : List ℕ → Race → Type 0) (bytes : List ℕ) (from : Walk
       races = at.races ++ told.races;
       before = at.before ++ front;
       text = at.text ++ text;
-      whole = whole;
       told = texts;
       front = refl;
       counted = counted;
@@ -72,7 +71,6 @@ module _ (IsText : List ℕ → Race → Type 0) (bytes : List ℕ) (from : Walk
       before = at.before ++ front;
       rest = drop walk.end bytes;
       parts = parts_of at.before bytes walk.end;
-      whole = whole;
       few = few;
       told = texts;
     }
@@ -89,7 +87,7 @@ module _ (IsText : List ℕ → Race → Type 0) (bytes : List ℕ) (from : Walk
             before = at.before ++ front;
             rest = drop walk.end bytes ++ more;
             parts = ap (λ (b : List ℕ). b ++ more) (parts_of at.before bytes walk.end) ∙ append_assoc (at.before ++ front) (drop walk.end bytes) more;
-            whole = whole;
+            whole = told_texts IsText 1 1 (at.races ++ told.races) (at.before ++ front) (at.text ++ text) texts;
             few = few;
             fault_is = subst Lined lined (subst Counted counted is);
           };
@@ -117,7 +115,7 @@ pub not_broken : (bytes : List ℕ) (walk : Walk) → IsFaultPast endings.Open b
 not_broken bytes walk is = no_break walk.races walk.lines (drop walk.end bytes ++ []) (is [] false tt)
 
 -- how a round ends of which so much was told, by how the text was put
-module _ {S : Type 0} (IsText : List ℕ → Race → Type 0) (contents : S → Option (List ℕ)) (puts : S → Put → S → Type 0) (flushes : S → Flushed → S → Type 0)
+module _ {S : Type 0} (IsText : TextRelation) (contents : S → Option (List ℕ)) (puts : S → Put → S → Type 0) (flushes : S → Flushed → S → Type 0)
     (ending : Ending) (bytes : List ℕ) (from : Walk) (kept text : List ℕ) (told : Told) (has : HasTold IsText bytes from.races from.lines text told.walk)
     (is : ((ending ≡ endings.Open) × (told.fault ≡ None)) ⊎ IsFaultPast ending bytes told.walk told.fault) (first last : S)
   where

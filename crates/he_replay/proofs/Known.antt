@@ -2,7 +2,6 @@
 use Rattle.std.proofs.Common.{ℕ, ◌≡◌, ◌+◌, ◌++◌, ◌⊎◌, ◌==◌, List, [], ◌∷◌, length, Bool, true, false, Option, Some, None, ap, subst, sym, ◌∙◌, refl, arith, inl, inr, append_assoc}
 use Rattle.std.proofs.lemmas.List.{length-append}
 use Rattle.std.proofs.lemmas.List.Splits.{length-slice_split}
-use Rattle.he_plan.specs.Race.{Race}
 use Rattle.he_text.specs.declared.fault.TextFault.{TextFault}
 use Rattle.he_text.specs.declared.fault.TextKind.{TextKind}
 use Rattle.he_text.specs.declared.fault.TextKind.TheVariants as kinds
@@ -14,7 +13,7 @@ use Rattle.he_text.specs.declared.inputs.InputFault.TheVariants.{Text, Read}
 use Rattle.he_text.specs.Inputs.{IsFaultBehind, fault_behind, line_count}
 use Rattle.he_text.proofs.WalkLaws.{line_count-append}
 use Rattle.he_replay.specs.Known.{IsKnown}
-use Rattle.he_replay.specs.Output.{IsOutput}
+use Rattle.he_replay.specs.Output.{IsOutput, TextRelation}
 
 -- a fault that is told of an input that broke off is told of one that ended too
 however_it_ends : (is_broken : Bool) (lines n : ℕ) (kind : TextKind) (fault : TextFault) → Some (Text fault) ≡ Some (fault_behind true lines (n, kind)) → Some (Text fault) ≡ Some (fault_behind is_broken lines (n, kind))
@@ -87,7 +86,7 @@ module _
           | inr stands ↦ inl (λ more is_broken. inr (few, (n, kind), stands more, however_it_ends is_broken lines n kind fault told))
         ]
 
-    pub known : (IsText : List ℕ → Race → Type 0) (input : List ℕ) (is_broken : Bool) (text : List ℕ) (fault : TextFault) → IsOutput IsText input is_broken text (Some (Text fault)) → IsKnown IsText input is_broken text fault
+    pub known : (IsText : TextRelation) (input : List ℕ) (is_broken : Bool) (text : List ℕ) (fault : TextFault) → IsOutput IsText input is_broken text (Some (Text fault)) → IsKnown IsText input is_broken text fault
     known IsText input false text fault output = inl refl
     known IsText input true text fault output =
         let has = output.has in

@@ -4,4 +4,5 @@ pub mod Input
 pub mod Known
 pub mod Moved
 pub mod OneOutput
+pub mod RaceTexts
 pub mod Told

@@ -1,14 +1,13 @@
 -- How a fault of the text is known.
 use Rattle.std.specs.Prelude.{ℕ, ◌≡◌, ◌⊎◌, ◌++◌, Bool, true, false, List, Some}
-use Rattle.he_plan.specs.Race.{Race}
 use Rattle.he_text.specs.declared.fault.TextFault.{TextFault}
 use Rattle.he_text.specs.Beginnings.{IsGroupFaultAtEnd}
 use Rattle.he_text.specs.declared.inputs.InputFault.TheVariants.{Text}
 use Rattle.he_text.specs.Inputs.{line_count}
-use Rattle.he_replay.specs.Output.{IsOutput}
+use Rattle.he_replay.specs.Output.{IsOutput, TextRelation}
 
 -- each input that begins with these bytes has this output and this fault, however it ends
-abbrev pub Stands : (List ℕ → Race → Type 0) → List ℕ → List ℕ → TextFault → Type 0
+abbrev pub Stands : TextRelation → List ℕ → List ℕ → TextFault → Type 0
 Stands IsText input text fault = (more : List ℕ) (is_broken : Bool) → IsOutput IsText (input ++ more) is_broken text (Some (Text fault))
 
 -- the input broke off behind the last line of a policy table or of the settings, of which it is the fault: one more line of
@@ -22,5 +21,5 @@ pub record IsGroupBroken (input : List ℕ) (is_broken : Bool) (fault : TextFaul
   pub last : fault.line ≡ line_count input
 
 -- the input ended; or what follows changes nothing; or the input broke off in a group of lines
-abbrev pub IsKnown : (List ℕ → Race → Type 0) → List ℕ → Bool → List ℕ → TextFault → Type 0
+abbrev pub IsKnown : TextRelation → List ℕ → Bool → List ℕ → TextFault → Type 0
 IsKnown IsText input is_broken text fault = (is_broken ≡ false) ⊎ (Stands IsText input text fault ⊎ IsGroupBroken input is_broken fault)

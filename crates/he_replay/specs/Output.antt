@@ -1,11 +1,14 @@
 -- What is written for an input.
-use Rattle.std.specs.Prelude.{ℕ, ◌≡◌, Bool, List, Option}
+use Rattle.std.specs.Prelude.{ℕ, ◌≡◌, ◌+◌, ◌++◌, Bool, List, [], ◌∷◌, Option}
 use Rattle.he_explain.specs.Course.{IsExplanation}
+use Rattle.he_plan.specs.Changes.{ChangeValues, changed}
 use Rattle.he_plan.specs.Race.{Race}
 use Rattle.he_plan.specs.Transcript.{IsTranscript, Report}
+use Rattle.he_story.specs.Story.{IsStory}
 use Rattle.he_text.specs.declared.inputs.InputFault.{InputFault}
-use Rattle.he_text.specs.Inputs.{AreTexts, HasRaces}
+use Rattle.he_text.specs.Inputs.{HasRaces, line_count}
 use Rattle.he_text.specs.Orders.{order_text}
+use Rattle.he_text.specs.Text.{IsRaceText}
 use Rattle.he_text.specs.Written.{transcript_text}
 use Rattle.he_replay.specs.declared.race_texts.Content.{Content}
 use Rattle.he_replay.specs.declared.race_texts.Content.TheVariants as contents
@@ -18,15 +21,34 @@ IsTranscriptText text race = (report : Report) × IsTranscript race report × (t
 abbrev pub IsOrderText : List ℕ → Race → Type 0
 IsOrderText text race = text ≡ order_text race
 
--- the text of what is asked for of the race
-abbrev pub IsTextOf : Content → List ℕ → Race → Type 0
-IsTextOf contents.Transcript = IsTranscriptText
-IsTextOf contents.Order = IsOrderText
-IsTextOf contents.Explanation = IsExplanation
+-- the text of what is asked for of the race, which has this number in the input and begins at this line, both counted
+-- from 1
+abbrev pub IsTextOf : Content → ℕ → ℕ → List ℕ → Race → Type 0
+IsTextOf contents.Transcript number line = IsTranscriptText
+IsTextOf contents.Order number line = IsOrderText
+IsTextOf contents.Explanation number line = IsExplanation
+IsTextOf contents.Story number line = IsStory number line
+
+-- the same of the race with these changes of its settings
+abbrev pub IsTextWith : Content → ChangeValues → ℕ → ℕ → List ℕ → Race → Type 0
+IsTextWith content changes number line text race = IsTextOf content number line text (changed changes race)
+
+-- whether a text is one of a race, by the race's number and its line
+abbrev pub TextRelation : Type 1
+TextRelation = ℕ → ℕ → List ℕ → Race → Type 0
+
+-- the bytes are, one after the other, a timeline text of each of the races, of which the first has this number and begins
+-- at this line; and the text is, one after the other, a text of each, by its number and its line
+abbrev pub AreTold : TextRelation → ℕ → ℕ → List Race → List ℕ → List ℕ → Type 0
+AreTold IsText number line [] bytes text = (bytes ≡ []) × (text ≡ [])
+AreTold IsText number line (race ∷ races) bytes text =
+    (own : List ℕ) × (behind : List ℕ) × (bytes ≡ own ++ behind) × IsRaceText own race
+    × (told : List ℕ) × (more : List ℕ) × (text ≡ told ++ more) × IsText number line told race
+    × AreTold IsText (number + 1) (line + line_count own) races behind more
 
 -- the text that is written for an input, and what is wrong with the input: a text of each of its races up to the
 -- first fault
-pub record IsOutput (IsText : List ℕ → Race → Type 0) (input : List ℕ) (is_broken : Bool) (text : List ℕ) (fault : Option InputFault) : Type 0 where
+pub record IsOutput (IsText : TextRelation) (input : List ℕ) (is_broken : Bool) (text : List ℕ) (fault : Option InputFault) : Type 0 where
   pub races : List Race
   pub has : HasRaces input is_broken races fault
-  pub told : AreTexts IsText races text
+  pub told : AreTold IsText 1 1 races has.before text

@@ -4,19 +4,25 @@ use Rattle.std.specs.Prelude.{ℕ, ◌≤◌, List, All, drop, length}
 use Rattle.he_board.specs.declared.board.Board.{Board}
 use Rattle.he_board.specs.declared.pass.Pass.{Pass}
 use Rattle.he_board.specs.Passes.{IsPassOf, jobs_of, notes}
+use Rattle.he_plan.specs.Race.{Race}
 use Rattle.he_text.specs.declared.walks.Walk.{Walk}
 use Rattle.he_replay.specs.declared.pieces.Piece.{Piece}
-use Rattle.he_replay.specs.Output.{IsTranscriptText}
+use Rattle.he_replay.specs.Output.{TextRelation}
 use Rattle.he_replay.specs.Rounds.{HasTold}
 
+-- whether a text is one of a race does not depend on the race's place in the input
+abbrev pub IsAnywhere : TextRelation → Type 0
+IsAnywhere IsText =
+    (number line other_number other_line : ℕ) (text : List ℕ) (race : Race) → IsText number line text race → IsText other_number other_line text race
+
 -- the races at the front of what begins at a place of the bytes were told
-pub record IsPiece (bytes : List ℕ) (from : ℕ) (text : List ℕ) (walk : Walk) : Type 0 where
+pub record IsPiece (IsText : TextRelation) (bytes : List ℕ) (from : ℕ) (text : List ℕ) (walk : Walk) : Type 0 where
   pub within : from ≤ length bytes
-  pub told : HasTold IsTranscriptText (drop from bytes) 0 0 text walk
+  pub told : HasTold IsText (drop from bytes) 0 0 text walk
 
 -- each of them is a piece of the bytes
-abbrev pub ArePieces : {A : Type 0} → List ℕ → List (Piece A) → Type 0
-ArePieces bytes pieces = All (λ piece. IsPiece bytes piece.from piece.text.items piece.walk) pieces
+abbrev pub ArePieces : {A : Type 0} → TextRelation → List ℕ → List (Piece A) → Type 0
+ArePieces IsText bytes pieces = All (λ piece. IsPiece IsText bytes piece.from piece.text.items piece.walk) pieces
 
 -- so many workers may take so many pieces with the pass
 pub record MayTake {A : Type 0} (board : Board A) (pass : Pass) (count workers : ℕ) : Type 0 where

@@ -1,6 +1,6 @@
 -- Mirrors the code: how a call goes through an input, round by round. It helps the proofs; what is taken and put by a
 -- whole call stands in `Stream`.
-use Rattle.std.specs.Prelude.{ℕ, ◌≡◌, ◌≤◌, ◌⊎◌, ◌++◌, Bool, List, [], Option, None, Some, Result, Ok, Err, length, drop}
+use Rattle.std.specs.Prelude.{ℕ, ◌≡◌, ◌≤◌, ◌+◌, ◌⊎◌, ◌++◌, Bool, List, [], Option, None, Some, Result, Ok, Err, length, take, drop}
 use Rattle.he_plan.specs.Race.{Race}
 use Rattle.he_stream.specs.declared.answer.Flushed.{Flushed}
 use Rattle.he_stream.specs.declared.answer.Put.{Put}
@@ -10,25 +10,33 @@ use Rattle.he_text.specs.declared.inputs.InputFault.TheVariants as inputs
 use Rattle.he_text.specs.declared.walks.Ending.{Ending}
 use Rattle.he_text.specs.declared.walks.Ending.TheVariants as endings
 use Rattle.he_text.specs.declared.walks.Walk.{Walk}
-use Rattle.he_text.specs.Inputs.{AreRaceTexts, AreTexts, IsFaultBehind, line_count}
+use Rattle.he_text.specs.Inputs.{IsFaultBehind, line_count}
 use Rattle.he_text.specs.Ranges.{most_races}
-use Rattle.he_text.specs.Walks.{HasPassed, MayFollow}
+use Rattle.he_text.specs.Walks.{MayFollow}
 use Rattle.he_replay.specs.declared.fault.ReplayFault.{ReplayFault}
 use Rattle.he_replay.specs.declared.fault.ReplayFault.TheVariants as faults
+use Rattle.he_replay.specs.declared.race_texts.Asked.{Asked}
 use Rattle.he_replay.specs.declared.rounds.Told.{Told}
+use Rattle.he_replay.specs.Output.{AreTold, IsTextWith, TextRelation}
 
--- a text of the race was appended
-pub record WritesRace (IsText : List ℕ → Race → Type 0) (race : Race) (old new : List ℕ) : Type 0 where
+-- the text of what is asked for of the race
+abbrev pub IsAsked : Asked → ℕ → ℕ → List ℕ → Race → Type 0
+IsAsked asked = IsTextWith asked.content asked.changes
+
+-- a text that is such was appended
+pub record WritesText (IsSuch : List ℕ → Type 0) (old new : List ℕ) : Type 0 where
   pub told : List ℕ
-  pub is_told : IsText told race
+  pub is_told : IsSuch told
   pub appended : new ≡ old ++ told
 
 -- of bytes behind so many races and lines, the races that the walk passed were told
-pub record HasTold (IsText : List ℕ → Race → Type 0) (bytes : List ℕ) (races_before lines_before : ℕ) (text : List ℕ) (walk : Walk) : Type 0 where
+pub record HasTold (IsText : TextRelation) (bytes : List ℕ) (races_before lines_before : ℕ) (text : List ℕ) (walk : Walk) : Type 0 where
   pub races : List Race
-  pub passed : HasPassed bytes races_before lines_before races walk
+  pub within : walk.end ≤ length bytes
+  pub told : AreTold IsText (races_before + 1) (lines_before + 1) races (take walk.end bytes) text
+  pub counted : walk.races ≡ races_before + length races
   pub few : walk.races ≤ most_races
-  pub told : AreTexts IsText races text
+  pub lined : walk.lines ≡ lines_before + line_count (take walk.end bytes)
 
 -- what is wrong behind the races that the walk passed, with every input that goes on so
 abbrev pub IsFaultPast : Ending → List ℕ → Walk → Option InputFault → Type 0
@@ -37,12 +45,12 @@ IsFaultPast ending bytes walk fault =
     → IsFaultBehind is_broken walk.races walk.lines (drop walk.end bytes ++ more) fault
 
 -- races more were told, whatever was told before
-abbrev pub TellsOn : (List ℕ → Race → Type 0) → List ℕ → Walk → List ℕ → List ℕ → Walk → Type 0
+abbrev pub TellsOn : TextRelation → List ℕ → Walk → List ℕ → List ℕ → Walk → Type 0
 TellsOn IsText bytes begun old new walk =
     (races lines : ℕ) → HasTold IsText bytes races lines old begun → HasTold IsText bytes races lines new walk
 
 -- races more were told, and what is wrong behind them, if that is known
-pub record Tells (IsText : List ℕ → Race → Type 0) (ending : Ending) (bytes : List ℕ) (begun : Walk) (old new : List ℕ) (told : Told) : Type 0 where
+pub record Tells (IsText : TextRelation) (ending : Ending) (bytes : List ℕ) (begun : Walk) (old new : List ℕ) (told : Told) : Type 0 where
   pub on : TellsOn IsText bytes begun old new told.walk
   pub fault_is : ((ending ≡ endings.Open) × (told.fault ≡ None)) ⊎ IsFaultPast ending bytes told.walk told.fault
 
@@ -63,7 +71,7 @@ PutsTold contents puts flushes ending told text first last (Err faults.Write) = 
 PutsTold contents puts flushes ending told text first last (Err faults.Memory) = ⊥
 
 -- a round went on: these races were told of the bytes and put, and what stands behind them is held
-pub record GoesOn {S : Type 0} (IsText : List ℕ → Race → Type 0) (contents : S → Option (List ℕ)) (puts : S → Put → S → Type 0) (flushes : S → Flushed → S → Type 0) (ending : Ending) (bytes : List ℕ) (from : Walk) (kept : List ℕ) (next : Walk) (first last : S) : Type 0 where
+pub record GoesOn {S : Type 0} (IsText : TextRelation) (contents : S → Option (List ℕ)) (puts : S → Put → S → Type 0) (flushes : S → Flushed → S → Type 0) (ending : Ending) (bytes : List ℕ) (from : Walk) (kept : List ℕ) (next : Walk) (first last : S) : Type 0 where
   pub text : List ℕ
   pub walk : Walk
   pub told : HasTold IsText bytes from.races from.lines text walk
@@ -73,7 +81,7 @@ pub record GoesOn {S : Type 0} (IsText : List ℕ → Race → Type 0) (contents
   pub at : next ≡ record { end = 0; races = walk.races; lines = walk.lines }
 
 -- all races at the front of the bytes were told and put, and this is wrong behind them
-pub record EndsWithFault {S : Type 0} (IsText : List ℕ → Race → Type 0) (contents : S → Option (List ℕ)) (puts : S → Put → S → Type 0) (flushes : S → Flushed → S → Type 0) (ending : Ending) (bytes : List ℕ) (from : Walk) (first last : S) (fault : InputFault) : Type 0 where
+pub record EndsWithFault {S : Type 0} (IsText : TextRelation) (contents : S → Option (List ℕ)) (puts : S → Put → S → Type 0) (flushes : S → Flushed → S → Type 0) (ending : Ending) (bytes : List ℕ) (from : Walk) (first last : S) (fault : InputFault) : Type 0 where
   pub text : List ℕ
   pub walk : Walk
   pub told : HasTold IsText bytes from.races from.lines text walk
@@ -81,7 +89,7 @@ pub record EndsWithFault {S : Type 0} (IsText : List ℕ → Race → Type 0) (c
   pub put : PutsWhole contents puts flushes first last text
 
 -- how a round ends: the bytes that are held then, or a fault
-abbrev pub PutsRound : {S : Type 0} → (List ℕ → Race → Type 0) → (S → Option (List ℕ)) → (S → Put → S → Type 0) → (S → Flushed → S → Type 0) → Ending → List ℕ → Walk → List ℕ → Walk → S → S → Result (Unit {0}) ReplayFault → Type 0
+abbrev pub PutsRound : {S : Type 0} → TextRelation → (S → Option (List ℕ)) → (S → Put → S → Type 0) → (S → Flushed → S → Type 0) → Ending → List ℕ → Walk → List ℕ → Walk → S → S → Result (Unit {0}) ReplayFault → Type 0
 PutsRound IsText contents puts flushes ending bytes from kept next first last (Ok done) =
     GoesOn IsText contents puts flushes ending bytes from kept next first last
 PutsRound IsText contents puts flushes ending bytes from kept next first last (Err (faults.Text fault)) =
@@ -94,12 +102,11 @@ PutsRound IsText contents puts flushes ending bytes from kept next first last (E
 
 -- where a call stands: the races that were told, and the bytes that are held behind them. Took: what was taken so far;
 -- Done: what was put so far
-pub record IsAt (IsText : List ℕ → Race → Type 0) (held : List ℕ) (walk : Walk) (Took Done : List ℕ → Type 0) : Type 0 where
+pub record IsAt (IsText : TextRelation) (held : List ℕ) (walk : Walk) (Took Done : List ℕ → Type 0) : Type 0 where
   pub races : List Race
   pub before : List ℕ
   pub text : List ℕ
-  pub whole : AreRaceTexts races before
-  pub told : AreTexts IsText races text
+  pub told : AreTold IsText 1 1 races before text
   pub front : walk.end ≡ 0
   pub counted : walk.races ≡ length races
   pub few : walk.races ≤ most_races

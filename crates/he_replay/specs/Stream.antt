@@ -1,19 +1,19 @@
 -- What is taken from an input of races and put into an output.
 use Rattle.std.specs.Prelude.{ℕ, ◌≡◌, ◌≤◌, ◌⊎◌, ◌++◌, Bool, List, Option, None, Some, Result, Ok, Err, length}
-use Rattle.he_explain.specs.Course.{IsExplanation}
+use Rattle.he_plan.specs.Changes.{ChangeValues}
 use Rattle.he_plan.specs.Race.{Race}
 use Rattle.he_text.specs.declared.fault.TextFault.{TextFault}
 use Rattle.he_text.specs.declared.inputs.InputFault.{InputFault}
 use Rattle.he_text.specs.declared.inputs.InputFault.TheVariants as inputs
-use Rattle.he_text.specs.Inputs.{AreRaceTexts, AreTexts}
 use Rattle.he_text.specs.Ranges.{most_races}
 use Rattle.he_replay.specs.Known.{Stands}
-use Rattle.he_replay.specs.Output.{IsOutput, IsTranscriptText, IsOrderText}
+use Rattle.he_replay.specs.Output.{AreTold, IsOutput, IsOrderText, IsTextWith, TextRelation}
+use Rattle.he_replay.specs.declared.race_texts.Content.TheVariants as contents
 use Rattle.he_replay.specs.declared.fault.ReplayFault.{ReplayFault}
 use Rattle.he_replay.specs.declared.fault.ReplayFault.TheVariants.{Text, Read, Write, Memory}
 
 -- the input was given, whole or up to where it broke off, and its whole output, of this fault, was put in
-pub record PutsOutput (IsText : List ℕ → Race → Type 0) (Gave : List ℕ → Bool → Type 0) (Whole : List ℕ → Type 0) (fault : Option InputFault) : Type 0 where
+pub record PutsOutput (IsText : TextRelation) (Gave : List ℕ → Bool → Type 0) (Whole : List ℕ → Type 0) (fault : Option InputFault) : Type 0 where
   pub input : List ℕ
   pub is_broken : Bool
   pub text : List ℕ
@@ -23,7 +23,7 @@ pub record PutsOutput (IsText : List ℕ → Race → Type 0) (Gave : List ℕ �
 
 -- of the input these bytes were taken, and no more, and the whole output of every input that begins with them was put
 -- in
-pub record PutsSure (IsText : List ℕ → Race → Type 0) (Taken : List ℕ → Type 0) (Whole : List ℕ → Type 0) (fault : TextFault) : Type 0 where
+pub record PutsSure (IsText : TextRelation) (Taken : List ℕ → Type 0) (Whole : List ℕ → Type 0) (fault : TextFault) : Type 0 where
   pub input : List ℕ
   pub text : List ℕ
   pub taken : Taken input
@@ -31,18 +31,17 @@ pub record PutsSure (IsText : List ℕ → Race → Type 0) (Taken : List ℕ �
   pub written : Whole text
 
 -- a text of each of some first races of the input
-pub record TellsSome (IsText : List ℕ → Race → Type 0) (input text : List ℕ) : Type 0 where
+pub record TellsSome (IsText : TextRelation) (input text : List ℕ) : Type 0 where
   pub races : List Race
   pub before : List ℕ
   pub rest : List ℕ
   pub parts : input ≡ before ++ rest
-  pub whole : AreRaceTexts races before
   pub few : length races ≤ most_races
-  pub told : AreTexts IsText races text
+  pub told : AreTold IsText 1 1 races before text
 
 -- of the input these bytes were taken, whether there are more or not, and this was done with a text of some first
 -- races of them
-pub record PutsSome (IsText : List ℕ → Race → Type 0) (Gave : List ℕ → Bool → Type 0) (Taken : List ℕ → Type 0) (Done : List ℕ → Type 0) : Type 0 where
+pub record PutsSome (IsText : TextRelation) (Gave : List ℕ → Bool → Type 0) (Taken : List ℕ → Type 0) (Done : List ℕ → Type 0) : Type 0 where
   pub input : List ℕ
   pub text : List ℕ
   pub taken : Taken input ⊎ ((is_broken : Bool) × Gave input is_broken)
@@ -53,7 +52,7 @@ pub record PutsSome (IsText : List ℕ → Race → Type 0) (Gave : List ℕ →
 -- further; Whole: the text of which all was put into the output and then flushed; Part: the text of which a first
 -- part was put in, until that failed; Put: the text of which all was put in and flushed, or nothing where there is
 -- none
-abbrev pub Streams : (List ℕ → Race → Type 0) → (List ℕ → Bool → Type 0) → (List ℕ → Type 0) → (List ℕ → Type 0) → (List ℕ → Type 0) → (List ℕ → Type 0) → Result (Unit {0}) ReplayFault → Type 0
+abbrev pub Streams : TextRelation → (List ℕ → Bool → Type 0) → (List ℕ → Type 0) → (List ℕ → Type 0) → (List ℕ → Type 0) → (List ℕ → Type 0) → Result (Unit {0}) ReplayFault → Type 0
 Streams IsText Gave Taken Whole Part Put (Ok done) = PutsOutput IsText Gave Whole None
 Streams IsText Gave Taken Whole Part Put (Err (Text fault)) =
     PutsOutput IsText Gave Whole (Some (inputs.Text fault)) ⊎ PutsSure IsText Taken Whole fault
@@ -61,14 +60,18 @@ Streams IsText Gave Taken Whole Part Put (Err Read) = PutsOutput IsText Gave Who
 Streams IsText Gave Taken Whole Part Put (Err Write) = PutsSome IsText Gave Taken Part
 Streams IsText Gave Taken Whole Part Put (Err Memory) = PutsSome IsText Gave Taken Put
 
--- the transcripts of the input's races
-abbrev pub Replays : (List ℕ → Bool → Type 0) → (List ℕ → Type 0) → (List ℕ → Type 0) → (List ℕ → Type 0) → (List ℕ → Type 0) → Result (Unit {0}) ReplayFault → Type 0
-Replays = Streams IsTranscriptText
+-- the transcripts of the input's races, each with the changes of its settings
+abbrev pub Replays : ChangeValues → (List ℕ → Bool → Type 0) → (List ℕ → Type 0) → (List ℕ → Type 0) → (List ℕ → Type 0) → (List ℕ → Type 0) → Result (Unit {0}) ReplayFault → Type 0
+Replays changes = Streams (IsTextWith contents.Transcript changes)
 
 -- the orders of the addresses of the input's races
 abbrev pub Orders : (List ℕ → Bool → Type 0) → (List ℕ → Type 0) → (List ℕ → Type 0) → (List ℕ → Type 0) → (List ℕ → Type 0) → Result (Unit {0}) ReplayFault → Type 0
-Orders = Streams IsOrderText
+Orders = Streams (λ number line. IsOrderText)
 
--- the explanations of the input's races
-abbrev pub Explanations : (List ℕ → Bool → Type 0) → (List ℕ → Type 0) → (List ℕ → Type 0) → (List ℕ → Type 0) → (List ℕ → Type 0) → Result (Unit {0}) ReplayFault → Type 0
-Explanations = Streams IsExplanation
+-- the explanations of the input's races, each with the changes of its settings
+abbrev pub Explanations : ChangeValues → (List ℕ → Bool → Type 0) → (List ℕ → Type 0) → (List ℕ → Type 0) → (List ℕ → Type 0) → (List ℕ → Type 0) → Result (Unit {0}) ReplayFault → Type 0
+Explanations changes = Streams (IsTextWith contents.Explanation changes)
+
+-- the stories of the input's races, each with the changes of its settings
+abbrev pub Stories : ChangeValues → (List ℕ → Bool → Type 0) → (List ℕ → Type 0) → (List ℕ → Type 0) → (List ℕ → Type 0) → (List ℕ → Type 0) → Result (Unit {0}) ReplayFault → Type 0
+Stories changes = Streams (IsTextWith contents.Story changes)

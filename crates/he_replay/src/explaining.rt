@@ -4,14 +4,15 @@ ghost use Rattle.he_stream.specs.Output.{PutsAndEnds, PutsInRounds, PutsRoundsPa
 ghost use Rattle.he_replay.specs.Stream.{Explanations};
 
 use crate::fault::ReplayFault;
-use crate::race_texts::Content;
+use crate::race_texts::{Asked, Content};
 use crate::streaming::stream_races;
+use he_plan::Changes;
 use he_stream::{InputStream, OutputStream};
 use std::alloc::Allocator;
 
-/// Reads timelines to the end of the input and writes for each why it went as it did: the order of its addresses,
-/// each from the second on with the rule that puts it behind the one before (RFC 6724 section 6), then what happened
-/// at which tick, each attempt with what started it (RFC 8305 sections 3 to 5).
+/// Reads timelines to the end of the input and writes for each, with these changes of its settings, why it went as it
+/// did: the order of its addresses, each from the second on with the rule that puts it behind the one before (RFC 6724
+/// section 6), then what happened at which tick, each attempt with what started it (RFC 8305 sections 3 to 5).
 ///
 /// The explanations are written as the races come: when a step of the input has given the last line of a race, what
 /// is asked for of all races that are whole by then is written and flushed before the next step. No more is held than
@@ -31,14 +32,19 @@ use std::alloc::Allocator;
 /// - `Memory` where an allocation was refused.
 pub fn explanations<A: Allocator + Copy, I: InputStream, O: OutputStream>(
     alloc: A,
+    changes: Changes,
     input: &mut I,
     output: &mut O,
 ) -> Result<(), ReplayFault>
-    ensures { Explanations (Gives I.remaining I.takes input.old input.new)
+    ensures { Explanations changes (Gives I.remaining I.takes input.old input.new)
         (GivesSoFar I.remaining I.takes input.old input.new)
         (PutsAndEnds O.contents O.puts O.flushes output.old output.new)
         (PutsRoundsPart O.contents O.puts O.flushes output.old output.new)
         (PutsInRounds O.contents O.puts O.flushes output.old output.new) result }
 {
-    stream_races(alloc, Content::Explanation, input, output)
+    let asked = Asked {
+        content: Content::Explanation,
+        changes,
+    };
+    stream_races(alloc, &asked, input, output)
 }

@@ -5,26 +5,28 @@ ghost use Rattle.he_text.specs.declared.inputs.InputFault.{InputFault};
 ghost use Rattle.he_text.specs.declared.inputs.InputFault.TheVariants.{Text};
 ghost use Rattle.he_pool.specs.declared.limits.TheConstants.{LEAST_WORKERS, MOST_WORKERS};
 ghost use Rattle.he_pool.specs.Limits.{least_workers, most_workers};
+ghost use Rattle.he_plan.specs.Changes.{ChangeValues};
 ghost use Rattle.he_replay.specs.declared.race_texts.Content.{Content};
 ghost use Rattle.he_replay.specs.Known.{IsKnown};
-ghost use Rattle.he_replay.specs.Output.{IsOutput, IsTextOf};
+ghost use Rattle.he_replay.specs.Output.{IsOutput, IsTextWith};
 
 use he_plan::laws::one_transcript;
 use he_text::inputs::one_input;
-use he_text::laws::faults_stand;
+use he_text::laws::{faults_stand, one_race_first};
 
 /// An input, and whether it broke off, have one output and one fault.
 pub fn one_output()
-    ensures { (content : Content) (input : List ℕ) (is_broken : Bool) (text other : List ℕ) (fault other_fault : Option InputFault) → IsOutput (IsTextOf content) input is_broken text fault → IsOutput (IsTextOf content) input is_broken other other_fault → (text ≡ other) × (fault ≡ other_fault) }
+    ensures { (content : Content) (changes : ChangeValues) (input : List ℕ) (is_broken : Bool) (text other : List ℕ) (fault other_fault : Option InputFault) → IsOutput (IsTextWith content changes) input is_broken text fault → IsOutput (IsTextWith content changes) input is_broken other other_fault → (text ≡ other) × (fault ≡ other_fault) }
 {
     one_input();
     one_transcript();
+    one_race_first();
 }
 
 /// A fault of the text is known in one of three ways: the input ended; or each longer input has this output and this
 /// fault too; or the input broke off in a policy table or the settings, of which it is the fault.
 pub fn faults_are_known()
-    ensures { (content : Content) (input : List ℕ) (is_broken : Bool) (text : List ℕ) (fault : TextFault) → IsOutput (IsTextOf content) input is_broken text (Some (Text fault)) → IsKnown (IsTextOf content) input is_broken text fault }
+    ensures { (content : Content) (changes : ChangeValues) (input : List ℕ) (is_broken : Bool) (text : List ℕ) (fault : TextFault) → IsOutput (IsTextWith content changes) input is_broken text (Some (Text fault)) → IsKnown (IsTextWith content changes) input is_broken text fault }
 {
     faults_stand();
 }

@@ -1,16 +1,17 @@
 //! Replaying races: texts of timelines read from an input, and what happens in each written to an output.
 //!
 //! `replay` writes the transcript of each race, `orders` the order of its addresses (RFC 6724), `explanations` why it
-//! went as it did, and `run_action` does one of them by name.
+//! went as it did, `stories` that for a person to read (`he_story`), and `run_action` does one of them by name. All but
+//! `orders` take changes of settings, with which each race is taken in place of its own.
 //!
 //! Proved, whatever the input and the output (by `specs/Stream` and `specs/Output`): what is written is put in rounds,
-//! each of which ends in a flush. After success and after a fault of the text it is the transcripts, the orders or the
-//! explanations of the races up to the first fault, the line of a fault counted over the whole input; after a step of
-//! the input that failed, or the bound of steps, of the races before it; after a step of the output or a flush that
-//! failed, a first part of those of some first races; after want of memory, those of some first races. No other step
-//! leads to such a fault. An input has one output and one fault, and a fault of the text is told only where the input
-//! ended, where nothing that follows could change it, in which case the input may not be read further, or of a policy
-//! table in which the input broke off (`laws`).
+//! each of which ends in a flush. After success and after a fault of the text it is the transcripts, orders,
+//! explanations or stories of the races up to the first fault, the line of a fault counted over the whole input, and so
+//! are the number and the line of a race in its story; after a step of the input that failed, or the bound of steps, of
+//! the races before it; after a step of the output or a flush that failed, a first part of those of some first races;
+//! after want of memory, those of some first races. No other step leads to such a fault. An input has one output and one
+//! fault, and a fault of the text is told only where the input ended, where nothing that follows could change it, in
+//! which case the input may not be read further, or of a policy table in which the input broke off (`laws`).
 //!
 //! Where races come faster than they are told, and more than one worker may be taken, `replay` cuts the bytes of a
 //! step into pieces behind races. Each worker takes pieces from a board (`he_board`), reads them and writes the
@@ -37,6 +38,7 @@ pub mod replaying;
 mod rounds;
 mod sharing;
 mod streaming;
+pub mod telling;
 
 pub use actions::{Action, run_action};
 pub use explaining::explanations;
@@ -44,3 +46,4 @@ pub use fault::ReplayFault;
 pub use he_pool::{Gate, NoGate, batch_jobs, replay_batch};
 pub use ordering::orders;
 pub use replaying::replay;
+pub use telling::stories;

@@ -4,8 +4,9 @@ ghost use Rattle.he_stream.specs.Output.{PutsAndEnds, PutsInRounds, PutsRoundsPa
 ghost use Rattle.he_replay.specs.Stream.{Orders};
 
 use crate::fault::ReplayFault;
-use crate::race_texts::Content;
+use crate::race_texts::{Asked, Content};
 use crate::streaming::stream_races;
+use he_plan::Changes;
 use he_stream::{InputStream, OutputStream};
 use std::alloc::Allocator;
 
@@ -40,5 +41,9 @@ pub fn orders<A: Allocator + Copy, I: InputStream, O: OutputStream>(
         (PutsRoundsPart O.contents O.puts O.flushes output.old output.new)
         (PutsInRounds O.contents O.puts O.flushes output.old output.new) result }
 {
-    stream_races(alloc, Content::Order, input, output)
+    let asked = Asked {
+        content: Content::Order,
+        changes: Changes::none(),
+    };
+    stream_races(alloc, &asked, input, output)
 }

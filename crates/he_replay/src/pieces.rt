@@ -1,17 +1,16 @@
 //! The first races of some bytes, told by workers. The bytes are cut into pieces behind races. Each worker takes
-//! pieces from a board that all share, reads them and writes the transcripts of their races, in a thread of its own;
+//! pieces from a board that all share, reads them and writes what is asked for of their races, in a thread of its own;
 //! and these are put together in the order of the races.
 ghost use Rattle.std.specs.Prelude.{◌≡◌, ◌≤◌, ◌<◌, [], IfOk, drop, length};
 ghost use denote.Param.Send.{Frees, IsSend, IsSync};
 ghost use Rattle.he_board.specs.Passes.{IsPassOf, jobs_of};
 ghost use Rattle.he_pool.specs.declared.limits.TheConstants.{LEAST_WORKERS, MOST_WORKERS};
 ghost use Rattle.he_text.specs.Walks.{IsWithin};
-ghost use Rattle.he_replay.specs.Output.{IsTranscriptText};
-ghost use Rattle.he_replay.specs.Pieces.{ArePieces, IsPiece, MayTake};
-ghost use Rattle.he_replay.specs.Rounds.{HasTold, TellsOn};
+ghost use Rattle.he_replay.specs.Pieces.{ArePieces, IsAnywhere, IsPiece, MayTake};
+ghost use Rattle.he_replay.specs.Rounds.{HasTold, IsAsked, TellsOn};
 
 use crate::limits::{LEAST_WORKERS, MOST_PIECES, MOST_RACES, MOST_WORKERS, PIECE_BYTES};
-use crate::race_texts::Content;
+use crate::race_texts::Asked;
 use crate::rounds::{Part, tell_races};
 use crate::streaming::RACE_END;
 use he_board::{Board, Pass};
@@ -26,7 +25,7 @@ use std::thread::Threads;
 pub(crate) struct Piece<A: Allocator> {
     // The place of the bytes where the piece begins.
     from: usize,
-    // The texts of the transcripts.
+    // Their texts.
     text: Vec<u8, A>,
     // The walk over the piece: how many races they are, and where in it they end.
     walk: Walk,
@@ -46,13 +45,14 @@ pub(crate) fn tell_pieces<R: Threads + Sync, A: Allocator + Copy + Send + Sync>(
     bytes: &[u8],
     count: usize,
     workers: u16,
+    asked: &Asked,
 ) -> Result<Vec<Piece<A>, A>, AllocError>
     requires some { LEAST_WORKERS ≤ workers }
     requires few { workers ≤ MOST_WORKERS }
-    ensures { IfOk result (λ pieces. ArePieces bytes.now pieces.items) }
+    ensures { IfOk result (λ pieces. ArePieces (IsAsked asked.now) bytes.now pieces.items) }
 {
     match Board::new(alloc, count, 0) {
-        Ok((board, pass)) => run_workers(rt, alloc, bytes, &board, pass, count, workers),
+        Ok((board, pass)) => run_workers(rt, alloc, bytes, &board, pass, count, workers, asked),
         Err(_) => Err(AllocError),
     }
 }
@@ -67,18 +67,19 @@ fn run_workers<R: Threads + Sync, A: Allocator + Copy + Send + Sync>(
     pass: Pass,
     count: usize,
     workers: u16,
+    asked: &Asked,
 ) -> Result<Vec<Piece<A>, A>, AllocError>
     requires { MayTake board.now pass count workers }
-    ensures { IfOk result (λ pieces. ArePieces bytes.now pieces.items) }
+    ensures { IfOk result (λ pieces. ArePieces (IsAsked asked.now) bytes.now pieces.items) }
 {
     if workers == LEAST_WORKERS {
-        return run_worker(alloc, bytes, board, pass, count);
+        return run_worker(alloc, bytes, board, pass, count, asked);
     }
     let far = workers / 2;
     let near = workers - far;
     let (p, q) = board.fork(pass);
-    let (left, right) = run_halves(rt, alloc, bytes, board, p, near, q, far, count);
-    join_halves(bytes, left?, right?)
+    let (left, right) = run_halves(rt, alloc, bytes, board, p, near, q, far, count, asked);
+    join_halves(bytes, asked, left?, right?)
 }
 
 // Runs workers of two numbers at once, each number with its pass.
@@ -93,37 +94,39 @@ fn run_halves<R: Threads + Sync, A: Allocator + Copy + Send + Sync>(
     q: Pass,
     far: u16,
     count: usize,
+    asked: &Asked,
 ) -> (
     Result<Vec<Piece<A>, A>, AllocError>,
     Result<Vec<Piece<A>, A>, AllocError>,
 )
     requires near { MayTake board.now p count near }
     requires far { MayTake board.now q count far }
-    ensures left { IfOk result.0 (λ pieces. ArePieces bytes.now pieces.items) }
-    ensures right { IfOk result.1 (λ pieces. ArePieces bytes.now pieces.items) }
+    ensures left { IfOk result.0 (λ pieces. ArePieces (IsAsked asked.now) bytes.now pieces.items) }
+    ensures right { IfOk result.1 (λ pieces. ArePieces (IsAsked asked.now) bytes.now pieces.items) }
 {
     thread::join(
         rt,
         move || -> Result<Vec<Piece<A>, A>, AllocError>
             requires { IsSync R.row × IsSend A.row × IsSync A.row × Frees A.Allocator A.dealloc_token × MayTake board.now p count near }
-            ensures { IfOk result (λ pieces. ArePieces bytes.entry.now pieces.items) }
-        { run_workers(rt, alloc, bytes, board, p, count, near) },
+            ensures { IfOk result (λ pieces. ArePieces (IsAsked asked.entry.now) bytes.entry.now pieces.items) }
+        { run_workers(rt, alloc, bytes, board, p, count, near, asked) },
         move || -> Result<Vec<Piece<A>, A>, AllocError>
             requires { IsSync R.row × IsSend A.row × IsSync A.row × Frees A.Allocator A.dealloc_token × MayTake board.now q count far }
-            ensures { IfOk result (λ pieces. ArePieces bytes.entry.now pieces.items) }
-        { run_workers(rt, alloc, bytes, board, q, count, far) },
+            ensures { IfOk result (λ pieces. ArePieces (IsAsked asked.entry.now) bytes.entry.now pieces.items) }
+        { run_workers(rt, alloc, bytes, board, q, count, far, asked) },
     )
 }
 
 // What workers of both numbers told.
 fn join_halves<A: Allocator>(
     bytes: &[u8],
+    asked: &Asked,
     left: Vec<Piece<A>, A>,
     right: Vec<Piece<A>, A>,
 ) -> Result<Vec<Piece<A>, A>, AllocError>
-    requires left { ArePieces bytes.now left.items }
-    requires right { ArePieces bytes.now right.items }
-    ensures { IfOk result (λ pieces. ArePieces bytes.now pieces.items) }
+    requires left { ArePieces (IsAsked asked.now) bytes.now left.items }
+    requires right { ArePieces (IsAsked asked.now) bytes.now right.items }
+    ensures { IfOk result (λ pieces. ArePieces (IsAsked asked.now) bytes.now pieces.items) }
 {
     let mut pieces = left;
     let mut others = right;
@@ -138,16 +141,17 @@ fn run_worker<A: Allocator + Copy>(
     board: &Board<A>,
     pass: Pass,
     count: usize,
+    asked: &Asked,
 ) -> Result<Vec<Piece<A>, A>, AllocError>
     requires own { IsPassOf board.now pass }
     requires jobs { count ≤ jobs_of board.now }
-    ensures { IfOk result (λ pieces. ArePieces bytes.now pieces.items) }
+    ensures { IfOk result (λ pieces. ArePieces (IsAsked asked.now) bytes.now pieces.items) }
 {
     let mut pass = pass;
     let mut pieces = Vec::new(alloc);
     for number in 0..count {
         if board.take(&mut pass, number) {
-            pieces.push(tell_piece(alloc, bytes, number, count)?)?;
+            pieces.push(tell_piece(alloc, bytes, number, count, asked)?)?;
         }
     }
     Ok(pieces)
@@ -159,9 +163,10 @@ fn tell_piece<A: Allocator + Copy>(
     bytes: &[u8],
     number: usize,
     count: usize,
+    asked: &Asked,
 ) -> Result<Piece<A>, AllocError>
     requires { number < count }
-    ensures { IfOk result (λ piece. IsPiece bytes.now piece.from piece.text.items piece.walk) }
+    ensures { IfOk result (λ piece. IsPiece (IsAsked asked.now) bytes.now piece.from piece.text.items piece.walk) }
 {
     let from = piece_start(bytes, number);
     let end = if number + 1 == count {
@@ -170,7 +175,7 @@ fn tell_piece<A: Allocator + Copy>(
         piece_start(bytes, number + 1)
     };
     let mut text = Vec::new(alloc);
-    let walk = tell_range(alloc, bytes, from, end, &mut text)?;
+    let walk = tell_range(alloc, bytes, from, end, asked, &mut text)?;
     Ok(Piece { from, text, walk })
 }
 
@@ -194,12 +199,13 @@ fn tell_range<A: Allocator + Copy>(
     bytes: &[u8],
     from: usize,
     end: usize,
+    asked: &Asked,
     text: &mut Vec<u8, A>,
 ) -> Result<Walk, AllocError>
     requires from { from ≤ length bytes.now }
     requires end { end ≤ length bytes.now }
     requires none { text.old.items ≡ [] }
-    ensures { IfOk result (HasTold IsTranscriptText (drop from bytes.now) 0 0 text.new.items) }
+    ensures { IfOk result (HasTold (IsAsked asked.now) (drop from bytes.now) 0 0 text.new.items) }
 {
     if end <= from {
         return Ok(Walk::START);
@@ -209,7 +215,7 @@ fn tell_range<A: Allocator + Copy>(
         reach: end - from,
         ending: Ending::Open,
     };
-    let told = tell_races(alloc, &bytes[from..end], part, Content::Transcript, text)?;
+    let told = tell_races(alloc, &bytes[from..end], part, asked, text)?;
     Ok(told.walk)
 }
 
@@ -217,18 +223,20 @@ fn tell_range<A: Allocator + Copy>(
 // begin, as long as each is races to its end and all of them together are few enough.
 pub(crate) fn join_pieces<A: Allocator>(
     bytes: &[u8],
+    asked: &Asked,
     walk: Walk,
     pieces: &[Piece<A>],
     text: &mut Vec<u8, A>,
 ) -> Result<Walk, AllocError>
+    requires anywhere { IsAnywhere (IsAsked asked.now) }
     requires within { IsWithin bytes.now walk }
-    requires told { ArePieces bytes.now pieces.now }
-    ensures { IfOk result (TellsOn IsTranscriptText bytes.now walk text.old.items text.new.items) }
+    requires told { ArePieces (IsAsked asked.now) bytes.now pieces.now }
+    ensures { IfOk result (TellsOn (IsAsked asked.now) bytes.now walk text.old.items text.new.items) }
 {
     let mut begun = walk;
     for _passes in 0..pieces.len() {
         let before = begun.end;
-        begun = join_some(bytes, begun, pieces, text)?;
+        begun = join_some(bytes, asked, begun, pieces, text)?;
         if begun.end == before {
             return Ok(begun);
         }
@@ -239,14 +247,16 @@ pub(crate) fn join_pieces<A: Allocator>(
 // Appends the text of each piece that begins where those end that were appended before.
 fn join_some<A: Allocator>(
     bytes: &[u8],
+    asked: &Asked,
     before: Walk,
     pieces: &[Piece<A>],
     text: &mut Vec<u8, A>,
 ) -> Result<Walk, AllocError>
+    requires anywhere { IsAnywhere (IsAsked asked.now) }
     requires within { IsWithin bytes.now before }
-    requires told { ArePieces bytes.now pieces.now }
+    requires told { ArePieces (IsAsked asked.now) bytes.now pieces.now }
     ensures within { IfOk result (IsWithin bytes.now) }
-    ensures told { IfOk result (TellsOn IsTranscriptText bytes.now before text.old.items text.new.items) }
+    ensures told { IfOk result (TellsOn (IsAsked asked.now) bytes.now before text.old.items text.new.items) }
 {
     let mut begun = before;
     for piece in pieces {

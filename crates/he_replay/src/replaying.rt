@@ -6,14 +6,16 @@ ghost use Rattle.he_replay.specs.Stream.{Replays};
 
 use crate::fault::ReplayFault;
 use crate::limits::{LEAST_WORKERS, MOST_WORKERS};
-use crate::race_texts::Content;
+use crate::race_texts::{Asked, Content};
 use crate::sharing::stream_shared;
 use crate::streaming::stream_races;
+use he_plan::Changes;
 use he_stream::{InputStream, OutputStream};
 use std::alloc::Allocator;
 use std::thread::Threads;
 
-/// Reads timelines to the end of the input and writes their transcripts, by at most so many workers.
+/// Reads timelines to the end of the input and writes the transcripts of their races, each with these changes of its
+/// settings, by at most so many workers.
 ///
 /// What is written and answered does not depend on the number of workers, nor on the order of their steps.
 ///
@@ -43,18 +45,29 @@ pub fn replay<
     A: Allocator + Copy + Send + Sync,
     I: InputStream,
     O: OutputStream,
->(rt: &R, alloc: A, input: &mut I, output: &mut O, workers: u16) -> Result<(), ReplayFault>
+>(
+    rt: &R,
+    alloc: A,
+    changes: Changes,
+    input: &mut I,
+    output: &mut O,
+    workers: u16,
+) -> Result<(), ReplayFault>
     requires some { LEAST_WORKERS ≤ workers }
     requires few { workers ≤ MOST_WORKERS }
-    ensures { Replays (Gives I.remaining I.takes input.old input.new)
+    ensures { Replays changes (Gives I.remaining I.takes input.old input.new)
         (GivesSoFar I.remaining I.takes input.old input.new)
         (PutsAndEnds O.contents O.puts O.flushes output.old output.new)
         (PutsRoundsPart O.contents O.puts O.flushes output.old output.new)
         (PutsInRounds O.contents O.puts O.flushes output.old output.new) result }
 {
+    let asked = Asked {
+        content: Content::Transcript,
+        changes,
+    };
     if workers == LEAST_WORKERS {
-        stream_races(alloc, Content::Transcript, input, output)
+        stream_races(alloc, &asked, input, output)
     } else {
-        stream_shared(rt, alloc, workers, input, output)
+        stream_shared(rt, alloc, workers, &asked, input, output)
     }
 }

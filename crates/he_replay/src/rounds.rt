@@ -3,12 +3,11 @@
 ghost use Rattle.std.specs.Prelude.{◌≡◌, ◌+◌, ◌-◌, ◌≤◌, ◌^◌, false, IfOk, OnOk, drop, take, vec_len};
 ghost use Rattle.he_text.specs.declared.walks.Ending.TheVariants as endings;
 ghost use Rattle.he_text.specs.Walks.{IsWithin};
-ghost use Rattle.he_replay.specs.Output.{IsTextOf};
-ghost use Rattle.he_replay.specs.Rounds.{HasTold, PutsRound, PutsTold, Tells};
+ghost use Rattle.he_replay.specs.Rounds.{HasTold, IsAsked, PutsRound, PutsTold, Tells};
 
 use crate::fault::ReplayFault;
 use crate::limits::{ARENA_BYTES, MOST_RACES};
-use crate::race_texts::Content;
+use crate::race_texts::Asked;
 use bumpalo::Bump;
 use he_stream::{OutputStream, write_whole};
 use he_text::{Ending, InputFault, Walk, WalkFault};
@@ -82,22 +81,22 @@ pub(crate) fn put_round<A: Allocator + Copy, O: OutputStream>(
     alloc: A,
     held: &mut Held<A>,
     part: Part,
-    content: Content,
+    asked: &Asked,
     text: &mut Vec<u8, A>,
     output: &mut O,
 ) -> Result<(), ReplayFault>
     requires within { held.old.filled ≤ vec_len held.old.bytes }
     requires lines { held.old.walk.lines + held.old.filled ≤ 2 ^ 54 }
-    requires begun { HasTold (IsTextOf content) (take held.old.filled held.old.bytes.items) held.old.walk.races held.old.walk.lines text.old.items part.begun }
+    requires begun { HasTold (IsAsked asked.now) (take held.old.filled held.old.bytes.items) held.old.walk.races held.old.walk.lines text.old.items part.begun }
     ensures within { OnOk result (held.new.filled ≤ vec_len held.new.bytes) }
     ensures room { OnOk result (held.new.room ≡ held.old.room) }
     ensures size { OnOk result (held.new.walk.lines + held.new.filled ≤ held.old.walk.lines + held.old.filled) }
-    ensures told { PutsRound (IsTextOf content) O.contents O.puts O.flushes part.ending
+    ensures told { PutsRound (IsAsked asked.now) O.contents O.puts O.flushes part.ending
         (take held.old.filled held.old.bytes.items) held.old.walk
         (take held.new.filled held.new.bytes.items) held.new.walk output.old output.new result }
 {
     let bytes = &held.bytes[..held.filled];
-    let told = tell_races(alloc, bytes, part, content, text)?;
+    let told = tell_races(alloc, bytes, part, asked, text)?;
     let walk = put_told(part.ending, told, text.as_slice(), output)?;
     let all = part.reach == held.filled;
     forget(&mut held.bytes, walk.end, held.filled);
@@ -144,17 +143,19 @@ pub(crate) fn tell_races<A: Allocator + Copy>(
     alloc: A,
     bytes: &[u8],
     part: Part,
-    content: Content,
+    asked: &Asked,
     text: &mut Vec<u8, A>,
 ) -> Result<Told, AllocError>
     requires { IsWithin bytes.now part.begun }
-    ensures { IfOk result (Tells (IsTextOf content) part.ending bytes.now part.begun text.old.items text.new.items) }
+    ensures { IfOk result (Tells (IsAsked asked.now) part.ending bytes.now part.begun text.old.items text.new.items) }
 {
     let mut arena = Bump::try_with_capacity(alloc, ARENA_BYTES)?;
     let mut walk = part.begun;
     while part.goes_on(walk) {
+        let number = walk.races + 1;
+        let line = walk.lines + 1;
         match walk.next(&arena, bytes, part.ending) {
-            Ok(Some(race)) => content.write(&arena, &race, text)?,
+            Ok(Some(race)) => asked.write(&arena, race, number, line, text)?,
             Ok(None) => break,
             Err(WalkFault::Input(fault)) => {
                 return Ok(Told {

@@ -6,13 +6,12 @@ ghost use Rattle.he_stream.specs.Output.{PutsAndEnds, PutsInRounds, PutsRoundsPa
 ghost use Rattle.he_text.specs.declared.walks.Ending.TheVariants as endings;
 ghost use Rattle.he_text.specs.Ranges.{most_races};
 ghost use Rattle.he_text.specs.Walks.{ending_of};
-ghost use Rattle.he_replay.specs.Output.{IsTextOf};
-ghost use Rattle.he_replay.specs.Rounds.{HasTold, PutsRound};
+ghost use Rattle.he_replay.specs.Rounds.{HasTold, IsAsked, PutsRound};
 ghost use Rattle.he_replay.specs.Stream.{Streams};
 
 use crate::fault::ReplayFault;
 use crate::limits::{FIRST_ROOM, MOST_ROOM, TRIED_BYTES};
-use crate::race_texts::Content;
+use crate::race_texts::Asked;
 use crate::rounds::{Held, Part, put_round};
 use he_stream::limits::MOST_READS;
 use he_stream::{InputStream, OutputStream, Taken, take_piece};
@@ -26,11 +25,11 @@ pub(crate) const RACE_END: &[u8] = b"\nend\n";
 // Takes an input to its end and puts what is asked for of its races into the output, as they come.
 pub(crate) fn stream_races<A: Allocator + Copy, I: InputStream, O: OutputStream>(
     alloc: A,
-    content: Content,
+    asked: &Asked,
     input: &mut I,
     output: &mut O,
 ) -> Result<(), ReplayFault>
-    ensures { Streams (IsTextOf content) (Gives I.remaining I.takes input.old input.new)
+    ensures { Streams (IsAsked asked.now) (Gives I.remaining I.takes input.old input.new)
         (GivesSoFar I.remaining I.takes input.old input.new)
         (PutsAndEnds O.contents O.puts O.flushes output.old output.new)
         (PutsRoundsPart O.contents O.puts O.flushes output.old output.new)
@@ -43,15 +42,15 @@ pub(crate) fn stream_races<A: Allocator + Copy, I: InputStream, O: OutputStream>
             Taken::Bytes(count) => {
                 text.clear();
                 let begun = held.walk;
-                tell_held(alloc, &mut held, count, begun, content, &mut text, output)?;
+                tell_held(alloc, &mut held, count, begun, asked, &mut text, output)?;
                 held.room = next_room(held.room, count, MOST_ROOM);
             }
             Taken::Interrupted => {}
-            Taken::End => return end_held(alloc, &mut held, false, content, &mut text, output),
-            Taken::Failed => return end_held(alloc, &mut held, true, content, &mut text, output),
+            Taken::End => return end_held(alloc, &mut held, false, asked, &mut text, output),
+            Taken::Failed => return end_held(alloc, &mut held, true, asked, &mut text, output),
         }
     }
-    end_held(alloc, &mut held, true, content, &mut text, output)
+    end_held(alloc, &mut held, true, asked, &mut text, output)
 }
 
 // The room for the step behind one that took so many bytes: four times as much where its room was filled, since much
@@ -76,18 +75,18 @@ pub(crate) fn tell_held<A: Allocator + Copy, O: OutputStream>(
     held: &mut Held<A>,
     count: usize,
     begun: Walk,
-    content: Content,
+    asked: &Asked,
     text: &mut Vec<u8, A>,
     output: &mut O,
 ) -> Result<(), ReplayFault>
     requires within { held.old.filled + count ≤ vec_len held.old.bytes }
     requires front { (held.old.walk.end ≡ 0) × (held.old.walk.races ≤ most_races) }
     requires lines { held.old.walk.lines + held.old.filled + count ≤ 2 ^ 54 }
-    requires begun { HasTold (IsTextOf content) (take (held.old.filled + count) held.old.bytes.items) held.old.walk.races held.old.walk.lines text.old.items begun }
+    requires begun { HasTold (IsAsked asked.now) (take (held.old.filled + count) held.old.bytes.items) held.old.walk.races held.old.walk.lines text.old.items begun }
     ensures within { OnOk result (held.new.filled ≤ vec_len held.new.bytes) }
     ensures room { OnOk result (held.new.room ≡ held.old.room) }
     ensures size { OnOk result (held.new.walk.lines + held.new.filled ≤ held.old.walk.lines + held.old.filled + count) }
-    ensures told { PutsRound (IsTextOf content) O.contents O.puts O.flushes endings.Open
+    ensures told { PutsRound (IsAsked asked.now) O.contents O.puts O.flushes endings.Open
         (take (held.old.filled + count) held.old.bytes.items) held.old.walk
         (take held.new.filled held.new.bytes.items) held.new.walk output.old output.new result }
 {
@@ -104,7 +103,7 @@ pub(crate) fn tell_held<A: Allocator + Copy, O: OutputStream>(
         reach,
         ending: Ending::Open,
     };
-    put_round(alloc, held, part, content, text, output)
+    put_round(alloc, held, part, asked, text, output)
 }
 
 // Tells what is held, behind which nothing follows: the input ended, or broke off.
@@ -112,14 +111,14 @@ pub(crate) fn end_held<A: Allocator + Copy, O: OutputStream>(
     alloc: A,
     held: &mut Held<A>,
     is_broken: bool,
-    content: Content,
+    asked: &Asked,
     text: &mut Vec<u8, A>,
     output: &mut O,
 ) -> Result<(), ReplayFault>
     requires within { held.old.filled ≤ vec_len held.old.bytes }
     requires front { (held.old.walk.end ≡ 0) × (held.old.walk.races ≤ most_races) }
     requires lines { held.old.walk.lines + held.old.filled ≤ 2 ^ 54 }
-    ensures { PutsRound (IsTextOf content) O.contents O.puts O.flushes (ending_of is_broken)
+    ensures { PutsRound (IsAsked asked.now) O.contents O.puts O.flushes (ending_of is_broken)
         (take held.old.filled held.old.bytes.items) held.old.walk
         (take held.new.filled held.new.bytes.items) held.new.walk output.old output.new result }
 {
@@ -129,7 +128,7 @@ pub(crate) fn end_held<A: Allocator + Copy, O: OutputStream>(
         reach: held.filled,
         ending: Ending::of(is_broken),
     };
-    put_round(alloc, held, part, content, text, output)
+    put_round(alloc, held, part, asked, text, output)
 }
 
 // How far races are looked for in the bytes, of which those from `searched` on are new: to the end of the last race

@@ -1,5 +1,6 @@
 // Replays, orders and explanations of texts that break off, over readers and writers that fail.
 
+use he_plan::Changes;
 use he_replay::{ReplayFault, explanations, orders, replay};
 use he_select::PolicyFault;
 use he_stream::{FromReader, InputStream, ToWriter};
@@ -63,9 +64,9 @@ impl Call {
         output: &mut ToWriter<FakeWriter>,
     ) -> Result<(), ReplayFault> {
         match self {
-            Call::Replay => replay(rt, alloc, input, output, 4),
+            Call::Replay => replay(rt, alloc, Changes::none(), input, output, 4),
             Call::Orders => orders(alloc, input, output),
-            Call::Explanations => explanations(alloc, input, output),
+            Call::Explanations => explanations(alloc, Changes::none(), input, output),
         }
     }
 }

@@ -1,7 +1,8 @@
 // What is written while the input still comes: of 100 races, each of which one read gives.
 
 use crate::hostile::{CALLS, Call, TEXT};
-use he_replay::ReplayFault;
+use he_plan::Changes;
+use he_replay::{ReplayFault, stories};
 use he_stream::{FromReader, ToWriter};
 use std::alloc::{AllocError, Global};
 use std::test::Fail;
@@ -58,4 +59,27 @@ fn races_are_told_as_they_come(rt: HostRuntime) -> Result<(), Fail> {
         assert_eq!(rt; whole, (Ok(()), 101, 101, all));
     }
     Ok(())
+}
+
+// Of two races, each of which one read gives, the second is told with its number and its line in the input.
+#[test]
+fn stories_know_their_place(rt: HostRuntime) -> Result<(), Fail> {
+    let alloc = rt.alloc();
+    let text = text_of(alloc, 2)?;
+    let mut input = FromReader::new(FakeReader::new(&text, TEXT.len()));
+    let mut output = ToWriter::new(FakeWriter::new(alloc));
+    let result = stories(alloc, Changes::none(), &mut input, &mut output);
+    let writer = output.writer();
+    let held = writer.held();
+    assert_eq!(rt; (result, writer.flushes()), (Ok(()), 3));
+    assert!(rt; held.starts_with(FIRST) && has(held, SECOND));
+    Ok(())
+}
+
+const FIRST: &[u8] = b"race 1, line 1: ";
+
+const SECOND: &[u8] = b"\nrace 2, line 10: ";
+
+fn has(text: &[u8], part: &[u8]) -> bool {
+    text.windows(part.len()).any(|window| window == part)
 }

@@ -2,6 +2,7 @@
 // memory is told only where a growth was refused, behind the whole texts of some first races.
 ghost use Rattle.std.specs.Prelude.{◌≤◌};
 
+use he_plan::Changes;
 use he_replay::limits::{PIECE_BYTES, PIECES_OF_A_WORKER};
 use he_replay::{ReplayFault, replay};
 use he_stream::{FromReader, ToWriter};
@@ -92,7 +93,7 @@ fn replayed<R: Threads + Sync>(
 {
     let mut input = FromReader::new(FakeReader::new(text, STEP));
     let mut output = ToWriter::new(FakeWriter::new(alloc));
-    let result = replay(rt, alloc, &mut input, &mut output, workers);
+    let result = replay(rt, alloc, Changes::none(), &mut input, &mut output, workers);
     (result, output)
 }
 
@@ -120,7 +121,7 @@ fn is_right<R: Threads + Sync>(
 ) -> bool {
     let mut input = FromReader::new(FakeReader::new(text, STEP));
     let mut output = ToWriter::new(FakeWriter::new(alloc));
-    let result = replay(rt, heap, &mut input, &mut output, 2);
+    let result = replay(rt, heap, Changes::none(), &mut input, &mut output, 2);
     let held = output.writer().held();
     if result == Err(ReplayFault::Memory) {
         let is_whole = held.is_empty() || held.ends_with(transcript);

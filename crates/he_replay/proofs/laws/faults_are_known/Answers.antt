@@ -1,6 +1,6 @@
-use Rattle.he_replay.specs.Output.{IsTextOf}
+use Rattle.he_replay.specs.Output.{IsTextWith}
 use Rattle.he_replay.proofs.Known.{known}
 use Rattle.he_replay.proofs.laws.faults_are_known.Goals as goal
 
 pub returns : goal.returns
-returns c = λ content. known c.faults_stand.ensures (IsTextOf content)
+returns c = λ content changes. known c.faults_stand.ensures (IsTextWith content changes)

@@ -1,7 +1,7 @@
 use Rattle.he_text.specs.Walks.{IsWithin}
-use Rattle.he_replay.specs.Output.{IsTranscriptText}
+use Rattle.he_replay.specs.Rounds.{IsAsked}
 use Rattle.he_replay.specs.Rounds.{TellsOn}
 use Rattle.he_replay.proofs.pieces.join_some.Given as goal
 
 abbrev pub invariant-loop-piece : goal.invariant-loop-piece
-invariant-loop-piece g l = IsWithin l.bytes l.begun × TellsOn IsTranscriptText l.bytes l.fn.before l.fn.text.items l.text.items l.begun
+invariant-loop-piece g l = IsWithin l.bytes l.begun × TellsOn (IsAsked l.asked) l.bytes l.fn.before l.fn.text.items l.text.items l.begun

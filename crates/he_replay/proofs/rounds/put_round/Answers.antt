@@ -1,7 +1,7 @@
 use Rattle.std.proofs.Common.{ℕ, ◌≡◌, ◌⊎◌, List, Ok, Err, None, ap, arith, length-take, refl, subst, sym, take}
 use Rattle.he_text.specs.declared.walks.Ending.TheVariants as endings
 use Rattle.he_text.specs.Walks.{IsWithin}
-use Rattle.he_replay.specs.Output.{IsTextOf}
+use Rattle.he_replay.specs.Rounds.{IsAsked}
 use Rattle.he_replay.specs.Rounds.{IsFaultPast, PutsTold}
 use Rattle.he_replay.proofs.Further.{round_ends, round_goes}
 use Rattle.he_replay.proofs.Told.{told_by, told_lines, within_told}
@@ -11,7 +11,7 @@ pub tell_races-requires : goal.tell_races-requires
 tell_races-requires g c =
     let lines = c.requires.lines in
     let Within : List ℕ → Type 0 = λ bytes. IsWithin (take c.args.held.now.filled bytes) c.args.part.begun in
-    subst Within (sym c.deref.ensures.value) (within_told (IsTextOf c.args.content) _ _ _ _ c.args.part.begun c.requires.begun (omega (arith, lines, length-take {A = ℕ})))
+    subst Within (sym c.deref.ensures.value) (within_told (IsAsked c.args.asked.now) _ _ _ _ c.args.part.begun c.requires.begun (omega (arith, lines, length-take {A = ℕ})))
 
 pub returns-in_err-walk-clause-told : goal.returns-in_err-walk-clause-told
 returns-in_err-walk-clause-told g c =
@@ -19,33 +19,33 @@ returns-in_err-walk-clause-told g c =
     let size = c.args.held.now.filled in
     let bytes = take size c.args.held.now.bytes.items in
     let text = c.tell_races.new.text.items in
-    let has = told_by (IsTextOf c.args.content) c.args.part.ending bytes (take size c.deref.result.now) _ text _ _ c.args.part.begun told.walk told (ap (λ (b : List ℕ). take size b) c.deref.ensures.value) c.requires.begun c.in_ok-told.ensures refl in
+    let has = told_by (IsAsked c.args.asked.now) c.args.part.ending bytes (take size c.deref.result.now) _ text _ _ c.args.part.begun told.walk told (ap (λ (b : List ℕ). take size b) c.deref.ensures.value) c.requires.begun c.in_ok-told.ensures refl in
     let Is : List ℕ → Type 0 = λ b. ((c.args.part.ending ≡ endings.Open) × (told.fault ≡ None)) ⊎ IsFaultPast c.args.part.ending (take size b) told.walk told.fault in
     let Put : List ℕ → Type 0 = λ t. PutsTold g.O.OutputStream.contents g.O.OutputStream.puts g.O.OutputStream.flushes c.args.part.ending told t c.args.output.now c.put_told.new.output (Err c.in_err-walk.field-0.0) in
-    round_ends (IsTextOf c.args.content) _ _ _ c.args.part.ending bytes c.args.held.now.walk bytes text told has (subst Is c.deref.ensures.value c.in_ok-told.ensures.fault_is) _ _ _
+    round_ends (IsAsked c.args.asked.now) _ _ _ c.args.part.ending bytes c.args.held.now.walk bytes text told has (subst Is c.deref.ensures.value c.in_ok-told.ensures.fault_is) _ _ _
     c.in_err-walk.field-0.0 (subst Put c.as_slice.ensures.value c.in_err-walk.ensures) c.from_residual-in_err-walk.result c.from_residual-in_err-walk.ensures
 
 pub forget-requires-clause-place : goal.forget-requires-clause-place
 forget-requires-clause-place g c =
     let size = c.args.held.now.filled in
-    let has = told_by (IsTextOf c.args.content) c.args.part.ending (take size c.args.held.now.bytes.items) (take size c.deref.result.now) _ _ _ _ c.args.part.begun c.in_ok-walk.walk c.in_ok-told.told (ap (λ (b : List ℕ). take size b) c.deref.ensures.value) c.requires.begun c.in_ok-told.ensures c.in_ok-walk.ensures.0 in
-    let within = has.passed.within in
+    let has = told_by (IsAsked c.args.asked.now) c.args.part.ending (take size c.args.held.now.bytes.items) (take size c.deref.result.now) _ _ _ _ c.args.part.begun c.in_ok-walk.walk c.in_ok-told.told (ap (λ (b : List ℕ). take size b) c.deref.ensures.value) c.requires.begun c.in_ok-told.ensures c.in_ok-walk.ensures.0 in
+    let within = has.within in
     omega (arith, within, length-take {A = ℕ})
 
 pub overflow_sub-held : goal.overflow_sub-held
 overflow_sub-held g c =
     let size = c.args.held.now.filled in
-    let has = told_by (IsTextOf c.args.content) c.args.part.ending (take size c.args.held.now.bytes.items) (take size c.deref.result.now) _ _ _ _ c.args.part.begun c.in_ok-walk.walk c.in_ok-told.told (ap (λ (b : List ℕ). take size b) c.deref.ensures.value) c.requires.begun c.in_ok-told.ensures c.in_ok-walk.ensures.0 in
-    let within = has.passed.within in
+    let has = told_by (IsAsked c.args.asked.now) c.args.part.ending (take size c.args.held.now.bytes.items) (take size c.deref.result.now) _ _ _ _ c.args.part.begun c.in_ok-walk.walk c.in_ok-told.told (ap (λ (b : List ℕ). take size b) c.deref.ensures.value) c.requires.begun c.in_ok-told.ensures c.in_ok-walk.ensures.0 in
+    let within = has.within in
     omega (arith, within, length-take {A = ℕ})
 
 pub returns-clause-size : goal.returns-clause-size
 returns-clause-size g c =
     let size = c.args.held.now.filled in
     let bytes = take size c.args.held.now.bytes.items in
-    let has = told_by (IsTextOf c.args.content) c.args.part.ending bytes (take size c.deref.result.now) _ _ _ _ c.args.part.begun c.in_ok-walk.walk c.in_ok-told.told (ap (λ (b : List ℕ). take size b) c.deref.ensures.value) c.requires.begun c.in_ok-told.ensures c.in_ok-walk.ensures.0 in
-    let within = has.passed.within in
-    let lines = told_lines (IsTextOf c.args.content) bytes _ _ _ c.in_ok-walk.walk has in
+    let has = told_by (IsAsked c.args.asked.now) c.args.part.ending bytes (take size c.deref.result.now) _ _ _ _ c.args.part.begun c.in_ok-walk.walk c.in_ok-told.told (ap (λ (b : List ℕ). take size b) c.deref.ensures.value) c.requires.begun c.in_ok-told.ensures c.in_ok-walk.ensures.0 in
+    let within = has.within in
+    let lines = told_lines (IsAsked c.args.asked.now) bytes _ _ _ c.in_ok-walk.walk has in
     omega (arith, within, lines, length-take {A = ℕ})
 
 pub returns-clause-told : goal.returns-clause-told
@@ -54,8 +54,8 @@ returns-clause-told g c =
     let size = c.args.held.now.filled in
     let bytes = take size c.args.held.now.bytes.items in
     let text = c.tell_races.new.text.items in
-    let has = told_by (IsTextOf c.args.content) c.args.part.ending bytes (take size c.deref.result.now) _ text _ _ c.args.part.begun told.walk told (ap (λ (b : List ℕ). take size b) c.deref.ensures.value) c.requires.begun c.in_ok-told.ensures refl in
+    let has = told_by (IsAsked c.args.asked.now) c.args.part.ending bytes (take size c.deref.result.now) _ text _ _ c.args.part.begun told.walk told (ap (λ (b : List ℕ). take size b) c.deref.ensures.value) c.requires.begun c.in_ok-told.ensures refl in
     let Is : List ℕ → Type 0 = λ b. ((c.args.part.ending ≡ endings.Open) × (told.fault ≡ None)) ⊎ IsFaultPast c.args.part.ending (take size b) told.walk told.fault in
     let Put : List ℕ → Type 0 = λ t. PutsTold g.O.OutputStream.contents g.O.OutputStream.puts g.O.OutputStream.flushes c.args.part.ending told t c.args.output.now c.put_told.new.output (Ok c.in_ok-walk.walk) in
-    round_goes (IsTextOf c.args.content) _ _ _ c.args.part.ending bytes c.args.held.now.walk _ text told has (subst Is c.deref.ensures.value c.in_ok-told.ensures.fault_is) _ _
+    round_goes (IsAsked c.args.asked.now) _ _ _ c.args.part.ending bytes c.args.held.now.walk _ text told has (subst Is c.deref.ensures.value c.in_ok-told.ensures.fault_is) _ _
     c.in_ok-walk.walk (subst Put c.as_slice.ensures.value c.in_ok-walk.ensures) c.forget.ensures.kept

@@ -4,7 +4,7 @@ use Rattle.he_stream.specs.declared.limits.TheConstants.{READ_SIZE}
 use Rattle.he_stream.specs.Input.{TakesOn}
 use Rattle.he_stream.specs.Output.{PutsInRounds}
 use Rattle.he_stream.specs.Runs.{StepsOn}
-use Rattle.he_replay.specs.Output.{IsTranscriptText}
+use Rattle.he_replay.specs.Rounds.{IsAsked}
 use Rattle.he_replay.specs.Rounds.{IsAt}
 use Rattle.he_replay.proofs.sharing.stream_shared.Given as goal
 
@@ -13,7 +13,7 @@ use Rattle.he_replay.proofs.sharing.stream_shared.Given as goal
 abbrev pub invariant-loop-steps : goal.invariant-loop-steps
 invariant-loop-steps g l =
     (l.held.filled ≤ vec_len l.held.bytes) × (l.held.walk.lines + l.held.filled ≤ READ_SIZE * l._steps)
-    × IsAt IsTranscriptText (take l.held.filled l.held.bytes.items) l.held.walk
+    × IsAt (IsAsked l.asked) (take l.held.filled l.held.bytes.items) l.held.walk
     (Consumes (g.I.InputStream.remaining l.fn.input) (g.I.InputStream.remaining l.input))
     (PutsInRounds g.O.OutputStream.contents g.O.OutputStream.puts g.O.OutputStream.flushes l.fn.output l.output)
     × StepsOn g.I.InputStream.takes TakesOn l._steps l.fn.input l.input

@@ -1,0 +1,137 @@
+-- One race more of an input that is compared, and how its walk ends.
+use Rattle.std.proofs.Common.{ℕ, Result, IsErr, IsErrAnd, ◌≡◌, ◌+◌, ◌-◌, ◌≤◌, ◌<◌, ◌^◌, List, [], ◌∷◌, ◌++◌, length, map, take, drop, Bool, Option, Some, None, Ok, Err, sym, subst, refl, ◌∙◌, ap, append_assoc, length-append, arith}
+use Rattle.std.specs.List.{slice_range}
+use Rattle.std.proofs.lemmas.List.{append-nil, take-append-drop}
+use Rattle.std.proofs.Math.Seq.{take-add}
+use Rattle.he_plan.specs.Changes.{ChangeValues}
+use Rattle.he_plan.specs.Race.{Race}
+use Rattle.he_text.specs.Inputs.{line_count}
+use Rattle.he_text.specs.Text.{IsRaceText}
+use Rattle.he_text.specs.Walks.{HasPassed, IsNextOf, IsWalkFault, IsWithin, PassesRace, ending_of}
+use Rattle.he_text.specs.declared.inputs.InputFault.{InputFault}
+use Rattle.he_text.specs.declared.walks.Walk.{Walk}
+use Rattle.he_text.specs.declared.walks.WalkFault.{WalkFault}
+use Rattle.he_text.specs.declared.walks.WalkFault.TheVariants as walks
+use Rattle.he_text.proofs.WalkLaws.{has_fault, has_none, line_count-append, none_behind, none_passed, passes_on}
+use Rattle.he_compare.proofs.Counting.{may_count_told}
+use Rattle.he_compare.specs.Compared.{AreCompared, HasCompared, IsCompared}
+use Rattle.he_compare.specs.Steps.{EndsWalk, HasTold, HasWalked, MayCount, TellsRace}
+use Rattle.he_compare.specs.Texts.{Compared}
+use Rattle.he_compare.specs.declared.told.Told.{Told}
+
+-- one race more behind the others
+compared_on : (changes : ChangeValues) (before lines : ℕ) (races : List Race) (text : List ℕ) (told : List Compared) → AreCompared changes before lines races text told
+    → (race : Race) (last : List ℕ) → IsRaceText last race → (number line : ℕ) (compared : Compared) → number ≡ before + length races + 1 → line ≡ lines + line_count text + 1
+    → IsCompared changes race number line compared → AreCompared changes before lines (races ++ race ∷ []) (text ++ last) (told ++ compared ∷ [])
+compared_on changes before lines [] text told (none, nothing) race last is number line compared numbered lined pair =
+    let here : line ≡ lines + 1 = let no_line : line_count text ≡ 0 = ap line_count none in omega arith in
+    let first : number ≡ before + 1 = omega arith in (
+      last,
+      [],
+      compared,
+      [],
+      ap (λ (t : List ℕ). t ++ last) none ∙ sym (append-nil last),
+      ap (λ (t : List Compared). t ++ compared ∷ []) nothing,
+      is,
+      record { numbered = pair.numbered ∙ first; lined = pair.lined ∙ here; as_it_stands = pair.as_it_stands; with_changes = pair.with_changes },
+      (refl, refl),
+    )
+compared_on changes before lines (one ∷ races) text told (first, more, front, later, split, ones, read, at, rest) race last is number line compared numbered lined pair =
+    let sum : line_count text ≡ line_count first + line_count more = ap line_count split ∙ line_count-append first more in
+    let behind : line ≡ lines + line_count first + line_count more + 1 = omega arith in
+    let next : number ≡ before + 1 + length races + 1 = omega arith in (
+      first,
+      more ++ last,
+      front,
+      later ++ compared ∷ [],
+      ap (λ (t : List ℕ). t ++ last) split ∙ append_assoc first more last,
+      ap (λ (t : List Compared). t ++ compared ∷ []) ones,
+      read,
+      at,
+      compared_on changes (before + 1) (lines + line_count first) races more later rest race last is number line compared next behind pair,
+    )
+
+-- up to the end of a range: up to its start, and the range
+take_to : (input : List ℕ) (from end : ℕ) → from ≤ end → take end input ≡ take from input ++ slice_range input from end
+take_to input from end le =
+    let sum : end ≡ from + (end - from) = omega arith in
+    ap (λ (n : ℕ). take n input) sum ∙ take-add from (end - from) input
+
+pub starts : {A : Type 0} (changes : ChangeValues) (input : List ℕ) (kept : Told A) → IsWithin input (record { end = 0; races = 0; lines = 0 }) → HasTold kept []
+    → HasWalked changes input (record { end = 0; races = 0; lines = 0 }) kept
+starts changes input kept within has =
+    record { races = []; told = []; passed = none_passed input 0 0; within = within; are = (refl, refl); many = refl; has = has }
+
+pub one_more : {A : Type 0} (changes : ChangeValues) (input : List ℕ) (old new : Walk) (kept longer : Told A) (race : Race) (number line : ℕ)
+    → HasWalked changes input old kept → IsWithin input new → PassesRace input old new race → number ≡ new.races → line ≡ old.lines + 1
+    → TellsRace changes race number line kept longer → HasWalked changes input new longer × (old.end < new.end)
+one_more changes input old new kept longer race number line before within passes numbered lined tells =
+    let (compared, pair, has) = tells before.told before.has in
+    let split : take new.end input ≡ take old.end input ++ slice_range input old.end new.end = take_to input old.end new.end (let past = passes.past in omega arith) in
+    let races = before.races ++ race ∷ [] in
+    let Are : List ℕ → Type 0 = λ text. AreCompared changes 0 0 races text (before.told ++ compared ∷ []) in
+    let behind = before.passed.lined in
+    let counted = before.passed.counted in
+    let more = passes.counted in
+    let many = before.many in
+    let are = compared_on changes 0 0 before.races (take old.end input) before.told before.are race (slice_range input old.end new.end) passes.read number line compared (omega arith) (omega arith) pair in (
+      record {
+        races = races;
+        told = before.told ++ compared ∷ [];
+        passed = passes_on input 0 0 before.races old new race before.passed passes;
+        within = within;
+        are = subst Are (sym split) are;
+        many = length-append before.told (compared ∷ []) ∙ ap (λ (n : ℕ). n + 1) many ∙ sym (length-append before.races (race ∷ []));
+        has = has;
+      },
+      passes.past,
+    )
+
+-- the bytes that a walk has passed, and the others
+parted : (input : List ℕ) (end : ℕ) → input ≡ take end input ++ drop end input
+parted input end = sym (take-append-drop end input)
+
+pub fails : {A : Type 0} (changes : ChangeValues) (input : List ℕ) (is_broken : Bool) (walk : Walk) (kept : Told A) (fault : WalkFault)
+    → HasWalked changes input walk kept → IsWalkFault input (ending_of is_broken) walk fault → EndsWalk changes input is_broken kept (Err fault)
+fails changes input is_broken walk kept (walks.Input fault) before is = (
+  before.told,
+  record {
+    races = before.races;
+    has = has_fault input is_broken before.races walk fault before.passed before.within.few is;
+    front = take walk.end input;
+    rest = drop walk.end input;
+    parts = parted input walk.end;
+    are = before.are;
+  },
+  before.has,
+)
+fails changes input is_broken walk kept walks.Memory before is = tt
+
+pub ends : {A : Type 0} (changes : ChangeValues) (input : List ℕ) (is_broken : Bool) (old new : Walk) (kept : Told A) (found : Option Race)
+    → HasWalked changes input old kept → IsNextOf input (ending_of is_broken) old new found → ((race : Race) → found ≡ Some race → ⊥)
+    → EndsWalk changes input is_broken kept (Ok (record {}))
+ends changes input is_broken old new kept found before next none =
+    let end = none_behind input is_broken old new found next none in (
+      before.told,
+      record {
+        races = before.races;
+        has = has_none input is_broken before.races old before.passed before.within.few end.1;
+        front = take old.end input;
+        rest = drop old.end input;
+        parts = parted input old.end;
+        are = before.are;
+      },
+      before.has,
+    )
+
+pub may_count_walked : {A : Type 0} (changes : ChangeValues) (input : List ℕ) (walk : Walk) (kept : Told A) → HasWalked changes input walk kept → MayCount kept.counts
+may_count_walked changes input walk kept before =
+    let counted = before.passed.counted in
+    let few = before.within.few in
+    let many = before.many in
+    may_count_told kept before.told before.has (omega arith)
+
+-- a fault that `?` hands on
+pub handed : {A : Type 0} (r : Result A WalkFault) (fault : WalkFault) (Tells : Result A WalkFault → Type 0) → IsErr r × IsErrAnd r (λ k. k ≡ fault) → Tells (Err fault) → Tells r
+handed (Ok x) fault Tells told tells = absurd told.1
+handed (Err k) fault Tells told tells = subst (λ (f : WalkFault). Tells (Err f)) (sym told.1) tells

@@ -1,0 +1,15 @@
+//! A law of comparisons, the contract of a function that runs nothing.
+ghost use Rattle.std.specs.Prelude.{◌≡◌, None};
+ghost use Rattle.he_plan.specs.Changes.{changed};
+ghost use Rattle.he_plan.specs.Race.{Race};
+ghost use Rattle.he_plan.specs.Timeline.{IsRace};
+ghost use Rattle.he_plan.specs.Transcript.{IsTranscript, Report};
+
+use he_plan::laws::one_transcript;
+
+/// With no changes both transcripts of a race are one, so that its line says the same twice.
+pub fn no_changes_no_difference()
+    ensures { (race : Race) (stands other : Report) → IsRace race → IsTranscript race stands → IsTranscript (changed (record { resolution = None; attempt = None; count = None; limit = None; floor = None }) race) other → other ≡ stands }
+{
+    one_transcript();
+}

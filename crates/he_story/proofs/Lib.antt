@@ -1,0 +1,3 @@
+mod OrderLaws
+mod SpaceLaws
+mod TextLaws
