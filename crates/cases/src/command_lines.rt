@@ -39,8 +39,7 @@ order 1 198.51.100.1 source 192.0.2.2, behind 0 by rule 6, prefer higher precede
 end
 ";
 
-const STORY: &[u8] =
-    b"race 1, line 1: connected to 2001:db8:1::1 after 55 ms, by attempt 1 of 1
+const STORY: &[u8] = b"race 1, line 1: connected to 2001:db8:1::1 after 55 ms, by attempt 1 of 1
 preferred, once every answer is known:
   1. 2001:db8:1::1 from 2001:db8::2
   2. 198.51.100.1 from 192.0.2.2; precedence 35, the one before 40 (RFC 6724 rule 6)

@@ -32,7 +32,8 @@ const VERBOSE_HELP: &str = "Explains the fault of a file, as `he check` does";
 const SET_HELP: &str =
     "A setting that every race has in place of its own, as attempt=100: attempt, resolution, count, limit or floor. May be given more than once";
 
-const LINES_HELP: &str = "Writes lines for scripts, which cut them at their spaces, in place of the story";
+const LINES_HELP: &str =
+    "Writes lines for scripts, which cut them at their spaces, in place of the story";
 
 const ALL_HELP: &str =
     "Goes on behind a faulty race, at the next line `race 1` or `race 2`, and tells each fault of the text";
@@ -202,7 +203,12 @@ refused.";
 
 // The command `he replay`.
 pub(crate) fn replay_command<'a>(alloc: Global) -> Result<Command<'a>, AllocError> {
-    let args = vec![in alloc; files(alloc), workers(alloc), set(alloc, SET_HELP), verbose(alloc)]?;
+    let args = vec![in alloc;
+        files(alloc),
+        workers(alloc),
+        set(alloc, SET_HELP),
+        verbose(alloc),
+    ]?;
     plain(alloc, "replay", REPLAY_ABOUT, REPLAY_EXAMPLE).args(args)
 }
 
