@@ -30,7 +30,7 @@ module _
         let written = story_text number line race in
         let same = one_transcript race story.report other_story.report story.is other_story.is in
         let same_floor = one_transcript (floored race) story.with_floor other_story.with_floor story.floors other_story.floors in
-        story.told ∙ ap (λ (report : Report). written report story.with_floor) same ∙ ap (written other_story.report) same_floor ∙ sym other_story.told
+        story.text ∙ ap (λ (report : Report). written report story.with_floor) same ∙ ap (written other_story.report) same_floor ∙ sym other_story.text
 
     pub one_output : (content : Content) (changes : ChangeValues) (input : List ℕ) (is_broken : Bool) (text other : List ℕ) (fault other_fault : Option InputFault)
         → IsOutput (IsTextWith content changes) input is_broken text fault → IsOutput (IsTextWith content changes) input is_broken other other_fault → (text ≡ other) × (fault ≡ other_fault)
