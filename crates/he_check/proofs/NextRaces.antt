@@ -31,10 +31,11 @@ none_searched part = record {
 no_line : (text : List ℕ) → ((k : ℕ) → k < length text → eqb (get_or text k 0) 10 ≡ true → ⊥) → line_count text ≡ 0
 no_line [] none = refl
 no_line (byte ∷ text) none =
-    let later : line_count text ≡ 0 = no_line text (λ k lt is. none (k + 1) (omega arith) is) in
-    sum_by-cons (λ b. cond (eqb b 10) 1 0) byte text ∙ ap (λ n. n + line_count text) (here (eqb byte 10) (none 0 (omega arith))) ∙ later
+    let later : line_count text ≡ 0 = no_line text (λ k lt is. none (suc k) (omega arith) is) in
+    let all : 0 + line_count text ≡ 0 = omega arith in
+    sum_by-cons (λ b. cond (eqb b 10) 1 0) byte text ∙ ap (λ n. n + line_count text) (here (eqb byte 10) (none 0 (omega arith))) ∙ all
   where
-    here : (b : Bool) → (b ≡ true → ⊥) → cond b 1 0 ≡ 0
+    here : (b : Bool) → (b ≡ true → ⊥) → ◌≡◌ {A = ℕ} (cond b 1 0) 0
     here true never = absurd (never refl)
     here false never = refl
 
@@ -44,7 +45,7 @@ early : (rest : List ℕ) (text : List ℕ) (at end other : ℕ) → rest ≡ dr
 early rest text at end other is none (front, version, more, split, place) past less =
     let k = length front - at in
     let sum : at + k ≡ length front = omega arith in
-    let race : List ℕ = header_of version ++ 10 ∷ more in
+    let race : List ℕ = header_of version ++ (10 ∷ more) in
     let byte : get_or rest k 0 ≡ 10 =
     ap (λ (r : List ℕ). get_or r k 0) is ∙ get_or-drop at text k 0 ∙ ap (λ (n : ℕ). get_or text n 0) sum ∙ ap (λ (t : List ℕ). get_or t (length front) 0) split
     ∙ get_or-append_seam front 10 race 0 in
@@ -53,7 +54,7 @@ early rest text at end other is none (front, version, more, split, place) past l
 -- one line more of the text, behind these bytes of it
 record IsLine (text : List ℕ) (at end : ℕ) : Type 0 where
   within : at + end + 1 ≤ length text
-  cut : text ≡ take (at + end) text ++ 10 ∷ drop (at + end + 1) text
+  cut : text ≡ take (at + end) text ++ (10 ∷ drop (at + end + 1) text)
   one : line_count (take (at + end + 1) text) ≡ line_count (take at text) + 1
   left : drop (end + 1) (drop at text) ≡ drop (at + end + 1) text
   later : (other : ℕ) → BeginsRace text other → at + 1 ≤ other → at + end + 1 ≤ other
@@ -75,14 +76,14 @@ is_line text at end inside (first, is) =
     let counted : line_count (take (end + 1) rest) ≡ 1 = ap line_count line ∙ line_count-append (take end rest) (10 ∷ []) ∙ ap (λ c. c + 1) before in
     record {
       within = omega arith;
-      cut = split_at text n 0 (omega arith) ∙ ap (λ (b : ℕ). take n text ++ b ∷ drop (suc n) text) byte ∙ ap (λ (m : ℕ). take n text ++ 10 ∷ drop m text) next;
+      cut = split_at text n 0 (omega arith) ∙ ap (λ (b : ℕ). take n text ++ (b ∷ drop (suc n) text)) byte ∙ ap (λ (m : ℕ). take n text ++ (10 ∷ drop m text)) next;
       one = ap (λ (m : ℕ). line_count (take m text)) sum ∙ ap line_count (take-add at (end + 1) text) ∙ line_count-append (take at text) (take (end + 1) rest) ∙ ap (λ c. line_count (take at text) + c) counted;
       left = drop-drop (end + 1) at text ∙ ap (λ (m : ℕ). drop m text) (sym sum);
-      later = λ other is' past. lt_of_not-le (λ less. early rest text at end other refl first.before is' past (omega arith));
+      later = λ other is' past. let far : n < other = lt_of_not-le (λ le. early rest text at end other refl first.before is' past le) in omega arith;
     }
 
 -- the first line of a text is a race's
-starts : (text : List ℕ) → begins_race text ≡ true → (version : Version) × (more : List ℕ) × (text ≡ header_of version ++ 10 ∷ more)
+starts : (text : List ℕ) → begins_race text ≡ true → (version : Version) × (more : List ℕ) × (text ≡ header_of version ++ (10 ∷ more))
 starts text is = elim (either (begins (codes "race 1" ++ 10 ∷ []) text) (begins (codes "race 2" ++ 10 ∷ []) text) is) [
   | inl one ↦ (One, drop 7 text, (starts_is Decides-eqb text (codes "race 1" ++ 10 ∷ []) _ refl).0 one)
   | inr two ↦ (Two, drop 7 text, (starts_is Decides-eqb text (codes "race 2" ++ 10 ∷ []) _ refl).0 two)
@@ -92,7 +93,7 @@ starts text is = elim (either (begins (codes "race 1" ++ 10 ∷ []) text) (begin
     either true b is = inl refl
     either false b is = inr is
 
-is_start : (text : List ℕ) (version : Version) (more : List ℕ) → text ≡ header_of version ++ 10 ∷ more → begins_race text ≡ true
+is_start : (text : List ℕ) (version : Version) (more : List ℕ) → text ≡ header_of version ++ (10 ∷ more) → begins_race text ≡ true
 is_start text One more is = ap (λ b. b || begins (codes "race 2" ++ 10 ∷ []) text) ((starts_is Decides-eqb text (codes "race 1" ++ 10 ∷ []) _ refl).1 more is)
 is_start text Two more is =
     ap (λ b. begins (codes "race 1" ++ 10 ∷ []) text || b) ((starts_is Decides-eqb text (codes "race 2" ++ 10 ∷ []) _ refl).1 more is) ∙ or_true (begins (codes "race 1" ++ 10 ∷ []) text)
@@ -105,9 +106,10 @@ is_start text Two more is =
 race_there : (text : List ℕ) (at : ℕ) → BeginsRace text at → begins_race (drop at text) ≡ true
 race_there text at (front, version, more, split, place) =
     let before : List ℕ = front ++ 10 ∷ [] in
-    let race : List ℕ = header_of version ++ 10 ∷ more in
+    let race : List ℕ = header_of version ++ (10 ∷ more) in
     let long : length before ≡ at = length-append front (10 ∷ []) ∙ sym place in
-    let parts : text ≡ before ++ race = split ∙ sym (append_assoc front (10 ∷ []) race) in
+    let joined : before ++ race ≡ front ++ (10 ∷ race) = append_assoc front (10 ∷ []) race in
+    let parts : text ≡ before ++ race = split ∙ sym joined in
     is_start (drop at text) version more (ap (λ (t : List ℕ). drop at t) parts ∙ drop_at before race at long)
 
 -- one line more is searched
@@ -120,16 +122,19 @@ one_searched part lines rest next end before found next_is other_line =
     let left : next ≡ drop (before.at + end + 1) text = next_is ∙ ap (drop (end + 1)) before.left ∙ line.left in
     let one = line.one in
     let counted = before.counted in
+    let not_there : (other : ℕ) → BeginsRace text other → other ≤ before.at + end + 1 → ⊥ = λ other is le.
+    let far = line.later other is (before.none other is) in
+    let same : other ≡ before.at + end + 1 = omega arith in
+    let race : begins_race next ≡ true = ap begins_race (left ∙ ap (λ n. drop n text) (sym same)) ∙ race_there text other is in
+    true≢false (sym race ∙ other_line) in
     record {
       at = before.at + end + 1;
       left = left;
       within = line.within;
       counted = omega arith;
-      none = λ other is. lt_of_not-le (λ less.
-      let far = line.later other is (before.none other is) in
-      let same : other ≡ before.at + end + 1 = omega arith in
-      let race : begins_race next ≡ true = ap begins_race (left ∙ ap (λ n. drop n text) (sym same)) ∙ race_there text other is in
-      true≢false (sym race ∙ other_line));
+      none = λ other is.
+      let past : before.at + end + 1 < other = lt_of_not-le (λ le. not_there other is le) in
+      omega arith;
     }
 
 -- the line begins the next race
@@ -152,7 +157,7 @@ next_found part next lines rest end before found next_is lined race room =
     record {
       at = n + 1;
       is = record {
-        begins = (take n text, start.0, start.1, line.cut ∙ ap (λ (t : List ℕ). take n text ++ 10 ∷ t) (sym left ∙ start.2), ap (λ m. m + 1) (sym place));
+        begins = (take n text, start.0, start.1, line.cut ∙ ap (λ (t : List ℕ). take n text ++ (10 ∷ t)) (sym left ∙ start.2), ap (λ m. m + 1) (sym place));
         first = λ other is. line.later other is (before.none other is);
       };
       text = left;
@@ -165,7 +170,7 @@ pub none_left : (part : Part) (lines : ℕ) (rest : List ℕ) → HasSearched pa
 none_left part lines rest before none at (front, version, more, split, place) =
     let text = part.text.now in
     let is : BeginsRace text at = (front, version, more, split, place) in
-    let race : List ℕ = header_of version ++ 10 ∷ more in
+    let race : List ℕ = header_of version ++ (10 ∷ more) in
     let long : length text ≡ length front + length (10 ∷ race) = ap length split ∙ length-append front (10 ∷ race) in
     let size : length rest ≡ length text - before.at = ap length before.left ∙ length-drop before.at text in
     early rest text before.at (length rest) at before.left none is (before.none at is) (omega arith)

@@ -16,7 +16,7 @@ use Rattle.he_check.specs.Sentences.{clause_text}
 abbrev pub BeginsRace : List ℕ → ℕ → Type 0
 BeginsRace text at =
     (front : List ℕ) × (version : Version) × (more : List ℕ)
-    × (text ≡ front ++ line_end ∷ header_of version ++ line_end ∷ more) × (at ≡ length front + 1)
+    × (text ≡ front ++ (line_end ∷ (header_of version ++ (line_end ∷ more)))) × (at ≡ length front + 1)
 
 -- The next race behind the one with which the text begins. Where that one has no `end`, its first faulty line is the
 -- first line of the next race, since `race` is the word of no other line: the next race begins on the faulty line.
@@ -49,10 +49,15 @@ AreFaultsBehind is_broken lines text (Text fault ∷ faults) =
 abbrev pub AreFaults : List ℕ → Bool → List InputFault → Type 0
 AreFaults input is_broken faults = AreFaultsBehind is_broken 0 input faults
 
--- he: line N: WORD, and what is said of the fault, which ends in its clause; he: cannot read the input
+-- he: line N: WORD, and what is said of the fault, which ends in its clause
+abbrev pub fault_text : List ℕ → TextFault → List ℕ → List ℕ
+fault_text input fault said = codes "he: line " ++ (decimal fault.line ++ (codes ": " ++ (said ++ clause_text (hint_of input fault))))
+
+abbrev pub read_text : List ℕ
+read_text = codes "he: cannot read the input" ++ 10 ∷ []
+
+-- the text tells these faults of the input, one after the other
 abbrev pub AreSaid : List ℕ → List InputFault → List ℕ → Type 0
 AreSaid input [] text = text ≡ []
-AreSaid input (Read ∷ faults) text = (more : List ℕ) × (text ≡ codes "he: cannot read the input" ++ 10 ∷ more) × AreSaid input faults more
-AreSaid input (Text fault ∷ faults) text =
-    (said : List ℕ) × (more : List ℕ)
-    × (text ≡ codes "he: line " ++ decimal fault.line ++ codes ": " ++ said ++ clause_text (hint_of input fault) ++ more) × AreSaid input faults more
+AreSaid input (Read ∷ faults) text = (more : List ℕ) × (text ≡ read_text ++ more) × AreSaid input faults more
+AreSaid input (Text fault ∷ faults) text = (said : List ℕ) × (more : List ℕ) × (text ≡ fault_text input fault said ++ more) × AreSaid input faults more

@@ -1,6 +1,6 @@
 -- Mirrors the code: how far the walk over an input has come whose races are counted, and their warnings; and what is left of
 -- an input whose faults are told. What a check tells stands in `Checked`, `Slips` and `AllFaults`.
-use Rattle.std.specs.Prelude.{ℕ, ◌≡◌, ◌⊎◌, ◌≤◌, ◌+◌, ◌^◌, Bool, List, [], ◌∷◌, ◌++◌, ◌||◌, length, take, drop, codes, Option, Some, None}
+use Rattle.std.specs.Prelude.{ℕ, ◌≡◌, ◌⊎◌, ◌≤◌, ◌+◌, ◌^◌, Bool, true, false, List, [], ◌∷◌, ◌++◌, ◌||◌, length, take, drop, codes, Option, Some, None}
 use Rattle.he_plan.specs.Race.{Race}
 use Rattle.he_text.specs.Inputs.{HasRaces, line_count}
 use Rattle.he_text.specs.Ranges.{line_end}
@@ -10,8 +10,11 @@ use Rattle.he_text.specs.declared.inputs.InputFault.TheVariants.{Text, Read}
 use Rattle.he_text.specs.declared.fault.TextFault.{TextFault}
 use Rattle.he_text.specs.declared.walks.Walk.{Walk}
 use Rattle.he_check.specs.AllFaults.{AreFaults, AreFaultsBehind, AreSaid, BeginsRace, IsNextRace, behind}
+use Rattle.he_check.specs.Clauses.{EndsInClause}
 use Rattle.he_check.specs.Meant.{begins}
 use Rattle.he_check.specs.Slips.{AreWarned}
+use Rattle.he_check.specs.declared.fault.CheckFault.{CheckFault}
+use Rattle.he_check.specs.declared.fault.CheckFault.TheVariants as checks
 use Rattle.he_check.specs.declared.parts.Part.{Part}
 use Rattle.he_check.specs.declared.slips.Warning.{Warning}
 
@@ -93,6 +96,13 @@ pub record SaysFaults (input : List ℕ) (is_broken : Bool) (old new : List ℕ)
   pub longer : new ≡ old ++ text
   pub are : AreFaults input is_broken faults
   pub said : AreSaid input faults text
+
+-- what is said of an input with this first fault: all its faults, or this one, if it is the text's
+abbrev pub SaysOf : Bool → List ℕ → Bool → CheckFault → List ℕ → List ℕ → Type 0
+SaysOf true input is_broken (checks.Text fault) old new = SaysFaults input is_broken old new
+SaysOf true input is_broken checks.Read old new = SaysFaults input is_broken old new
+SaysOf false input is_broken (checks.Text fault) old new = EndsInClause input fault old new
+SaysOf is_all input is_broken fault old new = new ≡ old
 
 -- the first faults of what was left are told, and these parts are left
 pub record HasTold (input : List ℕ) (is_broken : Bool) (old new : Option Part) (old_text new_text : List ℕ) : Type 0 where

@@ -66,11 +66,14 @@ fn tell_first<'t, A: Allocator + Copy>(
         return Ok(None);
     };
     append_fault(alloc, input, faulty, found, text)?;
-    let left = faulty.next_race();
-    if is_broken && left.is_none() {
-        text.extend_from_slice(READ_LINE)?;
+    match faulty.next_race() {
+        Some(next) => Ok(Some(next)),
+        None if is_broken => {
+            text.extend_from_slice(READ_LINE)?;
+            Ok(None)
+        }
+        None => Ok(None),
     }
-    Ok(left)
 }
 
 // Appends the line of a fault of the input and what is said of it. Its race begins with this part.

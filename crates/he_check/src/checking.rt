@@ -1,8 +1,9 @@
 //! The check of an input, and what is written of it to an output.
-ghost use Rattle.std.specs.Prelude.{◌≡◌, ◌++◌, true, false, IfOk, OnOk};
+ghost use Rattle.std.specs.Prelude.{◌≡◌, ◌++◌, true, false, IfOk, OnErr, OnOk};
 ghost use Rattle.std.specs.Io.{StartsWith};
 ghost use Rattle.he_stream.specs.Input.{Gives};
 ghost use Rattle.he_stream.specs.Output.{PutsPart, PutsWhole};
+ghost use Rattle.he_check.specs.Steps.{SaysOf};
 ghost use Rattle.he_check.specs.Stream.{Checks, Explains, counted, report_text};
 
 use crate::all_faults::explain_all;
@@ -11,6 +12,7 @@ use crate::fault::CheckFault;
 use crate::input::{Checked, check_input};
 use crate::telling::tell_warnings;
 use he_addr::{Memory, write_number};
+use he_text::inputs::one_input;
 use he_stream::{InputStream, OutputStream, take_input, write_whole};
 use std::alloc::Allocator;
 
@@ -85,6 +87,7 @@ fn check_up_to<A: Allocator + Copy, I: InputStream, O: OutputStream>(
     ensures stays { StartsWith explanation.new.items explanation.old.items }
     ensures quiet { Explains is_all (Gives I.remaining I.takes input.old input.new) explanation.old.items explanation.new.items result }
 {
+    one_input();
     let given = take_input(alloc, input)?;
     let (bytes, is_broken) = (given.bytes.as_slice(), given.is_broken);
     match check_input(alloc, bytes, is_broken) {
@@ -96,15 +99,29 @@ fn check_up_to<A: Allocator + Copy, I: InputStream, O: OutputStream>(
             Ok(())
         }
         Err(fault) => {
-            match fault {
-                CheckFault::Text(_) | CheckFault::Read if is_all => {
-                    explain_all(alloc, bytes, is_broken, explanation)?
-                }
-                CheckFault::Text(found) => explain_fault(alloc, bytes, found, explanation)?,
-                _ => {}
-            }
+            explain(alloc, bytes, is_broken, fault, is_all, explanation)?;
             Err(fault)
         }
+    }
+}
+
+// Explains an input with this first fault: all its faults, or this one, if it is the text's.
+fn explain<A: Allocator + Copy>(
+    alloc: A,
+    input: &[u8],
+    is_broken: bool,
+    fault: CheckFault,
+    is_all: bool,
+    explanation: &mut Vec<u8, A>,
+) -> Result<(), Memory>
+    ensures ok { OnOk result (SaysOf is_all input.now is_broken fault explanation.old.items explanation.new.items) }
+    ensures err { OnErr result (explanation.new.items ≡ explanation.old.items) }
+{
+    match fault {
+        CheckFault::Text(_) if is_all => explain_all(alloc, input, is_broken, explanation),
+        CheckFault::Read if is_all => explain_all(alloc, input, is_broken, explanation),
+        CheckFault::Text(found) => Ok(explain_fault(alloc, input, found, explanation)?),
+        CheckFault::Read | CheckFault::Write | CheckFault::Memory => Ok(()),
     }
 }
 
