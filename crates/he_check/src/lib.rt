@@ -19,6 +19,7 @@
 //! don't find, a sentence tells what faults of its kind are.
 #![tactic(auto)]
 
+mod all_faults;
 pub mod checking;
 mod clause;
 pub mod explaining;
@@ -29,6 +30,7 @@ mod forms;
 pub mod input;
 pub mod limits;
 mod meant;
+mod parts;
 mod place;
 mod repeats;
 mod sentence;
@@ -36,7 +38,7 @@ mod showing;
 pub mod slips;
 mod telling;
 
-pub use checking::check;
+pub use checking::{check, check_all};
 pub use explaining::explain_fault;
 pub use fault::CheckFault;
 pub use input::{Checked, check_input};
