@@ -1,20 +1,20 @@
 #!/usr/bin/env python3
 """A plain reading of the rules in docs/DEFINITIONS.md, RFC 8305 and RFC 6724, apart from the program.
 
-It says what `he replay`, `he order` and `he compare` write for a text: the output, and the line of a fault; what `he
-explain` writes stands in plain_story.py. It is as slow and plain as it can be, and shares nothing with the program: who
-compares both (scripts/fuzz) finds where they differ.
+It says what `he replay` and `he order` write for a text: the output, and the line of a fault; what `he explain` and
+`he compare` write stands in plain_story.py and plain_compared.py. It is as slow and plain as it can be, and shares
+nothing with the program: who compares both (scripts/fuzz) finds where they differ.
 
 needs: python3, its standard library alone
 usage: scripts/plain.py order < TEXT
-       scripts/plain.py replay|compare [NAME=N ..] < TEXT
+       scripts/plain.py replay [NAME=N ..] < TEXT
            with these settings in place of each race's own, as with --set
 """
 import copy
 import pathlib
 import re
 import sys
-from collections import Counter, namedtuple
+from collections import namedtuple
 from functools import cached_property, lru_cache
 
 ROOT = pathlib.Path(__file__).resolve().parent.parent
@@ -378,6 +378,8 @@ class Race:
 
     def changed(self, changes):
         """The race with these settings in place of its own; a floor above the attempt delay then is that delay."""
+        if not changes:
+            return self
         race = copy.copy(self)
         # (another report than its own, which may be kept already)
         vars(race).pop("report", None)
@@ -452,7 +454,7 @@ class Race:
     def attempts(self):
         """Pairs of start and address."""
         tried, made = [], []
-        while True:
+        while len(tried) < len(self.usable("aaaa") + self.usable("a")):
             for tick in self.ticks_behind(made):
                 if self.seen(tick) != tick or not (self.may_follow(made, tick) if made else self.may_begin(tick)):
                     continue
@@ -463,7 +465,8 @@ class Race:
                 made.append((tick, address))
                 break
             else:
-                return made
+                break
+        return made
 
     @cached_property
     def report(self):
@@ -519,52 +522,6 @@ def order(race):
         name = "none" if fact["source"] is None else print_address(fact["source"].address)
         lines.append(f"{place} {print_address(fact['address'])} from {name}\n")
     return "".join(lines) + "end\n"
-
-
-def comparison(races, changes):
-    """A line for each race, on how it ends as it stands and with the changes, and one with the sums."""
-    lines, verdicts, apart = [], Counter(), []
-    for number, race in enumerate(races, 1):
-        own, other = race.report, race.changed(changes).report
-        verdict, time = verdict_of(own.result, other.result)
-        lines.append(f"race {number}, line {race.line}: {compared_ending(own)}; with the changes"
-                     f" {compared_ending(other)}, {'' if not time else f'{time} ms '}{verdict}\n")
-        verdicts[verdict] += 1
-        apart += [] if time is None else [time]
-    sums = ", ".join(f"{verdicts[verdict]} {told}" for verdict, told in VERDICTS.items())
-    return "".join(lines) + f"{counted(len(races), 'race')}: {sums}; {spread(sorted(apart))}\n"
-
-
-# What is said of one race, and in the sums.
-VERDICTS = {
-    "sooner": "sooner", "later": "later", "at the same time": "at the same time",
-    "won only with them": "won only with the changes", "won only without them": "won only without them",
-    "not won either way": "not won either way",
-}
-
-
-def verdict_of(own, other):
-    """What changes do, by the results without and with them, and how far apart the ends are where both are won."""
-    if own.kind == other.kind == "won":
-        verdict = "at the same time" if own.tick == other.tick else "sooner" if other.tick < own.tick else "later"
-        return verdict, abs(own.tick - other.tick)
-    if other.kind == "won":
-        return "won only with them", None
-    return "won only without them" if own.kind == "won" else "not won either way", None
-
-
-def compared_ending(report):
-    kind, place, tick = report.result
-    words = {"won": "won", "exhausted": "exhausted", "limit": "given up at its limit"}[kind]
-    return f"{words} after {tick} ms" + (f" by {print_address(report.lines[place].address)}" if kind == "won" else "")
-
-
-def spread(apart):
-    """The median (of the two middle ones their middle, rounded down) and the greatest of numbers in order."""
-    if not apart:
-        return "no race was won both ways"
-    middle = (apart[(len(apart) - 1) // 2] + apart[len(apart) // 2]) // 2
-    return f"difference where both won: median {middle} ms, greatest {apart[-1]} ms"
 
 
 def counted(number, one, many=None):
@@ -781,23 +738,31 @@ def changes_of(words):
     return {name: int(number) for name, number in (word.split("=") for word in words)}
 
 
-def written(command, races, changes):
-    """What the command writes for these races, with these changes of their settings."""
-    if command == "compare":
-        return comparison(races, changes).encode()
-    tell = transcript if command == "replay" else order
-    return "".join(tell(race.changed(changes)) for race in races).encode()
+def replayed(races, changes):
+    """What `he replay` writes for these races, with these settings in place of their own."""
+    return "".join(transcript(race.changed(changes)) for race in races).encode()
 
 
-def main():
-    command, words = (sys.argv[1:] + [None])[0], sys.argv[2:]
-    if command not in ("replay", "order", "compare") or command == "order" and words:
-        sys.exit("usage: scripts/plain.py replay|order|compare [NAME=N ..] < TEXT")
+def ordered(races, changes):
+    """What `he order` writes, which no setting changes."""
+    return "".join(order(race.changed(changes)) for race in races).encode()
+
+
+def answer(written, words):
+    """Reads standard input, writes what this function makes of its races with the settings of the words, and ends."""
     races, fault = read_text(sys.stdin.buffer.read().decode("latin-1"))
-    sys.stdout.buffer.write(written(command, races, changes_of(words)))
+    sys.stdout.buffer.write(written(races, changes_of(words)))
     sys.stdout.buffer.flush()
     sys.stderr.buffer.write(fault_line(fault))
     sys.exit(1 if fault else 0)
+
+
+def main():
+    if sys.argv[1:2] == ["replay"]:
+        answer(replayed, sys.argv[2:])
+    if sys.argv[1:] != ["order"]:
+        sys.exit("usage: scripts/plain.py order < TEXT, or scripts/plain.py replay [NAME=N ..] < TEXT")
+    answer(ordered, [])
 
 
 if __name__ == "__main__":

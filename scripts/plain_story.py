@@ -1,6 +1,6 @@
 #!/usr/bin/env python3
-"""A plain reading of what `he explain` writes, apart from the program, as plain.py of the rules: the story of each race,
-by docs/DEFINITIONS.md and crates/he_story/specs.
+"""A plain reading of what `he explain` writes, apart from the program, as plain.py is of the rules: the story of each
+race, by docs/DEFINITIONS.md and crates/he_story/specs.
 
 needs: python3, its standard library alone
 usage: scripts/plain_story.py [NAME=N ..] < TEXT
@@ -229,17 +229,9 @@ def story(number, race):
 
 
 def written(races, changes):
-    """What `he explain` writes for these races, with these changes of their settings."""
+    """What `he explain` writes for these races, with these settings in place of their own."""
     return "".join(story(number, race.changed(changes)) for number, race in enumerate(races, 1)).encode()
 
 
-def main():
-    races, fault = plain.read_text(sys.stdin.buffer.read().decode("latin-1"))
-    sys.stdout.buffer.write(written(races, plain.changes_of(sys.argv[1:])))
-    sys.stdout.buffer.flush()
-    sys.stderr.buffer.write(plain.fault_line(fault))
-    sys.exit(1 if fault else 0)
-
-
 if __name__ == "__main__":
-    main()
+    plain.answer(written, sys.argv[1:])
