@@ -45,6 +45,8 @@ Line = namedtuple("Line", "place start address fate tick")
 # How a race ends: `won` by the attempt of this place, `exhausted` or `limit`.
 Result = namedtuple("Result", "kind place tick")
 Report = namedtuple("Report", "lines result")
+# What is wrong with a text: the line, counted from 1, the kind, and the line with which the faulty race begins.
+Found = namedtuple("Found", "line kind begin")
 
 MAPPED_BLOCK = Prefix(MAPPED, 96)
 ALL = Prefix(0, 0)
@@ -701,7 +703,7 @@ def whole_lines(text):
 
 
 def read_text(text):
-    """The races of a text up to its first fault, and the fault: its line, counted from 1, and what is wrong."""
+    """The races of a text up to its first fault, and the fault, if there is one."""
     lines, races, reader = whole_lines(text), [], None
     for place, (line, is_whole) in enumerate(lines):
         if reader is None and not is_whole and line == "":
@@ -724,13 +726,27 @@ def read_text(text):
                 races.append(reader.race)
                 reader = None
         except Fault as fault:
-            return races, (place + 1, str(fault))
+            return races, Found(place + 1, str(fault), reader.race.line if reader else place + 1)
     raise AssertionError("the last line is never whole")
 
 
-def fault_line(fault):
-    """What the program prints of a fault, if there is one."""
-    return b"" if fault is None else f"he: line {fault[0]}: {fault[1]}\n".encode()
+def read_on(text):
+    """The first fault of each part of a text: a part begins with the text, or with the next line `race 1` or `race 2`
+    behind the first line of a faulty race. They are pairs of a line and a kind."""
+    lines, faults, start = whole_lines(text), [], 0
+    while start is not None:
+        _, found = read_text("\n".join(line for line, _ in lines[start:]))
+        if found is None:
+            break
+        faults.append((start + found.line, found.kind))
+        behind = range(start + found.begin, len(lines))
+        start = next((place for place in behind if lines[place][1] and lines[place][0] in HEADERS), None)
+    return faults
+
+
+def fault_line(line, kind):
+    """What the program prints of a fault."""
+    return f"he: line {line}: {kind}\n".encode()
 
 
 def changes_of(words):
@@ -753,7 +769,8 @@ def answer(written, words):
     races, fault = read_text(sys.stdin.buffer.read().decode("latin-1"))
     sys.stdout.buffer.write(written(races, changes_of(words)))
     sys.stdout.buffer.flush()
-    sys.stderr.buffer.write(fault_line(fault))
+    if fault:
+        sys.stderr.buffer.write(fault_line(fault.line, fault.kind))
     sys.exit(1 if fault else 0)
 
 
