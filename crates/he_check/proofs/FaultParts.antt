@@ -1,10 +1,9 @@
 -- The faults of an input, part by part, and what is said of them.
-use Rattle.std.proofs.Common.{ℕ, ◌≡◌, ◌⊎◌, ◌↔◌, ◌+◌, ◌-◌, ◌<◌, ◌≤◌, ◌^◌, Bool, true, false, List, [], ◌∷◌, ◌++◌, length, take, drop, Option, Some, None, Err, refl, sym, subst, subst₂, ◌∙◌, ap, append_assoc, append-nil, length-append, take-append-drop, arith, codes, decimal, inl, inr}
+use Rattle.std.proofs.Common.{ℕ, ◌≡◌, ◌⊎◌, ◌↔◌, ◌+◌, ◌≤◌, Bool, true, false, List, [], ◌∷◌, ◌++◌, length, take, drop, Option, Some, None, Err, refl, sym, subst, subst₂, ◌∙◌, ap, append_assoc, append-nil, take-append-drop, arith, codes, decimal, inl, inr}
 use Rattle.he_plan.specs.Race.{Race}
 use Rattle.he_text.specs.FaultSearch.{fault_of}
 use Rattle.he_text.specs.FirstFault.{IsFirstFaultOf}
-use Rattle.he_text.specs.Inputs.{AreRaceTexts, HasRaces, IsFaultBehind, fault_behind, line_count}
-use Rattle.he_text.specs.Ranges.{most_races}
+use Rattle.he_text.specs.Inputs.{HasRaces, IsFaultBehind, fault_behind, line_count}
 use Rattle.he_text.specs.Walks.{EndsAt, HasPassed, IsWalkFault, IsWithin, MayFollow, ending_of}
 use Rattle.he_text.specs.declared.fault.TextFault.{TextFault}
 use Rattle.he_text.specs.declared.fault.TextKind.{TextKind}
@@ -38,6 +37,7 @@ over is_broken lines more line kind some = by_kind is_broken kind
   where
     same : (kind : TextKind) → Text (record { line = lines + more + line; kind = kind }) ≡ Text (record { line = lines + (more + line); kind = kind })
     same kind = ap (λ (n : ℕ). Text (record { line = n; kind = kind })) (omega arith)
+
     by_kind : (is_broken : Bool) (kind : TextKind) → Over is_broken lines more (line, kind)
     by_kind false kind = (same kind, omega arith)
     by_kind true kinds.Header = (same kinds.Header, omega arith)
@@ -226,17 +226,22 @@ faults_on is_broken part faulty fault first faults follows = by_found first.foun
         → faulty.text.now ≡ has.rest → faulty.lines ≡ part.lines + line_count has.before → AreFaultsBehind is_broken part.lines part.text.now (Text fault ∷ faults)
     by_found Read has told rest lines = cc
     by_found (Text found) has told rest lines =
-        let same : fault ≡ behind part.lines found = cc in
-        (first.races, found, has, same, elim follows.by [
-          | inl (last, end) ↦ inl (subst IsLastRace rest last, end)
-          | inr (next, is, are) ↦
-              let Starts : List ℕ → Type 0 = λ t. IsNextRace t is.at in
-              let At : List ℕ → ℕ → Type 0 = λ t n. AreFaultsBehind is_broken n t faults in
-              let text : next.text.now ≡ drop is.at has.rest = is.text ∙ ap (drop is.at) rest in
-              let number : next.lines ≡ part.lines + line_count has.before + line_count (take is.at has.rest) =
-              is.lines ∙ ap (λ n. n + line_count (take is.at faulty.text.now)) lines ∙ ap (λ (t : List ℕ). part.lines + line_count has.before + line_count (take is.at t)) rest in
-              inr (is.at, subst Starts rest is.is, subst₂ At text number are)
-        ])
+        let same : fault ≡ behind part.lines found = cc in (
+          first.races,
+          found,
+          has,
+          same,
+          elim follows.by [
+            | inl (last, end) ↦ inl (subst IsLastRace rest last, end)
+            | inr (next, is, are) ↦
+                let Starts : List ℕ → Type 0 = λ t. IsNextRace t is.at in
+                let At : List ℕ → ℕ → Type 0 = λ t n. AreFaultsBehind is_broken n t faults in
+                let text : next.text.now ≡ drop is.at has.rest = is.text ∙ ap (drop is.at) rest in
+                let number : next.lines ≡ part.lines + line_count has.before + line_count (take is.at has.rest) =
+                is.lines ∙ ap (λ n. n + line_count (take is.at faulty.text.now)) lines ∙ ap (λ (t : List ℕ). part.lines + line_count has.before + line_count (take is.at t)) rest in
+                inr (is.at, subst Starts rest is.is, subst₂ At text number are)
+          ],
+        )
 
 -- a fault of the text is told, and a race follows
 pub tells_next : (input : List ℕ) (is_broken : Bool) (part faulty next : Part) (fault : TextFault) (old new : List ℕ) → IsFirst is_broken part faulty (Text fault)
@@ -269,7 +274,7 @@ tells_broken input is_broken part faulty fault old new more broke first (text, l
   longer = most ∙ ap (λ (t : List ℕ). t ++ read_text) longer ∙ append_assoc old text read_text;
   said = AreSaid-append input (Text fault ∷ []) (Read ∷ []) text read_text said ([], refl, refl);
   are = λ rest none. faults_on is_broken part faulty fault first (Read ∷ rest)
-  (record { by = inl (last, ap (λ (f : List InputFault). Read ∷ f) none ∙ sym (ap told_at_end broke)) });
+      (record { by = inl (last, ap (λ (f : List InputFault). Read ∷ f) none ∙ sym (ap told_at_end broke)) });
 }
 
 -- the first of the faults that are told is the input's first one

@@ -133,8 +133,8 @@ one_searched part lines rest next end before found next_is other_line =
       within = line.within;
       counted = omega arith;
       none = λ other is.
-      let past : before.at + end + 1 < other = lt_of_not-le (λ le. not_there other is le) in
-      omega arith;
+          let past : before.at + end + 1 < other = lt_of_not-le (λ le. not_there other is le) in
+          omega arith;
     }
 
 -- the line begins the next race

@@ -1,4 +1,4 @@
-use Rattle.std.proofs.Common.{◌∷◌, ◌++◌, [], List, refl, sym, subst}
+use Rattle.std.proofs.Common.{◌∷◌, ◌++◌, [], refl, sym, subst}
 use Rattle.std.proofs.lemmas.List.{take_rest}
 use Rattle.he_text.specs.Walks.{HasPassed, IsWalkFault, ending_of}
 use Rattle.he_text.specs.declared.walks.Walk.{Walk}
@@ -29,4 +29,4 @@ returns-in-Err-Input g c =
     let Wrong : Walk → Type 0 = λ w. IsWalkFault text (ending_of c.args.is_broken) w (walks.Input c.in-Err-Input.fault) in
     let is = rw c.in-Err-Input.field-0-is at rw c.of-ending.ensures at c.in-Err-Input.ensures.fault in
     rw c.in-Err-Input.fault-is
-        (first_found c.first_faults.ensures c.args.is_broken c.args.self _ before.0 walk c.in-Err-Input.fault (subst Passed same before.1) c.in-Err-Input.ensures.within (subst Wrong same is) (take_rest text walk.end) refl)
+    (first_found c.first_faults.ensures c.args.is_broken c.args.self _ before.0 walk c.in-Err-Input.fault (subst Passed same before.1) c.in-Err-Input.ensures.within (subst Wrong same is) (take_rest text walk.end) refl)
