@@ -1,6 +1,6 @@
 -- Whole lines before a part of a text: the texts of races are such, and a line behind them is one of the part.
-use Rattle.std.proofs.Common.{ℕ, ◌≡◌, ◌+◌, ◌-◌, ◌<◌, ◌≤◌, ◌^◌, Bool, true, false, cond, eqb, List, [], ◌∷◌, ◌++◌, length, get_or, take, drop, refl, sym, subst, ◌∙◌, ap, append_assoc, append-nil, get_or-append-add, drop_at, take_at, length-append, length-drop, length-take-le, take-append-drop, arith, codes, inl, inr}
-use Rattle.std.specs.List.{join_with_byte, onto_first, slice_split}
+use Rattle.std.proofs.Common.{ℕ, ◌≡◌, ◌+◌, ◌-◌, ◌<◌, ◌≤◌, ◌^◌, Bool, true, false, cond, eqb, List, [], ◌∷◌, ◌++◌, length, get_or, take, refl, sym, subst, ◌∙◌, ap, append_assoc, append-nil, get_or-append-add, take_at, length-append, take-append-drop, arith, codes, inl, inr}
+use Rattle.std.specs.List.{join_with_byte, onto_first}
 use Rattle.std.proofs.lemmas.List.Splits.{join_with_byte-slice_split, length-slice_split, slice_split-cons_yes}
 use Rattle.std.proofs.lemmas.Option.{unwrap_or-slice_get}
 use Rattle.he_plan.specs.Race.{Race}

@@ -62,8 +62,8 @@ pub record TellsFault (Given : List ℕ → Bool → Type 0) (fault : TextFault)
   pub given : Given input is_broken
   pub told : EndsInClause input fault old new
 
--- the input was given, whole or up to where it broke off, and all its faults are told behind what stood there: this one is
--- the first
+-- the input was given, whole or up to where it broke off, and all its faults are told behind what stood there, of which
+-- this is the first
 pub record TellsAll (Given : List ℕ → Bool → Type 0) (first : InputFault) (old new : List ℕ) : Type 0 where
   pub input : List ℕ
   pub is_broken : Bool
@@ -74,13 +74,13 @@ pub record TellsAll (Given : List ℕ → Bool → Type 0) (first : InputFault) 
   pub said : AreSaid input (first ∷ others) text
   pub told : new ≡ old ++ text
 
--- how an input is explained of which this is the first fault: all its faults are told, or this one, if it is the text's
+-- how an input with this first fault is explained: all its faults are told, or this one, if it is the text's
 abbrev pub TellsOf : Bool → (List ℕ → Bool → Type 0) → InputFault → List ℕ → List ℕ → Type 0
 TellsOf true Given fault old new = TellsAll Given fault old new
 TellsOf false Given (inputs.Text fault) old new = TellsFault Given fault old new
 TellsOf false Given inputs.Read old new = new ≡ old
 
--- where nothing is wrong with the input, its warnings are told, and where something is, all its faults or the first one
+-- where nothing is wrong with the input, its warnings are told; where something is, all its faults or the first one
 abbrev pub Explains : Bool → (List ℕ → Bool → Type 0) → List ℕ → List ℕ → Result (Unit {0}) CheckFault → Type 0
 Explains is_all Given old new (Ok done) = TellsWarnings Given old new
 Explains is_all Given old new (Err (Text fault)) = TellsOf is_all Given (inputs.Text fault) old new

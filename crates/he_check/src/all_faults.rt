@@ -1,9 +1,6 @@
 // What is said of the faults of all parts of an input.
 
-ghost use Rattle.std.specs.Prelude.{◌≡◌, ◌<◌, ◌≤◌, ◌+◌, ◌^◌, [], ◌∷◌, ◌++◌, length, Some, IfOk, IfSome, OnErr, OnOk};
-ghost use Rattle.he_text.specs.declared.inputs.InputFault.TheVariants as inputs;
-ghost use Rattle.he_check.specs.AllFaults.{AreFaults, AreSaid};
-ghost use Rattle.he_check.specs.Clauses.{line_at};
+ghost use Rattle.std.specs.Prelude.{◌≡◌, ◌<◌, ◌≤◌, ◌+◌, [], length, Some, IfOk, IfSome, OnErr, OnOk};
 ghost use Rattle.he_check.specs.Steps.{EndsText, HasTold, IsSaid, SaysFaults};
 
 use crate::explaining::explanation_of;
@@ -14,8 +11,8 @@ use std::alloc::Allocator;
 
 const READ_LINE: &[u8] = b"he: cannot read the input\n";
 
-// Appends what is said of the first fault of each part of the input, which broke off behind its bytes or not. After want
-// of memory the vector is as it was.
+// Appends what is said of the first fault of each part of the input, which broke off behind its bytes or not. Where
+// memory was refused the vector is as it was.
 pub(crate) fn explain_all<A: Allocator + Copy>(
     alloc: A,
     input: &[u8],

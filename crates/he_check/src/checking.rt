@@ -46,8 +46,8 @@ pub fn check<A: Allocator + Copy, I: InputStream, O: OutputStream>(
     check_up_to(alloc, false, input, output, explanation)
 }
 
-/// The same as [`check`], but goes on behind a faulty race, and tells the first fault of each part of the input. A part
-/// begins with the input, or with the next line `race 1` or `race 2` behind the first line of a faulty race: where
+/// The same as [`check`], but goes on behind a faulty race, and tells the first fault of each part of the input. A
+/// part begins with the input, or with the next line `race 1` or `race 2` behind the first line of a faulty race: where
 /// `end` was forgotten, that is the faulty line itself. Each part is checked as an input of its own, and so may have
 /// 4,096 races, but its lines are counted over the whole input.
 ///

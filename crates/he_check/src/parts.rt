@@ -1,7 +1,6 @@
 // Parts of an input whose first faults are told: where the faulty race begins, and where the next part does.
 
-ghost use Rattle.std.specs.Prelude.{◌≡◌, ◌≤◌, ◌<◌, ◌+◌, ◌^◌, ◌∷◌, ◌++◌, [], length, take, drop, codes, IfOk, MatchOption};
-ghost use Rattle.he_text.specs.Inputs.{line_count};
+ghost use Rattle.std.specs.Prelude.{◌≡◌, ◌≤◌, ◌+◌, ◌^◌, length, IfOk, MatchOption};
 ghost use Rattle.he_check.specs.AllFaults.{IsLastRace};
 ghost use Rattle.he_check.specs.Steps.{FindsFirst, IsNextPart, begins_race};
 

@@ -1,4 +1,4 @@
-use Rattle.std.proofs.Common.{◌∷◌, ◌++◌, [], List, refl, sym, subst}
+use Rattle.std.proofs.Common.{◌∷◌, ◌++◌, [], refl, sym, subst}
 use Rattle.std.proofs.lemmas.List.{take_rest}
 use Rattle.he_text.specs.Walks.{HasPassed, IsWalkFault, ending_of}
 use Rattle.he_text.specs.declared.walks.Walk.{Walk}
