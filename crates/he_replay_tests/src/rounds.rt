@@ -72,14 +72,15 @@ fn stories_know_their_place(rt: HostRuntime) -> Result<(), Fail> {
     let writer = output.writer();
     let held = writer.held();
     assert_eq!(rt; (result, writer.flushes()), (Ok(()), 3));
-    assert!(rt; held.starts_with(FIRST) && has(held, SECOND));
+    assert!(rt; held.starts_with(FIRST) && has_line(held, SECOND));
     Ok(())
 }
 
 const FIRST: &[u8] = b"race 1, line 1: ";
 
-const SECOND: &[u8] = b"\nrace 2, line 10: ";
+const SECOND: &[u8] = b"race 2, line 10: ";
 
-fn has(text: &[u8], part: &[u8]) -> bool {
-    text.windows(part.len()).any(|window| window == part)
+fn has_line(text: &[u8], beginning: &[u8]) -> bool {
+    text.split(|byte| *byte == b'\n')
+        .any(|line| line.starts_with(beginning))
 }
