@@ -1,34 +1,15 @@
 -- One race more is counted and told.
-use Rattle.std.proofs.Common.{ℕ, ◌≡◌, ◌<◌, ◌^◌, List, [], ◌∷◌, ◌++◌, length, map, sym, subst, refl, ◌∙◌, ap, IsPermutation, IsSorted, arith, append_assoc}
+use Rattle.std.proofs.Common.{ℕ, ◌≡◌, List, [], ◌∷◌, ◌++◌, map, sym, subst, ◌∙◌, ap, IsPermutation, IsSorted, append_assoc}
 use Rattle.std.specs.List.{filter_map, flat_map}
 use Rattle.std.specs.Ordering.{nat_cmp}
 use Rattle.std.proofs.lemmas.Grind.{flat_map-append}
-use Rattle.std.proofs.lemmas.List.{append-nil, length-map, map-append}
+use Rattle.std.proofs.lemmas.List.{append-nil, map-append}
 use Rattle.std.proofs.lemmas.List.Elements.{filter_map-append}
-use Rattle.std.proofs.lemmas.List.Sums.{count_by-le-length}
-use Rattle.he_compare.specs.Steps.{HasTold, MayCount}
+use Rattle.he_compare.specs.Steps.{HasTold}
 use Rattle.he_compare.specs.Texts.{Compared, IsTold, counts_text, line_text, spread_text, verdict_on}
-use Rattle.he_compare.specs.Verdicts.{counts_of, difference_of, is_later, is_neither, is_only_with, is_only_without, is_same, is_sooner}
-use Rattle.he_compare.specs.declared.told.Counts.{Counts}
+use Rattle.he_compare.specs.Verdicts.{counts_of, difference_of}
 use Rattle.he_compare.specs.declared.told.Told.{Told}
 use Rattle.he_compare.specs.declared.verdict.Verdict.{Verdict}
-
--- so few can be counted
-pub may_count : (verdicts : List Verdict) → length verdicts < 2 ^ 32 → MayCount (counts_of verdicts)
-may_count verdicts few =
-    record {
-      races = few;
-      sooner = omega (arith, count_by-le-length is_sooner verdicts);
-      later = omega (arith, count_by-le-length is_later verdicts);
-      same = omega (arith, count_by-le-length is_same verdicts);
-      only_with = omega (arith, count_by-le-length is_only_with verdicts);
-      only_without = omega (arith, count_by-le-length is_only_without verdicts);
-      neither = omega (arith, count_by-le-length is_neither verdicts);
-    }
-
-pub may_count_told : {A : Type 0} (kept : Told A) (told : List Compared) → HasTold kept told → length told < 2 ^ 32 → MayCount kept.counts
-may_count_told kept told has few =
-    subst MayCount (sym has.counts) (may_count (map verdict_on told) (omega (arith, length-map told verdict_on)))
 
 -- one race more is told
 pub told_on : {A : Type 0} (old new : Told A) (told : List Compared) (one : Compared) (verdict : Verdict) → HasTold old told → verdict ≡ verdict_on one

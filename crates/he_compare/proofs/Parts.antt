@@ -1,6 +1,6 @@
 -- Texts that are written part by part.
-use Rattle.std.proofs.Common.{ℕ, ◌≡◌, ◌==◌, Bool, true, false, List, ◌++◌, length, ◌∙◌, ap, append_assoc, sym, subst}
-use Rattle.std.specs.Prelude.{if◌then◌else◌, codes}
+use Rattle.std.proofs.Common.{ℕ, ◌≡◌, ◌==◌, false, List, ◌++◌, length, ◌∙◌, ap, append_assoc}
+use Rattle.std.specs.Prelude.{codes}
 use Rattle.he_compare.specs.Texts.{counted, counts_text, races_text, spread_text}
 use Rattle.he_compare.specs.Verdicts.{greatest, median}
 use Rattle.he_compare.specs.declared.told.Counts.{Counts}

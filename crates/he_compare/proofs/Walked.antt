@@ -1,5 +1,5 @@
 -- One race more of an input that is compared, and how its walk ends.
-use Rattle.std.proofs.Common.{ℕ, Result, IsErr, IsErrAnd, ◌≡◌, ◌+◌, ◌-◌, ◌≤◌, ◌<◌, ◌^◌, List, [], ◌∷◌, ◌++◌, length, map, take, drop, Bool, Option, Some, None, Ok, Err, sym, subst, refl, ◌∙◌, ap, append_assoc, length-append, arith}
+use Rattle.std.proofs.Common.{ℕ, Result, IsErr, IsErrAnd, ◌≡◌, ◌+◌, ◌-◌, ◌≤◌, ◌<◌, List, [], ◌∷◌, ◌++◌, length, take, drop, Bool, Option, Some, Ok, Err, sym, subst, refl, ◌∙◌, ap, append_assoc, length-append, arith}
 use Rattle.std.specs.List.{slice_range}
 use Rattle.std.proofs.lemmas.List.{append-nil, take-append-drop}
 use Rattle.std.proofs.Math.Seq.{take-add}
@@ -7,15 +7,13 @@ use Rattle.he_plan.specs.Changes.{ChangeValues}
 use Rattle.he_plan.specs.Race.{Race}
 use Rattle.he_text.specs.Inputs.{line_count}
 use Rattle.he_text.specs.Text.{IsRaceText}
-use Rattle.he_text.specs.Walks.{HasPassed, IsNextOf, IsWalkFault, IsWithin, PassesRace, ending_of}
-use Rattle.he_text.specs.declared.inputs.InputFault.{InputFault}
+use Rattle.he_text.specs.Walks.{IsNextOf, IsWalkFault, IsWithin, PassesRace, ending_of}
 use Rattle.he_text.specs.declared.walks.Walk.{Walk}
 use Rattle.he_text.specs.declared.walks.WalkFault.{WalkFault}
 use Rattle.he_text.specs.declared.walks.WalkFault.TheVariants as walks
-use Rattle.he_text.proofs.WalkLaws.{has_fault, has_none, line_count-append, none_behind, none_passed, passes_on}
-use Rattle.he_compare.proofs.Counting.{may_count_told}
-use Rattle.he_compare.specs.Compared.{AreCompared, HasCompared, IsCompared}
-use Rattle.he_compare.specs.Steps.{EndsWalk, HasTold, HasWalked, MayCount, TellsRace}
+use Rattle.he_text.proofs.WalkLaws.{has_fault, has_none, line_count-append, none_behind, passes_on}
+use Rattle.he_compare.specs.Compared.{AreCompared, IsCompared}
+use Rattle.he_compare.specs.Steps.{EndsWalk, HasWalked, TellsRace}
 use Rattle.he_compare.specs.Texts.{Compared}
 use Rattle.he_compare.specs.declared.told.Told.{Told}
 
@@ -56,11 +54,6 @@ take_to : (input : List ℕ) (from end : ℕ) → from ≤ end → take end inpu
 take_to input from end le =
     let sum : end ≡ from + (end - from) = omega arith in
     ap (λ (n : ℕ). take n input) sum ∙ take-add from (end - from) input
-
-pub starts : {A : Type 0} (changes : ChangeValues) (input : List ℕ) (kept : Told A) → IsWithin input (record { end = 0; races = 0; lines = 0 }) → HasTold kept []
-    → HasWalked changes input (record { end = 0; races = 0; lines = 0 }) kept
-starts changes input kept within has =
-    record { races = []; told = []; passed = none_passed input 0 0; within = within; are = (refl, refl); many = refl; has = has }
 
 pub one_more : {A : Type 0} (changes : ChangeValues) (input : List ℕ) (old new : Walk) (kept longer : Told A) (race : Race) (number line : ℕ)
     → HasWalked changes input old kept → IsWithin input new → PassesRace input old new race → number ≡ new.races → line ≡ old.lines + 1
@@ -123,13 +116,6 @@ ends changes input is_broken old new kept found before next none =
       },
       before.has,
     )
-
-pub may_count_walked : {A : Type 0} (changes : ChangeValues) (input : List ℕ) (walk : Walk) (kept : Told A) → HasWalked changes input walk kept → MayCount kept.counts
-may_count_walked changes input walk kept before =
-    let counted = before.passed.counted in
-    let few = before.within.few in
-    let many = before.many in
-    may_count_told kept before.told before.has (omega arith)
 
 -- a fault that `?` hands on
 pub handed : {A : Type 0} (r : Result A WalkFault) (fault : WalkFault) (Tells : Result A WalkFault → Type 0) → IsErr r × IsErrAnd r (λ k. k ≡ fault) → Tells (Err fault) → Tells r

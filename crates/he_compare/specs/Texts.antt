@@ -1,5 +1,5 @@
 -- The lines of a comparison.
-use Rattle.std.specs.Prelude.{ℕ, ◌≡◌, ◌==◌, ◌++◌, if◌then◌else◌, List, [], ◌∷◌, length, find, map, decimal, codes, option_map, IsPermutation, IsSorted, Option, Some, None}
+use Rattle.std.specs.Prelude.{ℕ, ◌≡◌, ◌==◌, ◌++◌, if◌then◌else◌, List, [], length, find, map, decimal, codes, option_map, IsPermutation, IsSorted, Option, Some, None}
 use Rattle.std.specs.List.{filter_map, flat_map}
 use Rattle.std.specs.Ordering.{nat_cmp}
 use Rattle.he_addr.specs.Printing.{printed}

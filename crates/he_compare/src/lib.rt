@@ -18,7 +18,7 @@
 //! all this is of the races before it, and the fault is the result (`specs/Stream`). With no changes both transcripts
 //! of a race are one ([`laws`]).
 //!
-//! Only tested: that a call succeeds where memory is granted.
+//! Not proved: that a call succeeds where memory is granted.
 #![tactic(auto)]
 
 pub mod comparing;
