@@ -1,18 +1,21 @@
 #!/usr/bin/env python3
 """A plain reading of the rules in docs/DEFINITIONS.md, RFC 8305 and RFC 6724, apart from the program.
 
-It says what `he replay` and `he order` write for a text: the output, and the line of a fault. It is as slow and plain
-as it can be, and shares nothing with the program: who compares both (scripts/fuzz) finds where they differ.
+It says what `he replay` and `he order` write for a text: the output, and the line of a fault; what `he explain` and
+`he compare` write stands in plain_story.py and plain_compared.py. It is as slow and plain as it can be, and shares
+nothing with the program: who compares both (scripts/fuzz) finds where they differ.
 
 needs: python3, its standard library alone
-usage: scripts/plain.py replay < TEXT
-       scripts/plain.py order < TEXT
+usage: scripts/plain.py order < TEXT
+       scripts/plain.py replay [NAME=N ..] < TEXT
+           with these settings in place of each race's own, as with --set
 """
+import copy
 import pathlib
 import re
 import sys
 from collections import namedtuple
-from functools import lru_cache
+from functools import cached_property, lru_cache
 
 ROOT = pathlib.Path(__file__).resolve().parent.parent
 # The limits of a text stand in docs/FORMAT.md: what there is at most, and how many.
@@ -37,6 +40,13 @@ Row = namedtuple("Row", "prefix precedence label")
 Source = namedtuple("Source", "address length interface deprecated temporary")
 Route = namedtuple("Route", "prefix interface tunnel")
 Answer = namedtuple("Answer", "tick addresses")
+# An attempt of a transcript, its fate `won`, `failed` or `cancelled`, and the tick of that.
+Line = namedtuple("Line", "place start address fate tick")
+# How a race ends: `won` by the attempt of this place, `exhausted` or `limit`.
+Result = namedtuple("Result", "kind place tick")
+Report = namedtuple("Report", "lines result")
+# What is wrong with a text: the line, counted from 1, the kind, and the line with which the faulty race begins.
+Found = namedtuple("Found", "line kind begin")
 
 MAPPED_BLOCK = Prefix(MAPPED, 96)
 ALL = Prefix(0, 0)
@@ -229,7 +239,7 @@ class Host:
         self.rows, self.sources, self.routes = rows or STANDARD, sources, routes
         self.rtts, self.used = rtts, used
         # Kept for this host alone, so that nothing outlives it.
-        self.row, self.route = kept(self.row), kept(self.route)
+        self.row, self.route, self.ranked = kept(self.row), kept(self.route), kept(self.ranked)
 
     def row(self, address):
         matching = [row for row in self.rows if covers(row.prefix, mapped(address))]
@@ -287,53 +297,62 @@ class Host:
             "address": address,
             "source": source,
             "scope": scope(address),
-            "scopes": source is not None and scope(source.address) == scope(address),
-            "labels": source is not None and self.row(source.address).label == self.row(address).label,
+            "source scope": None if source is None else scope(source.address),
+            "label": self.row(address).label,
+            "source label": None if source is None else self.row(source.address).label,
             "precedence": self.row(address).precedence,
             "native": route is None or not route.tunnel,
             "rtt": self.rtts.get(address),
             "used": address in self.used,
+            "common": 0 if source is None else common(source, address),
         }
 
-    def order(self, addresses):
-        """RFC 6724 section 6: pairs of address and source, each at the place that counts those preferred to it."""
+    def ranked(self, addresses):
+        """RFC 6724 section 6: the facts of some addresses (a tuple), each at the place that counts those preferred to
+        it."""
         facts = [self.facts(address) for address in addresses]
         places = {}
         for mine, fact in enumerate(facts):
             place = sum(is_preferred(other, fact, at < mine) for at, other in enumerate(facts) if at != mine)
             assert place not in places
-            places[place] = (fact["address"], fact["source"])
+            places[place] = fact
         return [places[place] for place in range(len(facts))]
 
 
-def is_preferred(one, two, stands_first):
-    """RFC 6724 section 6, with the two rules that RFC 8305 section 4 adds: whether one goes before two."""
+def deciding_rule(one, two):
+    """RFC 6724 section 6, with the two rules that RFC 8305 section 4 adds: the first rule that tells two addresses
+    apart, and whether one goes first by it (None: the one that stood first)."""
     reached = [one["source"] is not None, two["source"] is not None]
     if reached[0] != reached[1]:
-        return reached[0]
+        return "1", reached[0]
     if all(reached):
-        if one["scopes"] != two["scopes"]:
-            return one["scopes"]
+        scopes, labels = ([fact[of] == fact["source " + of] for fact in (one, two)] for of in ("scope", "label"))
+        if scopes[0] != scopes[1]:
+            return "2", scopes[0]
         if one["source"].deprecated != two["source"].deprecated:
-            return two["source"].deprecated
-        if one["labels"] != two["labels"]:
-            return one["labels"]
+            return "3", two["source"].deprecated
+        if labels[0] != labels[1]:
+            return "5", labels[0]
     if one["precedence"] != two["precedence"]:
-        return one["precedence"] > two["precedence"]
+        return "6", one["precedence"] > two["precedence"]
     if one["native"] != two["native"]:
-        return one["native"]
+        return "7", one["native"]
     if one["scope"] != two["scope"]:
-        return one["scope"] < two["scope"]
+        return "8", one["scope"] < two["scope"]
     if one["rtt"] != two["rtt"]:
         # A round trip time that is not known counts as greater than each that is.
-        return two["rtt"] is None or one["rtt"] is not None and one["rtt"] < two["rtt"]
+        return "8a", two["rtt"] is None or one["rtt"] is not None and one["rtt"] < two["rtt"]
     if one["used"] != two["used"]:
-        return one["used"]
-    if all(reached) and one["address"].family == two["address"].family:
-        lengths = [common(fact["source"], fact["address"]) for fact in (one, two)]
-        if lengths[0] != lengths[1]:
-            return lengths[0] > lengths[1]
-    return stands_first
+        return "8b", one["used"]
+    if all(reached) and one["address"].family == two["address"].family and one["common"] != two["common"]:
+        return "9", one["common"] > two["common"]
+    return "10", None
+
+
+def is_preferred(one, two, stands_first):
+    """Whether one goes before two."""
+    is_first = deciding_rule(one, two)[1]
+    return stands_first if is_first is None else is_first
 
 
 # The course of a race: RFC 8305 sections 3 to 5
@@ -351,14 +370,30 @@ def interlace(addresses, count):
 
 
 class Race:
-    def __init__(self):
+    """A race that begins with this line of its text, counted from 1."""
+
+    def __init__(self, line):
+        self.line = line
         self.settings, self.rows, self.sources, self.routes = {}, [], [], []
         self.answers, self.outcomes, self.pauses = {}, {}, []
         self.rtts, self.used = {}, []
 
+    def changed(self, changes):
+        """The race with these settings in place of its own; a floor above the attempt delay then is that delay."""
+        if not changes:
+            return self
+        race = copy.copy(self)
+        # (another report than its own, which may be kept already)
+        vars(race).pop("report", None)
+        race.settings = {**self.settings, **changes}
+        if race.setting("floor") is not None:
+            race.settings["floor"] = min(race.setting("floor"), race.setting("attempt"))
+        return race
+
     def setting(self, name):
         return self.settings.get(name, SETTINGS[name][2])
 
+    @cached_property
     def host(self):
         return Host(self.rows, self.sources, self.routes, self.rtts, self.used)
 
@@ -377,6 +412,11 @@ class Race:
 
     def received(self, tick):
         return [address for name in ("aaaa", "a") if self.is_seen(name, tick) for address in self.usable(name)]
+
+    def listed(self, tick):
+        """RFC 8305 section 4: the addresses that are received by then, in the order in which they are tried."""
+        ranked = self.host.ranked(tuple(self.received(tick)))
+        return interlace([fact["address"] for fact in ranked], self.setting("count"))
 
     def may_begin(self, tick):
         if self.is_seen("aaaa", tick) and self.usable("aaaa"):
@@ -415,26 +455,24 @@ class Race:
 
     def attempts(self):
         """Pairs of start and address."""
-        host, tried, made, lists = self.host(), [], [], {}
-        while True:
+        tried, made = [], []
+        while len(tried) < len(self.usable("aaaa") + self.usable("a")):
             for tick in self.ticks_behind(made):
                 if self.seen(tick) != tick or not (self.may_follow(made, tick) if made else self.may_begin(tick)):
                     continue
-                received = self.received(tick)
-                if all(address in tried for address in received):
+                if all(address in tried for address in self.received(tick)):
                     continue
-                # Only kept so as not to sort the same list again.
-                if len(received) not in lists:
-                    ordered = [address for address, _ in host.order(received)]
-                    lists[len(received)] = interlace(ordered, self.setting("count"))
-                address = next(address for address in lists[len(received)] if address not in tried)
+                address = next(address for address in self.listed(tick) if address not in tried)
                 tried.append(address)
                 made.append((tick, address))
                 break
             else:
-                return made
+                break
+        return made
 
-    def transcript(self):
+    @cached_property
+    def report(self):
+        """What its transcript tells."""
         limit, attempts, finishes = self.setting("limit"), self.attempts(), []
         for start, address in attempts:
             end = self.finish(start, address)
@@ -446,31 +484,51 @@ class Race:
             if start >= stop:
                 continue
             if place == winner:
-                fate = f"won {stop}"
+                fate, tick = "won", stop
             elif end and end[0] == "fail" and end[1] <= stop:
-                fate = f"failed {end[1]}"
+                fate, tick = "failed", end[1]
             else:
-                fate = f"cancelled {stop}"
-            lines.append(f"attempt {place} {start} {print_address(address)} {fate}\n")
-        return "".join(lines) + self.result(attempts, finishes, stop, winner) + "\n"
+                fate, tick = "cancelled", stop
+            lines.append(Line(place, start, address, fate, tick))
+        return Report(lines, self.result(attempts, finishes, stop, winner))
 
     def result(self, attempts, finishes, stop, winner):
         limit = self.setting("limit")
         if winner is not None:
-            return f"won {winner} {stop}"
+            return Result("won", winner, stop)
         answered = self.is_seen("aaaa", limit) and self.is_seen("a", limit)
         all_tried = len(attempts) == len(self.usable("aaaa")) + len(self.usable("a"))
         if answered and all_tried and all(finishes):
             ticks = [self.seen(answer.tick) for answer in self.answers.values()] + [end[1] for end in finishes]
-            return f"exhausted {max(ticks)}"
-        return f"limit {limit}"
+            return Result("exhausted", None, max(ticks))
+        return Result("limit", None, limit)
 
-    def order(self):
-        lines = []
-        for place, (address, source) in enumerate(self.host().order(self.usable("aaaa") + self.usable("a"))):
-            name = "none" if source is None else print_address(source.address)
-            lines.append(f"{place} {print_address(address)} from {name}\n")
-        return "".join(lines) + "end\n"
+    def ranked(self):
+        """The facts of its usable addresses, whatever the ticks of their answers, in order of preference."""
+        return self.host.ranked(tuple(self.usable("aaaa") + self.usable("a")))
+
+
+# What is written of a race
+
+
+def transcript(race):
+    report = race.report
+    lines = [f"attempt {line.place} {line.start} {print_address(line.address)} {line.fate} {line.tick}\n"
+             for line in report.lines]
+    return "".join(lines) + " ".join(str(part) for part in report.result if part is not None) + "\n"
+
+
+def order(race):
+    lines = []
+    for place, fact in enumerate(race.ranked()):
+        name = "none" if fact["source"] is None else print_address(fact["source"].address)
+        lines.append(f"{place} {print_address(fact['address'])} from {name}\n")
+    return "".join(lines) + "end\n"
+
+
+def counted(number, one, many=None):
+    """The number with its noun, by default with an s for more or none."""
+    return f"{number} {one if number == 1 else many or one + 's'}"
 
 
 # Texts of timelines and their faults, check by check
@@ -505,8 +563,8 @@ def prefix_of(token):
 class Reader:
     """Reads one race from the lines of a text; a line is its bytes without the line feed, as Latin-1."""
 
-    def __init__(self, version):
-        self.race, self.version, self.group, self.counts = Race(), version, -1, {}
+    def __init__(self, version, line):
+        self.race, self.version, self.group, self.counts = Race(line), version, -1, {}
 
     def line(self, line, next_line):
         """Reads a line; true for the last one. The next line is None where no whole one of fit length follows."""
@@ -645,7 +703,7 @@ def whole_lines(text):
 
 
 def read_text(text):
-    """The races of a text up to its first fault, and the fault: its line, counted from 1, and what is wrong."""
+    """The races of a text up to its first fault, and the fault, if there is one."""
     lines, races, reader = whole_lines(text), [], None
     for place, (line, is_whole) in enumerate(lines):
         if reader is None and not is_whole and line == "":
@@ -660,7 +718,7 @@ def read_text(text):
             if reader is None:
                 if line not in HEADERS:
                     raise Fault("header")
-                reader = Reader(HEADERS[line])
+                reader = Reader(HEADERS[line], place + 1)
                 continue
             follows = lines[place + 1]
             next_line = follows[0] if follows[1] and len(follows[0]) <= MOST_LINE_BYTES else None
@@ -668,27 +726,60 @@ def read_text(text):
                 races.append(reader.race)
                 reader = None
         except Fault as fault:
-            return races, (place + 1, str(fault))
+            return races, Found(place + 1, str(fault), reader.race.line if reader else place + 1)
     raise AssertionError("the last line is never whole")
 
 
-def said(text):
-    """What the program writes for the text (bytes): of `replay`, of `order`, and of the fault."""
-    races, fault = read_text(text.decode("latin-1"))
-    replayed = "".join(race.transcript() for race in races)
-    ordered = "".join(race.order() for race in races)
-    line = "" if fault is None else f"he: line {fault[0]}: {fault[1]}\n"
-    return replayed.encode(), ordered.encode(), line.encode()
+def read_on(text):
+    """The first fault of each part of a text: a part begins with the text, or with the next line `race 1` or `race 2`
+    behind the first line of a faulty race. They are pairs of a line and a kind."""
+    lines, faults, start = whole_lines(text), [], 0
+    while start is not None:
+        _, found = read_text("\n".join(line for line, _ in lines[start:]))
+        if found is None:
+            break
+        faults.append((start + found.line, found.kind))
+        behind = range(start + found.begin, len(lines))
+        start = next((place for place in behind if lines[place][1] and lines[place][0] in HEADERS), None)
+    return faults
+
+
+def fault_line(line, kind):
+    """What the program prints of a fault."""
+    return f"he: line {line}: {kind}\n".encode()
+
+
+def changes_of(words):
+    """The settings of words as `attempt=100`, of which the last one for a name holds."""
+    return {name: int(number) for name, number in (word.split("=") for word in words)}
+
+
+def replayed(races, changes):
+    """What `he replay` writes for these races, with these settings in place of their own."""
+    return "".join(transcript(race.changed(changes)) for race in races).encode()
+
+
+def ordered(races, changes):
+    """What `he order` writes, which no setting changes."""
+    return "".join(order(race.changed(changes)) for race in races).encode()
+
+
+def answer(written, words):
+    """Reads standard input, writes what this function makes of its races with the settings of the words, and ends."""
+    races, fault = read_text(sys.stdin.buffer.read().decode("latin-1"))
+    sys.stdout.buffer.write(written(races, changes_of(words)))
+    sys.stdout.buffer.flush()
+    if fault:
+        sys.stderr.buffer.write(fault_line(fault.line, fault.kind))
+    sys.exit(1 if fault else 0)
 
 
 def main():
-    if sys.argv[1:] not in (["replay"], ["order"]):
-        sys.exit("usage: scripts/plain.py replay|order < TEXT")
-    replayed, ordered, fault = said(sys.stdin.buffer.read())
-    sys.stdout.buffer.write(replayed if sys.argv[1] == "replay" else ordered)
-    sys.stdout.buffer.flush()
-    sys.stderr.buffer.write(fault)
-    sys.exit(1 if fault else 0)
+    if sys.argv[1:2] == ["replay"]:
+        answer(replayed, sys.argv[2:])
+    if sys.argv[1:] != ["order"]:
+        sys.exit("usage: scripts/plain.py order < TEXT, or scripts/plain.py replay [NAME=N ..] < TEXT")
+    answer(ordered, [])
 
 
 if __name__ == "__main__":

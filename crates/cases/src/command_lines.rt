@@ -39,8 +39,7 @@ order 1 198.51.100.1 source 192.0.2.2, behind 0 by rule 6, prefer higher precede
 end
 ";
 
-const STORY: &[u8] =
-    b"race 1, line 1: connected to 2001:db8:1::1 after 55 ms, by attempt 1 of 1
+const STORY: &[u8] = b"race 1, line 1: connected to 2001:db8:1::1 after 55 ms, by attempt 1 of 1
 preferred, once every answer is known:
   1. 2001:db8:1::1 from 2001:db8::2
   2. 198.51.100.1 from 192.0.2.2; precedence 35, the one before 40 (RFC 6724 rule 6)
@@ -114,7 +113,7 @@ type Row = (
 );
 
 // Commands that read a text.
-static TEXT_ROWS: [Row; 70] = [
+static TEXT_ROWS: [Row; 48] = [
     (&["he", "replay"], TEXT, Streams::Whole, 0, TRANSCRIPT, b""),
     (
         &["he", "replay", "--workers", "1"],
@@ -156,79 +155,6 @@ static TEXT_ROWS: [Row; 70] = [
         2,
         b"",
         SETTING_LINE,
-    ),
-    (&["he", "explain"], TEXT, Streams::Whole, 0, STORY, b""),
-    (
-        &["he", "explain"],
-        TEXT,
-        Streams::BreaksOff,
-        1,
-        STORY,
-        READ_LINE,
-    ),
-    (
-        &["he", "explain", "--set", "limit=30"],
-        TEXT,
-        Streams::Whole,
-        0,
-        b"race 1, line 1: not connected by the limit of 30 ms, after 1 attempt\n",
-        b"",
-    ),
-    (
-        &["he", "explain", "--lines"],
-        TEXT,
-        Streams::Whole,
-        0,
-        EXPLANATION,
-        b"",
-    ),
-    (
-        &["he", "explain", "--lines"],
-        TEXT,
-        Streams::BreaksOff,
-        1,
-        EXPLANATION,
-        READ_LINE,
-    ),
-    (
-        &["he", "explain", "--lines"],
-        TEXT,
-        Streams::Room(7),
-        1,
-        b"order 0",
-        WRITE_LINE,
-    ),
-    (
-        &["he", "compare", "--set", "limit=30"],
-        TEXT,
-        Streams::Whole,
-        0,
-        COMPARISON,
-        b"",
-    ),
-    (
-        &["he", "compare", "--set", "limit=30"],
-        TEXT,
-        Streams::BreaksOff,
-        1,
-        COMPARISON,
-        READ_LINE,
-    ),
-    (
-        &["he", "compare"],
-        TEXT,
-        Streams::Whole,
-        2,
-        b"",
-        b"error: the following required arguments were not provided:",
-    ),
-    (
-        &["he", "explain", "--help"],
-        TEXT,
-        Streams::Whole,
-        0,
-        b"Reads timelines of races and writes why",
-        b"",
     ),
     (&["he"], TEXT, Streams::Whole, 2, b"", b"error: "),
     (&["he", "race"], TEXT, Streams::Whole, 2, b"", b"error: "),
@@ -537,6 +463,83 @@ static TEXT_ROWS: [Row; 70] = [
         b"exhausted",
         WRITE_LINE,
     ),
+];
+
+// Those that explain, compare or check it.
+static TELLING_ROWS: [Row; 22] = [
+    (&["he", "explain"], TEXT, Streams::Whole, 0, STORY, b""),
+    (
+        &["he", "explain"],
+        TEXT,
+        Streams::BreaksOff,
+        1,
+        STORY,
+        READ_LINE,
+    ),
+    (
+        &["he", "explain", "--set", "limit=30"],
+        TEXT,
+        Streams::Whole,
+        0,
+        b"race 1, line 1: not connected by the limit of 30 ms, after 1 attempt\n",
+        b"",
+    ),
+    (
+        &["he", "explain", "--lines"],
+        TEXT,
+        Streams::Whole,
+        0,
+        EXPLANATION,
+        b"",
+    ),
+    (
+        &["he", "explain", "--lines"],
+        TEXT,
+        Streams::BreaksOff,
+        1,
+        EXPLANATION,
+        READ_LINE,
+    ),
+    (
+        &["he", "explain", "--lines"],
+        TEXT,
+        Streams::Room(7),
+        1,
+        b"order 0",
+        WRITE_LINE,
+    ),
+    (
+        &["he", "compare", "--set", "limit=30"],
+        TEXT,
+        Streams::Whole,
+        0,
+        COMPARISON,
+        b"",
+    ),
+    (
+        &["he", "compare", "--set", "limit=30"],
+        TEXT,
+        Streams::BreaksOff,
+        1,
+        COMPARISON,
+        READ_LINE,
+    ),
+    (
+        &["he", "compare"],
+        TEXT,
+        Streams::Whole,
+        2,
+        b"",
+        b"error: the following required arguments were not provided:",
+    ),
+    (
+        &["he", "explain", "--help"],
+        TEXT,
+        Streams::Whole,
+        0,
+        b"Reads timelines of races and writes why",
+        b"",
+    ),
     (
         &["he", "check"],
         TEXT,
@@ -802,6 +805,7 @@ where
 {
     let mut counts = Counts { ran: 0, differ: 0 };
     run_rows(rt, lender, "text", &TEXT_ROWS, &mut counts)?;
+    run_rows(rt, lender, "telling", &TELLING_ROWS, &mut counts)?;
     run_rows(rt, lender, "host", &HOST_ROWS, &mut counts)?;
     Ok(counts)
 }

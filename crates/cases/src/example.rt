@@ -3,8 +3,8 @@
 use crate::resolving::Heard;
 use crate::turns::run_turns;
 use he_check::{check, check_all};
-use he_replay::limits::{LEAST_WORKERS, MOST_WORKERS};
 use he_plan::Changes;
+use he_replay::limits::{LEAST_WORKERS, MOST_WORKERS};
 use he_replay::{ReplayFault, explanations, orders, replay, stories};
 use he_stream::{FromReader, ToWriter};
 use std::alloc::{AllocError, Global};

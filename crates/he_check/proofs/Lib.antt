@@ -1,1 +1,4 @@
 mod Counts
+mod FaultParts
+mod NextRaces
+mod WholeLines

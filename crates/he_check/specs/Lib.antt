@@ -1,3 +1,4 @@
+pub mod AllFaults
 pub mod Checked
 pub mod Clauses
 pub mod Meant

@@ -1,7 +1,10 @@
 -- What is taken from an input that is checked, and put into an output.
-use Rattle.std.specs.Prelude.{ℕ, ◌≡◌, ◌==◌, Bool, List, [], ◌∷◌, ◌++◌, if◌then◌else◌, decimal, codes, Result, Ok, Err}
+use Rattle.std.specs.Prelude.{ℕ, ◌≡◌, ◌==◌, Bool, true, false, List, [], ◌∷◌, ◌++◌, if◌then◌else◌, decimal, codes, Result, Ok, Err}
 use Rattle.std.specs.List.{flat_map}
 use Rattle.he_text.specs.declared.fault.TextFault.{TextFault}
+use Rattle.he_text.specs.declared.inputs.InputFault.{InputFault}
+use Rattle.he_text.specs.declared.inputs.InputFault.TheVariants as inputs
+use Rattle.he_check.specs.AllFaults.{AreFaults, AreSaid}
 use Rattle.he_check.specs.Checked.{IsRight, IsWrong}
 use Rattle.he_check.specs.Clauses.{EndsInClause}
 use Rattle.he_check.specs.Sentences.{warning_text}
@@ -59,9 +62,28 @@ pub record TellsFault (Given : List ℕ → Bool → Type 0) (fault : TextFault)
   pub given : Given input is_broken
   pub told : EndsInClause input fault old new
 
--- where nothing is wrong with the input, its warnings are told; where no fault of the text is told, nothing is explained
-abbrev pub ExplainsText : (List ℕ → Bool → Type 0) → List ℕ → List ℕ → Result (Unit {0}) CheckFault → Type 0
-ExplainsText Given old new (Ok done) = TellsWarnings Given old new
-ExplainsText Given old new (Err (Text fault)) = TellsFault Given fault old new
-ExplainsText Given old new (Err Write) = TellsWarnings Given old new
-ExplainsText Given old new _ = new ≡ old
+-- the input was given, whole or up to where it broke off, and all its faults are told behind what stood there, of which
+-- this is the first
+pub record TellsAll (Given : List ℕ → Bool → Type 0) (first : InputFault) (old new : List ℕ) : Type 0 where
+  pub input : List ℕ
+  pub is_broken : Bool
+  pub given : Given input is_broken
+  pub others : List InputFault
+  pub are : AreFaults input is_broken (first ∷ others)
+  pub text : List ℕ
+  pub said : AreSaid input (first ∷ others) text
+  pub told : new ≡ old ++ text
+
+-- how an input with this first fault is explained: all its faults are told, or this one, if it is the text's
+abbrev pub TellsOf : Bool → (List ℕ → Bool → Type 0) → InputFault → List ℕ → List ℕ → Type 0
+TellsOf true Given fault old new = TellsAll Given fault old new
+TellsOf false Given (inputs.Text fault) old new = TellsFault Given fault old new
+TellsOf false Given inputs.Read old new = new ≡ old
+
+-- where nothing is wrong with the input, its warnings are told; where something is, all its faults or the first one
+abbrev pub Explains : Bool → (List ℕ → Bool → Type 0) → List ℕ → List ℕ → Result (Unit {0}) CheckFault → Type 0
+Explains is_all Given old new (Ok done) = TellsWarnings Given old new
+Explains is_all Given old new (Err (Text fault)) = TellsOf is_all Given (inputs.Text fault) old new
+Explains is_all Given old new (Err Read) = TellsOf is_all Given inputs.Read old new
+Explains is_all Given old new (Err Write) = TellsWarnings Given old new
+Explains is_all Given old new (Err Memory) = new ≡ old

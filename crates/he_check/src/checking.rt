@@ -1,16 +1,19 @@
 //! The check of an input, and what is written of it to an output.
-ghost use Rattle.std.specs.Prelude.{◌≡◌, ◌++◌, IfOk, OnOk};
+ghost use Rattle.std.specs.Prelude.{◌≡◌, ◌++◌, true, false, IfOk, OnErr, OnOk};
 ghost use Rattle.std.specs.Io.{StartsWith};
 ghost use Rattle.he_stream.specs.Input.{Gives};
 ghost use Rattle.he_stream.specs.Output.{PutsPart, PutsWhole};
-ghost use Rattle.he_check.specs.Stream.{Checks, ExplainsText, counted, report_text};
+ghost use Rattle.he_check.specs.Steps.{SaysOf};
+ghost use Rattle.he_check.specs.Stream.{Checks, Explains, counted, report_text};
 
+use crate::all_faults::explain_all;
 use crate::explaining::explain_fault;
 use crate::fault::CheckFault;
 use crate::input::{Checked, check_input};
 use crate::telling::tell_warnings;
 use he_addr::{Memory, write_number};
 use he_stream::{InputStream, OutputStream, take_input, write_whole};
+use he_text::inputs::one_input;
 use std::alloc::Allocator;
 
 /// Reads an input of timelines to its end and checks it: where nothing is wrong it writes how many races and lines the
@@ -38,10 +41,56 @@ pub fn check<A: Allocator + Copy, I: InputStream, O: OutputStream>(
         (PutsWhole O.contents O.puts O.flushes output.old output.new)
         (PutsPart O.contents O.puts O.flushes output.old output.new) (output.new ≡ output.old) result }
     ensures stays { StartsWith explanation.new.items explanation.old.items }
-    ensures quiet { ExplainsText (Gives I.remaining I.takes input.old input.new) explanation.old.items explanation.new.items result }
+    ensures quiet { Explains false (Gives I.remaining I.takes input.old input.new) explanation.old.items explanation.new.items result }
 {
+    check_up_to(alloc, false, input, output, explanation)
+}
+
+/// The same as [`check`], but goes on behind a faulty race, and tells the first fault of each part of the input. A
+/// part begins with the input, or with the next line `race 1` or `race 2` behind the first line of a faulty race: where
+/// `end` was forgotten, that is the faulty line itself. Each part is checked as an input of its own, and so may have
+/// 4,096 races, but its lines are counted over the whole input.
+///
+/// # Errors
+///
+/// Those of [`check`]: after `Text` and `Read` the first of the faults that are told.
+///
+/// After `Text` and `Read` all of them stand behind what `explanation` held, the first one too: each a line as
+/// `he: line 3: word`, and what [`explain_fault`] says of it; last, where the input broke off, the line
+/// `he: cannot read the input`. Else `explanation` is as [`check`] leaves it.
+pub fn check_all<A: Allocator + Copy, I: InputStream, O: OutputStream>(
+    alloc: A,
+    input: &mut I,
+    output: &mut O,
+    explanation: &mut Vec<u8, A>,
+) -> Result<(), CheckFault>
+    ensures done { Checks (Gives I.remaining I.takes input.old input.new)
+        (PutsWhole O.contents O.puts O.flushes output.old output.new)
+        (PutsPart O.contents O.puts O.flushes output.old output.new) (output.new ≡ output.old) result }
+    ensures stays { StartsWith explanation.new.items explanation.old.items }
+    ensures quiet { Explains true (Gives I.remaining I.takes input.old input.new) explanation.old.items explanation.new.items result }
+{
+    check_up_to(alloc, true, input, output, explanation)
+}
+
+// Checks an input, and tells its first fault, or the first one of each part.
+fn check_up_to<A: Allocator + Copy, I: InputStream, O: OutputStream>(
+    alloc: A,
+    is_all: bool,
+    input: &mut I,
+    output: &mut O,
+    explanation: &mut Vec<u8, A>,
+) -> Result<(), CheckFault>
+    ensures done { Checks (Gives I.remaining I.takes input.old input.new)
+        (PutsWhole O.contents O.puts O.flushes output.old output.new)
+        (PutsPart O.contents O.puts O.flushes output.old output.new) (output.new ≡ output.old) result }
+    ensures stays { StartsWith explanation.new.items explanation.old.items }
+    ensures quiet { Explains is_all (Gives I.remaining I.takes input.old input.new) explanation.old.items explanation.new.items result }
+{
+    one_input();
     let given = take_input(alloc, input)?;
-    match check_input(alloc, given.bytes.as_slice(), given.is_broken) {
+    let (bytes, is_broken) = (given.bytes.as_slice(), given.is_broken);
+    match check_input(alloc, bytes, is_broken) {
         Ok((checked, warnings)) => {
             let report = report_of(alloc, checked)?;
             let told = tell_warnings(alloc, warnings.as_slice())?;
@@ -50,11 +99,29 @@ pub fn check<A: Allocator + Copy, I: InputStream, O: OutputStream>(
             Ok(())
         }
         Err(fault) => {
-            if let CheckFault::Text(found) = fault {
-                explain_fault(alloc, given.bytes.as_slice(), found, explanation)?;
-            }
+            explain(alloc, bytes, is_broken, fault, is_all, explanation)?;
             Err(fault)
         }
+    }
+}
+
+// Explains an input with this first fault: all its faults, or this one, if it is the text's.
+fn explain<A: Allocator + Copy>(
+    alloc: A,
+    input: &[u8],
+    is_broken: bool,
+    fault: CheckFault,
+    is_all: bool,
+    explanation: &mut Vec<u8, A>,
+) -> Result<(), Memory>
+    ensures ok { OnOk result (SaysOf is_all input.now is_broken fault explanation.old.items explanation.new.items) }
+    ensures err { OnErr result (explanation.new.items ≡ explanation.old.items) }
+{
+    match fault {
+        CheckFault::Text(_) if is_all => explain_all(alloc, input, is_broken, explanation),
+        CheckFault::Read if is_all => explain_all(alloc, input, is_broken, explanation),
+        CheckFault::Text(found) => Ok(explain_fault(alloc, input, found, explanation)?),
+        CheckFault::Read | CheckFault::Write | CheckFault::Memory => Ok(()),
     }
 }
 

@@ -1,6 +1,6 @@
 // What is said behind the sentence of a fault: what was likely meant.
 
-ghost use Rattle.std.specs.Prelude.{◌≡◌, ◌++◌, OnOk};
+ghost use Rattle.std.specs.Prelude.{◌≡◌, ◌-◌, ◌++◌, OnOk};
 ghost use Rattle.std.specs.List.{slice_get};
 ghost use Rattle.std.specs.Option.{option_copied};
 ghost use Rattle.he_text.specs.Parts.{lines_of};
@@ -8,6 +8,7 @@ ghost use Rattle.he_check.specs.Clauses.{hint_of, is_of_words, line_at, line_mea
 ghost use Rattle.he_check.specs.Sentences.{clause_text, meaning_of};
 
 use crate::meant::{Meant, input_meant, meant_of};
+use crate::parts::Part;
 use he_text::{LINE_END, TOKEN_END, TextFault, TextKind};
 use std::alloc::{AllocError, Allocator};
 
@@ -26,8 +27,10 @@ pub(crate) fn append_clause<A: Allocator>(
     Ok(())
 }
 
-// What was likely meant where the input has this fault: by its first bytes, or by the words of the faulty line.
-pub(crate) fn hint_of(input: &[u8], fault: TextFault) -> Option<Meant>
+// What was likely meant where the input has this fault: by its first bytes, or by the words of the faulty line, which
+// stands in the part.
+pub(crate) fn hint_of(input: &[u8], part: Part<'_>, fault: TextFault) -> Option<Meant>
+    requires { line_at (fault.line - part.lines) part.text.now ≡ line_at fault.line input.now }
     ensures { result ≡ hint_of input.now fault }
 {
     if fault.line == 1
@@ -36,7 +39,7 @@ pub(crate) fn hint_of(input: &[u8], fault: TextFault) -> Option<Meant>
         return Some(meant);
     }
     if is_of_words(fault.kind) {
-        line_meant(line_at(fault.line, input))
+        line_meant(line_at(fault.line.saturating_sub(part.lines), part.text))
     } else {
         None
     }

@@ -1,9 +1,10 @@
-//! Checks of timeline texts, with an explanation of the first fault.
+//! Checks of timeline texts, with an explanation of the first fault, or of those of all parts of a text.
 //!
 //! [`check_input`] counts the races and lines of an input, and warns of what is allowed in them and surely not meant
 //! ([`Slip`]), or answers the input's first fault. [`check`] does so for a stream, writes the numbers to an output, and
-//! tells each warning in a line. [`explain_fault`] says of a fault what a compiler would: the line, a mark below the
-//! part that is wrong, and what was expected there.
+//! tells each warning in a line. [`check_all`] does the same, and goes on behind a faulty race, at the next line that
+//! is `race 1` or `race 2`. [`explain_fault`] says of a fault what a compiler would: the line, a mark below the part
+//! that is wrong, and what was expected there.
 //!
 //! Proved: a check tells the input's first fault, by kind and line (`HasRaces` of he_text's `specs/Inputs`), and
 //! where there is none the number of its races and lines (`specs/Checked`), and exactly the slips of its races as
@@ -12,13 +13,16 @@
 //! the whole input is read, the numbers are written and flushed where nothing is wrong, and else nothing is written;
 //! after a write or flush that failed, a first part. What is explained stands behind what the vector held, and a
 //! refused growth leaves it as it was. It ends in the clause of what was likely meant by a word of the line or by the
-//! input's first bytes (`specs/Clauses`, `specs/Meant`), exactly where one of them is such.
+//! input's first bytes (`specs/Clauses`, `specs/Meant`), exactly where one of them is such. `check_all` tells the first
+//! fault of each part of an input, in order, with its line counted over the whole input and its clause, and last that
+//! the input broke off (`specs/AllFaults`); the first of them is the fault that `check` tells.
 //!
 //! Only tested: what else an explanation says. The line is looked at again for it, by checks of its own (`finding.rt`),
 //! so a wrong one would mislead, but leaves the fault's line and kind as they are. Of a fault whose cause these checks
 //! don't find, a sentence tells what faults of its kind are.
 #![tactic(auto)]
 
+mod all_faults;
 pub mod checking;
 mod clause;
 pub mod explaining;
@@ -29,6 +33,7 @@ mod forms;
 pub mod input;
 pub mod limits;
 mod meant;
+mod parts;
 mod place;
 mod repeats;
 mod sentence;
@@ -36,7 +41,7 @@ mod showing;
 pub mod slips;
 mod telling;
 
-pub use checking::check;
+pub use checking::{check, check_all};
 pub use explaining::explain_fault;
 pub use fault::CheckFault;
 pub use input::{Checked, check_input};

@@ -1,5 +1,6 @@
 // Where a fault stands: a line, and the lines of its race before it.
 
+use crate::parts::Part;
 use he_text::{LINE_END, TOKEN_END, Version, Word};
 use memchr::memchr;
 
@@ -21,13 +22,13 @@ pub(crate) struct Place<'t> {
     pub(crate) first: u64,
 }
 
-// The line with this number, counted from 1. The lines before it are to be right, so that a race ends with each of
-// them that is `end`.
-pub(crate) fn find_line(input: &[u8], number: u64) -> Place<'_> {
-    let mut rest = input;
-    let mut race = input;
-    let mut first = 1;
-    for current in 1..number {
+// The line with this number, which stands in the part. The part begins with a race, and its lines before this one are
+// to be right, so that a race ends with each of them that is `end`.
+pub(crate) fn find_line(part: Part<'_>, number: u64) -> Place<'_> {
+    let mut rest = part.text;
+    let mut race = part.text;
+    let mut first = part.lines.saturating_add(1);
+    for current in first..number {
         if rest.is_empty() {
             break;
         }

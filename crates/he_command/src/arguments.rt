@@ -13,7 +13,7 @@ use thiserror::Error;
 pub(crate) enum OptionFault {
     #[error("invalid value for '--resolver <RESOLVER>': neither an address, nor an address and a port, nor `system`")]
     Resolver,
-    #[error("invalid value for '--set <NAME=N>' or '--timeout <MS>': attempt=10 to 2000, resolution=0 to 1000, count=1 to 8, floor=10 to the attempt delay, and a timeout of 1 to 3600000")]
+    #[error("invalid value for '--set <NAME=N>': attempt=10 to 2000, resolution=0 to 1000, count=1 to 8, limit=1 to 3600000 (`--timeout` is it too), and floor=10 to 2000 and at most an attempt that is given beside it")]
     Setting,
 }
 

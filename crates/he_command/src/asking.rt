@@ -28,13 +28,13 @@ const TIMEOUT_HELP: &str =
     "Gives up after so many milliseconds without a connection, 1 to 3600000; 30000 where it isn't given";
 
 const SET_HELP: &str =
-    "A setting of the race: attempt=250, resolution=50, count=1 or floor=10, with another number";
+    "A setting of the race, as attempt=100; else attempt=250, resolution=50, count=1, limit=30000 and floor=10 hold. May be given more than once";
 
 const LINES_HELP: &str = "A file of source, route and policy lines, in place of this machine's own";
 
 const RECORD_HELP: &str = "Writes the race as a timeline text to the file, for `he replay`";
 
-const EXPLAIN_HELP: &str = "Explains the race on standard error, as `he explain` does";
+const EXPLAIN_HELP: &str = "Tells the story of the race on standard error, as `he explain` does";
 
 const VERBOSE_HELP: &str = "Tells each step of the race on standard error as it happens";
 

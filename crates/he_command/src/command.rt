@@ -102,7 +102,7 @@ Example: `he names www.example.com` may write
 An address is its own answer, and a name of /etc/hosts has the addresses there. Any
 other is asked of the name servers of /etc/resolv.conf, both families at once, over UDP,
 and over TCP where an answer is cut off; `search` and the options ndots, timeout and
-attempts count as resolver(5) has them. With `--resolver system` all of it is left to
+attempts count as resolv.conf(5) has them. With `--resolver system` all of it is left to
 the system (getaddrinfo), which gives both families at once.
 
 Exit status: 0 when an address was found; 1 after a fault, with one line on standard

@@ -78,9 +78,9 @@ where
             name: None,
             explains: false,
         };
-        run_text(rt, alloc, work, place, input, output, faults)
+        run_text(rt, alloc, &work, place, input, output, faults)
     } else {
-        run_files(rt, alloc, work, &texts.files, input, output, faults)
+        run_files(rt, alloc, &work, &texts.files, input, output, faults)
     }
 }
 
@@ -88,7 +88,7 @@ where
 fn run_files<R, I, O, F>(
     rt: &R,
     alloc: Global,
-    work: Work,
+    work: &Work,
     names: &[&str],
     input: &mut I,
     output: &mut O,
@@ -99,8 +99,8 @@ where
     I: InputStream,
     O: OutputStream,
     F: Write,
-    requires { HasTaskWorkers work.task }
-    ensures { RunsFiles (λ name. RunsFile (RunsOver I.remaining I.takes O.contents O.puts O.flushes work.task work.changes) (RunsOver ⟦<FromReader<R::File> as InputStream>⟧.remaining ⟦<FromReader<R::File> as InputStream>⟧.takes O.contents O.puts O.flushes work.task work.changes) name.now) names.now input.old input.new output.old output.new result }
+    requires { HasTaskWorkers work.now.task }
+    ensures { RunsFiles (λ name. RunsFile (RunsOver I.remaining I.takes O.contents O.puts O.flushes work.now.task work.now.changes) (RunsOver ⟦<FromReader<R::File> as InputStream>⟧.remaining ⟦<FromReader<R::File> as InputStream>⟧.takes O.contents O.puts O.flushes work.now.task work.now.changes) name.now) names.now input.old input.new output.old output.new result }
 {
     let Some((name, more)) = names.split_first() else {
         return DONE;
@@ -115,7 +115,7 @@ where
 fn run_name<R, I, O, F>(
     rt: &R,
     alloc: Global,
-    work: Work,
+    work: &Work,
     name: &str,
     input: &mut I,
     output: &mut O,
@@ -126,8 +126,8 @@ where
     I: InputStream,
     O: OutputStream,
     F: Write,
-    requires { HasTaskWorkers work.task }
-    ensures { RunsFile (RunsOver I.remaining I.takes O.contents O.puts O.flushes work.task work.changes) (RunsOver ⟦<FromReader<R::File> as InputStream>⟧.remaining ⟦<FromReader<R::File> as InputStream>⟧.takes O.contents O.puts O.flushes work.task work.changes) name.now input.old input.new output.old output.new result }
+    requires { HasTaskWorkers work.now.task }
+    ensures { RunsFile (RunsOver I.remaining I.takes O.contents O.puts O.flushes work.now.task work.now.changes) (RunsOver ⟦<FromReader<R::File> as InputStream>⟧.remaining ⟦<FromReader<R::File> as InputStream>⟧.takes O.contents O.puts O.flushes work.now.task work.now.changes) name.now input.old input.new output.old output.new result }
 {
     if name == STANDARD_INPUT {
         let place = Place {
@@ -146,7 +146,7 @@ where
 fn run_file<R, O, F>(
     rt: &R,
     alloc: Global,
-    work: Work,
+    work: &Work,
     name: &str,
     file: R::File,
     output: &mut O,
@@ -156,8 +156,8 @@ where
     R: Threads + AllocGlobal + Files + Sync,
     O: OutputStream,
     F: Write,
-    requires { HasTaskWorkers work.task }
-    ensures { (opened : FromReader R.File) × (closed : FromReader R.File) × RunsOver ⟦<FromReader<R::File> as InputStream>⟧.remaining ⟦<FromReader<R::File> as InputStream>⟧.takes O.contents O.puts O.flushes work.task work.changes opened closed output.old output.new result }
+    requires { HasTaskWorkers work.now.task }
+    ensures { (opened : FromReader R.File) × (closed : FromReader R.File) × RunsOver ⟦<FromReader<R::File> as InputStream>⟧.remaining ⟦<FromReader<R::File> as InputStream>⟧.takes O.contents O.puts O.flushes work.now.task work.now.changes opened closed output.old output.new result }
 {
     let mut input = FromReader::new(file);
     let place = Place {
@@ -173,7 +173,7 @@ where
 fn run_text<R, I, O, F>(
     rt: &R,
     alloc: Global,
-    work: Work,
+    work: &Work,
     place: Place<'_>,
     input: &mut I,
     output: &mut O,
@@ -184,8 +184,8 @@ where
     I: InputStream,
     O: OutputStream,
     F: Write,
-    requires { HasTaskWorkers work.task }
-    ensures { RunsOver I.remaining I.takes O.contents O.puts O.flushes work.task work.changes input.old input.new output.old output.new result }
+    requires { HasTaskWorkers work.now.task }
+    ensures { RunsOver I.remaining I.takes O.contents O.puts O.flushes work.now.task work.now.changes input.old input.new output.old output.new result }
 {
     match work.task {
         Task::Action(action) => {

@@ -16,7 +16,7 @@ const TIMEOUT_HELP: &str =
     "Gives up after so many milliseconds without a connection, 1 to 3600000; the text's limit where it isn't given";
 
 const SET_HELP: &str =
-    "A setting in place of the text's own: attempt=250, resolution=50, count=1 or floor=10, or with another number";
+    "A setting in place of the text's own, as attempt=100: attempt, resolution, count, limit or floor. May be given more than once";
 
 const RECORD_HELP: &str =
     "Writes the record to the file too, without the transcript, for `he replay`";

@@ -30,12 +30,13 @@ const FILE_HELP: &str =
 const VERBOSE_HELP: &str = "Explains the fault of a file, as `he check` does";
 
 const SET_HELP: &str =
-    "A setting that every race has in place of its own: attempt=250, resolution=50, count=1, limit=30000 or floor=10, or with another number";
+    "A setting that every race has in place of its own, as attempt=100: attempt, resolution, count, limit or floor. May be given more than once";
 
-const LINES_HELP: &str = "Writes lines for scripts, as they always were";
+const LINES_HELP: &str =
+    "Writes lines for scripts, which cut them at their spaces, in place of the story";
 
 const ALL_HELP: &str =
-    "Goes on behind a faulty race, at the next line `race 1` or `race 2`, and tells each fault";
+    "Goes on behind a faulty race, at the next line `race 1` or `race 2`, and tells each fault of the text";
 
 const WORKERS_HELP: &str =
     "The most workers that share the races, 1 to 64; the output is the same for each number";
@@ -165,7 +166,9 @@ Output of `he compare --set floor=10` (two lines):
     without them, 0 not won either way; difference where both won: median 240 ms,
     greatest 240 ms
 
-A floor above the attempt delay of a race changes nothing: the delay is over before.
+A floor above the attempt delay of a race changes nothing: the delay is over before. An
+address without a connect line is silent with the settings too. Of several files each has
+its own lines and sums: for one sum, `cat` them into standard input.
 
 Exit status: 0 when all is done; 1 after a fault, which standard error tells, and which
 ends it; 2 for a command line that is refused.";
@@ -200,7 +203,12 @@ refused.";
 
 // The command `he replay`.
 pub(crate) fn replay_command<'a>(alloc: Global) -> Result<Command<'a>, AllocError> {
-    let args = vec![in alloc; files(alloc), workers(alloc), set(alloc, SET_HELP), verbose(alloc)]?;
+    let args = vec![in alloc;
+        files(alloc),
+        workers(alloc),
+        set(alloc, SET_HELP),
+        verbose(alloc),
+    ]?;
     plain(alloc, "replay", REPLAY_ABOUT, REPLAY_EXAMPLE).args(args)
 }
 

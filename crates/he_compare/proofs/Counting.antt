@@ -38,7 +38,7 @@ pub told_on : {A : Type 0} (old new : Told A) (told : List Compared) (one : Comp
     → HasTold new (told ++ one ∷ [])
 told_on old new told one verdict has same text counts differences =
     let longer : map verdict_on (told ++ one ∷ []) ≡ map verdict_on told ++ verdict ∷ [] =
-        map-append verdict_on told (one ∷ []) ∙ ap (λ (v : Verdict). map verdict_on told ++ v ∷ []) (sym same) in
+    map-append verdict_on told (one ∷ []) ∙ ap (λ (v : Verdict). map verdict_on told ++ v ∷ []) (sym same) in
     record {
       text = text ∙ ap (λ (t : List ℕ). t ++ line_text one) has.text ∙ ap (λ (t : List ℕ). flat_map line_text told ++ t) (sym (append-nil (line_text one))) ∙ sym (flat_map-append line_text told (one ∷ []));
       counts = counts (map verdict_on told) has.counts ∙ ap counts_of (sym longer);

@@ -1,7 +1,7 @@
 // Races on real sockets, and what is wanted of them.
 
 use he_live::{LiveFault, Reason, Steps, live_race, live_race_on};
-use he_plan::{Mark, Outcome3, Transcript};
+use he_plan::{Changes, Mark, Outcome3, Transcript};
 use he_race::Raced;
 use he_replay::replay;
 use he_stream::{FromReader, ToWriter};
@@ -83,7 +83,7 @@ fn is_wanted(transcript: &Transcript, wanted: &Wanted<'_>) -> bool {
 pub fn replays<R: Lender>(rt: &R, transcript: &[u8], record: &[u8]) -> Result<bool, Fail> {
     let mut input = FromReader::new(FakeReader::new(record, usize::MAX));
     let mut output = ToWriter::new(Vec::new(rt.alloc()));
-    let told = replay(rt, rt.alloc(), &mut input, &mut output, 1);
+    let told = replay(rt, rt.alloc(), Changes::none(), &mut input, &mut output, 1);
     let is_same = output.writer().as_slice() == transcript;
     drop(input);
     drop(output);

@@ -14,14 +14,14 @@ pub returns-in_err-write_whole : goal.returns-in_err-write_whole
 returns-in_err-write_whole g c =
     let told : Tells c.args.changes (Gives g.I.InputStream.remaining g.I.InputStream.takes c.args.input.now c.take_input.new.input)
     (PutsPart g.O.OutputStream.contents g.O.OutputStream.puts g.O.OutputStream.flushes c.args.output.now c.write_whole.new.output) c.in_ok-text.fault =
-        record {
-          input = c.in_ok-given.given.bytes.items;
-          is_broken = c.in_ok-given.given.is_broken;
-          text = c.in_ok-text.text.items;
-          given = c.in_ok-given.ensures;
-          told = rw c.as_slice.ensures.value at c.in_ok-text.ensures;
-          done = rw c.as_slice-2.ensures.value at c.in_err-write_whole.ensures.err;
-        } in
+    record {
+      input = c.in_ok-given.given.bytes.items;
+      is_broken = c.in_ok-given.given.is_broken;
+      text = c.in_ok-text.text.items;
+      given = c.in_ok-given.ensures;
+      told = rw c.as_slice.ensures.value at c.in_ok-text.ensures;
+      done = rw c.as_slice-2.ensures.value at c.in_err-write_whole.ensures.err;
+    } in
     handed c.from_residual-in_err-write_whole.result Write
     (Compares c.args.changes (Gives g.I.InputStream.remaining g.I.InputStream.takes c.args.input.now c.take_input.new.input)
     (PutsWhole g.O.OutputStream.contents g.O.OutputStream.puts g.O.OutputStream.flushes c.args.output.now c.write_whole.new.output)

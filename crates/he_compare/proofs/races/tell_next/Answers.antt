@@ -14,7 +14,6 @@ returns-in_default g c =
     let found = rw c.of.ensures at c.in_ok-race.ensures.found in
     ends c.args.changes c.args.input.now c.args.is_broken c.args.walk.now c.next.new.self c.args.told.now c.in_ok-race.field-0 c.requires found c.in_default.not-Some
 
-
 pub returns-in-Ok : goal.returns-in-Ok
 returns-in-Ok g c =
     let passes = rw c.in-Some.is at c.in_ok-race.ensures.found in

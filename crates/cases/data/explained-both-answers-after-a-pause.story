@@ -1,0 +1,11 @@
+race 1, line 1: connected to 198.51.100.1 after 65 ms, by attempt 1 of 1
+preferred, once every answer is known:
+  1. 198.51.100.1 from 192.0.2.2
+what happened:
+  10 ms  A answer: 1 address to try; the AAAA answer is not there yet
+  10 ms  wait for the AAAA answer until 60 ms (Resolution Delay)
+  30 ms  pause: the client sees and starts nothing until 45 ms
+  45 ms  AAAA answer: 0 addresses to try
+  45 ms  attempt 1 to 198.51.100.1: both answers are there, late because of a pause; the only address known
+  65 ms  attempt 1 connected after 20 ms
+35 ms passed between the A answer and the first attempt at one of its addresses

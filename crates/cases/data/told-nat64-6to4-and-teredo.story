@@ -1,0 +1,17 @@
+race 1, line 1: connected to 64:ff9b::c633:6401 after 560 ms, by attempt 3 of 3
+preferred, once every answer is known:
+  1. 2001:db8:1::1 from 2001:db8:5::2
+  2. 64:ff9b::c633:6401 (NAT64) from 2001:db8:5::2; bits in common with its source 2, the one before 45 (RFC 6724 rule 9)
+  3. 2002:c633:6401::1 (6to4) from 2001:db8:5::2; label 2, its source 1 (RFC 6724 rule 5)
+  4. 2001:0:c633:6401::1 (Teredo) from 2001:db8:5::2; precedence 5, the one before 30 (RFC 6724 rule 6)
+  5. 198.51.100.1, not reachable: no route; the one before is reachable (RFC 6724 rule 1)
+what happened:
+   20 ms  AAAA answer: 4 addresses to try; the A answer is not there yet
+   20 ms  attempt 1 to 2001:db8:1::1: the AAAA answer is there; number 1 of 4 known, IPv6 first
+   30 ms  A answer: 1 address to try
+  270 ms  attempt 2 to 198.51.100.1: 250 ms after the start of attempt 1; number 2 of 5 known, IPv6 and IPv4 in turn
+  520 ms  attempt 3 to 64:ff9b::c633:6401: 250 ms after the start of attempt 2; number 3 of 5 known, IPv6 and IPv4 in turn
+  560 ms  attempt 3 connected after 40 ms
+  560 ms  attempt 1 cancelled after 540 ms
+  560 ms  attempt 2 cancelled after 290 ms
+240 ms passed between the A answer and the first attempt at one of its addresses

@@ -1,0 +1,55 @@
+race 1, line 1: not connected: nothing is left to try after 5 ms and 0 attempts
+no address to try
+what happened:
+  0 ms  AAAA answer: 0 addresses to try; the A answer is not there yet
+  5 ms  A answer: 0 addresses to try
+  5 ms  nothing is left to try
+
+race 2, line 5: not connected by the limit of 100 ms, after 1 attempt
+preferred, once every answer is known:
+  1. 198.51.100.1 from 192.0.2.2
+  2. 2001:db8::9, not reachable: no route; the one before is reachable (RFC 6724 rule 1)
+what happened:
+    5 ms  A answer: 1 address to try; the AAAA answer is not there yet
+    5 ms  wait for the AAAA answer until 55 ms (Resolution Delay)
+   55 ms  the wait is over, without the AAAA answer
+   55 ms  attempt 1 to 198.51.100.1: the wait for the AAAA answer is over; the only address known
+  100 ms  the limit: the race is given up
+  100 ms  attempt 1 cancelled after 45 ms
+the AAAA answer came at 200 ms, after the end
+50 ms passed between the A answer and the first attempt at one of its addresses
+
+race 3, line 12: not connected by the limit of 100 ms, after 1 attempt
+preferred, once every answer is known:
+  1. 2001:db8::9 from 2001:db8::2
+  2. 2001:db8::a from 2001:db8::2; listed later in its answer (RFC 6724 rule 10)
+what happened:
+    5 ms  AAAA answer: 2 addresses to try; the A answer is not there yet
+    5 ms  attempt 1 to 2001:db8::9: the AAAA answer is there; number 1 of 2 known, IPv6 first
+   25 ms  attempt 1 failed after 20 ms
+  100 ms  the limit: the race is given up
+the A answer came at 101 ms, after the end
+
+race 4, line 20: not connected: nothing is left to try after 20 ms and 1 attempt
+preferred, once every answer is known:
+  1. 198.51.100.1 from 192.0.2.2
+what happened:
+   0 ms  AAAA answer: 0 addresses to try
+   0 ms  A answer: 1 address to try
+   0 ms  attempt 1 to 198.51.100.1: both answers are there; the only address known
+  20 ms  attempt 1 failed after 20 ms
+  20 ms  nothing is left to try
+
+race 5, line 27: not connected: nothing is left to try after 280 ms and 2 attempts
+preferred, once every answer is known:
+  1. 2001:db8:1::1 from 2001:db8::2
+  2. 2001:db8:1::2 from 2001:db8::2; listed later in its answer (RFC 6724 rule 10)
+what happened:
+    0 ms  AAAA answer: 2 addresses to try
+    0 ms  A answer: 0 addresses to try
+    0 ms  attempt 1 to 2001:db8:1::1: the AAAA answer is there; number 1 of 2 known, IPv6 first
+   20 ms  attempt 1 failed after 20 ms
+  250 ms  attempt 2 to 2001:db8:1::2: 250 ms after the start of attempt 1; number 2 of 2 known, no more IPv4 addresses
+  280 ms  attempt 2 failed after 30 ms
+  280 ms  nothing is left to try
+with `set floor 10`: not connected: nothing is left to try after 50 ms and 2 attempts

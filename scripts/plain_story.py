@@ -1,0 +1,237 @@
+#!/usr/bin/env python3
+"""A plain reading of what `he explain` writes, apart from the program, as plain.py is of the rules: the story of each
+race, by docs/DEFINITIONS.md and crates/he_story/specs.
+
+needs: python3, its standard library alone
+usage: scripts/plain_story.py [NAME=N ..] < TEXT
+           with these settings in place of each race's own, as with --set
+"""
+import sys
+from collections import namedtuple
+
+import plain
+from plain import counted, print_address
+
+NAMES = {"aaaa": "AAAA", "a": "A"}
+FAMILIES = {"aaaa": 6, "a": 4}
+OTHER = {"aaaa": "a", "a": "aaaa"}
+LEAST_FLOOR = plain.SETTINGS["floor"][0]
+# Blocks whose addresses stand for something else: RFC 6052, RFC 3056, RFC 4380.
+KINDS = {"64:ff9b::/96": " (NAT64)", "2002::/16": " (6to4)", "2001::/32": " (Teredo)"}
+
+# Why an attempt starts, in words, and the tick from which it was due.
+Cause = namedtuple("Cause", "words due")
+
+
+# How a race ended
+
+
+def ending(report):
+    kind, place, tick = report.result
+    attempts = counted(len(report.lines), "attempt")
+    if kind == "won":
+        address = print_address(report.lines[place].address)
+        return f"connected to {address} after {tick} ms, by attempt {place + 1} of {len(report.lines)}"
+    if kind == "exhausted":
+        return f"not connected: nothing is left to try after {tick} ms and {attempts}"
+    return f"not connected by the limit of {tick} ms, after {attempts}"
+
+
+# The addresses in order of preference: RFC 6724 section 6, RFC 8305 section 4
+
+
+def kind(address):
+    return next((told for block, told in KINDS.items() if plain.is_in(block, address)), "")
+
+
+def reached(race, fact):
+    """The source that the host uses, or why it reaches no such address."""
+    if fact["source"] is not None:
+        return f" from {print_address(fact['source'].address)}"
+    is_routed = race.host.route(fact["address"]) is not None
+    return f", not reachable: no {'source address' if is_routed else 'route'}"
+
+
+def reason(earlier, later):
+    """What puts the later address behind the earlier one, and by which rule."""
+    rule, is_first = plain.deciding_rule(earlier, later)
+    assert is_first is not False
+    rtt = "unknown" if later["rtt"] is None else f"{later['rtt']} ms"
+    said = {
+        "1": "the one before is reachable",
+        "2": f"scope {later['scope']}, its source {later['source scope']}",
+        "3": "its source is deprecated",
+        "5": f"label {later['label']}, its source {later['source label']}",
+        "6": f"precedence {later['precedence']}, the one before {earlier['precedence']}",
+        "7": "its route is a tunnel",
+        "8": f"scope {later['scope']}, the one before {earlier['scope']}",
+        "8a": f"round trip time {rtt}, the one before {earlier['rtt']} ms",
+        "8b": "the one before was used before",
+        "9": f"bits in common with its source {later['common']}, the one before {earlier['common']}",
+        "10": "listed later in its answer",
+    }
+    standard = "RFC 8305 section 4" if rule in ("8a", "8b") else f"RFC 6724 rule {rule}"
+    return f"; {said[rule]} ({standard})"
+
+
+def preferred(race):
+    facts, lines = race.ranked(), []
+    if not facts:
+        return ["no address to try"]
+    width = len(str(len(facts))) + 2
+    for number, fact in enumerate(facts, 1):
+        behind = reason(facts[number - 2], fact) if number > 1 else ""
+        told = f"{print_address(fact['address'])}{kind(fact['address'])}{reached(race, fact)}{behind}"
+        lines.append(f"{number:>{width}}. {told}")
+    return ["preferred, once every answer is known:", *lines]
+
+
+# Why an attempt started, and which address came next: RFC 8305 sections 3 to 5
+
+
+def tick_of(race, name):
+    return race.answers[name].tick if name in race.answers else 0
+
+
+def first_cause(race, tick):
+    if not race.is_seen("aaaa", tick):
+        return Cause("the wait for the AAAA answer is over", tick_of(race, "a") + race.setting("resolution"))
+    if race.usable("aaaa"):
+        return Cause("the AAAA answer is there", tick_of(race, "aaaa"))
+    return Cause("both answers are there", max(tick_of(race, "aaaa"), tick_of(race, "a")))
+
+
+def later_cause(race, before, line):
+    """The cause of an attempt behind others: what came at its tick, and not earlier."""
+    last, delay, floor = before[-1], race.setting("attempt"), race.setting("floor")
+    name = "aaaa" if line.address.family == 6 else "a"
+    answer = Cause(f"it came with the {NAMES[name]} answer", tick_of(race, name))
+    if line.start >= last.start + delay:
+        if race.seen(last.start + delay) < line.start:
+            return answer
+        return Cause(f"{delay} ms after the start of attempt {last.place + 1}", last.start + delay)
+    # Before that, since a floor is over and all that were made have failed.
+    failed, over = max(race.outcomes[other.address][1] + other.start for other in before), last.start + floor
+    if race.seen(max(failed, over)) < line.start:
+        return answer
+    if failed > over:
+        return Cause(f"all before have failed, the last one at {failed} ms", failed)
+    return Cause(f"all before have failed, and the floor of {floor} ms after attempt {last.place + 1} is over", over)
+
+
+def listed(race, line):
+    """Which address it is in the list of those that are known at its start, and whose turn it is there."""
+    addresses = race.listed(line.start)
+    if len(addresses) == 1:
+        return "; the only address known"
+    place, family = addresses.index(line.address), line.address.family
+    if place < race.setting("count") and family == addresses[0].family:
+        turn = f"IPv{family} first"
+    elif family != addresses[place - 1].family:
+        turn = "IPv6 and IPv4 in turn"
+    else:
+        turn = f"no more IPv{10 - family} addresses"
+    return f"; number {place + 1} of {len(addresses)} known, {turn}"
+
+
+def started(race, before, line):
+    cause = later_cause(race, before, line) if before else first_cause(race, line.start)
+    held = ", late because of a pause" if cause.due < line.start else ""
+    return f"attempt {line.place + 1} to {print_address(line.address)}: {cause.words}{held}{listed(race, line)}"
+
+
+# What happened: pairs of a tick and what is told of it
+
+
+def answers(race):
+    events = []
+    for name in ("aaaa", "a"):
+        if name in race.answers:
+            tick, other = race.seen(tick_of(race, name)), OTHER[name]
+            missing = "" if race.is_seen(other, tick) else f"; the {NAMES[other]} answer is not there yet"
+            usable = counted(len(race.usable(name)), "address", "addresses")
+            events.append((tick, f"{NAMES[name]} answer: {usable} to try{missing}"))
+    return events
+
+
+def waits(race):
+    """The wait for the AAAA answer, where the A answer is positive and the first one: RFC 8305 section 3."""
+    if "a" not in race.answers or not race.usable("a"):
+        return []
+    begin, end = race.seen(tick_of(race, "a")), tick_of(race, "a") + race.setting("resolution")
+    if begin >= end or race.is_seen("aaaa", begin):
+        return []
+    events = [(begin, f"wait for the AAAA answer until {end} ms (Resolution Delay)")]
+    if not race.is_seen("aaaa", race.seen(end)):
+        events.append((race.seen(end), "the wait is over, without the AAAA answer"))
+    return events
+
+
+def ends(report, fate):
+    """The ends of the attempts of this fate."""
+    words = {"failed": "failed", "won": "connected", "cancelled": "cancelled"}[fate]
+    return [(line.tick, f"attempt {line.place + 1} {words} after {line.tick - line.start} ms")
+            for line in report.lines if line.fate == fate]
+
+
+def events(race, report):
+    """All up to the race's end by tick, those of one tick in this order."""
+    over = {"exhausted": "nothing is left to try", "limit": "the limit: the race is given up"}
+    kind, _, tick = report.result
+    told = [(start, f"pause: the client sees and starts nothing until {end} ms") for start, end in race.pauses]
+    told += answers(race) + waits(race) + ends(report, "failed")
+    told += [(line.start, started(race, report.lines[:line.place], line)) for line in report.lines]
+    told += ends(report, "won") if kind == "won" else [(tick, over[kind])]
+    told += ends(report, "cancelled")
+    return sorted((event for event in told if event[0] <= tick), key=lambda event: event[0])
+
+
+def happened(race, report):
+    width = len(str(report.result.tick)) + 2
+    return ["what happened:", *(f"{tick:>{width}} ms  {told}" for tick, told in events(race, report))]
+
+
+# What had to wait, and what a floor would have changed
+
+
+def waited(race, report, name):
+    """What is told of an answer that did not come, that came too late, or whose addresses had to wait."""
+    if name not in race.answers:
+        return [f"no {NAMES[name]} answer came"]
+    seen = race.seen(tick_of(race, name))
+    if seen > report.result.tick:
+        return [f"the {NAMES[name]} answer came at {seen} ms, after the end"]
+    if not race.usable(name):
+        return []
+    starts = [line.start for line in report.lines if line.address.family == FAMILIES[name]]
+    if not starts:
+        return [f"no address of the {NAMES[name]} answer was tried"]
+    passed = starts[0] - seen
+    between = f"between the {NAMES[name]} answer and the first attempt at one of its addresses"
+    return [f"{passed} ms passed {between}"] if passed > 0 else []
+
+
+def floored(race, report):
+    """How the race ends with the least floor, where it has none and would have ended earlier."""
+    if race.setting("floor") is not None:
+        return []
+    other = race.changed({"floor": LEAST_FLOOR}).report
+    is_earlier = other.result.tick < report.result.tick
+    return [f"with `set floor {LEAST_FLOOR}`: {ending(other)}"] if is_earlier else []
+
+
+def story(number, race):
+    """The story of the race of this number in its text, counted from 1."""
+    report = race.report
+    lines = [f"race {number}, line {race.line}: {ending(report)}", *preferred(race), *happened(race, report)]
+    lines += [*waited(race, report, "aaaa"), *waited(race, report, "a"), *floored(race, report)]
+    return ("\n" if number > 1 else "") + "".join(line + "\n" for line in lines)
+
+
+def written(races, changes):
+    """What `he explain` writes for these races, with these settings in place of their own."""
+    return "".join(story(number, race.changed(changes)) for number, race in enumerate(races, 1)).encode()
+
+
+if __name__ == "__main__":
+    plain.answer(written, sys.argv[1:])
