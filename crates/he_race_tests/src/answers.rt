@@ -1,18 +1,12 @@
 // Races whose answers come while they run, over a source that tells them from a tick on and a ticker that visits ticks.
 
-ghost use Rattle.std.specs.Prelude.{IfSome};
-ghost use Rattle.he_race.specs.Kept.{IsLive};
-
 use crate::homes::{Given, V4_A, V6_A, V6_B, race, unanswered};
-use futures::Future;
+use crate::races::drive;
 use futures::task::{Context, Doorbell, Poll, Solo};
 use he_addr::{Family, Ip};
 use he_plan::{Mark, Outcome, Outcome3, Timeline};
-use he_race::{
-    AnswerSource, Connector, RaceFault, Raced, ResolvingRace, Scripted, TickFault, Ticker,
-};
+use he_race::{AnswerSource, RaceFault, Raced, ResolvingRace, Scripted, TickFault, Ticker};
 use std::alloc::{AllocError, Global};
-use std::cell::Cell;
 use std::mem::drop;
 use std::test::Fail;
 
@@ -44,43 +38,27 @@ fn many(alloc: Global) -> Result<Vec<Ip>, AllocError> {
     Ok(ips)
 }
 
-// Tells of each family from a tick on, at each poll, or never. It counts the polls for a family that it has told of.
-#[derive(Drop)]
-struct Telling<'a> {
+// Tells of each family from a tick on, at each poll, or never.
+#[derive(Clone, Copy, Drop)]
+struct Telling {
     alloc: Global,
     six: Option<(u64, Told)>,
     four: Option<(u64, Told)>,
-    // of which families it has told
-    told: (bool, bool),
-    again: &'a Cell<u8>,
 }
 
-impl<'a> Telling<'a> {
-    fn note(&mut self, family: Family) {
-        match family {
-            Family::V6 => self.told.0 = true,
-            Family::V4 => self.told.1 = true,
-        }
-    }
-}
-
-impl<'a> AnswerSource for Telling<'a> {
+impl AnswerSource for Telling {
     ghost use Rattle.std.specs.Prelude.{⊤};
 
     ghost hears = { λ _ _ _ _ _. ⊤ };
 
     fn poll_answer(&mut self, family: Family, now: u64, cx: &mut Context<'_>) -> Poll<Vec<Ip>> {
-        let (told, has_told) = match family {
-            Family::V6 => (self.six, self.told.0),
-            Family::V4 => (self.four, self.told.1),
+        let told = match family {
+            Family::V6 => self.six,
+            Family::V4 => self.four,
         };
-        if has_told {
-            self.again.set(self.again.get().saturating_add(1));
-        }
         if let Some((from, told)) = told {
             if from <= now {
                 if let Ok(ips) = addresses(self.alloc, told) {
-                    self.note(family);
                     return Poll::Ready(ips);
                 }
             }
@@ -114,8 +92,7 @@ impl Ticker for Visiting {
     }
 }
 
-// A race in short: its result, its last attempt, and of its record the ticks and lengths of the answers and the pauses;
-// how often a family was polled for after its answer.
+// A race in short: its result, its last attempt, and of its record the ticks and lengths of the answers and the pauses.
 #[derive(Clone, Copy, Debug, PartialEq, Eq)]
 struct Short {
     result: Outcome3,
@@ -124,58 +101,29 @@ struct Short {
     six: Option<(u64, usize)>,
     four: Option<(u64, usize)>,
     pauses: usize,
-    pause: Option<(u64, u64)>,
-    again: u8,
 }
 
 fn answer_of(timeline: &Timeline, family: Family) -> Option<(u64, usize)> {
     timeline.answer(family).map(|told| (told.0, told.1.len()))
 }
 
-fn summary(raced: &Raced<()>, again: u8) -> Short {
+fn summary(raced: &Raced<()>) -> Short {
     let lines = raced.transcript.attempts();
-    let pauses = raced.recorded.pauses();
     Short {
         result: raced.transcript.result(),
         attempts: lines.len(),
         last: lines.last().map(|line| (line.tick, line.mark)),
         six: answer_of(&raced.recorded, Family::V6),
         four: answer_of(&raced.recorded, Family::V4),
-        pauses: pauses.len(),
-        pause: pauses.last().copied(),
-        again,
+        pauses: raced.recorded.pauses().len(),
     }
 }
 
-fn short_in(given: &Option<Result<Raced<()>, RaceFault>>, again: u8) -> Option<Short> {
+fn short_in(given: &Option<Result<Raced<()>, RaceFault>>) -> Option<Short> {
     match given {
-        Some(Ok(raced)) => Some(summary(raced, again)),
+        Some(Ok(raced)) => Some(summary(raced)),
         _ => None,
     }
-}
-
-// What the race gives within 40 polls, where one more poll tells that it is over.
-fn drive<C: Connector<Conn = ()>, S: AnswerSource, T: Ticker>(
-    solo: &Solo,
-    mut race: ResolvingRace<C, S, T>,
-) -> Option<Result<Raced<()>, RaceFault>>
-    requires { IfSome race.race.live (IsLive C.Connector C.Run.Trial) }
-{
-    for _ in 0..40u8 {
-        let mut cx = solo.begin();
-        let polled = race.poll(&mut cx);
-        cx.cancel();
-        if let Poll::Ready(given) = polled {
-            let mut cx = solo.begin();
-            let polled = race.poll(&mut cx);
-            cx.cancel();
-            return match polled {
-                Poll::Ready(Err(RaceFault::Over)) => Some(given),
-                _ => None,
-            };
-        }
-    }
-    None
 }
 
 // What a source tells, and the ticks at which the race is polled.
@@ -227,20 +175,17 @@ fn run_from(
     unanswered: &Timeline,
     case: Case,
 ) -> Result<Option<Short>, Fail> {
-    let again = Cell::new(0);
     let source = Telling {
         alloc,
         six: case.six,
         four: case.four,
-        told: (false, false),
-        again: &again,
     };
     let ticks = case.ticks;
     let ticker = Visiting { ticks, told: 0 };
     let connector = Scripted::new(timeline);
     let future = ResolvingRace::new(alloc, unanswered, connector, source, ticker)?;
-    let given = drive(solo, future);
-    let short = short_in(&given, again.get());
+    let given = drive(solo, future, 40);
+    let short = short_in(&given);
     drop(given);
     Ok(short)
 }
@@ -262,8 +207,6 @@ fn late_answer_takes_part(rt: HostRuntime) -> Result<(), Fail> {
         six: Some((33, 1)),
         four: Some((4, 1)),
         pauses: 0,
-        pause: None,
-        again: 0,
     };
     assert_eq!(rt; run(alloc, &solo, within)?, Some(won));
     // It comes at the tick of a success of the other family, and is recorded.
@@ -289,8 +232,15 @@ fn late_answer_takes_part(rt: HostRuntime) -> Result<(), Fail> {
         run(alloc, &solo, never)?,
         Some(Short { six: None, ..first })
     );
-    // It comes behind the first attempt at one of two addresses of the other family, which fails: the second is at its
-    // address, since the families take turns, 250 after the first.
+    Ok(())
+}
+
+// The A answer comes behind the first attempt, at one of two IPv6 addresses, which fails: the second attempt is at its
+// address, since the families take turns, 250 after the first.
+#[test]
+fn late_answer_takes_its_turn(rt: HostRuntime) -> Result<(), Fail> {
+    let solo = Solo::new(&rt, Doorbell::spinning())?;
+    let alloc: Global = rt.alloc();
     let behind = Case {
         six: Some((4, Told::Mixed)),
         four: Some((30, Told::One(V4_A))),
@@ -298,18 +248,17 @@ fn late_answer_takes_part(rt: HostRuntime) -> Result<(), Fail> {
     };
     let second = Short {
         result: Outcome3::Won(1, 264),
+        attempts: 2,
         last: Some((254, Mark::Won(264))),
         six: Some((4, 2)),
         four: Some((30, 1)),
-        ..won
+        pauses: 0,
     };
     assert_eq!(rt; run(alloc, &solo, behind)?, Some(second));
     Ok(())
 }
 
 // A client that slept over both answers has them at the tick at which it woke, and it slept over nothing that was due.
-// One that is polled each hundred ticks has them likewise: the first attempt starts at 100 and is seen to have failed at
-// 200, the second is due at 350 and starts at 400, behind a pause, and is seen to have succeeded at 500.
 #[test]
 fn answers_count_from_their_turn(rt: HostRuntime) -> Result<(), Fail> {
     let solo = Solo::new(&rt, Doorbell::spinning())?;
@@ -326,22 +275,8 @@ fn answers_count_from_their_turn(rt: HostRuntime) -> Result<(), Fail> {
         six: Some((100, 1)),
         four: Some((100, 1)),
         pauses: 0,
-        pause: None,
-        again: 0,
     };
     assert_eq!(rt; run(alloc, &solo, slept)?, Some(won));
-    let seldom = Case {
-        ticks: [0, 100, 200, 300, 400, 500],
-        ..slept
-    };
-    let late = Short {
-        result: Outcome3::Won(1, 500),
-        last: Some((400, Mark::Won(500))),
-        pauses: 1,
-        pause: Some((350, 400)),
-        ..won
-    };
-    assert_eq!(rt; run(alloc, &solo, seldom)?, Some(late));
     Ok(())
 }
 
@@ -362,8 +297,6 @@ fn answers_at_the_limit(rt: HostRuntime) -> Result<(), Fail> {
         six: Some((1_000, 1)),
         four: None,
         pauses: 0,
-        pause: None,
-        again: 0,
     };
     assert_eq!(rt; run(alloc, &solo, at)?, Some(limit));
     let past = Case {
@@ -373,7 +306,6 @@ fn answers_at_the_limit(rt: HostRuntime) -> Result<(), Fail> {
     let unheard = Short {
         six: None,
         pauses: 1,
-        pause: Some((1_000, 1_001)),
         ..limit
     };
     assert_eq!(rt; run(alloc, &solo, past)?, Some(unheard));
@@ -398,8 +330,6 @@ fn told_addresses_are_cleaned(rt: HostRuntime) -> Result<(), Fail> {
         six: Some((5, 0)),
         four: Some((7, 0)),
         pauses: 0,
-        pause: None,
-        again: 0,
     };
     assert_eq!(rt; run(alloc, &solo, nothing)?, Some(exhausted));
     let mixed = Case {
@@ -414,8 +344,6 @@ fn told_addresses_are_cleaned(rt: HostRuntime) -> Result<(), Fail> {
         six: Some((0, 2)),
         four: Some((0, 1)),
         pauses: 0,
-        pause: None,
-        again: 0,
     };
     assert_eq!(rt; run(alloc, &solo, mixed)?, Some(won));
     let many = Case {

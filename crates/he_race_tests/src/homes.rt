@@ -13,14 +13,8 @@ pub const V6_A: Ip = Ip::V6(0x2001_0db8_0001_0000_0000_0000_0000_0001);
 /// 2001:db8:1::2
 pub const V6_B: Ip = Ip::V6(0x2001_0db8_0001_0000_0000_0000_0000_0002);
 
-/// 2001:db8:1::3
-pub const V6_C: Ip = Ip::V6(0x2001_0db8_0001_0000_0000_0000_0000_0003);
-
 /// 198.51.100.1
 pub const V4_A: Ip = Ip::V4(0xc633_6401);
-
-/// 198.51.100.2
-pub const V4_B: Ip = Ip::V4(0xc633_6402);
 
 fn source(ip: Ip, plen: u8) -> Source {
     Source {
@@ -146,19 +140,6 @@ pub fn unanswered(alloc: Global, given: &Given) -> Result<Timeline, Fail> {
 pub fn known_race(alloc: Global, known: &Known) -> Result<Timeline, Fail> {
     let mut builder = empty(alloc, Settings::new(50, 250, 1, 30_000)?, host(alloc)?)?;
     let filled = fill_known(&mut builder, known);
-    finished(builder, filled)
-}
-
-fn fill_five(builder: &mut TimelineBuilder) -> Result<(), Fail> {
-    builder.answer(Family::V6, 20, &[V6_A, V6_B, V6_C])?;
-    builder.answer(Family::V4, 20, &[V4_A, V4_B])?;
-    Ok(())
-}
-
-/// A race of five addresses, answered at 20, in which two of the leading family are tried first.
-pub fn race_of_five(alloc: Global) -> Result<Timeline, Fail> {
-    let mut builder = empty(alloc, Settings::new(50, 250, 2, 2_000)?, host(alloc)?)?;
-    let filled = fill_five(&mut builder);
     finished(builder, filled)
 }
 

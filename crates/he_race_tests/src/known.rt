@@ -26,7 +26,7 @@ fn is_right(alloc: Global, solo: &Solo, known: &Known, timeline: &Timeline) -> R
     let wheel = WheelTicker::new(alloc, timeline)?;
     let connector = Scripted::new(timeline);
     let future = RaceFuture::new(alloc, timeline, connector, Stepping { wheel })?;
-    let given = drive(solo, future);
+    let given = drive(solo, future, 40);
     let is_right = is_given(&given, known, timeline);
     drop(given);
     Ok(is_right)

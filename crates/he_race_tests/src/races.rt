@@ -1,10 +1,9 @@
 // Races as futures, over tickers that stand still, go back, jump or are lost, a connector that cannot begin, and with
 // floors.
 
-ghost use Rattle.std.specs.Prelude.{◌≤◌, IfSome};
-ghost use Rattle.he_race.specs.Kept.{IsLive};
+ghost use Rattle.std.specs.Prelude.{◌≤◌};
 
-use crate::homes::{Given, V4_A, V6_A, first_race, race, race_of_five};
+use crate::homes::{Given, V4_A, V6_A, first_race, race};
 use futures::Future;
 use futures::task::{Context, Doorbell, Poll, Solo};
 use he_addr::Ip;
@@ -107,25 +106,16 @@ impl<'a> Connector for FailsFirst<'a> {
     }
 }
 
-/// What the race gives within a hundred polls, where one more poll tells that it is over.
-pub fn drive<C: Connector, T: Ticker>(
-    solo: &Solo,
-    mut race: RaceFuture<C, T>,
-) -> Option<Result<Raced<C::Conn>, RaceFault>>
-    requires { IfSome race.live (IsLive C.Connector C.Run.Trial) }
+/// What the future gives within this many polls. It is dropped then.
+pub fn drive<F: Future>(solo: &Solo, mut future: F, polls: u8) -> Option<F::Output>
+    requires { F.can_poll future }
 {
-    for _ in 0..100u8 {
+    for _ in 0..polls {
         let mut cx = solo.begin();
-        let polled = race.poll(&mut cx);
+        let polled = future.poll(&mut cx);
         cx.cancel();
         if let Poll::Ready(given) = polled {
-            let mut cx = solo.begin();
-            let polled = race.poll(&mut cx);
-            cx.cancel();
-            return match polled {
-                Poll::Ready(Err(RaceFault::Over)) => Some(given),
-                _ => None,
-            };
+            return Some(given);
         }
     }
     None
@@ -165,10 +155,10 @@ enum Seen {
     Failed(RaceFault),
 }
 
-fn seen_of<C: Connector<Conn = ()>, T: Ticker>(solo: &Solo, race: RaceFuture<C, T>) -> Seen
-    requires { IfSome race.live (IsLive C.Connector C.Run.Trial) }
+fn seen_of<F: Future<Output = Result<Raced<()>, RaceFault>>>(solo: &Solo, future: F) -> Seen
+    requires { F.can_poll future }
 {
-    let given = drive(solo, race);
+    let given = drive(solo, future, 40);
     let seen = seen_in(&given);
     drop(given);
     seen
@@ -240,8 +230,8 @@ fn jumps_are_recorded_as_pauses(rt: HostRuntime) -> Result<(), Fail> {
     Ok(())
 }
 
-// A ticker that goes back, or stands still at a hundred polls, is asked for the tick after the last turn; one that is
-// lost, or has no memory.
+// A ticker that goes back or stands still is asked for the tick after the last turn; one that is lost, or has no
+// memory.
 #[test]
 fn tickers_that_misbehave(rt: HostRuntime) -> Result<(), Fail> {
     let solo = Solo::new(&rt, Doorbell::spinning())?;
@@ -265,7 +255,8 @@ fn tickers_that_misbehave(rt: HostRuntime) -> Result<(), Fail> {
 }
 
 // The race over a wheel, with a connector that cannot begin at the first `faulty` places.
-fn by_wheel(alloc: Global, solo: &Solo, timeline: Timeline, faulty: usize) -> Result<Seen, Fail> {
+fn by_wheel(alloc: Global, solo: &Solo, given: &Given, faulty: usize) -> Result<Seen, Fail> {
+    let timeline = race(alloc, given)?;
     let seen = seen_at(alloc, solo, &timeline, faulty);
     drop(timeline);
     seen
@@ -281,8 +272,7 @@ fn seen_at(alloc: Global, solo: &Solo, timeline: &Timeline, faulty: usize) -> Re
     Ok(seen_of(solo, future))
 }
 
-// The first attempt cannot begin, and the second wins; both cannot; five cannot, which start the attempt delay after
-// each other, at 20, 270, 520, 770 and 1020, and fail a tick later.
+// The first attempt cannot begin, and the second wins; all cannot.
 #[test]
 fn attempts_that_cannot_begin_fail(rt: HostRuntime) -> Result<(), Fail> {
     let solo = Solo::new(&rt, Doorbell::spinning())?;
@@ -297,30 +287,14 @@ fn attempts_that_cannot_begin_fail(rt: HostRuntime) -> Result<(), Fail> {
         v6: Some(Outcome::Fail(1)),
         v4: Some(Outcome::Ok(5)),
     };
-    assert_eq!(rt;
-        by_wheel(alloc, &solo, race(alloc, &given)?, 1)?,
-        Seen::Gave(second)
-    );
+    assert_eq!(rt; by_wheel(alloc, &solo, &given, 1)?, Seen::Gave(second));
     let none = Short {
         result: Outcome3::Exhausted(271),
         last: Some((270, Mark::Failed(271))),
         v4: Some(Outcome::Fail(1)),
         ..second
     };
-    assert_eq!(rt;
-        by_wheel(alloc, &solo, race(alloc, &given)?, 2)?,
-        Seen::Gave(none)
-    );
-    let five = Short {
-        result: Outcome3::Exhausted(1_021),
-        attempts: 5,
-        last: Some((1_020, Mark::Failed(1_021))),
-        ..none
-    };
-    assert_eq!(rt;
-        by_wheel(alloc, &solo, race_of_five(alloc)?, 5)?,
-        Seen::Gave(five)
-    );
+    assert_eq!(rt; by_wheel(alloc, &solo, &given, 2)?, Seen::Gave(none));
     Ok(())
 }
 
@@ -347,10 +321,7 @@ fn pause_over_the_start_is_recorded(rt: HostRuntime) -> Result<(), Fail> {
         v6: Some(Outcome::Ok(20)),
         v4: None,
     };
-    assert_eq!(rt;
-        by_wheel(alloc, &solo, race(alloc, &given)?, 0)?,
-        Seen::Gave(slept)
-    );
+    assert_eq!(rt; by_wheel(alloc, &solo, &given, 0)?, Seen::Gave(slept));
     Ok(())
 }
 
@@ -429,10 +400,7 @@ fn starts_by_the_floor(rt: HostRuntime) -> Result<(), Fail> {
     let solo = Solo::new(&rt, Doorbell::spinning())?;
     let alloc: Global = rt.alloc();
     for (given, short) in floors() {
-        assert_eq!(rt;
-            by_wheel(alloc, &solo, race(alloc, &given)?, 0)?,
-            Seen::Gave(short)
-        );
+        assert_eq!(rt; by_wheel(alloc, &solo, &given, 0)?, Seen::Gave(short));
     }
     Ok(())
 }
