@@ -1,0 +1,4 @@
+mod CharacterLaws
+mod LineLaws
+mod Parting
+mod ReasonLaws

@@ -1,0 +1,8 @@
+pub mod Events
+pub mod Explanation
+pub mod Json
+pub mod Laws
+pub mod Members
+pub mod Orders
+pub mod Reasons
+pub mod Transcripts
