@@ -1,0 +1,9 @@
+pub mod Counting
+pub mod Courses
+pub mod Filled
+pub mod Json
+pub mod Steps
+pub mod Summed
+pub mod Texts
+pub mod Times
+pub mod Tries
