@@ -6,8 +6,8 @@ ghost use Rattle.he_c.specs.Checks.{IsCheckOf};
 
 use crate::telling::Output;
 use he_addr::{Memory, write_number};
-use he_check::{CheckFault, Checked, check_input, explain_fault};
-use he_text::{InputFault, TextFault};
+use he_check::{Checked, check_input, explain_fault};
+use he_text::{InputFault, StreamFault, TextFault};
 use std::alloc::Global;
 
 // How many races and lines the input has, or what is said of its first fault.
@@ -19,15 +19,15 @@ pub(crate) fn check_of(alloc: Global, input: &[u8]) -> Result<Output, Memory>
             text: report_of(alloc, checked)?,
             fault: None,
         }),
-        Err(CheckFault::Text(fault)) => Ok(Output {
+        Err(StreamFault::Text(fault)) => Ok(Output {
             text: words_of(alloc, input, fault)?,
             fault: Some(InputFault::Text(fault)),
         }),
-        Err(CheckFault::Read) => Ok(Output {
+        Err(StreamFault::Read) => Ok(Output {
             text: Vec::new(alloc),
             fault: Some(InputFault::Read),
         }),
-        Err(CheckFault::Write | CheckFault::Memory) => Err(Memory),
+        Err(StreamFault::Write | StreamFault::Memory) => Err(Memory),
     }
 }
 

@@ -12,7 +12,8 @@ use Rattle.he_text.specs.declared.walks.Walk.{Walk}
 use Rattle.he_text.specs.declared.walks.WalkFault.{WalkFault}
 use Rattle.he_text.specs.declared.walks.WalkFault.TheVariants as walks
 use Rattle.he_text.proofs.WalkLaws.{ends_whole, has_fault, has_none, line_count-append, none_behind, passes_on}
-use Rattle.he_check.specs.Checked.{IsRight, IsWrong, check_fault}
+use Rattle.he_check.specs.Checked.{IsRight, IsWrong}
+use Rattle.he_text.specs.StreamFaults.{fault_of_walk}
 use Rattle.he_check.specs.Slips.{AreWarned, HasWarnings, slip_if, warning_at, warnings_of}
 use Rattle.he_check.specs.Steps.{HasCounted}
 use Rattle.he_check.specs.declared.slips.Slip.TheVariants.{NoRace}
@@ -67,7 +68,7 @@ one_more input old new warnings more line race before at within passes longer =
     }
 
 pub fault_wrong : (input : List ℕ) (is_broken : Bool) (walk : Walk) (warnings : List Warning) (fault : WalkFault) → HasCounted input walk warnings → IsWalkFault input (ending_of is_broken) walk fault
-    → IsWrong input is_broken (check_fault fault)
+    → IsWrong input is_broken (fault_of_walk fault)
 fault_wrong input is_broken walk warnings (walks.Input (inputs.Text fault)) before is = (before.races, has_fault input is_broken before.races walk (inputs.Text fault) before.passed before.within.few is)
 fault_wrong input is_broken walk warnings (walks.Input inputs.Read) before is = (before.races, has_fault input is_broken before.races walk inputs.Read before.passed before.within.few is)
 fault_wrong input is_broken walk warnings walks.Memory before is = tt

@@ -17,8 +17,8 @@ use Rattle.he_check.specs.Clauses.{hint_of}
 use Rattle.he_check.specs.Sentences.{clause_text}
 use Rattle.he_check.specs.Checked.{IsWrong}
 use Rattle.he_check.specs.Stream.{Explains, TellsAll}
-use Rattle.he_check.specs.declared.fault.CheckFault.{CheckFault}
-use Rattle.he_check.specs.declared.fault.CheckFault.TheVariants as checks
+use Rattle.he_text.specs.declared.stream_fault.StreamFault.{StreamFault}
+use Rattle.he_text.specs.declared.stream_fault.StreamFault.TheVariants as checks
 use Rattle.he_check.specs.Steps.{AreLeft, EndsText, HasTold, IsFirst, IsNextPart, IsSaid, SaysFaults, SaysOf, StandsBehind, fault_over}
 use Rattle.he_check.specs.declared.parts.Part.{Part}
 use Rattle.he_check.proofs.WholeLines.{whole_races}
@@ -336,7 +336,7 @@ all_told one Given input is_broken races fault old new given has says =
     }
 
 -- an input that is wrong is explained
-pub explained : OneInput → (Given : List ℕ → Bool → Type 0) (input : List ℕ) (is_broken is_all : Bool) (fault : CheckFault) (old new : List ℕ) → Given input is_broken → IsWrong input is_broken fault
+pub explained : OneInput → (Given : List ℕ → Bool → Type 0) (input : List ℕ) (is_broken is_all : Bool) (fault : StreamFault) (old new : List ℕ) → Given input is_broken → IsWrong input is_broken fault
     → SaysOf is_all input is_broken fault old new → Explains is_all Given old new (Err fault)
 explained one Given input is_broken true (checks.Text fault) old new given (races, has) says = all_told one Given input is_broken races (Text fault) old new given has says
 explained one Given input is_broken true checks.Read old new given (races, has) says = all_told one Given input is_broken races Read old new given has says

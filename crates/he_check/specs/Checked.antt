@@ -3,10 +3,8 @@ use Rattle.std.specs.Prelude.{ℕ, ◌≡◌, ⊤, Bool, List, length, Some, Non
 use Rattle.he_plan.specs.Race.{Race}
 use Rattle.he_text.specs.Inputs.{HasRaces, line_count}
 use Rattle.he_text.specs.declared.inputs.InputFault.TheVariants as inputs
-use Rattle.he_text.specs.declared.walks.WalkFault.{WalkFault}
-use Rattle.he_text.specs.declared.walks.WalkFault.TheVariants as walks
-use Rattle.he_check.specs.declared.fault.CheckFault.{CheckFault}
-use Rattle.he_check.specs.declared.fault.CheckFault.TheVariants.{Text, Read, Write, Memory}
+use Rattle.he_text.specs.declared.stream_fault.StreamFault.{StreamFault}
+use Rattle.he_text.specs.declared.stream_fault.StreamFault.TheVariants.{Text, Read, Write, Memory}
 use Rattle.he_check.specs.declared.input.Checked.{Checked}
 
 -- nothing is wrong with the input, and it has so many races and lines
@@ -14,14 +12,8 @@ abbrev pub IsRight : List ℕ → Bool → Checked → Type 0
 IsRight input is_broken checked =
     (races : List Race) × HasRaces input is_broken races None × (checked.races ≡ length races) × (checked.lines ≡ line_count input)
 
--- a fault of a walk over the input, told as that of a check
-abbrev pub check_fault : WalkFault → CheckFault
-check_fault (walks.Input (inputs.Text fault)) = Text fault
-check_fault (walks.Input inputs.Read) = Read
-check_fault walks.Memory = Memory
-
 -- the first fault of the input, or memory was refused
-abbrev pub IsWrong : List ℕ → Bool → CheckFault → Type 0
+abbrev pub IsWrong : List ℕ → Bool → StreamFault → Type 0
 IsWrong input is_broken (Text fault) = (races : List Race) × HasRaces input is_broken races (Some (inputs.Text fault))
 IsWrong input is_broken Read = (races : List Race) × HasRaces input is_broken races (Some inputs.Read)
 IsWrong input is_broken Write = ⊥

@@ -13,8 +13,8 @@ use Rattle.he_check.specs.AllFaults.{AreFaults, AreFaultsBehind, AreSaid, Begins
 use Rattle.he_check.specs.Clauses.{EndsInClause}
 use Rattle.he_check.specs.Meant.{begins}
 use Rattle.he_check.specs.Slips.{AreWarned}
-use Rattle.he_check.specs.declared.fault.CheckFault.{CheckFault}
-use Rattle.he_check.specs.declared.fault.CheckFault.TheVariants as checks
+use Rattle.he_text.specs.declared.stream_fault.StreamFault.{StreamFault}
+use Rattle.he_text.specs.declared.stream_fault.StreamFault.TheVariants as checks
 use Rattle.he_check.specs.declared.parts.Part.{Part}
 use Rattle.he_check.specs.declared.slips.Warning.{Warning}
 
@@ -98,7 +98,7 @@ pub record SaysFaults (input : List ℕ) (is_broken : Bool) (old new : List ℕ)
   pub said : AreSaid input faults text
 
 -- what is said of an input with this first fault: all its faults, or this one, if it is the text's
-abbrev pub SaysOf : Bool → List ℕ → Bool → CheckFault → List ℕ → List ℕ → Type 0
+abbrev pub SaysOf : Bool → List ℕ → Bool → StreamFault → List ℕ → List ℕ → Type 0
 SaysOf true input is_broken (checks.Text fault) old new = SaysFaults input is_broken old new
 SaysOf true input is_broken checks.Read old new = SaysFaults input is_broken old new
 SaysOf false input is_broken (checks.Text fault) old new = EndsInClause input fault old new

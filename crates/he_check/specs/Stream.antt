@@ -9,8 +9,8 @@ use Rattle.he_check.specs.Checked.{IsRight, IsWrong}
 use Rattle.he_check.specs.Clauses.{EndsInClause}
 use Rattle.he_check.specs.Sentences.{warning_text}
 use Rattle.he_check.specs.Slips.{HasWarnings}
-use Rattle.he_check.specs.declared.fault.CheckFault.{CheckFault}
-use Rattle.he_check.specs.declared.fault.CheckFault.TheVariants.{Text, Read, Write, Memory}
+use Rattle.he_text.specs.declared.stream_fault.StreamFault.{StreamFault}
+use Rattle.he_text.specs.declared.stream_fault.StreamFault.TheVariants.{Text, Read, Write, Memory}
 use Rattle.he_check.specs.declared.input.Checked.{Checked}
 use Rattle.he_check.specs.declared.slips.Warning.{Warning}
 
@@ -31,7 +31,7 @@ pub record FindsRight (Given : List ℕ → Bool → Type 0) (checked : Checked)
   pub right : IsRight input is_broken checked
 
 -- the input was given, whole or up to where it broke off, and this is its first fault
-pub record FindsWrong (Given : List ℕ → Bool → Type 0) (fault : CheckFault) : Type 0 where
+pub record FindsWrong (Given : List ℕ → Bool → Type 0) (fault : StreamFault) : Type 0 where
   pub input : List ℕ
   pub is_broken : Bool
   pub given : Given input is_broken
@@ -39,7 +39,7 @@ pub record FindsWrong (Given : List ℕ → Bool → Type 0) (fault : CheckFault
 
 -- Given: what the input gave, and whether it broke off after that; Whole and Part: the text of which all was put into the
 -- output and then flushed, or a first part until that failed; Kept: nothing was put into the output
-abbrev pub Checks : (List ℕ → Bool → Type 0) → (List ℕ → Type 0) → (List ℕ → Type 0) → Type 0 → Result (Unit {0}) CheckFault → Type 0
+abbrev pub Checks : (List ℕ → Bool → Type 0) → (List ℕ → Type 0) → (List ℕ → Type 0) → Type 0 → Result (Unit {0}) StreamFault → Type 0
 Checks Given Whole Part Kept (Ok done) = (checked : Checked) × FindsRight Given checked × Whole (report_text checked)
 Checks Given Whole Part Kept (Err (Text fault)) = FindsWrong Given (Text fault) × Kept
 Checks Given Whole Part Kept (Err Read) = FindsWrong Given Read × Kept
@@ -81,7 +81,7 @@ TellsOf false Given (inputs.Text fault) old new = TellsFault Given fault old new
 TellsOf false Given inputs.Read old new = new ≡ old
 
 -- where nothing is wrong with the input, its warnings are told; where something is, all its faults or the first one
-abbrev pub Explains : Bool → (List ℕ → Bool → Type 0) → List ℕ → List ℕ → Result (Unit {0}) CheckFault → Type 0
+abbrev pub Explains : Bool → (List ℕ → Bool → Type 0) → List ℕ → List ℕ → Result (Unit {0}) StreamFault → Type 0
 Explains is_all Given old new (Ok done) = TellsWarnings Given old new
 Explains is_all Given old new (Err (Text fault)) = TellsOf is_all Given (inputs.Text fault) old new
 Explains is_all Given old new (Err Read) = TellsOf is_all Given inputs.Read old new

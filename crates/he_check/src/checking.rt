@@ -1,5 +1,5 @@
 //! The check of an input, and what is written of it to an output.
-ghost use Rattle.std.specs.Prelude.{◌≡◌, ◌++◌, true, false, IfOk, OnErr, OnOk};
+ghost use Rattle.std.specs.Prelude.{◌≡◌, ◌++◌, IfOk, OnErr, OnOk};
 ghost use Rattle.std.specs.Io.{StartsWith};
 ghost use Rattle.he_stream.specs.Input.{Gives};
 ghost use Rattle.he_stream.specs.Output.{PutsPart, PutsWhole};
@@ -8,16 +8,21 @@ ghost use Rattle.he_check.specs.Stream.{Checks, Explains, counted, report_text};
 
 use crate::all_faults::explain_all;
 use crate::explaining::explain_fault;
-use crate::fault::CheckFault;
 use crate::input::{Checked, check_input};
 use crate::telling::tell_warnings;
 use he_addr::{Memory, write_number};
 use he_stream::{InputStream, OutputStream, take_input, write_whole};
+use he_text::StreamFault;
 use he_text::inputs::one_input;
 use std::alloc::Allocator;
 
 /// Reads an input of timelines to its end and checks it: where nothing is wrong it writes how many races and lines the
 /// input has, as `3 races, 27 lines`, and flushes the output.
+///
+/// With `is_all` it goes on behind a faulty race, and tells the first fault of each part of the input. A part begins with
+/// the input, or with the next line `race 1` or `race 2` behind the first line of a faulty race: where `end` was
+/// forgotten, that is the faulty line itself. Each part is checked as an input of its own, and so may have 4,096 races,
+/// but its lines are counted over the whole input.
 ///
 /// # Errors
 ///
@@ -28,59 +33,21 @@ use std::alloc::Allocator;
 ///   was reached.
 /// - `Memory` where an allocation was refused.
 ///
-/// After `Text`, `Read` and `Memory` nothing was written to the output, after `Write` a first part of the text. After
-/// `Text` what [`explain_fault`] says of the fault stands behind what `explanation` held. Where nothing is wrong, after
-/// `Write` too, it is a line for each [`Warning`](crate::Warning), as `he: line 1: warning: ..`. Else it is as it was.
+/// After `Text`, `Read` and `Memory` nothing was written to the output, after `Write` a first part of the text. What
+/// stands behind what `explanation` held then:
+///
+/// - Where nothing is wrong, after `Write` too, a line for each [`Warning`](crate::Warning), as `he: line 1: warning: ..`.
+/// - After `Text` what [`explain_fault`] says of the fault; with `is_all`, and then after `Read` too, all faults that
+///   are told, this one first: each a line as `he: line 3: word`, and what [`explain_fault`] says of it; last, where the
+///   input broke off, the line `he: cannot read the input`.
+/// - Else nothing.
 pub fn check<A: Allocator + Copy, I: InputStream, O: OutputStream>(
-    alloc: A,
-    input: &mut I,
-    output: &mut O,
-    explanation: &mut Vec<u8, A>,
-) -> Result<(), CheckFault>
-    ensures done { Checks (Gives I.remaining I.takes input.old input.new)
-        (PutsWhole O.contents O.puts O.flushes output.old output.new)
-        (PutsPart O.contents O.puts O.flushes output.old output.new) (output.new ≡ output.old) result }
-    ensures stays { StartsWith explanation.new.items explanation.old.items }
-    ensures quiet { Explains false (Gives I.remaining I.takes input.old input.new) explanation.old.items explanation.new.items result }
-{
-    check_up_to(alloc, false, input, output, explanation)
-}
-
-/// The same as [`check`], but goes on behind a faulty race, and tells the first fault of each part of the input. A
-/// part begins with the input, or with the next line `race 1` or `race 2` behind the first line of a faulty race: where
-/// `end` was forgotten, that is the faulty line itself. Each part is checked as an input of its own, and so may have
-/// 4,096 races, but its lines are counted over the whole input.
-///
-/// # Errors
-///
-/// Those of [`check`]: after `Text` and `Read` the first of the faults that are told.
-///
-/// After `Text` and `Read` all of them stand behind what `explanation` held, the first one too: each a line as
-/// `he: line 3: word`, and what [`explain_fault`] says of it; last, where the input broke off, the line
-/// `he: cannot read the input`. Else `explanation` is as [`check`] leaves it.
-pub fn check_all<A: Allocator + Copy, I: InputStream, O: OutputStream>(
-    alloc: A,
-    input: &mut I,
-    output: &mut O,
-    explanation: &mut Vec<u8, A>,
-) -> Result<(), CheckFault>
-    ensures done { Checks (Gives I.remaining I.takes input.old input.new)
-        (PutsWhole O.contents O.puts O.flushes output.old output.new)
-        (PutsPart O.contents O.puts O.flushes output.old output.new) (output.new ≡ output.old) result }
-    ensures stays { StartsWith explanation.new.items explanation.old.items }
-    ensures quiet { Explains true (Gives I.remaining I.takes input.old input.new) explanation.old.items explanation.new.items result }
-{
-    check_up_to(alloc, true, input, output, explanation)
-}
-
-// Checks an input, and tells its first fault, or the first one of each part.
-fn check_up_to<A: Allocator + Copy, I: InputStream, O: OutputStream>(
     alloc: A,
     is_all: bool,
     input: &mut I,
     output: &mut O,
     explanation: &mut Vec<u8, A>,
-) -> Result<(), CheckFault>
+) -> Result<(), StreamFault>
     ensures done { Checks (Gives I.remaining I.takes input.old input.new)
         (PutsWhole O.contents O.puts O.flushes output.old output.new)
         (PutsPart O.contents O.puts O.flushes output.old output.new) (output.new ≡ output.old) result }
@@ -110,7 +77,7 @@ fn explain<A: Allocator + Copy>(
     alloc: A,
     input: &[u8],
     is_broken: bool,
-    fault: CheckFault,
+    fault: StreamFault,
     is_all: bool,
     explanation: &mut Vec<u8, A>,
 ) -> Result<(), Memory>
@@ -118,10 +85,11 @@ fn explain<A: Allocator + Copy>(
     ensures err { OnErr result (explanation.new.items ≡ explanation.old.items) }
 {
     match fault {
-        CheckFault::Text(_) if is_all => explain_all(alloc, input, is_broken, explanation),
-        CheckFault::Read if is_all => explain_all(alloc, input, is_broken, explanation),
-        CheckFault::Text(found) => Ok(explain_fault(alloc, input, found, explanation)?),
-        CheckFault::Read | CheckFault::Write | CheckFault::Memory => Ok(()),
+        StreamFault::Text(_) | StreamFault::Read if is_all => {
+            explain_all(alloc, input, is_broken, explanation)
+        }
+        StreamFault::Text(found) => Ok(explain_fault(alloc, input, found, explanation)?),
+        StreamFault::Read | StreamFault::Write | StreamFault::Memory => Ok(()),
     }
 }
 

@@ -3,9 +3,8 @@ ghost use Rattle.std.specs.Prelude.{IfErr, IfOk};
 ghost use Rattle.he_check.specs.Checked.{IsRight, IsWrong};
 ghost use Rattle.he_check.specs.Slips.{HasWarnings};
 
-use crate::fault::CheckFault;
 use crate::slips::{Slip, Warning, add_if, add_warnings};
-use he_text::{Ending, Walk};
+use he_text::{Ending, StreamFault, Walk};
 use std::alloc::Allocator;
 use std::mem::drop;
 
@@ -31,7 +30,7 @@ pub fn check_input<A: Allocator + Copy>(
     alloc: A,
     input: &[u8],
     is_broken: bool,
-) -> Result<(Checked, Vec<Warning, A>), CheckFault>
+) -> Result<(Checked, Vec<Warning, A>), StreamFault>
     ensures right { IfOk result (λ found. IsRight input.now is_broken found.0) }
     ensures warned { IfOk result (λ found. HasWarnings input.now found.1.items) }
     ensures wrong { IfErr result (IsWrong input.now is_broken) }

@@ -2,8 +2,8 @@
 //!
 //! [`check_input`] counts the races and lines of an input, and warns of what is allowed in them and surely not meant
 //! ([`Slip`]), or answers the input's first fault. [`check`] does so for a stream, writes the numbers to an output, and
-//! tells each warning in a line. [`check_all`] does the same, and goes on behind a faulty race, at the next line that
-//! is `race 1` or `race 2`. [`explain_fault`] says of a fault what a compiler would: the line, a mark below the part
+//! tells each warning in a line; where all faults are asked for it goes on behind a faulty race, at the next line that is
+//! `race 1` or `race 2`. [`explain_fault`] says of a fault what a compiler would: the line, a mark below the part
 //! that is wrong, and what was expected there.
 //!
 //! Proved: a check tells the input's first fault, by kind and line (`HasRaces` of he_text's `specs/Inputs`), and
@@ -13,9 +13,9 @@
 //! the whole input is read, the numbers are written and flushed where nothing is wrong, and else nothing is written;
 //! after a write or flush that failed, a first part. What is explained stands behind what the vector held, and a
 //! refused growth leaves it as it was. It ends in the clause of what was likely meant by a word of the line or by the
-//! input's first bytes (`specs/Clauses`, `specs/Meant`), exactly where one of them is such. `check_all` tells the first
-//! fault of each part of an input, in order, with its line counted over the whole input and its clause, and last that
-//! the input broke off (`specs/AllFaults`); the first of them is the fault that `check` tells.
+//! input's first bytes (`specs/Clauses`, `specs/Meant`), exactly where one of them is such. A check for all faults tells
+//! the first fault of each part of an input, in order, with its line counted over the whole input and its clause, and
+//! last that the input broke off (`specs/AllFaults`); the first of them is the fault that it answers.
 //!
 //! Only tested: what else an explanation says. The line is looked at again for it, by checks of its own (`finding.rt`),
 //! so a wrong one would mislead, but leaves the fault's line and kind as they are. Of a fault whose cause these checks
@@ -26,7 +26,6 @@ mod all_faults;
 pub mod checking;
 mod clause;
 pub mod explaining;
-pub mod fault;
 mod finding;
 mod flaws;
 mod forms;
@@ -41,8 +40,7 @@ mod showing;
 pub mod slips;
 mod telling;
 
-pub use checking::{check, check_all};
+pub use checking::check;
 pub use explaining::explain_fault;
-pub use fault::CheckFault;
 pub use input::{Checked, check_input};
 pub use slips::{Slip, Warning};

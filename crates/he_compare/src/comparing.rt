@@ -4,11 +4,10 @@ ghost use Rattle.he_stream.specs.Input.{Gives};
 ghost use Rattle.he_stream.specs.Output.{PutsPart, PutsWhole};
 ghost use Rattle.he_compare.specs.Stream.{Compares};
 
-use crate::fault::CompareFault;
 use crate::races::compare_races;
 use he_plan::Changes;
 use he_stream::{InputStream, OutputStream, take_input, write_whole};
-use he_text::InputFault;
+use he_text::StreamFault;
 use std::alloc::Allocator;
 
 /// Reads an input of timelines to its end and writes a line for each race, in their order: how it ends, how it would
@@ -33,7 +32,7 @@ pub fn compare<A: Allocator + Copy, I: InputStream, O: OutputStream>(
     changes: Changes,
     input: &mut I,
     output: &mut O,
-) -> Result<(), CompareFault>
+) -> Result<(), StreamFault>
     ensures { Compares changes (Gives I.remaining I.takes input.old input.new)
         (PutsWhole O.contents O.puts O.flushes output.old output.new)
         (PutsPart O.contents O.puts O.flushes output.old output.new) (output.new ≡ output.old) result }
@@ -43,7 +42,6 @@ pub fn compare<A: Allocator + Copy, I: InputStream, O: OutputStream>(
     write_whole(output, text.as_slice())?;
     match fault {
         None => Ok(()),
-        Some(InputFault::Text(fault)) => Err(CompareFault::Text(fault)),
-        Some(InputFault::Read) => Err(CompareFault::Read),
+        Some(fault) => Err(fault.into()),
     }
 }

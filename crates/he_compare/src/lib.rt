@@ -22,7 +22,6 @@
 #![tactic(auto)]
 
 pub mod comparing;
-pub mod fault;
 pub mod laws;
 mod lines;
 mod races;
@@ -31,4 +30,3 @@ mod told;
 mod verdict;
 
 pub use comparing::compare;
-pub use fault::CompareFault;

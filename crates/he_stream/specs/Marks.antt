@@ -1,5 +1,5 @@
 -- What a reader's and a writer's marks tell of their steps.
-use Rattle.std.specs.Prelude.{◌≡◌, Bool, true}
+use Rattle.std.specs.Prelude.{◌≡◌, Bool, IsSome, Option, true}
 use Rattle.he_stream.specs.declared.answer.Flushed.{Flushed}
 use Rattle.he_stream.specs.declared.answer.Flushed.TheVariants as flushed
 use Rattle.he_stream.specs.declared.answer.Put.{Put}
@@ -7,22 +7,22 @@ use Rattle.he_stream.specs.declared.answer.Put.TheVariants as put
 use Rattle.he_stream.specs.declared.answer.Taken.{Taken}
 use Rattle.he_stream.specs.declared.answer.Taken.TheVariants as taken
 
--- whether a step has failed, before and after: a step that failed sets it, and every other one leaves it
-abbrev pub MarksTake : Taken → Bool → Bool → Type 0
-MarksTake taken.Failed before after = after ≡ true
+-- why the last step that failed did, before and after: a step that failed sets it, and every other one leaves it
+abbrev pub MarksTake : {E : Type 0} → Taken → Option E → Option E → Type 0
+MarksTake taken.Failed before after = IsSome after
 MarksTake (taken.Bytes count) before after = after ≡ before
 MarksTake taken.End before after = after ≡ before
 MarksTake taken.Interrupted before after = after ≡ before
 
 -- a step that failed or took none sets it, and every other one leaves it
-abbrev pub MarksPut : Put → Bool → Bool → Type 0
-MarksPut put.Failed before after = after ≡ true
-MarksPut put.Full before after = after ≡ true
+abbrev pub MarksPut : {E : Type 0} → Put → Option E → Option E → Type 0
+MarksPut put.Failed before after = IsSome after
+MarksPut put.Full before after = IsSome after
 MarksPut (put.Bytes count) before after = after ≡ before
 MarksPut put.Interrupted before after = after ≡ before
 
--- whether a step has failed and whether a flush was done, before and after
-abbrev pub MarksFlush : Flushed → Bool → Bool → Bool → Bool → Type 0
+-- why the last step that failed did, and whether a flush was done, before and after
+abbrev pub MarksFlush : {E : Type 0} → Flushed → Option E → Bool → Option E → Bool → Type 0
 MarksFlush flushed.Done failed done failed' done' = (failed' ≡ failed) × (done' ≡ true)
 MarksFlush flushed.Interrupted failed done failed' done' = (failed' ≡ failed) × (done' ≡ done)
-MarksFlush flushed.Failed failed done failed' done' = (failed' ≡ true) × (done' ≡ done)
+MarksFlush flushed.Failed failed done failed' done' = IsSome failed' × (done' ≡ done)

@@ -1,26 +1,26 @@
 //! A reader as an input.
-ghost use Rattle.std.specs.Prelude.{◌≡◌, false};
+ghost use Rattle.std.specs.Prelude.{◌≡◌, None, is_some};
 ghost use Rattle.he_stream.specs.Marks.{MarksTake};
 
 use crate::answer::Taken;
 use crate::stream::InputStream;
-use std::io::{ErrorKind, Read};
+use std::io::{Error, ErrorKind, Read};
 
-/// A reader, and whether a read of it has failed.
+/// A reader, and why its last read that failed did.
 #[derive(Drop)]
 pub struct FromReader<R> {
     reader: R,
-    has_failed: bool,
+    failure: Option<Error>,
 }
 
 impl<R: Read> FromReader<R> {
     /// The input that the reader gives. No read of it has failed yet.
     pub fn new(reader: R) -> FromReader<R>
-        ensures { result ≡ record { reader = reader; has_failed = false } }
+        ensures { result ≡ record { reader = reader; failure = None } }
     {
         FromReader {
             reader,
-            has_failed: false,
+            failure: None,
         }
     }
 
@@ -33,26 +33,30 @@ impl<R: Read> FromReader<R> {
 
     /// Whether a read has failed.
     pub fn has_failed(&self) -> bool
-        ensures { result ≡ self.now.has_failed }
+        ensures { result ≡ is_some self.now.failure }
     {
-        self.has_failed
+        self.failure.is_some()
     }
 }
 
 impl<R: Read> InputStream for FromReader<R> {
     ghost remaining = { λ input. R.remaining input.reader };
 
-    ghost takes = { λ before taken after. MarksTake taken before.has_failed after.has_failed };
+    ghost takes = { λ before taken after. MarksTake taken before.failure after.failure };
 
     fn take(&mut self, buffer: &mut [u8]) -> Taken {
         match self.reader.read(buffer) {
             Ok(0) => Taken::End,
             Ok(count) => Taken::Bytes(count),
             Err(error) if error.kind() == ErrorKind::Interrupted => Taken::Interrupted,
-            Err(_) => {
-                self.has_failed = true;
+            Err(error) => {
+                self.failure = Some(error);
                 Taken::Failed
             }
         }
+    }
+
+    fn failure(&self) -> Option<Error> {
+        self.failure
     }
 }

@@ -7,6 +7,7 @@ ghost use Rattle.he_stream.specs.declared.answer.Put.{Put};
 ghost use Rattle.he_stream.specs.declared.answer.Flushed.{Flushed};
 
 use crate::answer::{Flushed, Put, Taken};
+use std::io::Error;
 
 /// What gives bytes, step by step. [`FromReader`](crate::FromReader) makes one of any reader.
 pub trait InputStream {
@@ -20,6 +21,11 @@ pub trait InputStream {
     fn take(&mut self, buffer: &mut [u8]) -> Taken
         ensures bytes { Takes (remaining self.old) (remaining self.new) result buffer.new }
         ensures step { takes self.old result self.new };
+
+    /// Why the last step that failed did, where that is known.
+    fn failure(&self) -> Option<Error> {
+        None
+    }
 }
 
 /// What takes bytes, step by step. [`ToWriter`](crate::ToWriter) makes one of any writer.
@@ -41,4 +47,9 @@ pub trait OutputStream {
     fn flush(&mut self) -> Flushed
         ensures bytes { Keeps (contents self.old) (contents self.new) }
         ensures step { flushes self.old result self.new };
+
+    /// Why the last write or flush that failed did, where that is known.
+    fn failure(&self) -> Option<Error> {
+        None
+    }
 }

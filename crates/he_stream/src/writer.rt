@@ -1,27 +1,27 @@
 //! A writer as an output.
-ghost use Rattle.std.specs.Prelude.{◌≡◌, false};
+ghost use Rattle.std.specs.Prelude.{◌≡◌, None, false, is_some};
 ghost use Rattle.he_stream.specs.Marks.{MarksPut, MarksFlush};
 
 use crate::answer::{Flushed, Put};
 use crate::stream::OutputStream;
-use std::io::{ErrorKind, Write};
+use std::io::{Error, ErrorKind, Write};
 
-/// A writer, whether a write or a flush of it has failed, and whether it was flushed after the last write.
+/// A writer, why its last write or flush that failed did, and whether it was flushed after the last write.
 #[derive(Drop)]
 pub struct ToWriter<W> {
     writer: W,
-    has_failed: bool,
+    failure: Option<Error>,
     is_flushed: bool,
 }
 
 impl<W: Write> ToWriter<W> {
     /// The output that goes to the writer. No write or flush of it has failed yet, and none was made.
     pub fn new(writer: W) -> ToWriter<W>
-        ensures { result ≡ record { writer = writer; has_failed = false; is_flushed = false } }
+        ensures { result ≡ record { writer = writer; failure = None; is_flushed = false } }
     {
         ToWriter {
             writer,
-            has_failed: false,
+            failure: None,
             is_flushed: false,
         }
     }
@@ -35,9 +35,9 @@ impl<W: Write> ToWriter<W> {
 
     /// Whether a write or a flush has failed. A write that takes no byte is one that failed.
     pub fn has_failed(&self) -> bool
-        ensures { result ≡ self.now.has_failed }
+        ensures { result ≡ is_some self.now.failure }
     {
-        self.has_failed
+        self.failure.is_some()
     }
 
     /// Whether the writer was flushed after the last write.
@@ -51,22 +51,22 @@ impl<W: Write> ToWriter<W> {
 impl<W: Write> OutputStream for ToWriter<W> {
     ghost contents = { λ output. W.contents output.writer };
 
-    ghost puts = { λ before put after. MarksPut put before.has_failed after.has_failed × (after.is_flushed ≡ false) };
+    ghost puts = { λ before put after. MarksPut put before.failure after.failure × (after.is_flushed ≡ false) };
 
     ghost flushes = { λ before flushed after.
-        MarksFlush flushed before.has_failed before.is_flushed after.has_failed after.is_flushed };
+        MarksFlush flushed before.failure before.is_flushed after.failure after.is_flushed };
 
     fn put(&mut self, text: &[u8]) -> Put {
         self.is_flushed = false;
         match self.writer.write(text) {
             Ok(0) => {
-                self.has_failed = true;
+                self.failure = Some(ErrorKind::WriteZero.into());
                 Put::Full
             }
             Ok(count) => Put::Bytes(count),
             Err(error) if error.kind() == ErrorKind::Interrupted => Put::Interrupted,
-            Err(_) => {
-                self.has_failed = true;
+            Err(error) => {
+                self.failure = Some(error);
                 Put::Failed
             }
         }
@@ -79,10 +79,14 @@ impl<W: Write> OutputStream for ToWriter<W> {
                 Flushed::Done
             }
             Err(error) if error.kind() == ErrorKind::Interrupted => Flushed::Interrupted,
-            Err(_) => {
-                self.has_failed = true;
+            Err(error) => {
+                self.failure = Some(error);
                 Flushed::Failed
             }
         }
+    }
+
+    fn failure(&self) -> Option<Error> {
+        self.failure
     }
 }

@@ -11,6 +11,7 @@ pub mod Parts
 pub mod Ranges
 pub mod Reading
 pub mod Said
+pub mod StreamFaults
 pub mod Text
 pub mod WalkSteps
 pub mod Walks

@@ -1,5 +1,6 @@
 use Rattle.std.proofs.Common.{refl}
-use Rattle.he_check.specs.Checked.{IsWrong, check_fault}
+use Rattle.he_check.specs.Checked.{IsWrong}
+use Rattle.he_text.specs.StreamFaults.{fault_of_walk}
 use Rattle.he_text.proofs.WalkLaws.{err_handed}
 use Rattle.he_check.proofs.Counts.{end_right, end_warned, fault_wrong, one_more}
 use Rattle.he_check.proofs.input.check_input.Goals as goal
@@ -7,7 +8,7 @@ use Rattle.he_check.proofs.input.check_input.Goals as goal
 pub returns-in_err-race-clause-wrong : goal.returns-in_err-race-clause-wrong
 returns-in_err-race-clause-wrong g c =
     let is = rw c.of-ending.ensures at c.in_err-race.ensures.fault in
-    err_handed c.from_residual.result (check_fault c.in_err-race.field-0.0) (IsWrong c.args.input.now c.args.is_broken) c.from_residual.ensures
+    err_handed c.from_residual.result (fault_of_walk c.in_err-race.field-0.0) (IsWrong c.args.input.now c.args.is_broken) c.from_residual.ensures
     (fault_wrong c.args.input.now c.args.is_broken c.loop-warnings.walk c.loop-warnings.warnings.items c.in_err-race.field-0.0 c.loop-warnings.invariant.0 is)
 
 pub returns-clause-right : goal.returns-clause-right

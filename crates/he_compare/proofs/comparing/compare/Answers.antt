@@ -1,14 +1,14 @@
 use Rattle.std.proofs.Common.{◌≡◌, Result, Ok, Err, IsErr, IsErrAnd, subst, sym}
 use Rattle.he_compare.specs.Stream.{Compares, Tells}
-use Rattle.he_compare.specs.declared.fault.CompareFault.{CompareFault}
-use Rattle.he_compare.specs.declared.fault.CompareFault.TheVariants.{Write}
+use Rattle.he_text.specs.declared.stream_fault.StreamFault.{StreamFault}
+use Rattle.he_text.specs.declared.stream_fault.StreamFault.TheVariants.{Write}
 use Rattle.he_stream.specs.Input.{Gives}
 use Rattle.he_stream.specs.Output.{PutsPart, PutsWhole}
 use Rattle.he_compare.proofs.comparing.compare.Goals as goal
 
-handed : {A : Type 0} (r : Result A CompareFault) (fault : CompareFault) (Does : Result A CompareFault → Type 0) → IsErr r × IsErrAnd r (λ k. k ≡ fault) → Does (Err fault) → Does r
+handed : {A : Type 0} (r : Result A StreamFault) (fault : StreamFault) (Does : Result A StreamFault → Type 0) → IsErr r × IsErrAnd r (λ k. k ≡ fault) → Does (Err fault) → Does r
 handed (Ok x) fault Does told does = absurd told.1
-handed (Err k) fault Does told does = subst (λ (f : CompareFault). Does (Err f)) (sym told.1) does
+handed (Err k) fault Does told does = subst (λ (f : StreamFault). Does (Err f)) (sym told.1) does
 
 pub returns-in_err-write_whole : goal.returns-in_err-write_whole
 returns-in_err-write_whole g c =

@@ -1,6 +1,6 @@
 use Rattle.he_stream.specs.Input.{Gives}
 use Rattle.he_check.proofs.FaultParts.{explained}
-use Rattle.he_check.proofs.checking.check_up_to.Goals as goal
+use Rattle.he_check.proofs.checking.check.Goals as goal
 
 pub returns-clause-quiet : goal.returns-clause-quiet
 returns-clause-quiet g c =
