@@ -2,16 +2,18 @@
 # hand: . completions/he.bash
 _he() {
     local word=${COMP_WORDS[COMP_CWORD]} before=${COMP_WORDS[COMP_CWORD - 1]} command=
-    local commands='replay order explain compare check live host names connect help' options=
+    local commands='replay order explain draw summary compare check live host names connect help' options=
     [ "$COMP_CWORD" -gt 1 ] && command=${COMP_WORDS[1]}
     case $before in
-        --workers | --port | --resolver | --timeout | --set) COMPREPLY=(); return ;;
+        --workers | --width | --port | --resolver | --timeout | --set) COMPREPLY=(); return ;;
     esac
     case $command in
         '') options="$commands --help --version -h -V" ;;
-        replay) options='--workers --set --verbose -v --help -h' ;;
-        order) options='--verbose -v --help -h' ;;
-        explain) options='--lines --set --verbose -v --help -h' ;;
+        replay) options='--workers --set --json --verbose -v --help -h' ;;
+        order) options='--json --verbose -v --help -h' ;;
+        explain) options='--lines --set --json --verbose -v --help -h' ;;
+        draw) options='--ascii --width --svg --set --verbose -v --help -h' ;;
+        summary) options='--json --set --verbose -v --help -h' ;;
         compare) options='--set --verbose -v --help -h' ;;
         check) options='--all --help -h' ;;
         live) options='--port --timeout --set --record --must-connect --verbose -v --help -h' ;;

@@ -1,10 +1,12 @@
 # Completion of the command line of he in fish. Installed as PREFIX/share/fish/vendor_completions.d/he.fish.
-set -l commands replay order explain compare check live host names connect help
+set -l commands replay order explain draw summary compare check live host names connect help
 
 complete -c he -f
 complete -c he -n __fish_use_subcommand -a replay -d 'Write what happens in races'
 complete -c he -n __fish_use_subcommand -a order -d 'Write the order of addresses'
 complete -c he -n __fish_use_subcommand -a explain -d 'Write why races went as they did'
+complete -c he -n __fish_use_subcommand -a draw -d 'Draw pictures of races'
+complete -c he -n __fish_use_subcommand -a summary -d 'Sum up how races went'
 complete -c he -n __fish_use_subcommand -a compare -d 'Write what other settings would do to races'
 complete -c he -n __fish_use_subcommand -a check -d 'Check timelines, and explain their faults'
 complete -c he -n __fish_use_subcommand -a live -d 'Race real connections'
@@ -16,10 +18,15 @@ complete -c he -n __fish_use_subcommand -s V -l version -d 'Tell the version'
 complete -c he -n "not __fish_seen_subcommand_from help" -s h -l help -d 'Tell what it does'
 complete -c he -n '__fish_seen_subcommand_from help' -a "$commands"
 
-complete -c he -n '__fish_seen_subcommand_from replay order explain compare check' -F
-complete -c he -n '__fish_seen_subcommand_from replay order explain compare' -s v -l verbose -d 'Explain the fault of a file'
+complete -c he -n '__fish_seen_subcommand_from replay order explain draw summary compare check' -F
+complete -c he -n '__fish_seen_subcommand_from replay order explain draw summary compare' -s v -l verbose -d 'Explain the fault of a file'
 complete -c he -n '__fish_seen_subcommand_from replay' -l workers -x -d 'Most workers, 1 to 64'
 complete -c he -n '__fish_seen_subcommand_from explain' -l lines -d 'Write lines for scripts'
+complete -c he -n '__fish_seen_subcommand_from replay order explain' -l json -d 'A JSON object for each race'
+complete -c he -n '__fish_seen_subcommand_from summary' -l json -d 'One JSON object'
+complete -c he -n '__fish_seen_subcommand_from draw' -l ascii -d 'Characters of ASCII alone'
+complete -c he -n '__fish_seen_subcommand_from draw' -l width -x -d 'Columns of a line, 40 to 1000'
+complete -c he -n '__fish_seen_subcommand_from draw' -l svg -d 'An SVG image of each race'
 complete -c he -n '__fish_seen_subcommand_from check' -l all -d 'Tell each fault, not the first one alone'
 complete -c he -n '__fish_seen_subcommand_from live' -l port -x -d 'TCP port, 1 to 65535'
 complete -c he -n '__fish_seen_subcommand_from live' -l must-connect -d 'Status 3 where no connection was made'
@@ -30,7 +37,7 @@ complete -c he -n '__fish_seen_subcommand_from connect' -s 4 -d 'IPv4 addresses 
 complete -c he -n '__fish_seen_subcommand_from connect' -s 6 -d 'IPv6 addresses alone'
 complete -c he -n '__fish_seen_subcommand_from connect' -s z -d 'End once the connection is made'
 complete -c he -n '__fish_seen_subcommand_from live connect' -l timeout -x -d 'Milliseconds to give up after'
-complete -c he -n '__fish_seen_subcommand_from replay explain compare live connect' -l set -x -a 'attempt= resolution= count= limit= floor=' -d 'A setting in place of its own'
+complete -c he -n '__fish_seen_subcommand_from replay explain draw summary compare live connect' -l set -x -a 'attempt= resolution= count= limit= floor=' -d 'A setting in place of its own'
 complete -c he -n '__fish_seen_subcommand_from connect' -l host -r -F -d 'Lines in place of this machine'
 complete -c he -n '__fish_seen_subcommand_from live connect' -l record -r -F -d 'File for the record'
 complete -c he -n '__fish_seen_subcommand_from connect' -l explain -d 'Explain the race on standard error'

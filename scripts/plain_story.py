@@ -130,7 +130,7 @@ def listed(race, line):
     elif family != addresses[place - 1].family:
         turn = "IPv6 and IPv4 in turn"
     else:
-        turn = f"no more IPv{10 - family} addresses"
+        turn = f"IPv{family} alone is left"
     return f"; number {place + 1} of {len(addresses)} known, {turn}"
 
 

@@ -5,7 +5,7 @@ preferred, once every answer is known:
 what happened:
       0 ms  AAAA answer: 2 addresses to try; the A answer is not there yet
       0 ms  attempt 1 to fe80::5: the AAAA answer is there; number 1 of 2 known, IPv6 first
-    250 ms  attempt 2 to 2001:db8:1::1: 250 ms after the start of attempt 1; number 2 of 2 known, no more IPv4 addresses
+    250 ms  attempt 2 to 2001:db8:1::1: 250 ms after the start of attempt 1; number 2 of 2 known, IPv6 alone is left
   30000 ms  the limit: the race is given up
   30000 ms  attempt 1 cancelled after 30000 ms
   30000 ms  attempt 2 cancelled after 29750 ms

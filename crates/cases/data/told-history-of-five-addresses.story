@@ -10,6 +10,6 @@ what happened:
    20 ms  attempt 1 to 2001:db8:1::4: the AAAA answer is there; number 1 of 5 known, IPv6 first
    25 ms  A answer: 0 addresses to try
    40 ms  attempt 1 failed after 20 ms
-  270 ms  attempt 2 to 2001:db8:1::5: 250 ms after the start of attempt 1; number 2 of 5 known, no more IPv4 addresses
+  270 ms  attempt 2 to 2001:db8:1::5: 250 ms after the start of attempt 1; number 2 of 5 known, IPv6 alone is left
   290 ms  attempt 2 connected after 20 ms
 with `set floor 10`: connected to 2001:db8:1::5 after 60 ms, by attempt 2 of 2

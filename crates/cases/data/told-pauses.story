@@ -30,7 +30,7 @@ what happened:
    40 ms  attempt 1 failed after 20 ms
    40 ms  attempt 2 to 2001:db8:1::2: all before have failed, and the floor of 10 ms after attempt 1 is over, late because of a pause; number 2 of 3 known, IPv6 first
    45 ms  attempt 2 failed after 5 ms
-   50 ms  attempt 3 to 2001:db8:1::3: all before have failed, and the floor of 10 ms after attempt 2 is over; number 3 of 3 known, no more IPv4 addresses
+   50 ms  attempt 3 to 2001:db8:1::3: all before have failed, and the floor of 10 ms after attempt 2 is over; number 3 of 3 known, IPv6 alone is left
    55 ms  attempt 3 failed after 5 ms
   390 ms  pause: the client sees and starts nothing until 410 ms
   410 ms  A answer: 1 address to try

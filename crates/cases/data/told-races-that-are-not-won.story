@@ -49,7 +49,7 @@ what happened:
     0 ms  A answer: 0 addresses to try
     0 ms  attempt 1 to 2001:db8:1::1: the AAAA answer is there; number 1 of 2 known, IPv6 first
    20 ms  attempt 1 failed after 20 ms
-  250 ms  attempt 2 to 2001:db8:1::2: 250 ms after the start of attempt 1; number 2 of 2 known, no more IPv4 addresses
+  250 ms  attempt 2 to 2001:db8:1::2: 250 ms after the start of attempt 1; number 2 of 2 known, IPv6 alone is left
   280 ms  attempt 2 failed after 30 ms
   280 ms  nothing is left to try
 with `set floor 10`: not connected: nothing is left to try after 50 ms and 2 attempts

@@ -2,12 +2,13 @@
 
 use crate::resolving::Heard;
 use crate::turns::run_turns;
-use he_check::{check, check_all};
-use he_plan::Changes;
+use he_check::check;
+use he_draw::Look;
 use he_replay::limits::{LEAST_WORKERS, MOST_WORKERS};
-use he_replay::{ReplayFault, explanations, orders, replay, stories};
+use he_replay::{Asked, Content, replay};
 use he_stream::{FromReader, ToWriter};
-use std::alloc::{AllocError, Global};
+use he_text::StreamFault;
+use std::alloc::AllocError;
 use std::fmt::Display;
 use std::io::{Chain, Read};
 use std::mem::drop;
@@ -101,62 +102,23 @@ fn way(text: &[u8], number: usize) -> Pieces {
     }
 }
 
-// What is asked for of a text; a transcript with so many workers.
-#[derive(Clone, Copy)]
-enum Asked {
-    Transcript(u16),
-    Order,
-    Explanation,
-    Story,
-}
+// A picture in 80 columns.
+const PICTURE: Content = Content::Picture {
+    look: Look::Unicode,
+    width: 80,
+};
 
-impl Asked {
-    fn run<R: Threads + Sync>(
-        self,
-        threads: &R,
-        alloc: Global,
-        input: &mut FromReader<Chain<FakeReader<'_>, FakeReader<'_>>>,
-        output: &mut ToWriter<FakeWriter>,
-    ) -> Result<(), ReplayFault> {
-        match self {
-            Asked::Transcript(workers) => {
-                let workers = workers.max(LEAST_WORKERS).min(MOST_WORKERS);
-                replay(threads, alloc, Changes::none(), input, output, workers)
-            }
-            Asked::Order => orders(alloc, input, output),
-            Asked::Explanation => explanations(alloc, Changes::none(), input, output),
-            Asked::Story => stories(alloc, Changes::none(), input, output),
-        }
-    }
-
-    // In how many ways the text comes. More workers than one do not share a text that is cut in two.
-    fn way_count(self, text: &[u8]) -> usize {
-        match self {
-            Asked::Transcript(workers) if workers > LEAST_WORKERS => STEPS.len(),
-            _ => way_count(text),
-        }
-    }
-
-    // The ending of the file that has what is written.
-    fn ending(self) -> &'static str {
-        match self {
-            Asked::Transcript(_) => "transcript",
-            Asked::Order => "order",
-            Asked::Explanation => "explanation",
-            Asked::Story => "story",
-        }
-    }
-
-    // What is said of a run that writes something else.
-    fn difference(self) -> &'static str {
-        match self {
-            Asked::Transcript(_) => "the transcript differs",
-            Asked::Order => "the order differs",
-            Asked::Explanation => "the explanation differs",
-            Asked::Story => "the story differs",
-        }
-    }
-}
+// What is asked for of a text, and the ending of the file that has what is written then.
+const CONTENTS: [(Content, &str); 8] = [
+    (Content::Transcript, "transcript"),
+    (Content::Order, "order"),
+    (Content::Explanation, "explanation"),
+    (Content::Story, "story"),
+    (Content::TranscriptJson, "transcript-json"),
+    (Content::OrderJson, "order-json"),
+    (Content::ExplanationJson, "explanation-json"),
+    (PICTURE, "picture"),
+];
 
 /// Runs the example of this name, and counts its runs.
 ///
@@ -182,7 +144,7 @@ pub fn run_example<R: Threads + Sync>(
     run_all(rt, threads, example, counts, heard)
 }
 
-// Runs the text through `replay`, `orders`, `explanations` and `stories`, where what they write stands beside it.
+// Replays the text, and writes of it what stands beside it: the transcripts by each number of workers.
 fn run_all<R: Threads + Sync>(
     rt: &HostRuntime,
     threads: &R,
@@ -192,44 +154,61 @@ fn run_all<R: Threads + Sync>(
 ) -> io::Result<()> {
     let Example { name, text, .. } = example;
     let ran = counts.ran;
-    if let Some(transcript) = read_beside(rt, name, "transcript")? {
-        for workers in WORKERS {
-            let asked = Asked::Transcript(workers);
-            run_asked(rt, threads, example, asked, &transcript, counts)?;
+    for (content, ending) in CONTENTS {
+        if let Some(wanted) = read_beside(rt, name, ending)? {
+            for workers in workers_for(content) {
+                let asked = (content, ending, *workers);
+                run_asked(rt, threads, example, asked, &wanted, counts)?;
+            }
         }
+    }
+    if let Some(transcript) = read_beside(rt, name, "transcript")? {
         let is_same = run_turns(rt, text, heard)?.as_slice() == transcript.as_slice();
         counts.count(rt, name, "the transcript by turns differs", is_same)?;
     }
-    for asked in [Asked::Order, Asked::Explanation, Asked::Story] {
-        if let Some(wanted) = read_beside(rt, name, asked.ending())? {
-            run_asked(rt, threads, example, asked, &wanted, counts)?;
-        }
-    }
     if counts.ran == ran {
-        let what = "no transcript, order, explanation or story stands beside it";
+        let what = "nothing that is written stands beside it";
         counts.count(rt, name, what, false)?;
     }
     Ok(())
 }
 
+// By how many workers it is written, one after the other.
+fn workers_for(content: Content) -> &'static [u16] {
+    match content {
+        Content::Transcript => &WORKERS,
+        _ => &WORKERS[..1],
+    }
+}
+
+// Replays the text by so many workers, in each way in which it comes. More workers than one do not share a text that is
+// cut in two.
 fn run_asked<R: Threads + Sync>(
     rt: &HostRuntime,
     threads: &R,
     example: Example<'_>,
-    asked: Asked,
+    asked: (Content, &str, u16),
     wanted: &[u8],
     counts: &mut Counts,
 ) -> io::Result<()> {
     let Example { name, text, fault } = example;
-    for number in 0..asked.way_count(text) {
+    let (content, ending, workers) = asked;
+    let ways = if workers > LEAST_WORKERS {
+        STEPS.len()
+    } else {
+        way_count(text)
+    };
+    for number in 0..ways {
         let mut input = input_of(text, way(text, number));
         let mut output = ToWriter::new(FakeWriter::new(rt.alloc()));
-        let ended = asked.run(threads, rt.alloc(), &mut input, &mut output);
+        let asked = Asked::of(content);
+        let workers = workers.max(LEAST_WORKERS).min(MOST_WORKERS);
+        let ended = replay(threads, rt.alloc(), asked, workers, &mut input, &mut output);
         let is_written = output.writer().held() == wanted;
         drop(input);
         drop(output);
         let is_same = tells(rt, ended, fault)? && is_written;
-        counts.count(rt, name, asked.difference(), is_same)?;
+        counts.count(rt, name, ending, is_same)?;
     }
     Ok(())
 }
@@ -243,7 +222,7 @@ fn run_check(rt: &HostRuntime, example: Example<'_>, counts: &mut Counts) -> io:
         let mut input = input_of(text, way(text, number));
         let mut output = ToWriter::new(FakeWriter::new(rt.alloc()));
         let mut explanation = Vec::new(rt.alloc());
-        let ended = check(rt.alloc(), &mut input, &mut output, &mut explanation);
+        let ended = check(rt.alloc(), false, &mut input, &mut output, &mut explanation);
         let is_written = (output.writer().calls() == 0) == ended.is_err();
         drop(input);
         drop(output);
@@ -256,7 +235,7 @@ fn run_check(rt: &HostRuntime, example: Example<'_>, counts: &mut Counts) -> io:
     Ok(())
 }
 
-// Runs the text through `check_all`, where what it says stands beside the example: each fault, with its line.
+// Runs the text through a check for all faults, where what it says stands beside the example: each fault, with its line.
 fn run_check_all(rt: &HostRuntime, example: Example<'_>, counts: &mut Counts) -> io::Result<()> {
     let Example { name, text, fault } = example;
     let Some(told) = read_beside(rt, name, "check-all")? else {
@@ -266,7 +245,7 @@ fn run_check_all(rt: &HostRuntime, example: Example<'_>, counts: &mut Counts) ->
         let mut input = input_of(text, way(text, number));
         let mut output = ToWriter::new(FakeWriter::new(rt.alloc()));
         let mut explanation = Vec::new(rt.alloc());
-        let ended = check_all(rt.alloc(), &mut input, &mut output, &mut explanation);
+        let ended = check(rt.alloc(), true, &mut input, &mut output, &mut explanation);
         let is_told = explanation.as_slice() == told.as_slice();
         drop(input);
         drop(output);

@@ -1,3 +1,4 @@
 pub mod Run
 pub mod Status
+pub mod Summaries
 pub mod Texts

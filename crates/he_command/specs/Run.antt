@@ -1,7 +1,6 @@
 -- What a run of the program has done, by its exit status.
-use Rattle.std.specs.Prelude.{◌≡◌, ◌≢◌, ◌≤◌, ◌⊎◌, ℕ, Bool, List, [], Option, Some, None, IsSome, MatchOption, option_map, Result, Ok, Err}
+use Rattle.std.specs.Prelude.{◌≡◌, ◌≢◌, ◌≤◌, ◌⊎◌, ℕ, Bool, List, [], Option, Some, None, IsSome, MatchOption, MatchResult, Result, Ok, Err}
 use Rattle.std.specs.Borrow.{Bor}
-use Rattle.std.specs.Option.{option_and_then}
 use Rattle.clap.specs.Values.{kind_of}
 use Rattle.clap.specs.declared.error.Error.{Error}
 use Rattle.clap.specs.declared.error.kind.ErrorKind.{ErrorKind}
@@ -21,7 +20,7 @@ use Rattle.he_plan.specs.declared.limits.TheConstants.{DEFAULT_ATTEMPT, DEFAULT_
 use Rattle.he_plan.specs.declared.transcript.Outcome3.{Outcome3}
 use Rattle.he_command.specs.declared.asking.Options.{Options}
 use Rattle.he_command.specs.declared.command.Request.{Request}
-use Rattle.he_command.specs.declared.command.Request.TheVariants.{Connect, Host, Live, Names, Texts}
+use Rattle.he_command.specs.declared.command.Request.TheVariants.{Connect, Host, Live, Names, Summary, Texts}
 use Rattle.he_command.specs.declared.limits.TheConstants.{LEAST_PORT}
 use Rattle.he_command.specs.declared.racing.LiveOptions.{LiveOptions}
 use Rattle.he_command.specs.declared.run.TheConstants.{DONE, FAULT, USAGE}
@@ -43,6 +42,13 @@ Shows Whole Part Kept status =
     ((status ≡ DONE) × (text : List ℕ) × Whole text)
     ⊎ ((status ≡ FAULT) × (((text : List ℕ) × Part text) ⊎ Kept))
 
+-- a summary was put into the output, and all was done; or there was a fault, or the line is refused, and a summary was put, a
+-- first part of one, or none
+abbrev pub ShowsSummary : (List ℕ → Type 0) → (List ℕ → Type 0) → Type 0 → ℕ → Type 0
+ShowsSummary Whole Part Kept status =
+    ((status ≡ DONE) × (text : List ℕ) × Whole text)
+    ⊎ ((status ≢ DONE) × (((text : List ℕ) × Whole text) ⊎ (((text : List ℕ) × Part text) ⊎ Kept)))
+
 -- what comes of a line that asks for no action
 pub record AnswersLine (kind : ErrorKind) (Whole Part : List ℕ → Type 0) (Kept : Type 0) (status : ℕ) : Type 0 where
   pub memory : kind ≡ kinds.OutOfMemory → (status ≡ FAULT) × Kept
@@ -51,7 +57,8 @@ pub record AnswersLine (kind : ErrorKind) (Whole Part : List ℕ → Type 0) (Ke
 
 -- the numbers of a request are in their ranges
 abbrev pub IsRequest : Request → Type 0
-IsRequest (Texts texts) = HasTaskWorkers texts.task
+IsRequest (Texts task texts) = HasTaskWorkers task
+IsRequest (Summary form texts) = Unit {0}
 IsRequest (Live options) = LEAST_PORT ≤ options.port
 IsRequest Host = Unit {0}
 IsRequest (Names host resolver) = Unit {0}
@@ -77,9 +84,9 @@ RunsRace options changes Given Whole Part Kept status =
 -- what comes of a live race that is asked for: a setting is none, or out of its range, and the line is refused; or it was run
 abbrev pub RunsLive : LiveOptions → (List ℕ → Bool → Type 0) → (List ℕ → Type 0) → (List ℕ → Type 0) → Type 0 → ℕ → Type 0
 RunsLive options Given Whole Part Kept status =
-    MatchOption options.changes
-    ((status ≡ USAGE) × Kept)
+    MatchResult options.changes
     (λ changes. RunsRace options changes Given Whole Part Kept status)
+    (λ _. (status ≡ USAGE) × Kept)
 
 -- the settings of a connection that is asked for: where a number is not given that of RFC 8305 section 8, and the least
 -- floor
@@ -88,26 +95,26 @@ connect_settings given =
     changed_settings given
     (record { resolution = DEFAULT_RESOLUTION; attempt = DEFAULT_ATTEMPT; count = DEFAULT_COUNT; limit = DEFAULT_LIMIT; floor = Some MIN_FLOOR })
 
--- the settings of the race; None where an option has no value that it may have
-abbrev pub asked_settings : Options → Option SettingValues
-asked_settings options = option_and_then (λ resolver. option_map connect_settings options.changes) options.resolver
-
 -- what comes of a connection that is asked for: an option has no value that it may have; or the connection was made and
 -- relayed, or not
 abbrev pub RunsConnect : Options → (List ℕ → Type 0) → (List ℕ → Type 0) → Type 0 → ℕ → Type 0
 RunsConnect options Put PutPart Kept status =
-    MatchOption (asked_settings options)
+    MatchOption options.resolver
     ((status ≡ USAGE) × Kept)
-    (λ settings. (result : Result Ended ConnectFault) × Connects (Ran settings options.families) Put PutPart Kept result × (status ≡ status_of_connection result))
+    (λ _. MatchResult options.changes
+    (λ changes. (result : Result Ended ConnectFault) × Connects (Ran (connect_settings changes) options.families) Put PutPart Kept result × (status ≡ status_of_connection result))
+    (λ _. (status ≡ USAGE) × Kept))
 
--- what was asked for was done, and the status tells how that ended; or a setting is none, or out of its range. Given, Taken, Ended, Failed and Put as `RunsAction` has
+-- what was asked for was done, and the status tells how that ended; or a setting is none, or out of its range. Given, Taken, Ended, Failed and Put as `Replays` has
 -- them: of a text that is put in rounds; Whole, Part and Kept as `Lives` has them: of one text; OfFiles: what comes of
 -- the texts of files
 abbrev pub RunsRequest : Request → (List ℕ → Bool → Type 0) → (List ℕ → Type 0) → (List ℕ → Type 0) → (List ℕ → Type 0) → (List ℕ → Type 0) → (List ℕ → Type 0) → (List ℕ → Type 0) → Type 0 → (Task → ChangeValues → List (Bor (List ℕ)) → ℕ → Type 0) → ℕ → Type 0
-RunsRequest (Texts texts) Given Taken Ended Failed Put Whole Part Kept OfFiles status =
-    MatchOption texts.changes
-    ((status ≡ USAGE) × Kept)
-    (λ changes. RunsTexts texts.files.items (RunsText texts.task changes Given Taken Ended Failed Put Whole Part Kept status) (OfFiles texts.task changes texts.files.items status))
+RunsRequest (Texts task texts) Given Taken Ended Failed Put Whole Part Kept OfFiles status =
+    MatchResult texts.changes
+    (λ changes. RunsTexts texts.files.items (RunsText task changes Given Taken Ended Failed Put Whole Part Kept status) (OfFiles task changes texts.files.items status))
+    (λ _. (status ≡ USAGE) × Kept)
+RunsRequest (Summary form texts) Given Taken Ended Failed Put Whole Part Kept OfFiles status =
+    MatchResult texts.changes (λ changes. ShowsSummary Whole Part Kept status) (λ _. (status ≡ USAGE) × Kept)
 RunsRequest (Live options) Given Taken Ended Failed Put Whole Part Kept OfFiles status = RunsLive options Given Whole Part Kept status
 RunsRequest Host Given Taken Ended Failed Put Whole Part Kept OfFiles status = Shows Whole Part Kept status
 RunsRequest (Names host resolver) Given Taken Ended Failed Put Whole Part Kept OfFiles status = RunsNames resolver Whole Part Kept status

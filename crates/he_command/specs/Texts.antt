@@ -1,43 +1,37 @@
 -- What is done with texts of races, of standard input or of files, and how the status tells how that ended.
 use Rattle.std.specs.Prelude.{◌≡◌, ◌≢◌, ◌⊎◌, ℕ, Bool, List, [], ◌∷◌, Option, Result, codes}
-use Rattle.he_check.specs.declared.fault.CheckFault.{CheckFault}
 use Rattle.he_check.specs.Stream.{Checks}
 use Rattle.he_compare.specs.Stream.{Compares}
-use Rattle.he_compare.specs.declared.fault.CompareFault.{CompareFault}
 use Rattle.he_plan.specs.Changes.{ChangeValues}
-use Rattle.he_replay.specs.Actions.{HasWorkers, RunsAction}
-use Rattle.he_replay.specs.declared.fault.ReplayFault.{ReplayFault}
+use Rattle.he_replay.specs.Stream.{HasWorkers, Replays}
 use Rattle.he_stream.specs.Input.{Gives, GivesSoFar}
 use Rattle.he_stream.specs.Output.{PutsAndEnds, PutsInRounds, PutsPart, PutsRoundsPart, PutsWhole}
 use Rattle.he_stream.specs.declared.answer.Flushed.{Flushed}
 use Rattle.he_stream.specs.declared.answer.Put.{Put}
 use Rattle.he_stream.specs.declared.answer.Taken.{Taken}
+use Rattle.he_text.specs.declared.stream_fault.StreamFault.{StreamFault}
 use Rattle.he_command.specs.Status.{status_of}
 use Rattle.he_command.specs.declared.run.TheConstants.{DONE, FAULT}
 use Rattle.he_command.specs.declared.texts.Task.{Task}
-use Rattle.he_command.specs.declared.texts.Task.TheVariants.{Action, Compare, Check, CheckAll}
+use Rattle.he_command.specs.declared.texts.Task.TheVariants.{Write, Compare, Check}
 
 -- the number of workers, where there are any, is in its range
 abbrev pub HasTaskWorkers : Task → Type 0
-HasTaskWorkers (Action action) = HasWorkers action
+HasTaskWorkers (Write content workers) = HasWorkers workers
 HasTaskWorkers Compare = Unit {0}
-HasTaskWorkers Check = Unit {0}
-HasTaskWorkers CheckAll = Unit {0}
-
--- what comes of a check: Given, Whole, Part and Kept as `Checks` has them. That all faults are told, or the first, is no part
--- of it
-abbrev pub RunsChecked : (List ℕ → Bool → Type 0) → (List ℕ → Type 0) → (List ℕ → Type 0) → Type 0 → ℕ → Type 0
-RunsChecked Given Whole Part Kept status = (result : Result (Unit {0}) CheckFault) × Checks Given Whole Part Kept result × (status ≡ status_of result)
+HasTaskWorkers (Check is_all) = Unit {0}
 
 -- what comes of a text, each of whose races has these changes of its settings: Given, Taken, Ended, Failed and Put as
--- `RunsAction` has them, Whole, Part and Kept as `Checks`
+-- `Replays` has them, Whole, Part and Kept as `Checks`. That a check tells all faults, or the first, is no part of it
+abbrev pub RunsTask : Task → ChangeValues → (List ℕ → Bool → Type 0) → (List ℕ → Type 0) → (List ℕ → Type 0) → (List ℕ → Type 0) → (List ℕ → Type 0) → (List ℕ → Type 0) → (List ℕ → Type 0) → Type 0 → Result (Unit {0}) StreamFault → Type 0
+RunsTask (Write content workers) changes Given Taken Ended Failed Put Whole Part Kept result = Replays content changes Given Taken Ended Failed Put result
+RunsTask Compare changes Given Taken Ended Failed Put Whole Part Kept result = Compares changes Given Whole Part Kept result
+RunsTask (Check is_all) changes Given Taken Ended Failed Put Whole Part Kept result = Checks Given Whole Part Kept result
+
+-- the same, by the status
 abbrev pub RunsText : Task → ChangeValues → (List ℕ → Bool → Type 0) → (List ℕ → Type 0) → (List ℕ → Type 0) → (List ℕ → Type 0) → (List ℕ → Type 0) → (List ℕ → Type 0) → (List ℕ → Type 0) → Type 0 → ℕ → Type 0
-RunsText (Action action) changes Given Taken Ended Failed Put Whole Part Kept status =
-    (result : Result (Unit {0}) ReplayFault) × RunsAction action changes Given Taken Ended Failed Put result × (status ≡ status_of result)
-RunsText Compare changes Given Taken Ended Failed Put Whole Part Kept status =
-    (result : Result (Unit {0}) CompareFault) × Compares changes Given Whole Part Kept result × (status ≡ status_of result)
-RunsText Check changes Given Taken Ended Failed Put Whole Part Kept status = RunsChecked Given Whole Part Kept status
-RunsText CheckAll changes Given Taken Ended Failed Put Whole Part Kept status = RunsChecked Given Whole Part Kept status
+RunsText task changes Given Taken Ended Failed Put Whole Part Kept status =
+    (result : Result (Unit {0}) StreamFault) × RunsTask task changes Given Taken Ended Failed Put Whole Part Kept result × (status ≡ status_of result)
 
 -- what comes of the text of an input that went from the first to the last state, where the output went from before to after
 abbrev pub RunsOver : {I O : Type 0} → (I → Option (List ℕ)) → (I → Taken → I → Type 0) → (O → Option (List ℕ)) → (O → Put → O → Type 0) → (O → Flushed → O → Type 0) → Task → ChangeValues → I → I → O → O → ℕ → Type 0

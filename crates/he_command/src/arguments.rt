@@ -3,6 +3,7 @@ ghost use Rattle.std.specs.Prelude.{◌≤◌};
 ghost use Rattle.he_command.specs.declared.limits.TheConstants.{LEAST_PORT};
 
 use crate::limits::LEAST_PORT;
+use crate::numbers::SettingFault;
 use clap::{Arg, ArgAction, ArgMatches, Command, value_parser};
 use he_resolver::Choice;
 use std::alloc::Global;
@@ -13,8 +14,10 @@ use thiserror::Error;
 pub(crate) enum OptionFault {
     #[error("invalid value for '--resolver <RESOLVER>': neither an address, nor an address and a port, nor `system`")]
     Resolver,
-    #[error("invalid value for '--set <NAME=N>': attempt=10 to 2000, resolution=0 to 1000, count=1 to 8, limit=1 to 3600000 (`--timeout` is it too), and floor=10 to 2000 and at most an attempt that is given beside it")]
-    Setting,
+    #[error("more than 4294967296 files")]
+    Files,
+    #[error("invalid value for '--set <NAME=N>': {0}")]
+    Setting(SettingFault),
 }
 
 const RESOLVER_HELP: &str =

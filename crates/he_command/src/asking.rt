@@ -3,7 +3,7 @@ ghost use Rattle.std.specs.Prelude.{◌≤◌};
 ghost use Rattle.he_command.specs.declared.limits.TheConstants.{LEAST_PORT};
 
 use crate::arguments::{file, flag, plain, port, port_of, resolver, resolver_of};
-use crate::numbers::{changes_of, set, timeout};
+use crate::numbers::{SettingFault, changes_of, set, timeout};
 use clap::{Arg, ArgMatches, Command};
 use he_addr::Family;
 use he_connect::Families;
@@ -111,9 +111,8 @@ pub struct Options<'a> {
     /// 1 to 65,535.
     pub port: u16,
     pub families: Families,
-    /// The settings that are given; None where one isn't a number, is out of its range, or
-    /// has a name that there isn't.
-    pub changes: Option<Changes>,
+    /// The settings that are given.
+    pub changes: Result<Changes, SettingFault>,
     /// The resolver; None where the line names none that there is.
     pub resolver: Option<Choice>,
     /// The file of lines in place of this machine's.

@@ -5,22 +5,24 @@ ghost use Rattle.he_command.specs.Texts.{HasTaskWorkers};
 
 use crate::arguments::{plain, resolver, resolver_of};
 use crate::asking::{Options, connect_command, options_of};
-use crate::numbers::changes_of;
 use crate::racing::{LiveOptions, live_command, live_options_of};
 use crate::texts::{
-    Task, Texts, check_command, check_of, compare_command, explain_command, explain_of, files_of,
-    order_command, replay_command, replay_of,
+    Task, Texts, alone, check_command, check_of, compare_command, draw_command, draw_of,
+    explain_command, explain_of, order_command, order_of, replay_command, replay_of,
+    summary_command, texts_of,
 };
 use clap::{Arg, ArgMatches, Command, Error};
-use he_replay::Action;
 use he_resolver::Choice;
+use he_summary::Form;
 use std::alloc::{AllocError, Global};
 
 /// What a command line asks for.
 #[derive(Drop)]
 pub enum Request<'a> {
     /// To do something with the races of texts.
-    Texts(Texts<'a>),
+    Texts(Task, Texts<'a>),
+    /// To write one summary of the races of texts.
+    Summary(Form, Texts<'a>),
     /// To run the race of the input on real sockets.
     Live(LiveOptions<'a>),
     /// To write the lines of this machine's addresses and routes.
@@ -40,7 +42,7 @@ const ABOUT: &str =
 /// Whether a line asks for something that takes a text from standard input.
 pub fn takes_text(line: &Result<Request<'_>, Error>) -> bool {
     match line {
-        Ok(Request::Texts(texts)) => texts.files.is_empty(),
+        Ok(Request::Texts(_, texts) | Request::Summary(_, texts)) => texts.files.is_empty(),
         Ok(Request::Live(_)) => true,
         _ => false,
     }
@@ -127,6 +129,8 @@ fn commands<'a>(alloc: Global) -> Result<Vec<Command<'a>>, AllocError> {
     commands.push(replay_command(alloc)?)?;
     commands.push(order_command(alloc)?)?;
     commands.push(explain_command(alloc)?)?;
+    commands.push(draw_command(alloc)?)?;
+    commands.push(summary_command(alloc)?)?;
     commands.push(compare_command(alloc)?)?;
     commands.push(check_command(alloc)?)?;
     commands.push(live_command(alloc)?)?;
@@ -149,27 +153,37 @@ fn host_name<'a>(alloc: Global) -> Arg<'a> {
         .help(HOST_NAME_HELP)
 }
 
-/// Reads the words of a command line, of which the first is the program's name.
+/// Reads the words of a command line, of which the first is the program's name; a terminal has so many columns.
 ///
 /// # Errors
 ///
 /// The crate clap's error: a refused line, a request for help or the version, or want of memory.
-pub fn read_words<'a>(alloc: Global, words: &'a [&'a str]) -> Result<Request<'a>, Error>
+pub fn read_words<'a>(
+    alloc: Global,
+    words: &'a [&'a str],
+    columns: u16,
+) -> Result<Request<'a>, Error>
     ensures { IfOk result IsRequest }
 {
     let matches = command(alloc)?.try_get_matches_from(words)?;
-    Ok(request_of(alloc, &matches)?)
+    Ok(request_of(alloc, &matches, columns)?)
 }
 
 // What the line asks for. clap has tested that it names a command.
-fn request_of<'a>(alloc: Global, matches: &ArgMatches<'a>) -> Result<Request<'a>, AllocError>
+fn request_of<'a>(
+    alloc: Global,
+    matches: &ArgMatches<'a>,
+    columns: u16,
+) -> Result<Request<'a>, AllocError>
     ensures { IfOk result IsRequest }
 {
     match matches.subcommand() {
-        Some(("order", order)) => texts_of(alloc, Task::Action(Action::Order), order),
-        Some(("explain", explain)) => texts_of(alloc, Task::Action(explain_of(explain)), explain),
-        Some(("compare", compare)) => texts_of(alloc, Task::Compare, compare),
-        Some(("check", check)) => texts_of(alloc, check_of(check), check),
+        Some(("order", order)) => task_of(alloc, alone(order_of(order)), order),
+        Some(("explain", explain)) => task_of(alloc, alone(explain_of(explain)), explain),
+        Some(("draw", draw)) => task_of(alloc, alone(draw_of(draw, columns)), draw),
+        Some(("summary", summary)) => summary_of(alloc, summary),
+        Some(("compare", compare)) => task_of(alloc, Task::Compare, compare),
+        Some(("check", check)) => task_of(alloc, check_of(check), check),
         Some(("live", live)) => Ok(Request::Live(live_options_of(live))),
         Some(("host", _)) => Ok(Request::Host),
         Some(("names", names)) => Ok(Request::Names {
@@ -177,13 +191,13 @@ fn request_of<'a>(alloc: Global, matches: &ArgMatches<'a>) -> Result<Request<'a>
             resolver: resolver_of(names),
         }),
         Some(("connect", connect)) => Ok(Request::Connect(options_of(connect))),
-        Some((_, replay)) => texts_of(alloc, Task::Action(replay_of(replay)), replay),
-        None => texts_of(alloc, Task::Action(replay_of(matches)), matches),
+        Some((_, replay)) => task_of(alloc, replay_of(replay), replay),
+        None => task_of(alloc, replay_of(matches), matches),
     }
 }
 
-// The texts that the line names.
-fn texts_of<'a>(
+// To do this with the texts that the line names.
+fn task_of<'a>(
     alloc: Global,
     task: Task,
     matches: &ArgMatches<'a>,
@@ -191,10 +205,17 @@ fn texts_of<'a>(
     requires { HasTaskWorkers task }
     ensures { IfOk result IsRequest }
 {
-    Ok(Request::Texts(Texts {
-        task,
-        changes: changes_of(matches),
-        files: files_of(alloc, matches)?,
-        explains: matches.get_flag("verbose"),
-    }))
+    Ok(Request::Texts(task, texts_of(alloc, matches)?))
+}
+
+// To sum up the texts that the line names.
+fn summary_of<'a>(alloc: Global, matches: &ArgMatches<'a>) -> Result<Request<'a>, AllocError>
+    ensures { IfOk result IsRequest }
+{
+    let form = if matches.get_flag("json") {
+        Form::Json
+    } else {
+        Form::Text
+    };
+    Ok(Request::Summary(form, texts_of(alloc, matches)?))
 }

@@ -1,46 +1,36 @@
 //! Texts of races, of standard input or of files, one after the other.
-ghost use Rattle.std.specs.Prelude.{◌≡◌, MatchOption};
+ghost use Rattle.std.specs.Prelude.{◌≡◌, MatchResult};
 ghost use Rattle.he_stream.specs.Input.{Gives, GivesSoFar};
 ghost use Rattle.he_stream.specs.Output.{PutsAndEnds, PutsInRounds, PutsPart, PutsRoundsPart, PutsWhole};
 ghost use Rattle.he_command.specs.Status.{status_of};
-ghost use Rattle.he_command.specs.Texts.{HasTaskWorkers, RunsChecked, RunsFile, RunsFiles, RunsOver, RunsText, RunsTexts};
+ghost use Rattle.he_command.specs.Texts.{HasTaskWorkers, RunsFile, RunsFiles, RunsOver, RunsTask, RunsTexts};
 ghost use Rattle.he_command.specs.declared.run.TheConstants.{USAGE};
 
 use crate::arguments::OptionFault;
+use crate::lender::Lender;
 use crate::run::{DONE, FAULT, refuse_option, report};
 use crate::texts::{Task, Texts};
-use he_check::{CheckFault, check, check_all, explain_fault};
-use he_compare::{CompareFault, compare};
+use he_check::{check, explain_fault};
+use he_compare::compare;
 use he_plan::Changes;
-use he_replay::{ReplayFault, run_action};
+use he_replay::{Asked, replay};
 use he_stream::{FromReader, InputStream, OutputStream};
-use he_text::TextFault;
-use std::alloc::{AllocGlobal, Global};
+use he_text::{StreamFault, TextFault};
+use std::alloc::Global;
 use std::fmt::Display;
 use std::fs;
-use std::io::Write;
+use std::io::{Error, Write};
 use std::mem::drop;
-use std::rt::Files;
-use std::thread::Threads;
 
 // The name that stands for standard input.
-const STANDARD_INPUT: &str = "-";
+pub(crate) const STANDARD_INPUT: &str = "-";
 
 // What is done with each text.
 #[derive(Clone, Copy)]
 struct Work {
     task: Task,
     changes: Changes,
-    // Whether the fault of a file is explained.
-    explains: bool,
-}
-
-// Whose text it is, for what is said of its faults.
-#[derive(Clone, Copy)]
-struct Place<'a> {
-    // The name that the line has; None where it has none.
-    name: Option<&'a str>,
-    // Whether a fault is explained: the text can be read again.
+    // Whether a fault is explained.
     explains: bool,
 }
 
@@ -48,37 +38,35 @@ struct Place<'a> {
 pub(crate) fn run_texts<R, I, O, F>(
     rt: &R,
     alloc: Global,
+    task: Task,
     texts: &Texts<'_>,
     input: &mut I,
     output: &mut O,
     faults: &mut F,
 ) -> u8
 where
-    R: Threads + AllocGlobal + Files + Sync,
+    R: Lender,
     I: InputStream,
     O: OutputStream,
     F: Write,
-    requires { HasTaskWorkers texts.now.task }
-    ensures { MatchOption texts.now.changes
-        ((result ≡ USAGE) × (output.new ≡ output.old))
+    requires { HasTaskWorkers task }
+    ensures { MatchResult texts.now.changes
         (λ changes. RunsTexts texts.now.files.items
-        (RunsOver I.remaining I.takes O.contents O.puts O.flushes texts.now.task changes input.old input.new output.old output.new result)
-        (RunsFiles (λ name. RunsFile (RunsOver I.remaining I.takes O.contents O.puts O.flushes texts.now.task changes) (RunsOver ⟦<FromReader<R::File> as InputStream>⟧.remaining ⟦<FromReader<R::File> as InputStream>⟧.takes O.contents O.puts O.flushes texts.now.task changes) name.now) texts.now.files.items input.old input.new output.old output.new result)) }
+        (RunsOver I.remaining I.takes O.contents O.puts O.flushes task changes input.old input.new output.old output.new result)
+        (RunsFiles (λ name. RunsFile (RunsOver I.remaining I.takes O.contents O.puts O.flushes task changes) (RunsOver ⟦<FromReader<R::File> as InputStream>⟧.remaining ⟦<FromReader<R::File> as InputStream>⟧.takes O.contents O.puts O.flushes task changes) name.now) texts.now.files.items input.old input.new output.old output.new result))
+        (λ _. (result ≡ USAGE) × (output.new ≡ output.old)) }
 {
-    let Some(changes) = texts.changes else {
-        return refuse_option(OptionFault::Setting, faults);
+    let changes = match texts.changes {
+        Ok(changes) => changes,
+        Err(fault) => return refuse_option(OptionFault::Setting(fault), faults),
     };
     let work = Work {
-        task: texts.task,
+        task,
         changes,
-        explains: texts.explains,
+        explains: texts.explains || task.is_check(),
     };
     if texts.files.is_empty() {
-        let place = Place {
-            name: None,
-            explains: false,
-        };
-        run_text(rt, alloc, &work, place, input, output, faults)
+        run_text(rt, alloc, &work, None, input, output, faults)
     } else {
         run_files(rt, alloc, &work, &texts.files, input, output, faults)
     }
@@ -95,7 +83,7 @@ fn run_files<R, I, O, F>(
     faults: &mut F,
 ) -> u8
 where
-    R: Threads + AllocGlobal + Files + Sync,
+    R: Lender,
     I: InputStream,
     O: OutputStream,
     F: Write,
@@ -122,7 +110,7 @@ fn run_name<R, I, O, F>(
     faults: &mut F,
 ) -> u8
 where
-    R: Threads + AllocGlobal + Files + Sync,
+    R: Lender,
     I: InputStream,
     O: OutputStream,
     F: Write,
@@ -130,11 +118,7 @@ where
     ensures { RunsFile (RunsOver I.remaining I.takes O.contents O.puts O.flushes work.now.task work.now.changes) (RunsOver ⟦<FromReader<R::File> as InputStream>⟧.remaining ⟦<FromReader<R::File> as InputStream>⟧.takes O.contents O.puts O.flushes work.now.task work.now.changes) name.now input.old input.new output.old output.new result }
 {
     if name == STANDARD_INPUT {
-        let place = Place {
-            name: Some(name),
-            explains: false,
-        };
-        return run_text(rt, alloc, work, place, input, output, faults);
+        return run_text(rt, alloc, work, Some(name), input, output, faults);
     }
     match fs::open(rt, name) {
         Ok(file) => run_file(rt, alloc, work, name, file, output, faults),
@@ -153,72 +137,102 @@ fn run_file<R, O, F>(
     faults: &mut F,
 ) -> u8
 where
-    R: Threads + AllocGlobal + Files + Sync,
+    R: Lender,
     O: OutputStream,
     F: Write,
     requires { HasTaskWorkers work.now.task }
     ensures { (opened : FromReader R.File) × (closed : FromReader R.File) × RunsOver ⟦<FromReader<R::File> as InputStream>⟧.remaining ⟦<FromReader<R::File> as InputStream>⟧.takes O.contents O.puts O.flushes work.now.task work.now.changes opened closed output.old output.new result }
 {
     let mut input = FromReader::new(file);
-    let place = Place {
-        name: Some(name),
-        explains: work.explains,
-    };
-    let status = run_text(rt, alloc, work, place, &mut input, output, faults);
+    let status = run_text(rt, alloc, work, Some(name), &mut input, output, faults);
     drop(input);
     status
 }
 
-// Does it with one text.
+// Does it with one text, which has this name if it has one, and tells how that ended.
 fn run_text<R, I, O, F>(
     rt: &R,
     alloc: Global,
     work: &Work,
-    place: Place<'_>,
+    name: Option<&str>,
     input: &mut I,
     output: &mut O,
     faults: &mut F,
 ) -> u8
 where
-    R: Threads + AllocGlobal + Files + Sync,
+    R: Lender,
     I: InputStream,
     O: OutputStream,
     F: Write,
     requires { HasTaskWorkers work.now.task }
     ensures { RunsOver I.remaining I.takes O.contents O.puts O.flushes work.now.task work.now.changes input.old input.new output.old output.new result }
 {
+    let mut told = Vec::new(alloc);
+    let end = run_task(rt, alloc, work, input, output, &mut told);
+    let status = match end {
+        // It stands among those that are told.
+        Err(StreamFault::Text(_) | StreamFault::Read) if work.task.tells_faults() => FAULT,
+        _ => report_end_in(name, end, faults),
+    };
+    tell_lines(name, told.as_slice(), faults);
+    if work.explains {
+        match end {
+            Err(StreamFault::Text(fault)) if told.is_empty() => {
+                explain_in(rt, alloc, name, fault, faults)
+            }
+            Err(StreamFault::Read) => tell_reason(input.failure(), faults),
+            Err(StreamFault::Write) => tell_reason(output.failure(), faults),
+            _ => {}
+        }
+    }
+    status
+}
+
+// Does it with one text. What a check tells of it stands in `told` then.
+fn run_task<R, I, O>(
+    rt: &R,
+    alloc: Global,
+    work: &Work,
+    input: &mut I,
+    output: &mut O,
+    told: &mut Vec<u8>,
+) -> Result<(), StreamFault>
+where
+    R: Lender,
+    I: InputStream,
+    O: OutputStream,
+    requires { HasTaskWorkers work.now.task }
+    ensures { RunsTask work.now.task work.now.changes (Gives I.remaining I.takes input.old input.new)
+        (GivesSoFar I.remaining I.takes input.old input.new)
+        (PutsAndEnds O.contents O.puts O.flushes output.old output.new)
+        (PutsRoundsPart O.contents O.puts O.flushes output.old output.new)
+        (PutsInRounds O.contents O.puts O.flushes output.old output.new)
+        (PutsWhole O.contents O.puts O.flushes output.old output.new)
+        (PutsPart O.contents O.puts O.flushes output.old output.new) (output.new ≡ output.old) result }
+{
     match work.task {
-        Task::Action(action) => {
-            let end = run_action(rt, alloc, action, work.changes, input, output);
-            let status = report_end_in(place.name, end, faults);
-            if let Err(ReplayFault::Text(fault)) = end {
-                explain_in(rt, alloc, place, fault, faults);
-            }
-            status
+        Task::Write { content, workers } => {
+            let asked = Asked {
+                content,
+                changes: work.changes,
+            };
+            replay(rt, alloc, asked, workers, input, output)
         }
-        Task::Compare => {
-            let end = compare(alloc, work.changes, input, output);
-            let status = report_end_in(place.name, end, faults);
-            if let Err(CompareFault::Text(fault)) = end {
-                explain_in(rt, alloc, place, fault, faults);
-            }
-            status
-        }
-        Task::Check => run_check(alloc, false, place, input, output, faults),
-        Task::CheckAll => run_check(alloc, true, place, input, output, faults),
+        Task::Compare => compare(alloc, work.changes, input, output),
+        Task::Check { is_all } => check(alloc, is_all, input, output, told),
     }
 }
 
-// Explains a fault of the text of a file, where that is asked for. The file is read again: what was read is not kept.
-// Where it can't be read any more nothing is said; the fault itself stands.
-fn explain_in<R: AllocGlobal + Files, F: Write>(
+// Explains a fault of the text of a file. The file is read again: what was read is not kept. Where that can't be, as
+// with standard input, nothing is said; the fault itself stands.
+pub(crate) fn explain_in<R: Lender, F: Write>(
     rt: &R,
     alloc: Global,
-    place: Place<'_>,
+    name: Option<&str>,
     fault: TextFault,
     faults: &mut F,
 ) {
-    let (true, Some(path)) = (place.explains, place.name) else {
+    let Some(path) = name.filter(|name| *name != STANDARD_INPUT) else {
         return;
     };
     if let Ok(text) = fs::read(rt, path) {
@@ -229,32 +243,11 @@ fn explain_in<R: AllocGlobal + Files, F: Write>(
     }
 }
 
-// Checks a text, and explains its first fault behind the line that tells it, or warns of its slips. Where all faults are
-// explained, each has its line there.
-fn run_check<I: InputStream, O: OutputStream, F: Write>(
-    alloc: Global,
-    is_all: bool,
-    place: Place<'_>,
-    input: &mut I,
-    output: &mut O,
-    faults: &mut F,
-) -> u8
-    ensures { RunsChecked (Gives I.remaining I.takes input.old input.new)
-        (PutsWhole O.contents O.puts O.flushes output.old output.new)
-        (PutsPart O.contents O.puts O.flushes output.old output.new) (output.new ≡ output.old) result }
-{
-    let mut explanation = Vec::new(alloc);
-    let end = if is_all {
-        check_all(alloc, input, output, &mut explanation)
-    } else {
-        check(alloc, input, output, &mut explanation)
-    };
-    let status = match end {
-        Err(CheckFault::Text(_) | CheckFault::Read) if is_all => FAULT,
-        _ => report_end_in(place.name, end, faults),
-    };
-    tell_lines(place.name, explanation.as_slice(), faults);
-    status
+// Says why a stream failed, where it tells.
+pub(crate) fn tell_reason<F: Write>(failure: Option<Error>, faults: &mut F) {
+    if let Some(error) = failure {
+        let _ = writeln!(faults, "  {error}");
+    }
 }
 
 // Writes lines that are told of a text, those that begin as a fault does with its name too.
@@ -275,7 +268,7 @@ fn tell_lines<F: Write>(name: Option<&str>, lines: &[u8], faults: &mut F) {
 }
 
 // Says how a command ended, with the name of the text, and answers the exit status.
-fn report_end_in<E: Display + Drop, F: Write>(
+pub(crate) fn report_end_in<E: Display + Drop, F: Write>(
     name: Option<&str>,
     end: Result<(), E>,
     faults: &mut F,
@@ -289,7 +282,11 @@ fn report_end_in<E: Display + Drop, F: Write>(
 }
 
 // Writes the line of a fault with the name of the text, and answers the exit status.
-fn report_in<E: Display + Drop, F: Write>(name: Option<&str>, fault: E, faults: &mut F) -> u8
+pub(crate) fn report_in<E: Display + Drop, F: Write>(
+    name: Option<&str>,
+    fault: E,
+    faults: &mut F,
+) -> u8
     ensures { result ≡ FAULT }
 {
     match name {

@@ -24,13 +24,16 @@ mod arguments;
 pub mod asking;
 pub mod command;
 mod files;
+pub mod lender;
 pub mod limits;
 mod numbers;
 pub mod racing;
 pub mod run;
+mod summing;
 pub mod texts;
 
 pub use command::{Request, read_words, takes_text};
+pub use lender::{Lender, columns_of};
 pub use run::{
     DONE, FAULT, NO_CONNECTION, USAGE, report, report_not_text, run_line, run_words, tell_waiting,
 };

@@ -7,8 +7,20 @@ use he_addr::read_number;
 use he_plan::limits::{
     DEFAULT_ATTEMPT, DEFAULT_COUNT, DEFAULT_LIMIT, DEFAULT_RESOLUTION, MIN_FLOOR,
 };
-use he_plan::{Changes, Settings};
+use he_plan::{Changes, Range, Settings};
 use std::alloc::Global;
+use thiserror::Error;
+
+/// Why the settings that a line gives can't be taken.
+#[derive(Clone, Copy, Debug, PartialEq, Eq, Error)]
+pub enum SettingFault {
+    /// One isn't a number, or has a name that there isn't.
+    #[error("it is NAME=N, of attempt, resolution, count, limit and floor, N a whole number")]
+    Form,
+    /// This one is out of its range.
+    #[error("{0}: attempt is 10 to 2000, resolution 0 to 1000, count 1 to 8, limit (`--timeout` is it too) 1 to 3600000, and floor 10 to 2000 and at most an attempt that is given beside it")]
+    Range(Range),
+}
 
 // How long a race may take.
 pub(crate) fn timeout<'a>(alloc: Global, help: &'a str) -> Arg<'a> {
@@ -63,9 +75,20 @@ impl Given {
     }
 }
 
-// The settings that the line gives; None where one isn't a number, is out of its range, or has a name that there isn't.
-// Of two for one name the later counts.
-pub(crate) fn changes_of(matches: &ArgMatches<'_>) -> Option<Changes> {
+// The settings that the line gives. Of two for one name the later counts.
+pub(crate) fn changes_of(matches: &ArgMatches<'_>) -> Result<Changes, SettingFault> {
+    let given = given_of(matches).ok_or(SettingFault::Form)?;
+    Changes::new(
+        given.resolution,
+        given.attempt,
+        given.count,
+        given.limit,
+        given.floor,
+    )
+    .map_err(SettingFault::Range)
+}
+
+fn given_of(matches: &ArgMatches<'_>) -> Option<Given> {
     let mut given = Given::NOTHING;
     if let Some(text) = matches.get_str("timeout") {
         given.limit = Some(read_number(text.as_bytes())?);
@@ -75,14 +98,7 @@ pub(crate) fn changes_of(matches: &ArgMatches<'_>) -> Option<Changes> {
             given = given.with(text)?;
         }
     }
-    Changes::new(
-        given.resolution,
-        given.attempt,
-        given.count,
-        given.limit,
-        given.floor,
-    )
-    .ok()
+    Some(given)
 }
 
 // The settings of `he connect`: where none is given that of RFC 8305 section 8, and the least floor. These are in their

@@ -3,7 +3,7 @@ ghost use Rattle.std.specs.Prelude.{◌≤◌};
 ghost use Rattle.he_command.specs.declared.limits.TheConstants.{LEAST_PORT};
 
 use crate::arguments::{file, flag, plain, port, port_of};
-use crate::numbers::{changes_of, set, timeout};
+use crate::numbers::{SettingFault, changes_of, set, timeout};
 use clap::{Arg, ArgMatches, Command};
 use he_plan::Changes;
 use std::alloc::{AllocError, Global};
@@ -102,9 +102,8 @@ fn args<'a>(alloc: Global) -> Result<Vec<Arg<'a>>, AllocError> {
 pub struct LiveOptions<'a> {
     /// The port at which each address is connected to, 1 to 65,535.
     pub port: u16,
-    /// The settings in place of the text's own; None where one isn't a number, is out of its range, or
-    /// has a name that there isn't.
-    pub changes: Option<Changes>,
+    /// The settings in place of the text's own.
+    pub changes: Result<Changes, SettingFault>,
     /// The file of the record.
     pub record: Option<&'a str>,
     /// Whether the status tells that no connection was made.

@@ -1,5 +1,5 @@
 //! A whole run of the program over an input, an output and a writer of faults.
-ghost use Rattle.std.specs.Prelude.{◌≡◌, ◌≢◌, [], IfOk, IsSome, OnErr, Result, option_map};
+ghost use Rattle.std.specs.Prelude.{◌≡◌, ◌≢◌, [], Err, IfOk, IsSome, MatchResult, Ok, OnErr, Result};
 ghost use Rattle.clap.specs.Values.{kind_of};
 ghost use Rattle.he_stream.specs.Input.{Gives, GivesSoFar};
 ghost use Rattle.he_stream.specs.Output.{PutsAndEnds, PutsInRounds, PutsPart, PutsRoundsPart, PutsWhole};
@@ -11,28 +11,24 @@ use crate::arguments::OptionFault;
 use crate::asking::Options;
 use crate::command::{Request, read_words};
 use crate::files::run_texts;
-use crate::numbers::settings_of;
+use crate::lender::{Lender, columns_of};
+use crate::numbers::{SettingFault, settings_of};
 use crate::racing::LiveOptions;
+use crate::summing::run_summary;
 use clap::Error;
 use clap::error::ErrorKind;
 use he_connect::{Asked, ConnectFault, Ended, Lines, connect};
 use he_host::machine::write_machine;
 use he_live::{FailedAttempt, LiveFault, Told, first_local, live, write_failures};
 use he_plan::{Changes, Outcome3, Settings};
-use he_replay::ReplayFault;
-use he_resolver::{Choice, SystemResolver, TellFault, write_names};
+use he_resolver::{Choice, TellFault, write_names};
 use he_stream::{FromReader, InputStream, OutputStream, write_whole};
-use std::alloc::{AllocGlobal, Global};
+use he_text::StreamFault;
+use std::alloc::Global;
 use std::fmt::Display;
 use std::fs;
 use std::io::Write;
 use std::mem::drop;
-use std::net::Net;
-use std::random::RandomSource;
-use std::rt::Files;
-use std::sync::Wait;
-use std::thread::Threads;
-use std::time::Clock;
 
 /// The exit status when all was done.
 pub const DONE: u8 = 0;
@@ -58,8 +54,7 @@ pub fn run_words<'a, R, I, O, F>(
     faults: &mut F,
 ) -> u8
 where
-    R: Threads + Wait + Clock + RandomSource + AllocGlobal + Net + Files + Sync,
-    R: SystemResolver + Copy + Send + 'static,
+    R: Lender,
     I: InputStream,
     O: OutputStream + Send,
     F: Write,
@@ -73,7 +68,8 @@ where
         (PutsPart O.contents O.puts O.flushes output.old output.new) (output.new ≡ output.old)
         (λ task changes files status. RunsFiles (λ name. RunsFile (RunsOver I.remaining I.takes O.contents O.puts O.flushes task changes) (RunsOver ⟦<FromReader<R::File> as InputStream>⟧.remaining ⟦<FromReader<R::File> as InputStream>⟧.takes O.contents O.puts O.flushes task changes) name.now) files input.old input.new output.old output.new status) result }
 {
-    run_line(rt, alloc, read_words(alloc, words), input, output, faults)
+    let line = read_words(alloc, words, columns_of(rt));
+    run_line(rt, alloc, line, input, output, faults)
 }
 
 /// Runs what a command line asks for, and answers the exit status.
@@ -86,8 +82,7 @@ pub fn run_line<R, I, O, F>(
     faults: &mut F,
 ) -> u8
 where
-    R: Threads + Wait + Clock + RandomSource + AllocGlobal + Net + Files + Sync,
-    R: SystemResolver + Copy + Send + 'static,
+    R: Lender,
     I: InputStream,
     O: OutputStream + Send,
     F: Write,
@@ -117,8 +112,7 @@ fn run_request<R, I, O, F>(
     faults: &mut F,
 ) -> u8
 where
-    R: Threads + Wait + Clock + RandomSource + AllocGlobal + Net + Files + Sync,
-    R: SystemResolver + Copy + Send + 'static,
+    R: Lender,
     I: InputStream,
     O: OutputStream + Send,
     F: Write,
@@ -133,7 +127,10 @@ where
         (λ task changes files status. RunsFiles (λ name. RunsFile (RunsOver I.remaining I.takes O.contents O.puts O.flushes task changes) (RunsOver ⟦<FromReader<R::File> as InputStream>⟧.remaining ⟦<FromReader<R::File> as InputStream>⟧.takes O.contents O.puts O.flushes task changes) name.now) files input.old input.new output.old output.new status) result }
 {
     match request {
-        Request::Texts(texts) => run_texts(rt, alloc, &texts, input, output, faults),
+        Request::Texts(task, texts) => run_texts(rt, alloc, task, &texts, input, output, faults),
+        Request::Summary(form, texts) => {
+            run_summary(rt, alloc, form, &texts, input, output, faults)
+        }
         Request::Live(options) => run_live(rt, alloc, &options, input, output, faults),
         Request::Host => run_host(rt, alloc, output, faults),
         Request::Names { host, resolver } => {
@@ -153,7 +150,7 @@ fn run_live<R, I, O, F>(
     faults: &mut F,
 ) -> u8
 where
-    R: Wait + Clock + RandomSource + AllocGlobal + Net + Files,
+    R: Lender,
     I: InputStream,
     O: OutputStream,
     F: Write,
@@ -162,8 +159,8 @@ where
         (PutsPart O.contents O.puts O.flushes output.old output.new) (output.new ≡ output.old) result }
 {
     match options.changes {
-        Some(changes) => run_changed(rt, alloc, options, changes, input, output, faults),
-        None => refuse_option(OptionFault::Setting, faults),
+        Ok(changes) => run_changed(rt, alloc, options, changes, input, output, faults),
+        Err(fault) => refuse_option(OptionFault::Setting(fault), faults),
     }
 }
 
@@ -178,7 +175,7 @@ fn run_changed<R, I, O, F>(
     faults: &mut F,
 ) -> u8
 where
-    R: Wait + Clock + RandomSource + AllocGlobal + Net + Files,
+    R: Lender,
     I: InputStream,
     O: OutputStream,
     F: Write,
@@ -194,7 +191,7 @@ where
 }
 
 // Says why attempts of a live race failed and how it ended, and writes its record to a file where one is named.
-fn report_live<R: Files, F: Write>(
+fn report_live<R: Lender, F: Write>(
     rt: &R,
     alloc: Global,
     options: &LiveOptions<'_>,
@@ -213,7 +210,7 @@ fn report_live<R: Files, F: Write>(
 }
 
 // Writes the record of a race that was run to its file, where one is named.
-fn keep_record<R: Files>(rt: &R, path: Option<&str>, text: &[u8]) -> Result<(), ConnectFault>
+fn keep_record<R: Lender>(rt: &R, path: Option<&str>, text: &[u8]) -> Result<(), ConnectFault>
     ensures { OnErr result (IsSome path.entry × (text.now ≢ [])) }
 {
     match path {
@@ -227,7 +224,7 @@ fn keep_record<R: Files>(rt: &R, path: Option<&str>, text: &[u8]) -> Result<(), 
 // Writes the lines of this machine, and what is left out of them.
 fn run_host<R, O, F>(rt: &R, alloc: Global, output: &mut O, faults: &mut F) -> u8
 where
-    R: Files + Net + AllocGlobal,
+    R: Lender,
     O: OutputStream,
     F: Write,
     ensures { Shows (PutsWhole O.contents O.puts O.flushes output.old output.new)
@@ -245,11 +242,11 @@ where
     }
 }
 
-fn put_lines<O: OutputStream>(lines: &[u8], output: &mut O) -> Result<(), ReplayFault>
+fn put_lines<O: OutputStream>(lines: &[u8], output: &mut O) -> Result<(), StreamFault>
     ensures { Shows (PutsWhole O.contents O.puts O.flushes output.old output.new)
         (PutsPart O.contents O.puts O.flushes output.old output.new) (output.new ≡ output.old) (status_of result) }
 {
-    write_whole(output, lines).map_err(|_| ReplayFault::Write)
+    write_whole(output, lines).map_err(|_| StreamFault::Write)
 }
 
 // Finds the addresses of a host. A resolver that is none is a line that is refused.
@@ -262,8 +259,7 @@ fn run_names<R, O, F>(
     faults: &mut F,
 ) -> u8
 where
-    R: Wait + Clock + RandomSource + AllocGlobal + Net + Files + Threads,
-    R: SystemResolver + Copy + Send + 'static,
+    R: Lender,
     O: OutputStream,
     F: Write,
     ensures { RunsNames resolver (PutsWhole O.contents O.puts O.flushes output.old output.new)
@@ -285,8 +281,7 @@ fn run_connect<R, I, O, F>(
     faults: &mut F,
 ) -> u8
 where
-    R: Threads + Wait + Clock + RandomSource + AllocGlobal + Net + Files + Sync,
-    R: SystemResolver + Copy + Send + 'static,
+    R: Lender,
     I: InputStream,
     O: OutputStream + Send,
     F: Write,
@@ -296,8 +291,9 @@ where
     let Some(resolver) = options.resolver else {
         return refuse_option(OptionFault::Resolver, faults);
     };
-    let Some(settings) = settings_asked(options) else {
-        return refuse_option(OptionFault::Setting, faults);
+    let settings = match settings_asked(options) {
+        Ok(settings) => settings,
+        Err(fault) => return refuse_option(OptionFault::Setting(fault), faults),
     };
     let asked = Asked {
         host: options.host,
@@ -321,10 +317,10 @@ where
     )
 }
 
-fn settings_asked(options: &Options<'_>) -> Option<Settings>
-    ensures { result ≡ option_map connect_settings options.now.changes }
+fn settings_asked(options: &Options<'_>) -> Result<Settings, SettingFault>
+    ensures { MatchResult options.now.changes (λ changes. result ≡ Ok (connect_settings changes)) (λ fault. result ≡ Err fault) }
 {
-    settings_of(options.changes?)
+    settings_of(options.changes?).ok_or(SettingFault::Form)
 }
 
 // Says how a connection ended, and answers the exit status.
@@ -380,7 +376,7 @@ fn answer_line<O: OutputStream, F: Write>(
         (PutsPart O.contents O.puts O.flushes output.old output.new) (output.new ≡ output.old) result }
 {
     if error.kind() == ErrorKind::OutOfMemory {
-        report(ReplayFault::Memory, faults)
+        report(StreamFault::Memory, faults)
     } else if error.use_stderr() {
         refuse(error, faults)
     } else {
@@ -393,14 +389,14 @@ fn write_help<O: OutputStream>(
     alloc: Global,
     error: &Error,
     output: &mut O,
-) -> Result<(), ReplayFault>
+) -> Result<(), StreamFault>
     ensures { Shows (PutsWhole O.contents O.puts O.flushes output.old output.new)
         (PutsPart O.contents O.puts O.flushes output.old output.new) (output.new ≡ output.old) (status_of result) }
 {
-    let text = format!(in alloc; "{error}").map_err(|_| ReplayFault::Memory)?;
+    let text = format!(in alloc; "{error}").map_err(|_| StreamFault::Memory)?;
     match write_whole(output, text.as_bytes()) {
         Ok(()) => Ok(()),
-        Err(_) => Err(ReplayFault::Write),
+        Err(_) => Err(StreamFault::Write),
     }
 }
 

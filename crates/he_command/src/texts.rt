@@ -1,14 +1,14 @@
-//! The words of `he replay`, `he order`, `he explain`, `he compare` and `he check`, which read texts of races.
+//! The words of the commands that read texts of races: replay, order, explain, draw, summary, compare and check.
 ghost use Rattle.std.specs.Prelude.{◌≤◌};
-ghost use Rattle.he_replay.specs.Actions.{HasWorkers};
 ghost use Rattle.he_command.specs.Texts.{HasTaskWorkers};
 
 use crate::arguments::{flag, plain};
-use crate::limits::{DEFAULT_WORKERS, DEFAULT_WORKERS_TEXT};
-use crate::numbers::set;
+use crate::limits::{DEFAULT_WORKERS, DEFAULT_WORKERS_TEXT, LEAST_WIDTH, MOST_WIDTH};
+use crate::numbers::{SettingFault, changes_of, set};
 use clap::{Arg, ArgAction, ArgMatches, Command, value_parser};
+use he_draw::Look;
 use he_plan::Changes;
-use he_replay::Action;
+use he_replay::Content;
 use he_replay::limits::{LEAST_WORKERS, MOST_WORKERS};
 use std::alloc::{AllocError, Global};
 
@@ -17,6 +17,10 @@ const REPLAY_ABOUT: &str = "Reads timelines of races and writes what happens in 
 const ORDER_ABOUT: &str = "Reads timelines of races and writes the order of their addresses";
 
 const EXPLAIN_ABOUT: &str = "Reads timelines of races and writes why they went as they did";
+
+const DRAW_ABOUT: &str = "Reads timelines of races and draws a picture of each";
+
+const SUMMARY_ABOUT: &str = "Reads timelines of races and sums up how they went";
 
 const COMPARE_ABOUT: &str =
     "Reads timelines of races and writes what other settings would do to each";
@@ -27,10 +31,22 @@ const CHECK_ABOUT: &str =
 const FILE_HELP: &str =
     "A file with a text, `-` for standard input; of several one after the other. Standard input where none is given";
 
-const VERBOSE_HELP: &str = "Explains the fault of a file, as `he check` does";
+const VERBOSE_HELP: &str =
+    "Explains the fault of a file, as `he check` does, and why it can't be read or nothing be written";
 
 const SET_HELP: &str =
     "A setting that every race has in place of its own, as attempt=100: attempt, resolution, count, limit or floor. May be given more than once";
+
+const JSON_HELP: &str = "Writes a JSON object for each race, on one line";
+
+const SUMMARY_JSON_HELP: &str = "Writes the same as one JSON object, on one line";
+
+const ASCII_HELP: &str = "Draws with characters of ASCII alone";
+
+const SVG_HELP: &str = "Draws each race as an SVG image";
+
+const WIDTH_HELP: &str =
+    "The columns of a line, 40 to 1000; those of the environment's COLUMNS where it isn't given, 80 else";
 
 const LINES_HELP: &str =
     "Writes lines for scripts, which cut them at their spaces, in place of the story";
@@ -140,6 +156,73 @@ With --lines it is told in lines that a script cuts at their spaces, counted fro
 Exit status: 0 when all is done; 1 after a fault, which standard error tells, and which
 ends it; 2 for a command line that is refused.";
 
+const DRAW_EXAMPLE: &str = "\
+The text is a timeline text, as for `he replay`. Standard output has a picture of each
+race: a line on how it ended, and a row for the AAAA answer, the A answer, each pause and
+each attempt, with a bar from its start to its end, all on the scale below them, and the
+same ticks in numbers. The race ends at the right edge. The A answer's bar is its wait for
+the AAAA answer (the Resolution Delay, RFC 8305 section 3).
+
+Example input:
+
+  race 1
+  source 2001:db8::2/64 1
+  source 192.0.2.2/24 1
+  route ::/0 1
+  route 0.0.0.0/0 1
+  aaaa 20 2001:db8:1::1
+  a 25 198.51.100.1
+  connect 2001:db8:1::1 fail 1
+  connect 198.51.100.1 ok 30
+  end
+
+Output of `he draw --ascii --width 72`:
+
+  race 1, line 1: won after 300 ms by attempt 2
+  AAAA answer   |  o                                     | 20 ms, 1 usable
+  A answer      |   o                                    | 25 ms, 1 usable
+  2001:db8:1::1 |  x                                     | 20-21 ms failed
+  198.51.100.1  |                                   ====*| 270-300 ms won
+                 0                                 300 ms
+
+Exit status: 0 when all is done; 1 after a fault, which standard error tells, and which
+ends it; 2 for a command line that is refused.";
+
+const SUMMARY_EXAMPLE: &str = "\
+The text is a timeline text, as for `he replay`. Standard output has one summary of the
+races of all files: how many were won, by which family; the times to connect, within which
+half, 90 and 99 of 100 races that were won were won; the attempts; in how many races the
+Resolution Delay was waited out (RFC 8305 section 3); and the ten addresses to which most
+attempts failed or were silent. Nothing is written before the end of the last text.
+
+Example input:
+
+  race 1
+  source 2001:db8::2/64 1
+  source 192.0.2.2/24 1
+  route ::/0 1
+  route 0.0.0.0/0 1
+  aaaa 20 2001:db8:1::1
+  a 25 198.51.100.1
+  connect 2001:db8:1::1 fail 1
+  connect 198.51.100.1 ok 30
+  end
+
+Its output (the second line is one line):
+
+  1 race: 1 won (0 by IPv6, 1 by IPv4), 0 exhausted, 0 at the limit
+  time to connect: median 300 ms, 90 of 100 within 300 ms, 99 of 100 within 300 ms,
+    greatest 300 ms
+  attempts: 2, at most 2 in a race
+  the Resolution Delay was waited out in 0 races
+  failed or silent most often:
+    1 of 1 attempt to 2001:db8:1::1
+
+Of a text with a fault the races before it are summed up, and those of the texts before.
+
+Exit status: 0 when all is done; 1 after a fault, which standard error tells, and which
+ends it; 2 for a command line that is refused.";
+
 const COMPARE_EXAMPLE: &str = "\
 The text is a timeline text, as for `he replay`. Standard output has a line for each race:
 how it ends, how it would end with the settings that are given, and what they do to it;
@@ -207,6 +290,7 @@ pub(crate) fn replay_command<'a>(alloc: Global) -> Result<Command<'a>, AllocErro
         files(alloc),
         workers(alloc),
         set(alloc, SET_HELP),
+        json(alloc),
         verbose(alloc),
     ]?;
     plain(alloc, "replay", REPLAY_ABOUT, REPLAY_EXAMPLE).args(args)
@@ -214,15 +298,40 @@ pub(crate) fn replay_command<'a>(alloc: Global) -> Result<Command<'a>, AllocErro
 
 // The command `he order`.
 pub(crate) fn order_command<'a>(alloc: Global) -> Result<Command<'a>, AllocError> {
-    let args = vec![in alloc; files(alloc), verbose(alloc)]?;
+    let args = vec![in alloc; files(alloc), json(alloc), verbose(alloc)]?;
     plain(alloc, "order", ORDER_ABOUT, ORDER_EXAMPLE).args(args)
 }
 
 // The command `he explain`.
 pub(crate) fn explain_command<'a>(alloc: Global) -> Result<Command<'a>, AllocError> {
-    let lines = flag(alloc, "lines", LINES_HELP).long("lines");
-    let args = vec![in alloc; files(alloc), lines, set(alloc, SET_HELP), verbose(alloc)]?;
+    let args = vec![in alloc;
+        files(alloc),
+        flag(alloc, "lines", LINES_HELP).long("lines"),
+        set(alloc, SET_HELP),
+        json(alloc),
+        verbose(alloc),
+    ]?;
     plain(alloc, "explain", EXPLAIN_ABOUT, EXPLAIN_EXAMPLE).args(args)
+}
+
+// The command `he draw`.
+pub(crate) fn draw_command<'a>(alloc: Global) -> Result<Command<'a>, AllocError> {
+    let args = vec![in alloc;
+        files(alloc),
+        flag(alloc, "ascii", ASCII_HELP).long("ascii"),
+        width(alloc),
+        flag(alloc, "svg", SVG_HELP).long("svg"),
+        set(alloc, SET_HELP),
+        verbose(alloc),
+    ]?;
+    plain(alloc, "draw", DRAW_ABOUT, DRAW_EXAMPLE).args(args)
+}
+
+// The command `he summary`.
+pub(crate) fn summary_command<'a>(alloc: Global) -> Result<Command<'a>, AllocError> {
+    let json = flag(alloc, "json", SUMMARY_JSON_HELP).long("json");
+    let args = vec![in alloc; files(alloc), json, set(alloc, SET_HELP), verbose(alloc)]?;
+    plain(alloc, "summary", SUMMARY_ABOUT, SUMMARY_EXAMPLE).args(args)
 }
 
 // The command `he compare`.
@@ -246,6 +355,20 @@ fn files<'a>(alloc: Global) -> Arg<'a> {
         .help(FILE_HELP)
 }
 
+// Whether it is written as JSON.
+fn json<'a>(alloc: Global) -> Arg<'a> {
+    flag(alloc, "json", JSON_HELP).long("json")
+}
+
+// The columns of a picture.
+fn width<'a>(alloc: Global) -> Arg<'a> {
+    Arg::new(alloc, "width")
+        .long("width")
+        .value_name("N")
+        .value_parser(value_parser!(u16).range(i64::from(LEAST_WIDTH)..=i64::from(MOST_WIDTH)))
+        .help(WIDTH_HELP)
+}
+
 // The most workers of `he replay`.
 fn workers<'a>(alloc: Global) -> Arg<'a> {
     Arg::new(alloc, "workers")
@@ -266,47 +389,53 @@ fn verbose<'a>(alloc: Global) -> Arg<'a> {
 /// What is done with a text of races.
 #[derive(Clone, Copy)]
 pub enum Task {
-    Action(Action),
+    /// To write this of each race, by at most so many workers, 1 to 64.
+    Write { content: Content, workers: u16 },
     /// To compare its races with what they would be with other settings.
     Compare,
-    /// To check it, and to explain its first fault or to warn of its slips.
-    Check,
-    /// The same, but to go on behind a faulty race and to explain each fault.
-    CheckAll,
+    /// To check it, and to explain its first fault, or each behind which it goes on, or to warn of its slips.
+    Check { is_all: bool },
+}
+
+impl Task {
+    pub(crate) fn is_check(self) -> bool {
+        matches!(self, Task::Check { .. })
+    }
+
+    // Whether what it tells of a text has each fault.
+    pub(crate) fn tells_faults(self) -> bool {
+        matches!(self, Task::Check { is_all: true })
+    }
 }
 
 /// Texts that something is done with.
 #[derive(Drop)]
 pub struct Texts<'a> {
-    pub task: Task,
-    /// The settings that each race has in place of its own; None where one isn't a number, is out of its range, or has a
-    /// name that there isn't.
-    pub changes: Option<Changes>,
+    /// The settings that each race has in place of its own.
+    pub changes: Result<Changes, SettingFault>,
     /// The files that have them, one after the other, `-` for standard input; where there are none, it has one.
     pub files: Vec<&'a str>,
-    /// Whether the fault of a file is explained, as a check does.
+    /// Whether a fault is explained: that of a file as a check does, and why it can't be read or nothing written.
     pub explains: bool,
 }
 
-// The files that the line names.
-pub(crate) fn files_of<'a>(
+// The texts that the line names. What a check tells has its reason always.
+pub(crate) fn texts_of<'a>(
     alloc: Global,
     matches: &ArgMatches<'a>,
-) -> Result<Vec<&'a str>, AllocError> {
+) -> Result<Texts<'a>, AllocError> {
+    Ok(Texts {
+        changes: changes_of(matches),
+        files: files_of(alloc, matches)?,
+        explains: matches.get_flag("verbose"),
+    })
+}
+
+// The files that the line names.
+fn files_of<'a>(alloc: Global, matches: &ArgMatches<'a>) -> Result<Vec<&'a str>, AllocError> {
     match matches.get_strs("file") {
         Some(files) => Vec::from_slice(alloc, files),
         None => Ok(Vec::new(alloc)),
-    }
-}
-
-// To explain, to a person or in lines.
-pub(crate) fn explain_of(matches: &ArgMatches<'_>) -> Action
-    ensures { HasWorkers result }
-{
-    if matches.get_flag("lines") {
-        Action::Explain
-    } else {
-        Action::Tell
     }
 }
 
@@ -314,18 +443,71 @@ pub(crate) fn explain_of(matches: &ArgMatches<'_>) -> Action
 pub(crate) fn check_of(matches: &ArgMatches<'_>) -> Task
     ensures { HasTaskWorkers result }
 {
-    if matches.get_flag("all") {
-        Task::CheckAll
+    Task::Check {
+        is_all: matches.get_flag("all"),
+    }
+}
+
+// What a line of `he replay` asks for.
+fn transcript_of(matches: &ArgMatches<'_>) -> Content {
+    if matches.get_flag("json") {
+        Content::TranscriptJson
     } else {
-        Task::Check
+        Content::Transcript
+    }
+}
+
+// What a line of `he order` asks for.
+pub(crate) fn order_of(matches: &ArgMatches<'_>) -> Content {
+    if matches.get_flag("json") {
+        Content::OrderJson
+    } else {
+        Content::Order
+    }
+}
+
+// What a line of `he explain` asks for: a story, or what scripts read.
+pub(crate) fn explain_of(matches: &ArgMatches<'_>) -> Content {
+    if matches.get_flag("json") {
+        Content::ExplanationJson
+    } else if matches.get_flag("lines") {
+        Content::Explanation
+    } else {
+        Content::Story
+    }
+}
+
+// What a line of `he draw` asks for, where a terminal has so many columns.
+pub(crate) fn draw_of(matches: &ArgMatches<'_>, columns: u16) -> Content {
+    if matches.get_flag("svg") {
+        return Content::Image;
+    }
+    Content::Picture {
+        look: if matches.get_flag("ascii") {
+            Look::Ascii
+        } else {
+            Look::Unicode
+        },
+        width: matches.get_one::<u16>("width").unwrap_or(columns),
+    }
+}
+
+// To write this of each race, by one worker.
+pub(crate) fn alone(content: Content) -> Task
+    ensures { HasTaskWorkers result }
+{
+    Task::Write {
+        content,
+        workers: LEAST_WORKERS,
     }
 }
 
 // To replay by the workers of the line.
-pub(crate) fn replay_of(matches: &ArgMatches<'_>) -> Action
-    ensures { HasWorkers result }
+pub(crate) fn replay_of(matches: &ArgMatches<'_>) -> Task
+    ensures { HasTaskWorkers result }
 {
-    Action::Replay {
+    Task::Write {
+        content: transcript_of(matches),
         workers: workers_of(matches),
     }
 }

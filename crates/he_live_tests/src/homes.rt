@@ -1,9 +1,9 @@
 // Races on real sockets, and what is wanted of them.
 
 use he_live::{LiveFault, Reason, Steps, live_race, live_race_on};
-use he_plan::{Changes, Mark, Outcome3, Transcript};
+use he_plan::{Mark, Outcome3, Transcript};
 use he_race::Raced;
-use he_replay::replay;
+use he_replay::{Asked, Content, replay};
 use he_stream::{FromReader, ToWriter};
 use he_text::{read_one_race, write_timeline, write_transcript};
 use std::alloc::AllocGlobal;
@@ -83,7 +83,14 @@ fn is_wanted(transcript: &Transcript, wanted: &Wanted<'_>) -> bool {
 pub fn replays<R: Lender>(rt: &R, transcript: &[u8], record: &[u8]) -> Result<bool, Fail> {
     let mut input = FromReader::new(FakeReader::new(record, usize::MAX));
     let mut output = ToWriter::new(Vec::new(rt.alloc()));
-    let told = replay(rt, rt.alloc(), Changes::none(), &mut input, &mut output, 1);
+    let told = replay(
+        rt,
+        rt.alloc(),
+        Asked::of(Content::Transcript),
+        1,
+        &mut input,
+        &mut output,
+    );
     let is_same = output.writer().as_slice() == transcript;
     drop(input);
     drop(output);

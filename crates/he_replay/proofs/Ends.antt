@@ -14,8 +14,8 @@ use Rattle.he_text.specs.declared.walks.Ending.TheVariants as endings
 use Rattle.he_text.specs.declared.walks.Walk.{Walk}
 use Rattle.he_text.specs.Ranges.{most_races}
 use Rattle.he_text.specs.Walks.{ending_of}
-use Rattle.he_replay.specs.declared.fault.ReplayFault.{ReplayFault}
-use Rattle.he_replay.specs.declared.fault.ReplayFault.TheVariants as faults
+use Rattle.he_text.specs.declared.stream_fault.StreamFault.{StreamFault}
+use Rattle.he_text.specs.declared.stream_fault.StreamFault.TheVariants as faults
 use Rattle.he_replay.specs.Output.{TextRelation}
 use Rattle.he_replay.specs.Rounds.{EndsWithFault, GoesOn, HasTold, IsAt, IsFaultPast, PutsAny, PutsRound}
 use Rattle.he_replay.specs.Stream.{PutsOutput, Streams, TellsSome}
@@ -23,10 +23,10 @@ use Rattle.he_replay.proofs.Further.{last_output, not_broken, one_more_round, ro
 use Rattle.he_replay.proofs.Told.{none_told}
 
 -- a fault that is handed on
-pub ends_handed : (IsText : TextRelation) (Gave : List ℕ → Bool → Type 0) (Taken Whole Part Put : List ℕ → Type 0) (result : Result (Unit {0}) ReplayFault) (fault : ReplayFault)
+pub ends_handed : (IsText : TextRelation) (Gave : List ℕ → Bool → Type 0) (Taken Whole Part Put : List ℕ → Type 0) (result : Result (Unit {0}) StreamFault) (fault : StreamFault)
     → IsErr result × IsErrAnd result (λ f. f ≡ fault) → Streams IsText Gave Taken Whole Part Put (Err fault) → Streams IsText Gave Taken Whole Part Put result
 ends_handed IsText Gave Taken Whole Part Put (Ok done) fault told ends = absurd told.1
-ends_handed IsText Gave Taken Whole Part Put (Err found) fault told ends = subst (λ (f : ReplayFault). Streams IsText Gave Taken Whole Part Put (Err f)) (sym told.1) ends
+ends_handed IsText Gave Taken Whole Part Put (Err found) fault told ends = subst (λ (f : StreamFault). Streams IsText Gave Taken Whole Part Put (Err f)) (sym told.1) ends
 
 -- an input that ended goes on no more
 not_open : (is_broken : Bool) → ending_of is_broken ≡ endings.Open → ⊥
@@ -116,7 +116,7 @@ module _ {S : Type 0} (IsText : TextRelation) (contents : S → Option (List ℕ
     }
 
     module _ (Gave : List ℕ → Bool → Type 0) (Taken : List ℕ → Type 0) where
-      abbrev Ends : Result (Unit {0}) ReplayFault → Type 0
+      abbrev Ends : Result (Unit {0}) StreamFault → Type 0
       Ends = Streams IsText Gave Taken (PutsAndEnds contents puts flushes first last) (PutsRoundsPart contents puts flushes first last) (PutsInRounds contents puts flushes first last)
 
       -- an allocation was refused before anything was put in
@@ -130,7 +130,7 @@ module _ {S : Type 0} (IsText : TextRelation) (contents : S → Option (List ℕ
       }
 
       -- a round was the last, since something was wrong
-      pub ends_told : ((taken : List ℕ) → Took taken → Taken taken) → (kept : List ℕ) (next : Walk) (fault : ReplayFault)
+      pub ends_told : ((taken : List ℕ) → Took taken → Taken taken) → (kept : List ℕ) (next : Walk) (fault : StreamFault)
           → PutsRound IsText contents puts flushes endings.Open bytes from kept next state last (Err fault) → Ends (Err fault)
       ends_told taken kept next (faults.Text fault) ends = inr record {
         input = at.before ++ bytes;
@@ -167,7 +167,7 @@ module _ {S : Type 0} (IsText : TextRelation) (contents : S → Option (List ℕ
         ends_fault fault ends = ends_output ends.text ends.walk (Some fault) ends.told ends.fault_is ends.put
 
         -- nothing followed, and so the round was the last
-        pub ends_given : (kept : List ℕ) (next : Walk) (result : Result (Unit {0}) ReplayFault)
+        pub ends_given : (kept : List ℕ) (next : Walk) (result : Result (Unit {0}) StreamFault)
             → PutsRound IsText contents puts flushes (ending_of is_broken) bytes from kept next state last result → Ends result
         ends_given kept next (Ok done) on = elim on.fault_is [
           | inl goes_on ↦ absurd (not_open is_broken goes_on)

@@ -14,8 +14,8 @@ use Rattle.he_text.specs.Ranges.{most_races}
 use Rattle.he_text.specs.Walks.{MayFollow, ending_of}
 use Rattle.he_text.proofs.WalkLaws.{line_count-append}
 use Rattle.std.specs.Result.{IsErr, IsErrAnd}
-use Rattle.he_replay.specs.declared.fault.ReplayFault.{ReplayFault}
-use Rattle.he_replay.specs.declared.fault.ReplayFault.TheVariants as faults
+use Rattle.he_text.specs.declared.stream_fault.StreamFault.{StreamFault}
+use Rattle.he_text.specs.declared.stream_fault.StreamFault.TheVariants as faults
 use Rattle.he_replay.specs.declared.rounds.Told.{Told}
 use Rattle.he_replay.specs.Output.{AreTold, IsOutput, TextRelation}
 use Rattle.he_replay.specs.Rounds.{GoesOn, HasTold, IsAt, IsFaultPast, PutsRound, PutsTold}
@@ -125,12 +125,12 @@ module _ {S : Type 0} (IsText : TextRelation) (contents : S → Option (List ℕ
       | inr behind ↦ subst (IsFaultPast ending bytes told.walk) found behind
     ]
 
-    pub round_ends : (next : Walk) (fault : ReplayFault) → PutsTold contents puts flushes ending told text first last (Err fault) → (result : Result (Unit {0}) ReplayFault)
+    pub round_ends : (next : Walk) (fault : StreamFault) → PutsTold contents puts flushes ending told text first last (Err fault) → (result : Result (Unit {0}) StreamFault)
         → IsErr result × IsErrAnd result (λ f. f ≡ fault) → PutsRound IsText contents puts flushes ending bytes from kept next first last result
     round_ends next fault put (Ok done) handed = absurd handed.1
-    round_ends next fault put (Err other) handed = subst (λ (f : ReplayFault). PutsRound IsText contents puts flushes ending bytes from kept next first last (Err f)) (sym handed.1) (ends fault put)
+    round_ends next fault put (Err other) handed = subst (λ (f : StreamFault). PutsRound IsText contents puts flushes ending bytes from kept next first last (Err f)) (sym handed.1) (ends fault put)
       where
-        ends : (fault : ReplayFault) → PutsTold contents puts flushes ending told text first last (Err fault) → PutsRound IsText contents puts flushes ending bytes from kept next first last (Err fault)
+        ends : (fault : StreamFault) → PutsTold contents puts flushes ending told text first last (Err fault) → PutsRound IsText contents puts flushes ending bytes from kept next first last (Err fault)
         ends (faults.Text fault) (found, put) = record { text = text; walk = told.walk; told = has; fault_is = past (inputs.Text fault) found; put = put }
         ends faults.Read (found, put) = record { text = text; walk = told.walk; told = has; fault_is = past inputs.Read found; put = put }
         ends faults.Write failed = (text, told.walk, has, failed)

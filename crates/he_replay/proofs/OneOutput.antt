@@ -1,6 +1,10 @@
 -- An input has one output: it has one list of races, and each of them has one text.
 use Rattle.std.proofs.Common.{ℕ, ◌≡◌, ◌++◌, List, Bool, Option, ap, sym, ◌∙◌, subst}
+use Rattle.he_draw.specs.Picture.{picture_text}
+use Rattle.he_draw.specs.Svg.{svg_text}
 use Rattle.he_explain.specs.Course.{explanation_text}
+use Rattle.he_json.specs.Explanation.{explanation_json}
+use Rattle.he_json.specs.Transcripts.{transcript_json}
 use Rattle.he_plan.specs.Changes.{ChangeValues, changed}
 use Rattle.he_plan.specs.Race.{Race}
 use Rattle.he_plan.specs.Transcript.{Report, IsTranscript}
@@ -31,6 +35,16 @@ module _
         let same = one_transcript race story.report other_story.report story.is other_story.is in
         let same_floor = one_transcript (floored race) story.with_floor other_story.with_floor story.floors other_story.floors in
         story.text ∙ ap (λ (report : Report). written report story.with_floor) same ∙ ap (written other_story.report) same_floor ∙ sym other_story.text
+    one_text contents.TranscriptJson number line race text other (report, is, written) (other_report, other_is, other_written) =
+        written ∙ ap transcript_json (one_transcript race report other_report is other_is) ∙ sym other_written
+    one_text contents.OrderJson number line race text other is other_is = is ∙ sym other_is
+    one_text contents.ExplanationJson number line race text other (report, is, written) (other_report, other_is, other_written) =
+        written ∙ ap (explanation_json race) (one_transcript race report other_report is other_is) ∙ sym other_written
+    one_text (contents.Picture look width) number line race text other picture other_picture =
+        let same = one_transcript race picture.report other_picture.report picture.is other_picture.is in
+        picture.text ∙ ap (picture_text number line look width race) same ∙ sym other_picture.text
+    one_text contents.Image number line race text other image other_image =
+        image.text ∙ ap (svg_text number line race) (one_transcript race image.report other_image.report image.is other_image.is) ∙ sym other_image.text
 
     pub one_output : (content : Content) (changes : ChangeValues) (input : List ℕ) (is_broken : Bool) (text other : List ℕ) (fault other_fault : Option InputFault)
         → IsOutput (IsTextWith content changes) input is_broken text fault → IsOutput (IsTextWith content changes) input is_broken other other_fault → (text ≡ other) × (fault ≡ other_fault)

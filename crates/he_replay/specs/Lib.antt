@@ -1,4 +1,3 @@
-pub mod Actions
 pub mod Known
 pub mod Output
 pub mod Pieces

@@ -1,6 +1,11 @@
 -- What is written for an input.
-use Rattle.std.specs.Prelude.{ℕ, ◌≡◌, ◌+◌, ◌++◌, Bool, List, [], ◌∷◌, Option}
+use Rattle.std.specs.Prelude.{ℕ, ◌≡◌, ◌+◌, ◌++◌, Bool, true, false, List, [], ◌∷◌, Option}
+use Rattle.he_draw.specs.Picture.{IsPicture}
+use Rattle.he_draw.specs.Svg.{IsSvg}
 use Rattle.he_explain.specs.Course.{IsExplanation}
+use Rattle.he_json.specs.Explanation.{IsExplanationJson}
+use Rattle.he_json.specs.Orders.{IsOrderJson}
+use Rattle.he_json.specs.Transcripts.{IsTranscriptJson}
 use Rattle.he_plan.specs.Changes.{ChangeValues, changed}
 use Rattle.he_plan.specs.Race.{Race}
 use Rattle.he_plan.specs.Transcript.{IsTranscript, Report}
@@ -28,6 +33,23 @@ IsTextOf contents.Transcript number line = IsTranscriptText
 IsTextOf contents.Order number line = IsOrderText
 IsTextOf contents.Explanation number line = IsExplanation
 IsTextOf contents.Story number line = IsStory number line
+IsTextOf contents.TranscriptJson number line = IsTranscriptJson
+IsTextOf contents.OrderJson number line = IsOrderJson
+IsTextOf contents.ExplanationJson number line = IsExplanationJson
+IsTextOf (contents.Picture look width) number line = IsPicture number line look width
+IsTextOf contents.Image number line = IsSvg number line
+
+-- whether that has the race's place in the input
+abbrev pub has_place : Content → Bool
+has_place contents.Transcript = false
+has_place contents.Order = false
+has_place contents.Explanation = false
+has_place contents.Story = true
+has_place contents.TranscriptJson = false
+has_place contents.OrderJson = false
+has_place contents.ExplanationJson = false
+has_place (contents.Picture look width) = true
+has_place contents.Image = true
 
 -- the same of the race with these changes of its settings
 abbrev pub IsTextWith : Content → ChangeValues → ℕ → ℕ → List ℕ → Race → Type 0

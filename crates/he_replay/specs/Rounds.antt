@@ -13,8 +13,8 @@ use Rattle.he_text.specs.declared.walks.Walk.{Walk}
 use Rattle.he_text.specs.Inputs.{IsFaultBehind, line_count}
 use Rattle.he_text.specs.Ranges.{most_races}
 use Rattle.he_text.specs.Walks.{MayFollow}
-use Rattle.he_replay.specs.declared.fault.ReplayFault.{ReplayFault}
-use Rattle.he_replay.specs.declared.fault.ReplayFault.TheVariants as faults
+use Rattle.he_text.specs.declared.stream_fault.StreamFault.{StreamFault}
+use Rattle.he_text.specs.declared.stream_fault.StreamFault.TheVariants as faults
 use Rattle.he_replay.specs.declared.race_texts.Asked.{Asked}
 use Rattle.he_replay.specs.declared.rounds.Told.{Told}
 use Rattle.he_replay.specs.Output.{AreTold, IsTextWith, TextRelation}
@@ -60,7 +60,7 @@ PutsAny contents puts flushes ending text first last =
     PutsWhole contents puts flushes first last text ⊎ ((ending ≡ endings.Open) × (text ≡ []) × (first ≡ last))
 
 -- how the text of what was told is put: what is wrong with the input is told behind it
-abbrev pub PutsTold : {S : Type 0} → (S → Option (List ℕ)) → (S → Put → S → Type 0) → (S → Flushed → S → Type 0) → Ending → Told → List ℕ → S → S → Result Walk ReplayFault → Type 0
+abbrev pub PutsTold : {S : Type 0} → (S → Option (List ℕ)) → (S → Put → S → Type 0) → (S → Flushed → S → Type 0) → Ending → Told → List ℕ → S → S → Result Walk StreamFault → Type 0
 PutsTold contents puts flushes ending told text first last (Ok walk) =
     (walk ≡ told.walk) × (told.fault ≡ None) × PutsAny contents puts flushes ending text first last
 PutsTold contents puts flushes ending told text first last (Err (faults.Text fault)) =
@@ -89,7 +89,7 @@ pub record EndsWithFault {S : Type 0} (IsText : TextRelation) (contents : S → 
   pub put : PutsWhole contents puts flushes first last text
 
 -- how a round ends: the bytes that are held then, or a fault
-abbrev pub PutsRound : {S : Type 0} → TextRelation → (S → Option (List ℕ)) → (S → Put → S → Type 0) → (S → Flushed → S → Type 0) → Ending → List ℕ → Walk → List ℕ → Walk → S → S → Result (Unit {0}) ReplayFault → Type 0
+abbrev pub PutsRound : {S : Type 0} → TextRelation → (S → Option (List ℕ)) → (S → Put → S → Type 0) → (S → Flushed → S → Type 0) → Ending → List ℕ → Walk → List ℕ → Walk → S → S → Result (Unit {0}) StreamFault → Type 0
 PutsRound IsText contents puts flushes ending bytes from kept next first last (Ok done) =
     GoesOn IsText contents puts flushes ending bytes from kept next first last
 PutsRound IsText contents puts flushes ending bytes from kept next first last (Err (faults.Text fault)) =

@@ -2,15 +2,16 @@
 use Rattle.std.specs.Prelude.{ℕ, ◌≡◌, ◌≤◌, ◌⊎◌, ◌++◌, Bool, List, Option, None, Some, Result, Ok, Err, length}
 use Rattle.he_plan.specs.Changes.{ChangeValues}
 use Rattle.he_plan.specs.Race.{Race}
+use Rattle.he_pool.specs.declared.limits.TheConstants.{LEAST_WORKERS, MOST_WORKERS}
 use Rattle.he_text.specs.declared.fault.TextFault.{TextFault}
 use Rattle.he_text.specs.declared.inputs.InputFault.{InputFault}
 use Rattle.he_text.specs.declared.inputs.InputFault.TheVariants as inputs
 use Rattle.he_text.specs.Ranges.{most_races}
 use Rattle.he_replay.specs.Known.{Stands}
-use Rattle.he_replay.specs.Output.{AreTold, IsOutput, IsOrderText, IsTextWith, TextRelation}
-use Rattle.he_replay.specs.declared.race_texts.Content.TheVariants as contents
-use Rattle.he_replay.specs.declared.fault.ReplayFault.{ReplayFault}
-use Rattle.he_replay.specs.declared.fault.ReplayFault.TheVariants.{Text, Read, Write, Memory}
+use Rattle.he_replay.specs.Output.{AreTold, IsOutput, IsTextWith, TextRelation}
+use Rattle.he_replay.specs.declared.race_texts.Content.{Content}
+use Rattle.he_text.specs.declared.stream_fault.StreamFault.{StreamFault}
+use Rattle.he_text.specs.declared.stream_fault.StreamFault.TheVariants.{Text, Read, Write, Memory}
 
 -- the input was given, whole or up to where it broke off, and its whole output, of this fault, was put in
 pub record PutsOutput (IsText : TextRelation) (Gave : List ℕ → Bool → Type 0) (Whole : List ℕ → Type 0) (fault : Option InputFault) : Type 0 where
@@ -52,7 +53,7 @@ pub record PutsSome (IsText : TextRelation) (Gave : List ℕ → Bool → Type 0
 -- further; Whole: the text of which all was put into the output and then flushed; Part: the text of which a first
 -- part was put in, until that failed; Put: the text of which all was put in and flushed, or nothing where there is
 -- none
-abbrev pub Streams : TextRelation → (List ℕ → Bool → Type 0) → (List ℕ → Type 0) → (List ℕ → Type 0) → (List ℕ → Type 0) → (List ℕ → Type 0) → Result (Unit {0}) ReplayFault → Type 0
+abbrev pub Streams : TextRelation → (List ℕ → Bool → Type 0) → (List ℕ → Type 0) → (List ℕ → Type 0) → (List ℕ → Type 0) → (List ℕ → Type 0) → Result (Unit {0}) StreamFault → Type 0
 Streams IsText Gave Taken Whole Part Put (Ok done) = PutsOutput IsText Gave Whole None
 Streams IsText Gave Taken Whole Part Put (Err (Text fault)) =
     PutsOutput IsText Gave Whole (Some (inputs.Text fault)) ⊎ PutsSure IsText Taken Whole fault
@@ -60,18 +61,10 @@ Streams IsText Gave Taken Whole Part Put (Err Read) = PutsOutput IsText Gave Who
 Streams IsText Gave Taken Whole Part Put (Err Write) = PutsSome IsText Gave Taken Part
 Streams IsText Gave Taken Whole Part Put (Err Memory) = PutsSome IsText Gave Taken Put
 
--- the transcripts of the input's races, each with the changes of its settings
-abbrev pub Replays : ChangeValues → (List ℕ → Bool → Type 0) → (List ℕ → Type 0) → (List ℕ → Type 0) → (List ℕ → Type 0) → (List ℕ → Type 0) → Result (Unit {0}) ReplayFault → Type 0
-Replays changes = Streams (IsTextWith contents.Transcript changes)
+-- a number of workers that there may be
+abbrev pub HasWorkers : ℕ → Type 0
+HasWorkers workers = (LEAST_WORKERS ≤ workers) × (workers ≤ MOST_WORKERS)
 
--- the orders of the addresses of the input's races
-abbrev pub Orders : (List ℕ → Bool → Type 0) → (List ℕ → Type 0) → (List ℕ → Type 0) → (List ℕ → Type 0) → (List ℕ → Type 0) → Result (Unit {0}) ReplayFault → Type 0
-Orders = Streams (λ number line. IsOrderText)
-
--- the explanations of the input's races, each with the changes of its settings
-abbrev pub Explanations : ChangeValues → (List ℕ → Bool → Type 0) → (List ℕ → Type 0) → (List ℕ → Type 0) → (List ℕ → Type 0) → (List ℕ → Type 0) → Result (Unit {0}) ReplayFault → Type 0
-Explanations changes = Streams (IsTextWith contents.Explanation changes)
-
--- the stories of the input's races, each with the changes of its settings
-abbrev pub Stories : ChangeValues → (List ℕ → Bool → Type 0) → (List ℕ → Type 0) → (List ℕ → Type 0) → (List ℕ → Type 0) → (List ℕ → Type 0) → Result (Unit {0}) ReplayFault → Type 0
-Stories changes = Streams (IsTextWith contents.Story changes)
+-- what is asked for of the input's races, each with the changes of its settings
+abbrev pub Replays : Content → ChangeValues → (List ℕ → Bool → Type 0) → (List ℕ → Type 0) → (List ℕ → Type 0) → (List ℕ → Type 0) → (List ℕ → Type 0) → Result (Unit {0}) StreamFault → Type 0
+Replays content changes = Streams (IsTextWith content changes)

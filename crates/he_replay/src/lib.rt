@@ -1,8 +1,7 @@
 //! Replaying races: texts of timelines read from an input, and what happens in each written to an output.
 //!
-//! `replay` writes the transcript of each race, `orders` the order of its addresses (RFC 6724), `explanations` why it
-//! went as it did, `stories` that for a person to read (`he_story`), and `run_action` does one of them by name. All but
-//! `orders` take changes of settings, with which each race is taken in place of its own.
+//! [`replay`] writes of each race what is asked for ([`Content`]): its transcript, the order of its addresses (RFC 6724),
+//! why it went as it did, or that for a person to read (`he_story`), with changes of its settings where there are any.
 //!
 //! Proved, whatever the input and the output (by `specs/Stream` and `specs/Output`): what is written is put in rounds,
 //! each of which ends in a flush. After success and after a fault of the text it is the transcripts, orders,
@@ -15,35 +14,26 @@
 //!
 //! Where races come faster than they are told, and more than one worker may be taken, `replay` cuts the bytes of a
 //! step into pieces behind races. Each worker takes pieces from a board (`he_board`), reads them and writes the
-//! transcripts of their races, in a thread of its own. Proved, for every number of workers and every order of their
-//! steps: the clauses of `replay`.
+//! texts of their races, in a thread of its own. Proved, for every number of workers and every order of their steps: the
+//! clauses of `replay`.
 //!
 //! `replay_batch` (`he_pool`), which shares the attempts of races that are in memory, is offered here too; `replay`
 //! does not go through it.
 //!
-//! Only tested: that `replay` and `orders` tell want of memory only where a growth was refused, that they write what
-//! is asked for of a race before they read on, and that they read nothing after a failed write. Neither proved nor
+//! Only tested: that `replay` tells want of memory only where a growth was refused, that it writes what is asked for of a
+//! race before it reads on, and that it reads nothing after a failed write. Neither proved nor
 //! tested: where bytes are cut for workers, that their pieces are told at once, and any speed.
 #![tactic(auto)]
 
-pub mod actions;
-pub mod explaining;
-pub mod fault;
 pub mod laws;
 pub mod limits;
-pub mod ordering;
 mod pieces;
 pub mod race_texts;
 pub mod replaying;
 mod rounds;
 mod sharing;
 mod streaming;
-pub mod telling;
 
-pub use actions::{Action, run_action};
-pub use explaining::explanations;
-pub use fault::ReplayFault;
 pub use he_pool::{Gate, NoGate, batch_jobs, replay_batch};
-pub use ordering::orders;
+pub use race_texts::{Asked, Content};
 pub use replaying::replay;
-pub use telling::stories;

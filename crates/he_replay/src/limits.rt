@@ -27,8 +27,9 @@ pub const MOST_SHARED_ROOM: usize = 4_194_304;
 /// each worker. Races of a few addresses need less, so they take no memory anew.
 pub const ARENA_BYTES: usize = 65_536;
 
-/// The room that the text of an order has at first, in bytes: one of three addresses mostly needs no more.
-pub const ORDER_ROOM: usize = 128;
+/// The room that the text of a race has at first, in bytes, other than a transcript: an order of three addresses mostly
+/// needs no more.
+pub const TEXT_ROOM: usize = 128;
 
 /// The bytes behind the last whole race that are held before they are looked at for a fault, where more are ready to
 /// be taken. Most races are shorter, so that their bytes are read once.

@@ -4,33 +4,33 @@ ghost use Rattle.he_stream.specs.Input.{Gives, GivesSoFar};
 ghost use Rattle.he_stream.specs.Output.{PutsAndEnds, PutsInRounds, PutsRoundsPart};
 ghost use Rattle.he_replay.specs.Stream.{Replays};
 
-use crate::fault::ReplayFault;
 use crate::limits::{LEAST_WORKERS, MOST_WORKERS};
-use crate::race_texts::{Asked, Content};
+use crate::race_texts::Asked;
 use crate::sharing::stream_shared;
 use crate::streaming::stream_races;
-use he_plan::Changes;
 use he_stream::{InputStream, OutputStream};
+use he_text::StreamFault;
 use std::alloc::Allocator;
 use std::thread::Threads;
 
-/// Reads timelines to the end of the input and writes the transcripts of their races, each with these changes of its
-/// settings, by at most so many workers.
+/// Reads timelines to the end of the input and writes what is asked for of each, its transcript say, by at most so many
+/// workers.
 ///
 /// What is written and answered does not depend on the number of workers, nor on the order of their steps.
 ///
-/// The transcripts are written as the races come: when a step of the input has given the last line of a race, the
-/// transcripts of all races that are whole by then are written and flushed before the next step. No more is held than
-/// the bytes of one race and one step, and the transcripts of the races that one step completes.
+/// It is written as the races come: when a step of the input has given the last line of a race, what is asked for of all
+/// races that are whole by then is written and flushed before the next step. No more is held than the bytes of one race
+/// and one step, and what is asked for of the races that one step completes.
 ///
 /// One worker, the calling thread, reads each race and follows it to its end before the next. More share the bytes of
 /// one step: these are cut into pieces behind races (`limits::PIECE_BYTES` each, or more), each worker takes pieces
-/// until none is left, reads them and writes the transcripts of their races, in a thread of its own, and all are put
-/// together in the order of the races. No more workers are taken than have `limits::PIECES_OF_A_WORKER` pieces each.
+/// until none is left, reads them and writes what is asked for of their races, in a thread of its own, and all are put
+/// together in the order of the races. No more workers are taken than have `limits::PIECES_OF_A_WORKER` pieces each, and
+/// one alone where what is asked for has the race's place in the input ([`Content::has_place`]).
 ///
 /// After `Text` and `Read` all that the input before the fault asks for was written, after `Write` a first part of it,
-/// after `Memory` the transcripts of some first races. The output is flushed at the end, after `Text` and `Read` too.
-/// After `Write`, and after a fault of the text that stands whatever follows, the input is not read further.
+/// after `Memory` what some first races ask for. The output is flushed at the end, after `Text` and `Read` too. After
+/// `Write`, and after a fault of the text that stands whatever follows, the input is not read further.
 ///
 /// # Errors
 ///
@@ -40,6 +40,8 @@ use std::thread::Threads;
 /// - `Write` where a step of the output failed or took no byte, the flush failed, or the bound of 4,294,967,296 steps
 ///   was reached, whatever the input was.
 /// - `Memory` where an allocation was refused.
+///
+/// [`Content::has_place`]: crate::Content::has_place
 pub fn replay<
     R: Threads + Sync,
     A: Allocator + Copy + Send + Sync,
@@ -48,24 +50,20 @@ pub fn replay<
 >(
     rt: &R,
     alloc: A,
-    changes: Changes,
+    asked: Asked,
+    workers: u16,
     input: &mut I,
     output: &mut O,
-    workers: u16,
-) -> Result<(), ReplayFault>
+) -> Result<(), StreamFault>
     requires some { LEAST_WORKERS ≤ workers }
     requires few { workers ≤ MOST_WORKERS }
-    ensures { Replays changes (Gives I.remaining I.takes input.old input.new)
+    ensures { Replays asked.content asked.changes (Gives I.remaining I.takes input.old input.new)
         (GivesSoFar I.remaining I.takes input.old input.new)
         (PutsAndEnds O.contents O.puts O.flushes output.old output.new)
         (PutsRoundsPart O.contents O.puts O.flushes output.old output.new)
         (PutsInRounds O.contents O.puts O.flushes output.old output.new) result }
 {
-    let asked = Asked {
-        content: Content::Transcript,
-        changes,
-    };
-    if workers == LEAST_WORKERS {
+    if workers == LEAST_WORKERS || asked.content.has_place() {
         stream_races(alloc, &asked, input, output)
     } else {
         stream_shared(rt, alloc, workers, &asked, input, output)

@@ -5,12 +5,11 @@ ghost use Rattle.he_text.specs.declared.walks.Ending.TheVariants as endings;
 ghost use Rattle.he_text.specs.Walks.{IsWithin};
 ghost use Rattle.he_replay.specs.Rounds.{HasTold, IsAsked, PutsRound, PutsTold, Tells};
 
-use crate::fault::ReplayFault;
 use crate::limits::{ARENA_BYTES, MOST_RACES};
 use crate::race_texts::Asked;
 use bumpalo::Bump;
 use he_stream::{OutputStream, write_whole};
-use he_text::{Ending, InputFault, Walk, WalkFault};
+use he_text::{Ending, InputFault, StreamFault, Walk, WalkFault};
 use std::alloc::{AllocError, Allocator};
 
 // What a call holds of its input, and what it told of it before.
@@ -84,7 +83,7 @@ pub(crate) fn put_round<A: Allocator + Copy, O: OutputStream>(
     asked: &Asked,
     text: &mut Vec<u8, A>,
     output: &mut O,
-) -> Result<(), ReplayFault>
+) -> Result<(), StreamFault>
     requires within { held.old.filled ≤ vec_len held.old.bytes }
     requires lines { held.old.walk.lines + held.old.filled ≤ 2 ^ 54 }
     requires begun { HasTold (IsAsked asked.now) (take held.old.filled held.old.bytes.items) held.old.walk.races held.old.walk.lines text.old.items part.begun }
@@ -113,7 +112,7 @@ fn put_told<O: OutputStream>(
     told: Told,
     text: &[u8],
     output: &mut O,
-) -> Result<Walk, ReplayFault>
+) -> Result<Walk, StreamFault>
     ensures { PutsTold O.contents O.puts O.flushes ending told text.now output.old output.new result }
 {
     if ending != Ending::Open || told.fault.is_some() || !text.is_empty() {
@@ -121,8 +120,7 @@ fn put_told<O: OutputStream>(
     }
     match told.fault {
         None => Ok(told.walk),
-        Some(InputFault::Text(fault)) => Err(ReplayFault::Text(fault)),
-        Some(InputFault::Read) => Err(ReplayFault::Read),
+        Some(fault) => Err(fault.into()),
     }
 }
 

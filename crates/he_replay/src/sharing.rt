@@ -8,7 +8,6 @@ ghost use Rattle.he_replay.specs.Pieces.{IsAnywhere};
 ghost use Rattle.he_replay.specs.Rounds.{HasTold, IsAsked};
 ghost use Rattle.he_replay.specs.Stream.{Streams};
 
-use crate::fault::ReplayFault;
 use crate::limits::{
     FIRST_ROOM, LEAST_WORKERS, MOST_SHARED_ROOM, MOST_WORKERS, PIECES_OF_A_WORKER,
 };
@@ -18,7 +17,7 @@ use crate::rounds::Held;
 use crate::streaming::{end_held, next_room, tell_held};
 use he_stream::limits::MOST_READS;
 use he_stream::{InputStream, OutputStream, Taken, take_piece};
-use he_text::Walk;
+use he_text::{StreamFault, Walk};
 use std::alloc::{AllocError, Allocator};
 use std::thread::Threads;
 
@@ -36,7 +35,7 @@ pub(crate) fn stream_shared<
     asked: &Asked,
     input: &mut I,
     output: &mut O,
-) -> Result<(), ReplayFault>
+) -> Result<(), StreamFault>
     requires anywhere { IsAnywhere (IsAsked asked.now) }
     requires some { LEAST_WORKERS ≤ workers }
     requires few { workers ≤ MOST_WORKERS }

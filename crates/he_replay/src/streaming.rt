@@ -9,13 +9,12 @@ ghost use Rattle.he_text.specs.Walks.{ending_of};
 ghost use Rattle.he_replay.specs.Rounds.{HasTold, IsAsked, PutsRound};
 ghost use Rattle.he_replay.specs.Stream.{Streams};
 
-use crate::fault::ReplayFault;
 use crate::limits::{FIRST_ROOM, MOST_ROOM, TRIED_BYTES};
 use crate::race_texts::Asked;
 use crate::rounds::{Held, Part, put_round};
 use he_stream::limits::MOST_READS;
 use he_stream::{InputStream, OutputStream, Taken, take_piece};
-use he_text::{Ending, Walk};
+use he_text::{Ending, StreamFault, Walk};
 use memchr::memmem::rfind;
 use std::alloc::Allocator;
 
@@ -28,7 +27,7 @@ pub(crate) fn stream_races<A: Allocator + Copy, I: InputStream, O: OutputStream>
     asked: &Asked,
     input: &mut I,
     output: &mut O,
-) -> Result<(), ReplayFault>
+) -> Result<(), StreamFault>
     ensures { Streams (IsAsked asked.now) (Gives I.remaining I.takes input.old input.new)
         (GivesSoFar I.remaining I.takes input.old input.new)
         (PutsAndEnds O.contents O.puts O.flushes output.old output.new)
@@ -78,7 +77,7 @@ pub(crate) fn tell_held<A: Allocator + Copy, O: OutputStream>(
     asked: &Asked,
     text: &mut Vec<u8, A>,
     output: &mut O,
-) -> Result<(), ReplayFault>
+) -> Result<(), StreamFault>
     requires within { held.old.filled + count ≤ vec_len held.old.bytes }
     requires front { (held.old.walk.end ≡ 0) × (held.old.walk.races ≤ most_races) }
     requires lines { held.old.walk.lines + held.old.filled + count ≤ 2 ^ 54 }
@@ -114,7 +113,7 @@ pub(crate) fn end_held<A: Allocator + Copy, O: OutputStream>(
     asked: &Asked,
     text: &mut Vec<u8, A>,
     output: &mut O,
-) -> Result<(), ReplayFault>
+) -> Result<(), StreamFault>
     requires within { held.old.filled ≤ vec_len held.old.bytes }
     requires front { (held.old.walk.end ≡ 0) × (held.old.walk.races ≤ most_races) }
     requires lines { held.old.walk.lines + held.old.filled ≤ 2 ^ 54 }

@@ -1,10 +1,10 @@
 // Checks of texts with each growth refused in turn: want of memory is told only where a growth was refused, with
 // nothing written and nothing explained, and all else as ever. `check` goes through `check_input` and `explain_fault`.
 
-use he_check::{CheckFault, check};
+use he_check::check;
 use he_select::PolicyFault;
 use he_stream::{FromReader, ToWriter};
-use he_text::{TextFault, TextKind};
+use he_text::{StreamFault, TextFault, TextKind};
 use refusing::{Refusing, each_growth_refused};
 use std::alloc::Global;
 use stream_fakes::{FakeReader, FakeWriter};
@@ -12,7 +12,7 @@ use stream_fakes::{FakeReader, FakeWriter};
 // A text; what is answered, written and explained.
 type Row = (
     &'static [u8],
-    Result<(), CheckFault>,
+    Result<(), StreamFault>,
     &'static [u8],
     &'static [u8],
 );
@@ -31,7 +31,7 @@ he: line 4: warning: this race has no a line, so it can't be exhausted: for an a
     ),
     (
         b"race 1\nset attempt 9\nend\n",
-        Err(CheckFault::Text(TextFault {
+        Err(StreamFault::Text(TextFault {
             line: 2,
             kind: TextKind::Range,
         })),
@@ -43,7 +43,7 @@ the attempt delay is 10 to 2000 milliseconds
     ),
     (
         b"race 1\npolicy ::/0 40 1\npolicy ::ffff:0:0/96 40 4\nend\n",
-        Err(CheckFault::Text(TextFault {
+        Err(StreamFault::Text(TextFault {
             line: 3,
             kind: TextKind::Policy(PolicyFault::SharedPrecedence(0, 1)),
         })),
@@ -61,9 +61,9 @@ fn is_right(heap: &Refusing<Global>, alloc: Global, row: &Row) -> bool {
     let mut input = FromReader::new(FakeReader::new(text, 16));
     let mut output = ToWriter::new(FakeWriter::new(alloc));
     let mut explanation = Vec::new(heap);
-    let ended = check(heap, &mut input, &mut output, &mut explanation);
+    let ended = check(heap, false, &mut input, &mut output, &mut explanation);
     let held = output.writer().held();
-    if ended == Err(CheckFault::Memory) {
+    if ended == Err(StreamFault::Memory) {
         heap.has_refused() && held.is_empty() && explanation.is_empty()
     } else {
         ended == *wanted && held == *written && explanation.as_slice() == *explained

@@ -1,8 +1,9 @@
 // Each growth refused in turn: the fault is Memory and what some first races ask for is written, or all is.
 
-use crate::hostile::{CALLS, Call, TEXT};
-use he_replay::ReplayFault;
+use crate::hostile::{CONTENTS, TEXT, output_of, run_over};
+use he_replay::Content;
 use he_stream::{FromReader, ToWriter};
+use he_text::StreamFault;
 use refusing::{Refusing, each_growth_refused};
 use std::alloc::{AllocError, Global};
 use std::test::Fail;
@@ -26,19 +27,19 @@ fn is_right<R: Threads + Sync>(
     rt: &R,
     heap: &Refusing<Global>,
     alloc: Global,
-    call: Call,
+    content: Content,
     text: &[u8],
     wanted: &[u8],
 ) -> bool {
     let mut input = FromReader::new(FakeReader::new(text, 64));
     let mut output = ToWriter::new(FakeWriter::new(alloc));
-    match call.run(rt, heap, &mut input, &mut output) {
+    match run_over(content, rt, heap, &mut input, &mut output) {
         Ok(()) => output.writer().held() == wanted,
         Err(fault) => {
             let held = output.writer().held();
-            let is_whole = held.is_empty() || held.ends_with(call.output());
+            let is_whole = held.is_empty() || held.ends_with(output_of(content));
             let is_first = wanted.starts_with(held) && is_whole;
-            heap.has_refused() && fault == ReplayFault::Memory && is_first
+            heap.has_refused() && fault == StreamFault::Memory && is_first
         }
     }
 }
@@ -47,10 +48,10 @@ fn is_right<R: Threads + Sync>(
 fn refused_growths_are_told(rt: HostRuntime) -> Result<(), Fail> {
     let heap = Refusing::new(rt.alloc());
     let text = repeated(rt.alloc(), TEXT)?;
-    for call in CALLS {
-        let wanted = repeated(rt.alloc(), call.output())?;
+    for content in CONTENTS {
+        let wanted = repeated(rt.alloc(), output_of(content))?;
         let refused = each_growth_refused(&heap, || {
-            assert!(rt; is_right(&rt, &heap, rt.alloc(), call, &text, &wanted));
+            assert!(rt; is_right(&rt, &heap, rt.alloc(), content, &text, &wanted));
         });
         assert!(rt; refused > 3);
     }

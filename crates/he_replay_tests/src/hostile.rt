@@ -1,10 +1,9 @@
 // Replays, orders and explanations of texts that break off, over readers and writers that fail.
 
-use he_plan::Changes;
-use he_replay::{ReplayFault, explanations, orders, replay};
+use he_replay::{Asked, Content, replay};
 use he_select::PolicyFault;
 use he_stream::{FromReader, InputStream, ToWriter};
-use he_text::{TextFault, TextKind};
+use he_text::{StreamFault, TextFault, TextKind};
 use std::alloc::{AllocError, Allocator, Global};
 use std::io::Read;
 use std::mem::drop;
@@ -36,64 +35,51 @@ order 1 198.51.100.1 source 192.0.2.2, behind 0 by rule 6, prefer higher precede
 end
 ";
 
-// Which call is made.
-#[derive(Clone, Copy)]
-pub enum Call {
-    Replay,
-    Orders,
-    Explanations,
+// What is asked for.
+pub const CONTENTS: [Content; 3] = [Content::Transcript, Content::Order, Content::Explanation];
+
+// What is written for the text above.
+pub fn output_of(content: Content) -> &'static [u8] {
+    match content {
+        Content::Transcript => TRANSCRIPT,
+        Content::Order => ORDER,
+        _ => EXPLANATION,
+    }
 }
 
-pub const CALLS: [Call; 3] = [Call::Replay, Call::Orders, Call::Explanations];
-
-impl Call {
-    // What is written for the text above.
-    pub fn output(self) -> &'static [u8] {
-        match self {
-            Call::Replay => TRANSCRIPT,
-            Call::Orders => ORDER,
-            Call::Explanations => EXPLANATION,
-        }
-    }
-
-    pub fn run<R: Threads + Sync, A: Allocator + Copy + Send + Sync, I: InputStream>(
-        self,
-        rt: &R,
-        alloc: A,
-        input: &mut I,
-        output: &mut ToWriter<FakeWriter>,
-    ) -> Result<(), ReplayFault> {
-        match self {
-            Call::Replay => replay(rt, alloc, Changes::none(), input, output, 4),
-            Call::Orders => orders(alloc, input, output),
-            Call::Explanations => explanations(alloc, Changes::none(), input, output),
-        }
-    }
+pub fn run_over<R: Threads + Sync, A: Allocator + Copy + Send + Sync, I: InputStream>(
+    content: Content,
+    rt: &R,
+    alloc: A,
+    input: &mut I,
+    output: &mut ToWriter<FakeWriter>,
+) -> Result<(), StreamFault> {
+    replay(rt, alloc, Asked::of(content), 4, input, output)
 }
 
 // Whether the call over the reader and the writer answers this, has written this, and has flushed so often.
 fn is_right<R: Threads + Sync>(
     rt: &R,
     alloc: Global,
-    call: Call,
+    content: Content,
     reader: FakeReader<'_>,
     writer: FakeWriter,
-    wanted: (Result<(), ReplayFault>, &[u8], u64),
+    wanted: (Result<(), StreamFault>, &[u8], u64),
 ) -> bool {
     let mut input = FromReader::new(reader);
     let mut output = ToWriter::new(writer);
-    let result = call.run(rt, alloc, &mut input, &mut output);
+    let result = run_over(content, rt, alloc, &mut input, &mut output);
     let writer = output.writer();
     result == wanted.0 && writer.held() == wanted.1 && writer.flushes() == wanted.2
 }
 
-fn fault(line: u64, kind: TextKind) -> Result<(), ReplayFault> {
-    Err(ReplayFault::Text(TextFault { line, kind }))
+fn fault(line: u64, kind: TextKind) -> Result<(), StreamFault> {
+    Err(StreamFault::Text(TextFault { line, kind }))
 }
 
 // Whether this first part of the text is unfinished where the input ends behind it, and a failed read where it breaks
 // there. Nothing is written of it.
-fn is_cut_right<R: Threads + Sync>(rt: &R, alloc: Global, call: Call, cut: &[u8]) -> bool {
+fn is_cut_right<R: Threads + Sync>(rt: &R, alloc: Global, content: Content, cut: &[u8]) -> bool {
     let ends = cut.iter().filter(|byte| **byte == b'\n').count() as u64;
     let unfinished = fault(ends.saturating_add(1), TextKind::Unfinished);
     let whole = FakeReader::new(cut, 7);
@@ -101,25 +87,25 @@ fn is_cut_right<R: Threads + Sync>(rt: &R, alloc: Global, call: Call, cut: &[u8]
     is_right(
         rt,
         alloc,
-        call,
+        content,
         whole,
         FakeWriter::new(alloc),
         (unfinished, b"", 1),
     ) && is_right(
         rt,
         alloc,
-        call,
+        content,
         broken,
         FakeWriter::new(alloc),
-        (Err(ReplayFault::Read), b"", 1),
+        (Err(StreamFault::Read), b"", 1),
     )
 }
 
 // How many first parts of the text, the empty one and the whole left out, end so.
-fn right_cuts<R: Threads + Sync>(rt: &R, alloc: Global, call: Call) -> usize {
+fn right_cuts<R: Threads + Sync>(rt: &R, alloc: Global, content: Content) -> usize {
     let mut right: usize = 0;
     for count in 1..TEXT.len() {
-        if !is_cut_right(rt, alloc, call, &TEXT[..count]) {
+        if !is_cut_right(rt, alloc, content, &TEXT[..count]) {
             return right;
         }
         right = right.saturating_add(1);
@@ -128,24 +114,24 @@ fn right_cuts<R: Threads + Sync>(rt: &R, alloc: Global, call: Call) -> usize {
 }
 
 // How many bytes the writer may take, fewer than all, so that exactly these are written.
-fn right_rooms<R: Threads + Sync>(rt: &R, alloc: Global, call: Call) -> usize {
-    let wanted = call.output();
+fn right_rooms<R: Threads + Sync>(rt: &R, alloc: Global, content: Content) -> usize {
+    let wanted = output_of(content);
     let mut right: usize = 0;
     for room in 0..wanted.len() {
         let failing = FakeWriter::new(alloc).with_room(room);
         let full = FakeWriter::new(alloc).with_room(room).taking_none();
-        let write = Err(ReplayFault::Write);
+        let write = Err(StreamFault::Write);
         if !is_right(
             rt,
             alloc,
-            call,
+            content,
             FakeReader::new(TEXT, 64),
             failing,
             (write, &wanted[..room], 0),
         ) || !is_right(
             rt,
             alloc,
-            call,
+            content,
             FakeReader::new(TEXT, 64),
             full,
             (write, &wanted[..room], 0),
@@ -158,14 +144,14 @@ fn right_rooms<R: Threads + Sync>(rt: &R, alloc: Global, call: Call) -> usize {
 }
 
 // The texts behind which the reader breaks, whether the text above stands before them, and what is answered.
-static BROKEN: [(bool, &[u8], Result<(), ReplayFault>); 6] = [
-    (false, b"", Err(ReplayFault::Read)),
-    (true, b"", Err(ReplayFault::Read)),
-    (false, b"race 1\n", Err(ReplayFault::Read)),
+static BROKEN: [(bool, &[u8], Result<(), StreamFault>); 6] = [
+    (false, b"", Err(StreamFault::Read)),
+    (true, b"", Err(StreamFault::Read)),
+    (false, b"race 1\n", Err(StreamFault::Read)),
     (
         false,
         b"race 1\npolicy ::ffff:0:0/96 35 4\na 010 none\n",
-        Err(ReplayFault::Text(TextFault {
+        Err(StreamFault::Text(TextFault {
             line: 2,
             kind: TextKind::Policy(PolicyFault::NoDefault),
         })),
@@ -173,7 +159,7 @@ static BROKEN: [(bool, &[u8], Result<(), ReplayFault>); 6] = [
     (
         true,
         b"race 3\n",
-        Err(ReplayFault::Text(TextFault {
+        Err(StreamFault::Text(TextFault {
             line: 10,
             kind: TextKind::Header,
         })),
@@ -181,7 +167,7 @@ static BROKEN: [(bool, &[u8], Result<(), ReplayFault>); 6] = [
     (
         true,
         b"race 1\na 010 none\n",
-        Err(ReplayFault::Text(TextFault {
+        Err(StreamFault::Text(TextFault {
             line: 11,
             kind: TextKind::Number,
         })),
@@ -190,7 +176,11 @@ static BROKEN: [(bool, &[u8], Result<(), ReplayFault>); 6] = [
 
 // How many of these end as they must, and have the output of the text where it stands before them: flushed when the text
 // was whole, and again at the end.
-fn right_breaks<R: Threads + Sync>(rt: &R, alloc: Global, call: Call) -> Result<usize, AllocError> {
+fn right_breaks<R: Threads + Sync>(
+    rt: &R,
+    alloc: Global,
+    content: Content,
+) -> Result<usize, AllocError> {
     let mut right: usize = 0;
     for (is_behind, more, answer) in &BROKEN {
         let mut text = Vec::new(alloc);
@@ -198,14 +188,21 @@ fn right_breaks<R: Threads + Sync>(rt: &R, alloc: Global, call: Call) -> Result<
         let mut flushes = 1;
         if *is_behind {
             text.extend_from_slice(TEXT)?;
-            wanted = call.output();
+            wanted = output_of(content);
             flushes = 2;
         }
         text.extend_from_slice(more)?;
         let reader = FakeReader::new(&text, 5).broken();
         let writer = FakeWriter::new(alloc);
-        let is_told = is_right(rt, alloc, call, reader, writer, (*answer, wanted, flushes));
-        if !is_told || !is_right_in_two(rt, alloc, call, &text, (*answer, wanted)) {
+        let is_told = is_right(
+            rt,
+            alloc,
+            content,
+            reader,
+            writer,
+            (*answer, wanted, flushes),
+        );
+        if !is_told || !is_right_in_two(rt, alloc, content, &text, (*answer, wanted)) {
             return Ok(right);
         }
         right = right.saturating_add(1);
@@ -217,16 +214,16 @@ fn right_breaks<R: Threads + Sync>(rt: &R, alloc: Global, call: Call) -> Result<
 fn is_right_in_two<R: Threads + Sync>(
     rt: &R,
     alloc: Global,
-    call: Call,
+    content: Content,
     text: &[u8],
-    wanted: (Result<(), ReplayFault>, &[u8]),
+    wanted: (Result<(), StreamFault>, &[u8]),
 ) -> bool {
     for cut in 0..=text.len() {
         let (before, behind) = text.split_at(cut);
         let rest = FakeReader::new(behind, usize::MAX).broken();
         let mut input = FromReader::new(FakeReader::new(before, usize::MAX).chain(rest));
         let mut output = ToWriter::new(FakeWriter::new(alloc));
-        let result = call.run(rt, alloc, &mut input, &mut output);
+        let result = run_over(content, rt, alloc, &mut input, &mut output);
         let is_same = result == wanted.0 && output.writer().held() == wanted.1;
         drop(input);
         drop(output);
@@ -239,13 +236,20 @@ fn is_right_in_two<R: Threads + Sync>(
 
 // How many reads of the text, byte by byte, and as many writes and flushes may each answer `Interrupted` once, and
 // change nothing.
-fn right_interruptions<R: Threads + Sync>(rt: &R, alloc: Global, call: Call) -> usize {
+fn right_interruptions<R: Threads + Sync>(rt: &R, alloc: Global, content: Content) -> usize {
     let mut right: usize = 0;
     for number in 0..=TEXT.len() {
         let number = number as u64;
         let reader = FakeReader::new(TEXT, 1).interrupted_at(number);
         let writer = FakeWriter::new(alloc).with_step(3).interrupted_at(number);
-        if !is_right(rt, alloc, call, reader, writer, (Ok(()), call.output(), 2)) {
+        if !is_right(
+            rt,
+            alloc,
+            content,
+            reader,
+            writer,
+            (Ok(()), output_of(content), 2),
+        ) {
             return right;
         }
         right = right.saturating_add(1);
@@ -254,29 +258,29 @@ fn right_interruptions<R: Threads + Sync>(rt: &R, alloc: Global, call: Call) -> 
 }
 
 // A flush that fails, behind a whole output and behind the output before a fault; and the empty text.
-fn right_ends<R: Threads + Sync>(rt: &R, alloc: Global, call: Call) -> bool {
-    let wanted = call.output();
+fn right_ends<R: Threads + Sync>(rt: &R, alloc: Global, content: Content) -> bool {
+    let wanted = output_of(content);
     let failing = FakeWriter::new(alloc).failing_flush();
     let failing_too = FakeWriter::new(alloc).failing_flush();
-    let write = Err(ReplayFault::Write);
+    let write = Err(StreamFault::Write);
     is_right(
         rt,
         alloc,
-        call,
+        content,
         FakeReader::new(TEXT, 64),
         failing,
         (write, wanted, 0),
     ) && is_right(
         rt,
         alloc,
-        call,
+        content,
         FakeReader::new(b"race 1\nend", 64),
         failing_too,
         (write, b"", 0),
     ) && is_right(
         rt,
         alloc,
-        call,
+        content,
         FakeReader::new(b"", 1),
         FakeWriter::new(alloc),
         (Ok(()), b"", 1),
@@ -286,19 +290,19 @@ fn right_ends<R: Threads + Sync>(rt: &R, alloc: Global, call: Call) -> bool {
 #[test]
 fn hostile_streams_are_told(rt: HostRuntime) -> Result<(), Fail> {
     let alloc = rt.alloc();
-    for call in CALLS {
+    for content in CONTENTS {
         let right = (
-            right_cuts(&rt, alloc, call),
-            right_rooms(&rt, alloc, call),
-            right_breaks(&rt, alloc, call)?,
-            right_interruptions(&rt, alloc, call),
-            right_ends(&rt, alloc, call),
+            right_cuts(&rt, alloc, content),
+            right_rooms(&rt, alloc, content),
+            right_breaks(&rt, alloc, content)?,
+            right_interruptions(&rt, alloc, content),
+            right_ends(&rt, alloc, content),
         );
         assert_eq!(rt;
             right,
             (
                 TEXT.len() - 1,
-                call.output().len(),
+                output_of(content).len(),
                 BROKEN.len(),
                 TEXT.len() + 1,
                 true

@@ -1,9 +1,9 @@
 // What is written while the input still comes: of 100 races, each of which one read gives.
 
-use crate::hostile::{CALLS, Call, TEXT};
-use he_plan::Changes;
-use he_replay::{ReplayFault, stories};
+use crate::hostile::{CONTENTS, TEXT, output_of, run_over};
+use he_replay::{Asked, Content, replay};
 use he_stream::{FromReader, ToWriter};
+use he_text::StreamFault;
 use std::alloc::{AllocError, Global};
 use std::test::Fail;
 use std::thread::Threads;
@@ -24,14 +24,14 @@ fn text_of(alloc: Global, races: usize) -> Result<Vec<u8>, AllocError> {
 fn run<R: Threads + Sync>(
     rt: &R,
     alloc: Global,
-    call: Call,
+    content: Content,
     reader: FakeReader<'_>,
     races: usize,
-) -> (Result<(), ReplayFault>, u64, u64, usize) {
-    let room = call.output().len().saturating_mul(races);
+) -> (Result<(), StreamFault>, u64, u64, usize) {
+    let room = output_of(content).len().saturating_mul(races);
     let mut input = FromReader::new(reader);
     let mut output = ToWriter::new(FakeWriter::new(alloc).with_room(room));
-    let result = call.run(rt, alloc, &mut input, &mut output);
+    let result = run_over(content, rt, alloc, &mut input, &mut output);
     let writer = output.writer();
     let held = writer.held().len();
     (result, input.reader().reads(), writer.flushes(), held)
@@ -45,17 +45,17 @@ fn races_are_told_as_they_come(rt: HostRuntime) -> Result<(), Fail> {
     let text = text_of(alloc, RACES)?;
     let front = text_of(alloc, 65)?;
     let size = TEXT.len();
-    for call in CALLS {
-        let one = call.output().len();
-        let failing = run(&rt, alloc, call, FakeReader::new(&text, size), 64);
-        let whole = run(&rt, alloc, call, FakeReader::new(&text, size), RACES);
+    for content in CONTENTS {
+        let one = output_of(content).len();
+        let failing = run(&rt, alloc, content, FakeReader::new(&text, size), 64);
+        let whole = run(&rt, alloc, content, FakeReader::new(&text, size), RACES);
         let breaking = FakeReader::new(&front, size).broken();
-        let broken = run(&rt, alloc, call, breaking, RACES);
+        let broken = run(&rt, alloc, content, breaking, RACES);
         let some = one.saturating_mul(64);
         let most = one.saturating_mul(65);
         let all = one.saturating_mul(RACES);
-        assert_eq!(rt; failing, (Err(ReplayFault::Write), 65, 64, some));
-        assert_eq!(rt; broken, (Err(ReplayFault::Read), 66, 66, most));
+        assert_eq!(rt; failing, (Err(StreamFault::Write), 65, 64, some));
+        assert_eq!(rt; broken, (Err(StreamFault::Read), 66, 66, most));
         assert_eq!(rt; whole, (Ok(()), 101, 101, all));
     }
     Ok(())
@@ -68,7 +68,14 @@ fn stories_know_their_place(rt: HostRuntime) -> Result<(), Fail> {
     let text = text_of(alloc, 2)?;
     let mut input = FromReader::new(FakeReader::new(&text, TEXT.len()));
     let mut output = ToWriter::new(FakeWriter::new(alloc));
-    let result = stories(alloc, Changes::none(), &mut input, &mut output);
+    let result = replay(
+        &rt,
+        alloc,
+        Asked::of(Content::Story),
+        4,
+        &mut input,
+        &mut output,
+    );
     let writer = output.writer();
     let held = writer.held();
     assert_eq!(rt; (result, writer.flushes()), (Ok(()), 3));

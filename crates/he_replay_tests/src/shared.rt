@@ -2,11 +2,10 @@
 // memory is told only where a growth was refused, behind the whole texts of some first races.
 ghost use Rattle.std.specs.Prelude.{◌≤◌};
 
-use he_plan::Changes;
 use he_replay::limits::{PIECE_BYTES, PIECES_OF_A_WORKER};
-use he_replay::{ReplayFault, replay};
+use he_replay::{Asked, Content, replay};
 use he_stream::{FromReader, ToWriter};
-use he_text::{TextFault, TextKind};
+use he_text::{StreamFault, TextFault, TextKind};
 use refusing::{Refusing, each_growth_refused};
 use std::alloc::{AllocError, Global};
 use std::test::Fail;
@@ -75,11 +74,11 @@ fn text_of(alloc: Global, races: usize) -> Result<Vec<u8>, AllocError> {
 const STEP: usize = 1_000_000;
 
 // What is wrong with the text: the address of the last race, in the line behind all the others.
-fn fault_in(text: &[u8]) -> Result<(), ReplayFault> {
+fn fault_in(text: &[u8]) -> Result<(), StreamFault> {
     let ends = text.iter().filter(|byte| **byte == b'\n').count() as u64;
     let line = ends.saturating_sub(1);
     let kind = TextKind::Number;
-    Err(ReplayFault::Text(TextFault { line, kind }))
+    Err(StreamFault::Text(TextFault { line, kind }))
 }
 
 fn replayed<R: Threads + Sync>(
@@ -87,13 +86,20 @@ fn replayed<R: Threads + Sync>(
     alloc: Global,
     text: &[u8],
     workers: u16,
-) -> (Result<(), ReplayFault>, ToWriter<FakeWriter>)
+) -> (Result<(), StreamFault>, ToWriter<FakeWriter>)
     requires some { 1 ≤ workers }
     requires few { workers ≤ 64 }
 {
     let mut input = FromReader::new(FakeReader::new(text, STEP));
     let mut output = ToWriter::new(FakeWriter::new(alloc));
-    let result = replay(rt, alloc, Changes::none(), &mut input, &mut output, workers);
+    let result = replay(
+        rt,
+        alloc,
+        Asked::of(Content::Transcript),
+        workers,
+        &mut input,
+        &mut output,
+    );
     (result, output)
 }
 
@@ -121,9 +127,16 @@ fn is_right<R: Threads + Sync>(
 ) -> bool {
     let mut input = FromReader::new(FakeReader::new(text, STEP));
     let mut output = ToWriter::new(FakeWriter::new(alloc));
-    let result = replay(rt, heap, Changes::none(), &mut input, &mut output, 2);
+    let result = replay(
+        rt,
+        heap,
+        Asked::of(Content::Transcript),
+        2,
+        &mut input,
+        &mut output,
+    );
     let held = output.writer().held();
-    if result == Err(ReplayFault::Memory) {
+    if result == Err(StreamFault::Memory) {
         let is_whole = held.is_empty() || held.ends_with(transcript);
         heap.has_refused() && wanted.starts_with(held) && is_whole
     } else {

@@ -43,8 +43,8 @@ abbrev pub turn_text : Turn → Family → List ℕ
 turn_text turns.Leads families.V6 = codes ", IPv6 first"
 turn_text turns.Leads families.V4 = codes ", IPv4 first"
 turn_text turns.InTurn family = codes ", IPv6 and IPv4 in turn"
-turn_text turns.RunOut families.V6 = codes ", no more IPv4 addresses"
-turn_text turns.RunOut families.V4 = codes ", no more IPv6 addresses"
+turn_text turns.RunOut families.V6 = codes ", IPv6 alone is left"
+turn_text turns.RunOut families.V4 = codes ", IPv4 alone is left"
 
 -- its place in the list of the addresses that are known by now
 abbrev pub listed_text : Listed → Family → List ℕ

@@ -77,8 +77,8 @@ fn turn_text(turn: Turn, family: Family) -> &'static [u8]
         (Turn::Leads, Family::V6) => b", IPv6 first",
         (Turn::Leads, Family::V4) => b", IPv4 first",
         (Turn::InTurn, _) => b", IPv6 and IPv4 in turn",
-        (Turn::RunOut, Family::V6) => b", no more IPv4 addresses",
-        (Turn::RunOut, Family::V4) => b", no more IPv6 addresses",
+        (Turn::RunOut, Family::V6) => b", IPv6 alone is left",
+        (Turn::RunOut, Family::V4) => b", IPv4 alone is left",
     }
 }
 

@@ -5,19 +5,13 @@
 //! exit status.
 #![tactic(auto)]
 
-use he_command::{read_words, report, report_not_text, run_line, takes_text, tell_waiting};
-use he_replay::ReplayFault;
-use he_resolver::SystemResolver;
+use he_command::{
+    Lender, columns_of, read_words, report, report_not_text, run_line, takes_text, tell_waiting,
+};
 use he_stream::{FromReader, ToWriter};
-use std::alloc::AllocGlobal;
+use he_text::StreamFault;
 use std::io::IsTerminal;
-use std::net::Net;
 use std::process::ExitCode;
-use std::random::RandomSource;
-use std::rt::Files;
-use std::sync::Wait;
-use std::thread::Threads;
-use std::time::Clock;
 use std::{env, io};
 
 fn main(rt: HostRuntime) -> ExitCode {
@@ -28,13 +22,12 @@ fn main(rt: HostRuntime) -> ExitCode {
 // sockets and waiting in `main` alone, so `main` hands it on as what lends them too.
 fn run_program<R>(rt: &HostRuntime, lender: &R) -> u8
 where
-    R: Threads + Wait + Clock + RandomSource + AllocGlobal + Net + Files + Sync,
-    R: SystemResolver + Copy + Send + 'static,
+    R: Lender,
 {
     match words_of(rt) {
         Ok(words) => run_texts(rt, lender, words.as_slice()),
         Err(error) if error.kind() == io::ErrorKind::OutOfMemory => report(
-            ReplayFault::Memory,
+            StreamFault::Memory,
             &mut rt.stderr(),
         ),
         Err(_) => report_not_text(&mut rt.stderr()),
@@ -48,8 +41,7 @@ fn words_of(rt: &HostRuntime) -> io::Result<Vec<String>> {
 
 fn run_texts<R>(rt: &HostRuntime, lender: &R, words: &[String]) -> u8
 where
-    R: Threads + Wait + Clock + RandomSource + AllocGlobal + Net + Files + Sync,
-    R: SystemResolver + Copy + Send + 'static,
+    R: Lender,
 {
     let texts = words
         .iter()
@@ -57,17 +49,16 @@ where
         .collect::<Vec<&str>>(rt.alloc());
     match texts {
         Ok(texts) => run_words_of(rt, lender, texts.as_slice()),
-        Err(_) => report(ReplayFault::Memory, &mut rt.stderr()),
+        Err(_) => report(StreamFault::Memory, &mut rt.stderr()),
     }
 }
 
 // Runs the command line. Where it is to take a text from a terminal, that is told first.
 fn run_words_of<R>(rt: &HostRuntime, lender: &R, words: &[&str]) -> u8
 where
-    R: Threads + Wait + Clock + RandomSource + AllocGlobal + Net + Files + Sync,
-    R: SystemResolver + Copy + Send + 'static,
+    R: Lender,
 {
-    let line = read_words(rt.alloc(), words);
+    let line = read_words(rt.alloc(), words, columns_of(lender));
     if takes_text(&line) && rt.stdin().is_terminal() {
         tell_waiting(&mut rt.stderr());
     }

@@ -5,7 +5,7 @@ use Rattle.he_stream.specs.declared.limits.TheConstants.{READ_SIZE}
 use Rattle.he_stream.specs.Input.{Gives, GivesSoFar}
 use Rattle.he_stream.specs.Limits.{most_reads}
 use Rattle.he_stream.proofs.Chains.{one_step_more}
-use Rattle.he_replay.specs.declared.fault.ReplayFault.TheVariants as faults
+use Rattle.he_text.specs.declared.stream_fault.StreamFault.TheVariants as faults
 use Rattle.he_replay.specs.Rounds.{IsAsked}
 use Rattle.he_replay.proofs.Ends.{at_piece, at_round, at_same, ends_given, ends_handed, ends_refused, ends_told}
 use Rattle.he_replay.proofs.Input.{gives_broken, gives_no_end, gives_so_far, gives_whole}

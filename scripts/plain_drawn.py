@@ -1,0 +1,93 @@
+#!/usr/bin/env python3
+"""A plain reading of what `he draw` draws, apart from the program, as plain.py is of the rules: the picture of each race,
+by docs/DEFINITIONS.md and crates/he_draw/specs.
+
+needs: python3, its standard library alone
+usage: scripts/plain_drawn.py [NAME=N ..] < TEXT
+           in 80 columns, with these settings in place of each race's own, as with --set
+"""
+import sys
+from collections import namedtuple
+
+import plain
+from plain import print_address
+
+LEAST_COLUMNS = 10
+# What a line has beside its label, its columns and its words: an edge at both sides, and a space outside each.
+EDGES = 4
+NAMES = {"aaaa": "AAAA answer", "a": "A answer"}
+# The signs of both looks.
+UNICODE = {"edge": "│", "answer": "●", "wait": "┄", "pause": "░", "attempt": "━", "won": "✓", "failed": "✕",
+           "cancelled": "▸"}
+ASCII = {"edge": "|", "answer": "o", "wait": "~", "pause": "#", "attempt": "=", "won": "*", "failed": "x",
+         "cancelled": ">"}
+
+# A row: the ticks from which to which it is drawn, the sign of its first column, of those between, and of its last one.
+Row = namedtuple("Row", "label start stop first between last words")
+
+
+def answer_row(race, name, end):
+    label, reply = NAMES[name], race.answers.get(name)
+    if reply is None or race.seen(reply.tick) > end:
+        return Row(label, 0, 0, " ", " ", " ", "none by the end")
+    seen, usable = race.seen(reply.tick), f"{len(race.usable(name))} usable"
+    delay_end = reply.tick + race.setting("resolution")
+    if name == "a" and race.usable("a") and seen < delay_end and not race.is_seen("aaaa", seen):
+        # It waits for the AAAA answer: to its coming, or to the end of the Resolution Delay.
+        aaaa = race.answers.get("aaaa")
+        stop = delay_end if aaaa is None else min(race.seen(aaaa.tick), delay_end)
+        return Row(label, seen, stop, "answer", "wait", "wait", f"{seen}-{stop} ms wait, {usable}")
+    return Row(label, seen, seen, "answer", "answer", "answer", f"{seen} ms, {usable}")
+
+
+def rows(race):
+    report = race.report
+    end = report.result.tick
+    found = [answer_row(race, "aaaa", end), answer_row(race, "a", end)]
+    found += [Row("pause", start, stop, "pause", "pause", "pause", f"{start}-{stop} ms")
+              for start, stop in race.pauses if start < end]
+    return found + [Row(print_address(line.address), line.start, line.tick, "attempt", "attempt", line.fate,
+                        f"{line.start}-{line.tick} ms {line.fate}") for line in report.lines]
+
+
+def bar(row, column, signs):
+    """The signs from the first column of a row to its last one."""
+    start, stop = column(row.start), column(row.stop)
+    names = [row.between] * (stop - start + 1)
+    # (where one column has both, an attempt's is that of its end, and an answer's that of the answer)
+    names[0] = row.first
+    if row.between == "attempt":
+        names[-1] = row.last
+    return " " * start + "".join(signs.get(name, name) for name in names)
+
+
+def picture(number, race, width, signs):
+    kind, place, end = race.report.result
+    told = {"won": f"won after {end} ms by attempt {(place or 0) + 1}", "limit": f"given up at the limit of {end} ms",
+            "exhausted": f"nothing left to try after {end} ms"}
+    drawn = rows(race)
+    label = max(len(row.label) for row in drawn)
+    columns = max(width - label - max(len(row.words) for row in drawn) - EDGES, LEAST_COLUMNS)
+
+    def column(tick):
+        return min(tick, end) * (columns - 1) // end if end else 0
+
+    lines = [f"race {number}, line {race.line}: {told[kind]}"]
+    lines += [f"{row.label:{label}} {signs['edge']}{bar(row, column, signs):{columns}}{signs['edge']} {row.words}"
+              for row in drawn]
+    lines.append(" " * (label + 2) + "0" + " " * max(columns - len(str(end)) - 4, 1) + f"{end} ms")
+    return "".join(f"{line}\n" for line in lines) + "\n"
+
+
+def written(races, changes, width=80, signs=UNICODE):
+    """What `he draw` writes for these races, with these settings in place of their own."""
+    return "".join(picture(number, race.changed(changes), width, signs)
+                   for number, race in enumerate(races, 1)).encode()
+
+
+def written_ascii(races, changes):
+    return written(races, changes, signs=ASCII)
+
+
+if __name__ == "__main__":
+    plain.answer(written, sys.argv[1:])
