@@ -1,7 +1,11 @@
 //! Command lines of the program, over a reader and two writers that may fail.
 
-use crate::command_rows::{GLANCE_ROWS, HOST_ROWS, Row, Streams, TELLING_ROWS, TEXT_ROWS};
+use crate::command_rows::{Row, Streams};
 use crate::example::Counts;
+use crate::glance_rows::GLANCE_ROWS;
+use crate::host_rows::HOST_ROWS;
+use crate::telling_rows::TELLING_ROWS;
+use crate::text_rows::TEXT_ROWS;
 use he_command::{Lender, run_words};
 use he_stream::{FromReader, ToWriter};
 use std::alloc::Global;

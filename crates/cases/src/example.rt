@@ -181,8 +181,8 @@ fn workers_for(content: Content) -> &'static [u16] {
     }
 }
 
-// Replays the text by so many workers, in each way in which it comes. More workers than one do not share a text that is
-// cut in two.
+// Replays the text by so many workers, in each way in which it comes. More workers than one do not share a text that
+// is cut in two.
 fn run_asked<R: Threads + Sync>(
     rt: &HostRuntime,
     threads: &R,
@@ -235,7 +235,8 @@ fn run_check(rt: &HostRuntime, example: Example<'_>, counts: &mut Counts) -> io:
     Ok(())
 }
 
-// Runs the text through a check for all faults, where what it says stands beside the example: each fault, with its line.
+// Runs the text through a check for all faults, where what it says stands beside the example: each fault, with its
+// line.
 fn run_check_all(rt: &HostRuntime, example: Example<'_>, counts: &mut Counts) -> io::Result<()> {
     let Example { name, text, fault } = example;
     let Some(told) = read_beside(rt, name, "check-all")? else {

@@ -1,0 +1,179 @@
+//! Commands that draw a text or sum it up, and those that write JSON.
+
+use crate::command_rows::{READ_LINE, Row, SETTING_LINE, Streams, TEXT, TRANSCRIPT, WRITE_LINE};
+
+// In 60 columns.
+const PICTURE: &[u8] = b"race 1, line 1: won after 55 ms by attempt 1
+AAAA answer   |         o                  | 20 ms, 1 usable
+A answer      |            o               | 25 ms, 1 usable
+2001:db8:1::1 |         ==================*| 20-55 ms won
+               0                      55 ms
+
+";
+
+const SUMMARY: &[u8] = b"1 race: 1 won (1 by IPv6, 0 by IPv4), 0 exhausted, 0 at the limit
+time to connect: median 55 ms, 90 of 100 within 55 ms, 99 of 100 within 55 ms, greatest 55 ms
+attempts: 1, at most 1 in a race
+the Resolution Delay was waited out in 0 races
+";
+
+// Of no race.
+const NO_SUMMARY: &[u8] = b"0 races: 0 won (0 by IPv6, 0 by IPv4), 0 exhausted, 0 at the limit
+no race was won
+attempts: 0, at most 0 in a race
+the Resolution Delay was waited out in 0 races
+";
+
+const SUMMARY_JSON: &[u8] =
+    b"{\"races\":1,\"won\":{\"ipv6\":1,\"ipv4\":0},\"exhausted\":0,\"limit\":0,\
+\"connect_ms\":{\"median\":55,\"p90\":55,\"p99\":55,\"greatest\":55},\"attempts\":{\"total\":1,\"most\":1},\
+\"resolution_delay\":0,\"failing\":[]}
+";
+
+const TRANSCRIPT_JSON: &[u8] =
+    b"{\"attempts\":[{\"attempt\":0,\"start\":20,\"address\":\"2001:db8:1::1\",\
+\"end\":\"won\",\"tick\":55}],\"result\":{\"end\":\"won\",\"attempt\":0,\"tick\":55}}
+";
+
+const ORDER_JSON: &[u8] =
+    b"{\"order\":[{\"place\":0,\"address\":\"2001:db8:1::1\",\"source\":\"2001:db8::2\"},\
+{\"place\":1,\"address\":\"198.51.100.1\",\"source\":\"192.0.2.2\"}]}
+";
+
+const EXPLANATION_JSON: &[u8] =
+    b"{\"order\":[{\"place\":0,\"address\":\"2001:db8:1::1\",\"source\":\"2001:db8::2\"},\
+{\"place\":1,\"address\":\"198.51.100.1\",\"source\":\"192.0.2.2\",\"rule\":\"6\",\"why\":\"prefer higher precedence\",\
+\"own\":35,\"before\":40}],\"events\":[{\"tick\":20,\"event\":\"answer\"";
+
+/// Those that draw it, sum it up, or write JSON.
+pub static GLANCE_ROWS: [Row; 17] = [
+    (
+        &["he", "draw", "--ascii", "--width", "60"],
+        TEXT,
+        Streams::Whole,
+        0,
+        PICTURE,
+        b"",
+    ),
+    (
+        &["he", "draw", "--ascii", "--width", "60"],
+        TEXT,
+        Streams::BreaksOff,
+        1,
+        PICTURE,
+        READ_LINE,
+    ),
+    (
+        &["he", "draw", "--svg"],
+        TEXT,
+        Streams::Whole,
+        0,
+        b"<svg ",
+        b"",
+    ),
+    (
+        &["he", "draw", "--ascii", "--set", "limit=30"],
+        TEXT,
+        Streams::Whole,
+        0,
+        b"race 1, line 1: given up at the limit of 30 ms\n",
+        b"",
+    ),
+    (&["he", "summary"], TEXT, Streams::Whole, 0, SUMMARY, b""),
+    (
+        &["he", "summary", "-", "-"],
+        TEXT,
+        Streams::Whole,
+        0,
+        SUMMARY,
+        b"",
+    ),
+    (
+        &["he", "summary", "--json"],
+        TEXT,
+        Streams::Whole,
+        0,
+        SUMMARY_JSON,
+        b"",
+    ),
+    (
+        &["he", "summary"],
+        TEXT,
+        Streams::BreaksOff,
+        1,
+        SUMMARY,
+        READ_LINE,
+    ),
+    (
+        &["he", "summary", "-v"],
+        TEXT,
+        Streams::FailsToFlush,
+        1,
+        SUMMARY,
+        b"he: cannot write the output\n  ",
+    ),
+    (
+        &["he", "summary"],
+        TEXT,
+        Streams::Room(7),
+        1,
+        b"1 race:",
+        WRITE_LINE,
+    ),
+    (
+        &["he", "summary", "nowhere.timeline"],
+        TEXT,
+        Streams::Whole,
+        1,
+        NO_SUMMARY,
+        b"he: nowhere.timeline: ",
+    ),
+    (
+        &["he", "summary", "-", "nowhere.timeline", "-"],
+        TEXT,
+        Streams::Whole,
+        1,
+        SUMMARY,
+        b"he: nowhere.timeline: ",
+    ),
+    (
+        &["he", "summary", "--set", "attempt=5"],
+        TEXT,
+        Streams::Whole,
+        2,
+        b"",
+        SETTING_LINE,
+    ),
+    (
+        &["he", "replay", "--json"],
+        TEXT,
+        Streams::Whole,
+        0,
+        TRANSCRIPT_JSON,
+        b"",
+    ),
+    (
+        &["he", "order", "--json"],
+        TEXT,
+        Streams::Whole,
+        0,
+        ORDER_JSON,
+        b"",
+    ),
+    (
+        &["he", "explain", "--lines", "--json"],
+        TEXT,
+        Streams::Whole,
+        0,
+        EXPLANATION_JSON,
+        b"",
+    ),
+    (
+        &["he", "replay", "-v"],
+        TEXT,
+        Streams::BreaksOff,
+        1,
+        TRANSCRIPT,
+        b"he: cannot read the input\n  ",
+    ),
+];

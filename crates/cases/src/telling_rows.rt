@@ -1,0 +1,212 @@
+//! Commands that explain, compare or check a text.
+
+use crate::command_rows::{READ_LINE, Row, Streams, TEXT, TWO_RACES, WRITE_LINE, WRONG_TEXT};
+
+const EXPLANATION: &[u8] = b"order 0 2001:db8:1::1 source 2001:db8::2
+order 1 198.51.100.1 source 192.0.2.2, behind 0 by rule 6, prefer higher precedence: 35 after 40
+20 answer aaaa usable 1
+20 attempt 0 2001:db8:1::1, on the AAAA answer, listed at 0 of 1, its family leads
+25 answer a usable 1
+55 won attempt 0
+end
+";
+
+const STORY: &[u8] = b"race 1, line 1: connected to 2001:db8:1::1 after 55 ms, by attempt 1 of 1
+preferred, once every answer is known:
+  1. 2001:db8:1::1 from 2001:db8::2
+  2. 198.51.100.1 from 192.0.2.2; precedence 35, the one before 40 (RFC 6724 rule 6)
+what happened:
+  20 ms  AAAA answer: 1 address to try; the A answer is not there yet
+  20 ms  attempt 1 to 2001:db8:1::1: the AAAA answer is there; the only address known
+  25 ms  A answer: 1 address to try
+  55 ms  attempt 1 connected after 35 ms
+no address of the A answer was tried
+";
+
+const COMPARISON: &[u8] = b"race 1, line 1: won after 55 ms by 2001:db8:1::1; \
+with the changes given up at its limit after 30 ms, won only without them
+1 race: 0 sooner, 0 later, 0 at the same time, 0 won only with the changes, \
+1 won only without them, 0 not won either way; no race was won both ways
+";
+
+const TWO_RACES_WARNED: &[u8] =
+    b"he: line 1: warning: this race has no source line, so its host reaches no address: write its addresses, as `he host` does for this machine
+he: line 1: warning: this race has no aaaa line, so it can't be exhausted: for an answer without an address write `aaaa TICK none`
+he: line 1: warning: this race has no a line, so it can't be exhausted: for an answer without an address write `a TICK none`
+he: line 3: warning: this race has no source line, so its host reaches no address: write its addresses, as `he host` does for this machine
+he: line 3: warning: this race has no aaaa line, so it can't be exhausted: for an answer without an address write `aaaa TICK none`
+he: line 3: warning: this race has no a line, so it can't be exhausted: for an answer without an address write `a TICK none`
+";
+
+/// Those that explain, compare or check it.
+pub static TELLING_ROWS: [Row; 22] = [
+    (&["he", "explain"], TEXT, Streams::Whole, 0, STORY, b""),
+    (
+        &["he", "explain"],
+        TEXT,
+        Streams::BreaksOff,
+        1,
+        STORY,
+        READ_LINE,
+    ),
+    (
+        &["he", "explain", "--set", "limit=30"],
+        TEXT,
+        Streams::Whole,
+        0,
+        b"race 1, line 1: not connected by the limit of 30 ms, after 1 attempt\n",
+        b"",
+    ),
+    (
+        &["he", "explain", "--lines"],
+        TEXT,
+        Streams::Whole,
+        0,
+        EXPLANATION,
+        b"",
+    ),
+    (
+        &["he", "explain", "--lines"],
+        TEXT,
+        Streams::BreaksOff,
+        1,
+        EXPLANATION,
+        READ_LINE,
+    ),
+    (
+        &["he", "explain", "--lines"],
+        TEXT,
+        Streams::Room(7),
+        1,
+        b"order 0",
+        WRITE_LINE,
+    ),
+    (
+        &["he", "compare", "--set", "limit=30"],
+        TEXT,
+        Streams::Whole,
+        0,
+        COMPARISON,
+        b"",
+    ),
+    (
+        &["he", "compare", "--set", "limit=30"],
+        TEXT,
+        Streams::BreaksOff,
+        1,
+        COMPARISON,
+        READ_LINE,
+    ),
+    (
+        &["he", "compare"],
+        TEXT,
+        Streams::Whole,
+        2,
+        b"",
+        b"error: the following required arguments were not provided:",
+    ),
+    (
+        &["he", "explain", "--help"],
+        TEXT,
+        Streams::Whole,
+        0,
+        b"Reads timelines of races and writes why",
+        b"",
+    ),
+    (
+        &["he", "check"],
+        TEXT,
+        Streams::Whole,
+        0,
+        b"1 race, 9 lines\n",
+        b"",
+    ),
+    (
+        &["he", "check"],
+        TWO_RACES,
+        Streams::Whole,
+        0,
+        b"2 races, 4 lines\n",
+        TWO_RACES_WARNED,
+    ),
+    (
+        &["he", "check"],
+        WRONG_TEXT,
+        Streams::Whole,
+        1,
+        b"",
+        b"he: line 2: unfinished\n  end\n     ^\n",
+    ),
+    (
+        &["he", "check"],
+        WRONG_TEXT,
+        Streams::BreaksOff,
+        1,
+        b"",
+        READ_LINE,
+    ),
+    (
+        &["he", "check"],
+        TEXT,
+        Streams::BreaksOff,
+        1,
+        b"",
+        READ_LINE,
+    ),
+    (
+        &["he", "check"],
+        TEXT,
+        Streams::Room(3),
+        1,
+        b"1 r",
+        WRITE_LINE,
+    ),
+    (
+        &["he", "check"],
+        TEXT,
+        Streams::FailsToFlush,
+        1,
+        b"1 race",
+        WRITE_LINE,
+    ),
+    (
+        &["he", "check", "--all"],
+        TEXT,
+        Streams::Whole,
+        0,
+        b"1 race, 9 lines\n",
+        b"",
+    ),
+    (
+        &["he", "check", "--all"],
+        WRONG_TEXT,
+        Streams::Whole,
+        1,
+        b"",
+        b"he: line 2: unfinished\n  end\n     ^\n",
+    ),
+    (
+        &["he", "check", "--all"],
+        TEXT,
+        Streams::BreaksOff,
+        1,
+        b"",
+        READ_LINE,
+    ),
+    (
+        &["he", "check", "more"],
+        TEXT,
+        Streams::Whole,
+        1,
+        b"",
+        b"he: more: No such file or directory",
+    ),
+    (
+        &["he", "check", "--help"],
+        TEXT,
+        Streams::Whole,
+        0,
+        b"Checks timelines of races",
+        b"",
+    ),
+];
