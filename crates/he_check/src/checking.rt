@@ -19,10 +19,10 @@ use std::alloc::Allocator;
 /// Reads an input of timelines to its end and checks it: where nothing is wrong it writes how many races and lines the
 /// input has, as `3 races, 27 lines`, and flushes the output.
 ///
-/// With `is_all` it goes on behind a faulty race, and tells the first fault of each part of the input. A part begins with
-/// the input, or with the next line `race 1` or `race 2` behind the first line of a faulty race: where `end` was
-/// forgotten, that is the faulty line itself. Each part is checked as an input of its own, and so may have 4,096 races,
-/// but its lines are counted over the whole input.
+/// With `is_all` it goes on behind a faulty race, and tells the first fault of each part of the input. A part begins
+/// with the input, or with the next line `race 1` or `race 2` behind the first line of a faulty race: where `end` was
+/// forgotten, that is the faulty line itself. Each part is checked as an input of its own, and so may have 4,096
+/// races, but its lines are counted over the whole input.
 ///
 /// # Errors
 ///
@@ -36,10 +36,11 @@ use std::alloc::Allocator;
 /// After `Text`, `Read` and `Memory` nothing was written to the output, after `Write` a first part of the text. What
 /// stands behind what `explanation` held then:
 ///
-/// - Where nothing is wrong, after `Write` too, a line for each [`Warning`](crate::Warning), as `he: line 1: warning: ..`.
+/// - Where nothing is wrong, after `Write` too, a line for each [`Warning`](crate::Warning), as `he: line 1: warning:
+///   ..`.
 /// - After `Text` what [`explain_fault`] says of the fault; with `is_all`, and then after `Read` too, all faults that
-///   are told, this one first: each a line as `he: line 3: word`, and what [`explain_fault`] says of it; last, where the
-///   input broke off, the line `he: cannot read the input`.
+///   are told, this one first: each a line as `he: line 3: word`, and what [`explain_fault`] says of it; last, where
+///   the input broke off, the line `he: cannot read the input`.
 /// - Else nothing.
 pub fn check<A: Allocator + Copy, I: InputStream, O: OutputStream>(
     alloc: A,

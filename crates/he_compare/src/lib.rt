@@ -14,9 +14,9 @@
 //!
 //! Proved, whatever the input and the output: each line is of the two transcripts of its race, as it stands and with
 //! the changes, with its number and first line (`specs/Compared`, `specs/Texts`); the last line counts the verdicts on
-//! these pairs, with the median and the greatest of their sorted differences (`specs/Verdicts`); at a fault of the input
-//! all this is of the races before it, and the fault is the result (`specs/Stream`). With no changes both transcripts
-//! of a race are one ([`laws`]).
+//! these pairs, with the median and the greatest of their sorted differences (`specs/Verdicts`); at a fault of the
+//! input all this is of the races before it, and the fault is the result (`specs/Stream`). With no changes both
+//! transcripts of a race are one ([`laws`]).
 //!
 //! Not proved: that a call succeeds where memory is granted.
 #![tactic(auto)]

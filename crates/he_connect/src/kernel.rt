@@ -7,8 +7,8 @@ use std::net::{IpAddr, Ipv4Addr, Ipv6Addr, Net, UdpSocket};
 // The port of a connect that sends nothing: the discard service.
 const ANY_PORT: u16 = 9;
 
-/// Appends a line for each address that was tried and that the kernel reaches from another source than the lines of the
-/// host say, as `he: 2001:db8::1 is reached from 2001:db8:5::23, and not from 2001:db8:5::7`.
+/// Appends a line for each address that was tried and that the kernel reaches from another source than the lines of
+/// the host say, as `he: 2001:db8::1 is reached from 2001:db8:5::23, and not from 2001:db8:5::7`.
 ///
 /// # Errors
 ///

@@ -50,8 +50,8 @@ impl WhyNone {
 // How long a family's answer is waited for, in milliseconds.
 const MOST_WAIT: u64 = 5_000;
 
-// The answers of a look-up, which are polled while a race runs. A family that has none, or of which none came in 5 s, is
-// told without addresses.
+// The answers of a look-up, which are polled while a race runs. A family that has none, or of which none came in 5 s,
+// is told without addresses.
 #[derive(Drop)]
 pub(crate) struct HostAnswers<'h, R> {
     alloc: Global,

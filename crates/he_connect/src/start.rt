@@ -81,8 +81,8 @@ fn read_lines(alloc: Global, lines: &[u8]) -> Result<Timeline, ConnectFault>
     }
 }
 
-// Whether the lines of a race say more than its host and its policy. Outcomes and what is known from earlier stand with an
-// answer alone.
+// Whether the lines of a race say more than its host and its policy. Outcomes and what is known from earlier stand
+// with an answer alone.
 fn has_others(base: &Timeline) -> bool {
     let settings = base.settings();
     settings.resolution() != DEFAULT_RESOLUTION

@@ -17,8 +17,8 @@ use he_plan::{Timeline, Transcript, sorted_standings};
 use he_select::Standing;
 use std::alloc::{AllocError, Allocator};
 
-/// The events up to the end by tick, those of one tick in the order of the list. What is sorted is references: an event
-/// is large.
+/// The events up to the end by tick, those of one tick in the order of the list. What is sorted is references: an
+/// event is large.
 pub fn sort_events<'a, A: Allocator>(
     alloc: A,
     events: &'a [Event],

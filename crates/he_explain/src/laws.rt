@@ -7,8 +7,9 @@ pub fn one_rule_decides()
     ensures { OneRuleDecides }
 {}
 
-/// The cause of an attempt is what came at its tick, and not before; where it came is seen at the attempt's tick. It is
-/// that all so far have failed exactly where the floor starts the attempt, before the Connection Attempt Delay is over.
+/// The cause of an attempt is what came at its tick, and not before; where it came is seen at the attempt's tick. It
+/// is that all so far have failed exactly where the floor starts the attempt, before the Connection Attempt Delay is
+/// over.
 pub fn causes_stand()
     ensures causes { CausesStand }
     ensures dues { DuesStand }

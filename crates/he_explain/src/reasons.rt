@@ -281,8 +281,8 @@ fn write_whole<A: Allocator + Copy, B: Allocator>(
 /// the rule the first one of that section that tells the two addresses apart, or of the two that RFC 8305 section 4
 /// puts before its rule 9, 8a and 8b. Where the rule compares values, they follow: `: 35 after 40`, that of the later
 /// address first, for precedences (rule 6), scopes (8), round trip times in milliseconds (8a), of which the first may
-/// be `unknown`, and common prefix lengths in bits (9); `: scope 14 but source scope 2` and `: label 1 but source label
-/// 5` of the later address for rules 2 and 5. After `Memory` the vector holds what it held.
+/// be `unknown`, and common prefix lengths in bits (9); `: scope 14 but source scope 2` and `: label 1 but source
+/// label 5` of the later address for rules 2 and 5. After `Memory` the vector holds what it held.
 pub fn write_order_reasons<A: Allocator + Copy, B: Allocator>(
     alloc: A,
     timeline: &Timeline<B>,

@@ -137,8 +137,8 @@ end
 ",
 );
 
-// The first six attempts fail at the ticks at which the last six start, and these after all have started; of each six the
-// last one fails first. There are more events than a stable sort puts in order without memory.
+// The first six attempts fail at the ticks at which the last six start, and these after all have started; of each six
+// the last one fails first. There are more events than a stable sort puts in order without memory.
 const LATER_ATTEMPTS_FAIL_FIRST: (&str, &str) = (
     "race 1
 set attempt 100

@@ -5,8 +5,8 @@
 //! plain lines of `he replay`, `he order` and `he explain --lines` tell, for a program to read. Attempts and places
 //! are counted from 0, ticks are milliseconds.
 //!
-//! The texts are JSON (RFC 8259) without spaces between their parts. Keys and strings are fixed words and addresses, of
-//! which no character needs an escape, so none is made.
+//! The texts are JSON (RFC 8259) without spaces between their parts. Keys and strings are fixed words and addresses,
+//! of which no character needs an escape, so none is made.
 //!
 //! Proved, for every race: what is appended is the text of `specs/Transcripts`, `specs/Orders` or `specs/Explanation`,
 //! whose objects and arrays are those of `specs/Json`, by the race's one transcript: the order is by the rules of

@@ -3,9 +3,9 @@
 //!
 //! # A connection of your own
 //!
-//! A timeline says what the client knows: the host's sources and routes (by which addresses are ordered, RFC 6724), and
-//! the addresses that the name has, each answer with the tick from which on it counts as known; 0 is at once. `he_text`
-//! reads one from a text, and `TimelineBuilder` of `he_plan` makes one.
+//! A timeline says what the client knows: the host's sources and routes (by which addresses are ordered, RFC 6724),
+//! and the addresses that the name has, each answer with the tick from which on it counts as known; 0 is at once.
+//! `he_text` reads one from a text, and `TimelineBuilder` of `he_plan` makes one.
 //!
 //! ```text
 //! fn connect<R>(rt: &R, text: &[u8], port: u16) -> Result<Option<TcpStream>, LiveFault>
@@ -19,27 +19,27 @@
 //! }
 //! ```
 //!
-//! The stream is std's: its reads and writes wait, and nothing of the race is left but it. `raced.transcript` says what
-//! happened, `raced.recorded` is the record, of which `write_timeline` (`he_text`) makes a text that `he replay` reads,
-//! and [`failed_attempts`] says why attempts failed.
+//! The stream is std's: its reads and writes wait, and nothing of the race is left but it. `raced.transcript` says
+//! what happened, `raced.recorded` is the record, of which `write_timeline` (`he_text`) makes a text that `he replay`
+//! reads, and [`failed_attempts`] says why attempts failed.
 //!
-//! [`live_race`] makes and ends an event loop of its own, [`live_race_on`] takes one of the crate `tokio`. Where answers
-//! come while the race runs, as from a resolver, [`resolving_race_on`] asks a source for them, and tells a [`Watcher`]
-//! each step.
+//! [`live_race`] makes and ends an event loop of its own, [`live_race_on`] takes one of the crate `tokio`. Where
+//! answers come while the race runs, as from a resolver, [`resolving_race_on`] asks a source for them, and tells a
+//! [`Watcher`] each step.
 //!
 //! [`live`] does all of it over an input and an output: `he live` is this call.
 //!
 //! # What is proved
 //!
-//! - What [`live_race`] gives replays, whatever the sockets and the clock did: its transcript is the one that the rules
-//!   of a race make of its record; the record has the given settings, policy, host, answers and what is known of
+//! - What [`live_race`] gives replays, whatever the sockets and the clock did: its transcript is the one that the
+//!   rules of a race make of its record; the record has the given settings, policy, host, answers and what is known of
 //!   addresses from earlier; and there is a winner's stream exactly where the race was won (`Replays` of `he_race`).
 //!   Its faults are `Runtime` and `Memory` alone.
 //! - What [`resolving_race_on`] gives replays likewise, for every source: its record has the given settings, policy,
 //!   host, history and answers, and of the other families what the source told (`ReplaysGiven` of `he_race`).
-//! - [`live`] writes the transcript's text and then the record's, of the input's one race with the given changes of its
-//!   settings, and hands out the record's text; it makes all of it before it writes the first byte, and after any fault
-//!   but `Write` nothing was written. `Text`, `Read` and `OneRace` come only where the input has this fault
+//! - [`live`] writes the transcript's text and then the record's, of the input's one race with the given changes of
+//!   its settings, and hands out the record's text; it makes all of it before it writes the first byte, and after any
+//!   fault but `Write` nothing was written. `Text`, `Read` and `OneRace` come only where the input has this fault
 //!   (`specs/Live`). It tells each attempt of the transcript that failed, and no other, by place and address.
 //! - Which reason an error of the system is, which reasons are the host's own, and the lines that tell failed attempts
 //!   ([`Reason::of`], [`Reason::is_local`], [`write_failures`]; `specs/Reasons`).
@@ -47,8 +47,8 @@
 //! All promise this if they return: they wait for the system.
 //!
 //! Tested only, on loopback: that anything connects, and when; that a wake comes when it was asked for; that `Runtime`
-//! comes only where the event loop or the clock failed; that the steps and reasons told of an attempt are its own; that
-//! the winner's stream is connected and waits; and that no socket of a race is left but the winner's.
+//! comes only where the event loop or the clock failed; that the steps and reasons told of an attempt are its own;
+//! that the winner's stream is connected and waits; and that no socket of a race is left but the winner's.
 #![tactic(auto)]
 
 mod clock;

@@ -21,9 +21,9 @@ use tokio::runtime::LocalRuntime;
 /// (RFC 8305 sections 4 and 5), and answers the first connection, the transcript and the record.
 ///
 /// A tick is a millisecond since the call. An answer counts as come at its tick; one that is there already has tick 0.
-/// Of the timeline its settings, policy, host, answers and what is known of addresses from earlier are looked at alone:
-/// what each address does, and where the client was late, is what the record says. Replayed, the record gives the
-/// transcript. What happens to attempts is noted in `steps`, which is new for each race.
+/// Of the timeline its settings, policy, host, answers and what is known of addresses from earlier are looked at
+/// alone: what each address does, and where the client was late, is what the record says. Replayed, the record gives
+/// the transcript. What happens to attempts is noted in `steps`, which is new for each race.
 ///
 /// The losers are closed before the call returns. The winner's stream is the caller's as if `TcpStream::connect` had
 /// made it: its reads and writes wait.
@@ -104,9 +104,10 @@ where
     }
 }
 
-/// The same where answers come while the race runs (RFC 8305 section 3): a family that has no answer in the timeline is
-/// the source's to answer. What the source tells counts as come at the tick of the turn in which it does, and stands so
-/// in the record. A source that waits for sockets or timers has those of this event loop. The watcher is told each step.
+/// The same where answers come while the race runs (RFC 8305 section 3): a family that has no answer in the timeline
+/// is the source's to answer. What the source tells counts as come at the tick of the turn in which it does, and
+/// stands so in the record. A source that waits for sockets or timers has those of this event loop. The watcher is
+/// told each step.
 ///
 /// # Errors
 ///

@@ -24,8 +24,8 @@ use std::time::Clock;
 /// What is told of a live race beside its output.
 #[derive(Drop)]
 pub struct Told {
-    /// The record: a timeline text that replays to the transcript. It is what the output has behind the transcript, and
-    /// empty where no race was run.
+    /// The record: a timeline text that replays to the transcript. It is what the output has behind the transcript,
+    /// and empty where no race was run.
     pub record: Vec<u8>,
     /// The attempts that failed, by place, with why.
     pub failed: Vec<FailedAttempt>,

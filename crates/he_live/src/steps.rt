@@ -28,8 +28,8 @@ pub struct Step {
     pub what: What,
 }
 
-/// Who is told the steps of a live race, in order: those of a turn at the turn's end, those of the last turn before the
-/// race's call returns.
+/// Who is told the steps of a live race, in order: those of a turn at the turn's end, those of the last turn before
+/// the race's call returns.
 pub trait Watcher {
     fn tell(&self, step: Step);
 }

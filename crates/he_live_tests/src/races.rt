@@ -217,8 +217,8 @@ const FIRST_REFUSED: FailedAttempt = FailedAttempt {
     reason: Reason::Refused,
 };
 
-// Whether `live` tells that the race was won where it is to be, and writes a transcript with an attempt, and a record that
-// replays to it.
+// Whether `live` tells that the race was won where it is to be, and writes a transcript with an attempt, and a record
+// that replays to it.
 fn is_told<R: Lender + Net<Listener = TcpListener, Stream = StdStream>>(
     rt: &R,
     port: u16,

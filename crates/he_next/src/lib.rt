@@ -5,8 +5,8 @@
 //! is kept between two calls. Where the client came late to a start, the step has the pause that the record must have,
 //! and is the one behind it.
 //!
-//! Proved (`specs/Steps`): the record with a line `end` behind it is one race's text, with the pause that is told where
-//! there is one, and the step is read off that race's transcript, so it is what a replay of the record says: the
+//! Proved (`specs/Steps`): the record with a line `end` behind it is one race's text, with the pause that is told
+//! where there is one, and the step is read off that race's transcript, so it is what a replay of the record says: the
 //! attempt at the place that comes next starts at the tick, or is waited for; the race has ended where the transcript
 //! says so at or before the tick. A pause is told just where that attempt's start lies before the tick. By [`laws`] an
 //! attempt that is to start where there is no pause starts at the very tick, and what is waited for lies behind it. Of

@@ -40,9 +40,9 @@ pub struct Step {
     pub action: Action,
 }
 
-/// What is due at the tick `now` in the race of the record so far, of which `started` attempts were started. The record
-/// is a race's text up to what has happened, without its `end`. A tick past the race's limit counts as the one behind
-/// it.
+/// What is due at the tick `now` in the race of the record so far, of which `started` attempts were started. The
+/// record is a race's text up to what has happened, without its `end`. A tick past the race's limit counts as the one
+/// behind it.
 ///
 /// # Errors
 ///

@@ -12,8 +12,8 @@ ghost use Rattle.he_plan.specs.Timeline.{IsRace};
 ghost use Rattle.he_plan.specs.Transcript.{IsTranscript, Report};
 ghost use Rattle.he_next_laws.specs.Runs.{IsOver, Runs, State, attempt_of};
 
-/// Of a race that is run by what is due, whatever is written down meanwhile, the attempts that were started are the next
-/// ones in turn; and where it is over they are those of the transcript, which a replay of its record tells.
+/// Of a race that is run by what is due, whatever is written down meanwhile, the attempts that were started are the
+/// next ones in turn; and where it is over they are those of the transcript, which a replay of its record tells.
 pub fn runs_are_replayed()
     ensures in_turn { (first : Race) (earlier : List State) (state : State) → IsRace first → Runs first earlier state → AreNextInTurn state.race state.attempts }
     ensures replayed { (first : Race) (earlier : List State) (state : State) (report : Report) (now : ℕ) → IsRace first → Runs first earlier state → IsTranscript state.race report → IsOver report state.attempts now → map attempt_of report.lines ≡ state.attempts }

@@ -1,4 +1,5 @@
-// Races whose answers come while they run, over a source that tells them from a tick on and a ticker that visits ticks.
+// Races whose answers come while they run, over a source that tells them from a tick on and a ticker that visits
+// ticks.
 
 use crate::homes::{Given, V4_A, V6_A, V6_B, race, unanswered};
 use crate::races::drive;
@@ -92,7 +93,8 @@ impl Ticker for Visiting {
     }
 }
 
-// A race in short: its result, its last attempt, and of its record the ticks and lengths of the answers and the pauses.
+// A race in short: its result, its last attempt, and of its record the ticks and lengths of the answers and the
+// pauses.
 #[derive(Clone, Copy, Debug, PartialEq, Eq)]
 struct Short {
     result: Outcome3,
@@ -190,7 +192,8 @@ fn run_from(
     Ok(short)
 }
 
-// The A answer comes first and waits for the AAAA answer, which comes within the Resolution Delay: IPv6 is tried first.
+// The A answer comes first and waits for the AAAA answer, which comes within the Resolution Delay: IPv6 is tried
+// first.
 #[test]
 fn late_answer_takes_part(rt: HostRuntime) -> Result<(), Fail> {
     let solo = Solo::new(&rt, Doorbell::spinning())?;

@@ -47,8 +47,8 @@ fn host(alloc: Global) -> Result<Host, Fail> {
     Ok(Host::new(alloc, &sources, &routes)?)
 }
 
-/// A race whose answers come at these ticks, with these outcomes of its two addresses, and maybe with a floor and with a
-/// second IPv6 address, which is silent.
+/// A race whose answers come at these ticks, with these outcomes of its two addresses, and maybe with a floor and with
+/// a second IPv6 address, which is silent.
 #[derive(Clone, Copy)]
 pub struct Given {
     pub limit: u64,
@@ -60,8 +60,8 @@ pub struct Given {
     pub pause: Option<(u64, u64)>,
 }
 
-/// A race of both IPv6 addresses and the IPv4 address, answered at 20, with what the client knows of them, in which one
-/// address succeeds after 10.
+/// A race of both IPv6 addresses and the IPv4 address, answered at 20, with what the client knows of them, in which
+/// one address succeeds after 10.
 #[derive(Clone, Copy)]
 pub struct Known {
     pub rtts: &'static [(Ip, u64)],

@@ -13,7 +13,8 @@ use he_stream::{InputStream, OutputStream, Taken, write_whole};
 ///
 /// # Errors
 ///
-/// - `Input` where a step of the input failed, or 4,294,967,296 steps did not reach its end. What was taken before is put.
+/// - `Input` where a step of the input failed, or 4,294,967,296 steps did not reach its end. What was taken before is
+///   put.
 /// - `Output` where a write or a flush failed, or a write took no byte. Of what was taken a first part is put.
 pub fn pump<I: InputStream, O: OutputStream>(
     input: &mut I,

@@ -14,13 +14,14 @@ use std::thread::{Threads, join_mut};
 // The most bytes that are taken at once each way.
 const ROOM: usize = 131_072;
 
-/// Puts what the input gives into the connection, and what the connection gives into the output, both at once, until the
-/// remote has ended and the input with it.
+/// Puts what the input gives into the connection, and what the connection gives into the output, both at once, until
+/// the remote has ended and the input with it.
 ///
-/// The input is to be standard input: whether it can be read without waiting is asked of descriptor 0. Where it ends, the
-/// connection is shut down for sending alone. Where the remote has ended, the input is read on for as long as it gives
-/// something at least every [`PATIENCE`](crate::until::PATIENCE) milliseconds, so that a remote that ends its way first
-/// still gets what is there. The connection has to be one that waits, and is shut down both ways where the output fails.
+/// The input is to be standard input: whether it can be read without waiting is asked of descriptor 0. Where it ends,
+/// the connection is shut down for sending alone. Where the remote has ended, the input is read on for as long as it
+/// gives something at least every [`PATIENCE`](crate::until::PATIENCE) milliseconds, so that a remote that ends its
+/// way first still gets what is there. The connection has to be one that waits, and is shut down both ways where the
+/// output fails.
 ///
 /// # Errors
 ///

@@ -17,8 +17,8 @@ pub const PATIENCE: i32 = 500;
 
 const BROKEN: i16 = POLLHUP | POLLERR | POLLNVAL;
 
-/// Standard input, of which no step is made any more once the connection has ended: it then answers `Failed`, as after a
-/// step that failed, and [`UntilEnd::is_cut`] tells why.
+/// Standard input, of which no step is made any more once the connection has ended: it then answers `Failed`, as after
+/// a step that failed, and [`UntilEnd::is_cut`] tells why.
 ///
 /// The connection has ended where it broke, or was shut down both ways; and where the remote has ended its way and the
 /// input gave nothing for [`PATIENCE`].

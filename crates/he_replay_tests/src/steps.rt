@@ -37,7 +37,7 @@ fn right_takes(reader: FakeReader<'_>, wanted: &[(Taken, bool)]) -> usize {
     let mut room = [0u8; 3];
     let mut right: usize = 0;
     for step in wanted {
-        if (input.take(&mut room), input.has_failed()) != *step {
+        if (input.take(&mut room), input.failure().is_some()) != *step {
             return right;
         }
         right = right.saturating_add(1);
@@ -49,7 +49,7 @@ fn right_puts(writer: FakeWriter, wanted: &[(Put, bool)]) -> usize {
     let mut output = ToWriter::new(writer);
     let mut right: usize = 0;
     for step in wanted {
-        if (output.put(b"abc"), output.has_failed()) != *step {
+        if (output.put(b"abc"), output.failure().is_some()) != *step {
             return right;
         }
         right = right.saturating_add(1);
@@ -62,8 +62,10 @@ fn flushes(alloc: Global) -> bool {
     let mut output = ToWriter::new(FakeWriter::new(alloc).interrupted_at(0));
     let mut failing = ToWriter::new(FakeWriter::new(alloc).failing_flush());
     let first = output.flush() == Flushed::Interrupted && !output.is_flushed();
-    let then = output.flush() == Flushed::Done && output.is_flushed() && !output.has_failed();
-    let fails = failing.flush() == Flushed::Failed && !failing.is_flushed() && failing.has_failed();
+    let then = output.flush() == Flushed::Done && output.is_flushed() && output.failure().is_none();
+    let fails = failing.flush() == Flushed::Failed
+        && !failing.is_flushed()
+        && failing.failure().is_some();
     first && then && fails && output.writer().flushes() == 1
 }
 

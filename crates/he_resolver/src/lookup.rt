@@ -72,12 +72,12 @@ impl<'h, R: Net + RandomSource + Clock> Lookup<'h, R> {
         Ok(Lookup { alloc, source })
     }
 
-    /// The addresses of the family, each once and at most 256, or why it has none. Each family is to be polled until it is
-    /// told, and not after that.
+    /// The addresses of the family, each once and at most 256, or why it has none. Each family is to be polled until
+    /// it is told, and not after that.
     ///
-    /// Both families are asked for at the first poll, that of IPv6 first. Each server has its time for an answer, and is
-    /// asked a number of times, by the file of resolver settings; after that no server answers. The system's resolver
-    /// has its own time, and tells both families at once.
+    /// Both families are asked for at the first poll, that of IPv6 first. Each server has its time for an answer, and
+    /// is asked a number of times, by the file of resolver settings; after that no server answers. The system's
+    /// resolver has its own time, and tells both families at once.
     ///
     /// # Errors
     ///

@@ -20,14 +20,14 @@ use std::thread::Threads;
 use std::time::Clock;
 use tokio::runtime::LocalRuntime;
 
-/// Finds the addresses of a host and writes them as the two answers of a timeline, each with the tick at which it came,
-/// in milliseconds since the host was asked for.
+/// Finds the addresses of a host and writes them as the two answers of a timeline, each with the tick at which it
+/// came, in milliseconds since the host was asked for.
 ///
 /// # Errors
 ///
 /// `Names` where the host has no address of either family (`NoSuchName`, `NoAddress`, `NoAnswer`, `ServerFailure`,
-/// `System`), is no host name (`Name`), or could not be asked for (`Runtime`, `Memory`): then nothing was written. After
-/// `Write` a first part was.
+/// `System`), is no host name (`Name`), or could not be asked for (`Runtime`, `Memory`): then nothing was written.
+/// After `Write` a first part was.
 pub fn write_names<R, O>(
     rt: &R,
     alloc: Global,

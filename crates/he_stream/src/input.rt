@@ -108,8 +108,8 @@ fn fill<S: InputStream, A: Allocator>(
 /// One step of the input, into the room behind the first `filled` bytes of the vector, which stay.
 ///
 /// So many bytes of room are made before the step, so that a refused allocation loses no byte of the input: 1 to
-/// [`READ_SIZE`](crate::limits::READ_SIZE). After `Bytes(count)` the next `count` bytes of the vector are those that were
-/// taken; what stands behind them is room that the next step uses again.
+/// [`READ_SIZE`](crate::limits::READ_SIZE). After `Bytes(count)` the next `count` bytes of the vector are those that
+/// were taken; what stands behind them is room that the next step uses again.
 ///
 /// # Errors
 ///

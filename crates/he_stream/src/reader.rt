@@ -1,5 +1,5 @@
 //! A reader as an input.
-ghost use Rattle.std.specs.Prelude.{◌≡◌, None, is_some};
+ghost use Rattle.std.specs.Prelude.{◌≡◌, None};
 ghost use Rattle.he_stream.specs.Marks.{MarksTake};
 
 use crate::answer::Taken;
@@ -29,13 +29,6 @@ impl<R: Read> FromReader<R> {
         ensures { result.now ≡ self.now.reader }
     {
         &self.reader
-    }
-
-    /// Whether a read has failed.
-    pub fn has_failed(&self) -> bool
-        ensures { result ≡ is_some self.now.failure }
-    {
-        self.failure.is_some()
     }
 }
 

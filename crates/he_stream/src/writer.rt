@@ -1,5 +1,5 @@
 //! A writer as an output.
-ghost use Rattle.std.specs.Prelude.{◌≡◌, None, false, is_some};
+ghost use Rattle.std.specs.Prelude.{◌≡◌, None, false};
 ghost use Rattle.he_stream.specs.Marks.{MarksPut, MarksFlush};
 
 use crate::answer::{Flushed, Put};
@@ -31,13 +31,6 @@ impl<W: Write> ToWriter<W> {
         ensures { result.now ≡ self.now.writer }
     {
         &self.writer
-    }
-
-    /// Whether a write or a flush has failed. A write that takes no byte is one that failed.
-    pub fn has_failed(&self) -> bool
-        ensures { result ≡ is_some self.now.failure }
-    {
-        self.failure.is_some()
     }
 
     /// Whether the writer was flushed after the last write.

@@ -14,8 +14,8 @@
 //! ```
 //!
 //! Proved, whatever the inputs: what is written tells of the transcripts of all races of the inputs, each input up to
-//! its first fault, which is the result (`specs/Summed`). The counts are of these transcripts (`specs/Courses`). A time
-//! to connect is the least one within which so many of 100 of the races that are won connect (`specs/Times`). The
+//! its first fault, which is the result (`specs/Summed`). The counts are of these transcripts (`specs/Courses`). A
+//! time to connect is the least one within which so many of 100 of the races that are won connect (`specs/Times`). The
 //! addresses are the ten to which most attempts failed or were silent, each with the number of these attempts and of
 //! all attempts to it (`specs/Tries`). The texts are exact (`specs/Texts`, `specs/Json`).
 //!

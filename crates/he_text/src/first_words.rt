@@ -106,8 +106,8 @@ fn names_floor(tokens: Tokens) -> bool
     }
 }
 
-// Whether the next line is a whole one that begins with the word, right or not. Its first bytes are looked at first, so
-// that the line behind a group isn't searched for its end once more.
+// Whether the next line is a whole one that begins with the word, right or not. Its first bytes are looked at first,
+// so that the line behind a group isn't searched for its end once more.
 pub(crate) fn is_next(word: Word, rest: &[u8]) -> bool
     ensures { result ≡ is_next word (lines_of rest.now) }
 {

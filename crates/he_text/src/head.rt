@@ -111,8 +111,8 @@ impl<A: Allocator + Copy> Head<A> {
         Ok(())
     }
 
-    // Adds what a line of the first four groups gives, behind its word. What stands behind the line tells whether more of
-    // its group follow.
+    // Adds what a line of the first four groups gives, behind its word. What stands behind the line tells whether more
+    // of its group follow.
     #[tactic(auto, unfolding(crate::specs::Reading::take_given))]
     pub(crate) fn take(&mut self, word: Word, tokens: Tokens, rest: &[u8]) -> Result<(), TextKind>
         ensures { MatchResult result (λ _. take_given (is_next word (lines_of rest.now)) word (tokens_left tokens.entry) self.old ≡ Ok self.new) (λ kind. Fails kind (take_given (is_next word (lines_of rest.now)) word (tokens_left tokens.entry) self.old)) }

@@ -50,7 +50,8 @@ pub fn faults_stand()
     ensures { (text : List ℕ) (line : ℕ) (kind : TextKind) → fault_of text ≡ Some (line, kind) → MayChange text line kind ⊎ FaultStands text line kind }
 {}
 
-/// Where what follows may mend a fault of a text, some text that begins with its bytes has not this fault. Runs nothing.
+/// Where what follows may mend a fault of a text, some text that begins with its bytes has not this fault. Runs
+/// nothing.
 pub fn mendable_faults_change()
     ensures { (text : List ℕ) (line : ℕ) (kind : TextKind) → fault_of text ≡ Some (line, kind) → MayChange text line kind → FaultChanges text line kind }
 {}

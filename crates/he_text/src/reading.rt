@@ -177,9 +177,9 @@ pub(crate) fn read_first<A: Allocator + Copy>(
 }
 
 /// The race that begins at `from`, and the place behind it; None exactly where the text ends at `from`. A race is
-/// `race 1` or `race 2`, then lines in the order of their groups, and `end`, each with a line end. Where the text from there on
-/// begins with no race, the fault is that of its least faulty line, counted from 1 at `from`, and on it of the first
-/// check that fails; or memory was refused at a line before which nothing is wrong: that fault is `Memory`.
+/// `race 1` or `race 2`, then lines in the order of their groups, and `end`, each with a line end. Where the text from
+/// there on begins with no race, the fault is that of its least faulty line, counted from 1 at `from`, and on it of
+/// the first check that fails; or memory was refused at a line before which nothing is wrong: that fault is `Memory`.
 pub fn read_race<A: Allocator + Copy>(
     alloc: A,
     text: &[u8],

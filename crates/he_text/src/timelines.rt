@@ -382,8 +382,9 @@ fn write_whole<A: Allocator + Copy, B: Allocator>(
 
 /// Appends the text of a timeline: `race 2` where it has a floor, a round trip time or an address used before, else
 /// `race 1`; its four settings, and the floor if there is one; all rows of its policy table with prefixes in IPv6
-/// form, the host's sources and its routes, those for IPv4 in IPv4 form, the answers that there are, the round trip times, the
-/// addresses used before, the outcomes and the pauses in the order in which they were given, and `end`. After `Memory` the vector holds what it held.
+/// form, the host's sources and its routes, those for IPv4 in IPv4 form, the answers that there are, the round trip
+/// times, the addresses used before, the outcomes and the pauses in the order in which they were given, and `end`.
+/// After `Memory` the vector holds what it held.
 pub fn write_timeline<A: Allocator + Copy, B: Allocator>(
     timeline: &Timeline<B>,
     out: &mut Vec<u8, A>,

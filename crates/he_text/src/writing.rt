@@ -11,8 +11,8 @@ use he_select::Source;
 use std::alloc::Allocator;
 
 // The most bytes of a line that is made in a buffer. The longest is that of an attempt, `attempt PLACE START ADDRESS
-// cancelled TICK`: 8 and 11 bytes of words with their spaces, two more spaces, the line's end, three numbers of at most
-// 20 digits and an address of at most 39 bytes are 121. It is cleared for each line, so it has no room to spare.
+// cancelled TICK`: 8 and 11 bytes of words with their spaces, two more spaces, the line's end, three numbers of at
+// most 20 digits and an address of at most 39 bytes are 121. It is cleared for each line, so it has no room to spare.
 pub(crate) const LINE_ROOM: usize = 121;
 
 // A token of a line. What takes more room than two words is borrowed: a line is a list of tokens.
