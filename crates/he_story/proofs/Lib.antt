@@ -1,3 +1,4 @@
+mod FloorLaws
 mod OrderLaws
 mod SpaceLaws
 mod TextLaws

@@ -1,8 +1,9 @@
 // What a floor would have changed.
 
-ghost use Rattle.std.specs.Prelude.{◌≡◌, ◌++◌, None, Some, IfOk, OnOk};
+ghost use Rattle.std.specs.Prelude.{◌≡◌, ◌++◌, None, Some, IfOk, IsTrue, OnOk};
 ghost use Rattle.he_plan.specs.declared.limits.TheConstants.{MIN_FLOOR};
 ghost use Rattle.he_plan.specs.Transcript.{IsTranscript};
+ghost use Rattle.he_story.specs.Beginning.{begins_unfailing, is_failure};
 ghost use Rattle.he_story.specs.Floor.{ends_sooner, floor_text, floored, setting_text, with_floor_text};
 
 use crate::heading::write_ending_of;
@@ -10,8 +11,35 @@ use crate::parts::{Part, write_parts, write_words};
 use he_addr::Memory;
 use he_explain::end_tick;
 use he_plan::limits::MIN_FLOOR;
-use he_plan::{Changes, Timeline, Transcript, transcript_of};
+use he_plan::{Changes, Line, Outcome, Timeline, Transcript, transcript_of};
 use std::alloc::Allocator;
+
+// Whether there is a first attempt, and it does not fail.
+fn begins_unfailing<A: Allocator>(timeline: &Timeline<A>, lines: &[Line]) -> bool
+    ensures { result ≡ begins_unfailing timeline.now lines.now }
+{
+    match lines.first() {
+        Some(first) => !is_failure(timeline.outcome(first.ip)),
+        None => false,
+    }
+}
+
+fn is_failure(outcome: Option<Outcome>) -> bool
+    ensures { result ≡ is_failure outcome }
+{
+    matches!(outcome, Some(Outcome::Fail(_)))
+}
+
+// Whether the transcript is surely that of the race with a floor too: a floor starts an attempt only where all before it
+// have failed, and the first one never does.
+pub(crate) fn is_floored<A: Allocator, B: Allocator>(
+    timeline: &Timeline<A>,
+    transcript: &Transcript<B>,
+) -> bool
+    ensures { IsTrue result → IsTranscript timeline.now transcript.now → IsTranscript (floored timeline.now) transcript.now }
+{
+    begins_unfailing(timeline, transcript.attempts())
+}
 
 // The transcript of the race with the least floor.
 pub(crate) fn floored_transcript<A: Allocator + Copy, B: Allocator>(

@@ -102,15 +102,17 @@ pub(crate) fn write_aligned<A: Allocator + Copy>(
 ) -> Result<(), Memory>
     ensures { OnOk result (text.new.items ≡ text.old.items ++ right_aligned width number) }
 {
-    write_spaces(width.saturating_sub(width_of(number)), text)?;
-    write_number(number, text)
+    let mut buffer = Buffer::new();
+    let digits = buffer.format(number).as_bytes();
+    write_spaces(width.saturating_sub(digits.len()), text)?;
+    write_words(digits, text)
 }
 
 fn write_spaces<A: Allocator + Copy>(count: usize, text: &mut Vec<u8, A>) -> Result<(), Memory>
     ensures { OnOk result (text.new.items ≡ text.old.items ++ spaces count) }
 {
     for _ in 0..count {
-        write_words(b" ", text)?;
+        text.push(b' ')?;
     }
     Ok(())
 }

@@ -39,18 +39,19 @@ fn serves(route: &Route, ip: Ip) -> bool
 
 // from SOURCE, or why the host does not reach the address.
 fn write_reached<A: Allocator + Copy>(
-    routed: bool,
+    routes: &[Route],
+    ip: Ip,
     source: Option<LabelledSource>,
     text: &mut Vec<u8, A>,
 ) -> Result<(), Memory>
-    ensures { OnOk result (text.new.items ≡ text.old.items ++ reached_text routed source) }
+    ensures { OnOk result (text.new.items ≡ text.old.items ++ reached_text (is_routed routes.now ip) source) }
 {
     match source {
         Some(labelled) => write_parts(
             &[Part::Words(b" from "), Part::Address(labelled.source.ip)],
             text,
         ),
-        None if routed => write_words(b", not reachable: no source address", text),
+        None if is_routed(routes, ip) => write_words(b", not reachable: no source address", text),
         None => write_words(b", not reachable: no route", text),
     }
 }
@@ -228,7 +229,7 @@ fn write_address<A: Allocator + Copy>(
         &[Part::Words(b". "), Part::Address(ip), Part::Words(kind)],
         text,
     )?;
-    write_reached(is_routed(routes, ip), standing.source, text)?;
+    write_reached(routes, ip, standing.source, text)?;
     write_behind(earlier, standing, text)?;
     write_words(b"\n", text)
 }

@@ -5,7 +5,7 @@ ghost use Rattle.he_explain.specs.Reasons.{standings_of};
 ghost use Rattle.he_story.specs.Story.{IsStory, Tells, story_text};
 
 use crate::closing::write_closing;
-use crate::floor::{floored_transcript, write_floor};
+use crate::floor::{floored_transcript, is_floored, write_floor};
 use crate::happening::write_happening;
 use crate::heading::write_heading;
 use crate::preferred::write_preferred;
@@ -43,8 +43,13 @@ fn story<A: Allocator + Copy, B: Allocator>(
     ensures { IfOk result (λ text. IsStory number line text.items timeline.now) }
 {
     let transcript = transcript_of(alloc, timeline)?;
-    let with_floor = floored_transcript(alloc, timeline)?;
     let mut text = Vec::new(alloc);
+    if is_floored(timeline, &transcript) {
+        let told = &transcript;
+        write_told(alloc, timeline, number, line, told, told, &mut text)?;
+        return Ok(text);
+    }
+    let with_floor = floored_transcript(alloc, timeline)?;
     write_told(
         alloc,
         timeline,
@@ -59,9 +64,9 @@ fn story<A: Allocator + Copy, B: Allocator>(
 
 /// Appends the story of the race: a line on how it ended; its usable addresses in order of preference, each with its
 /// source and what puts it behind the one before; its events in order of ticks, each behind its tick in milliseconds;
-/// then the answers that did not come, or came after the end, how long an answer waited for the first attempt at one of
-/// its addresses, and how the race would have ended with a floor, if earlier. `number` is the race's number in its input, counted from 1, and `line` the line at which it
-/// begins. After `Memory` the vector holds what it held.
+/// then the answers that did not come, or came after the end, how long an answer waited for the first attempt at one
+/// of its addresses, and how the race would have ended with a floor, if earlier. `number` is the race's number in its
+/// input, counted from 1, and `line` the line at which it begins. After `Memory` the vector holds what it held.
 pub fn write_story<A: Allocator + Copy, B: Allocator>(
     alloc: A,
     timeline: &Timeline<B>,

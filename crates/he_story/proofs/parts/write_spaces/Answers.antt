@@ -4,8 +4,8 @@ use Rattle.he_story.proofs.parts.write_spaces.Goals as goal
 
 pub loop-preserved : goal.loop-preserved
 loop-preserved g c =
-    space_more c.args.text.now.items c.loop.text.items c.write_words.new.text.items c.args.count c.loop.counter
-    (omega (arith, c.loop-test.true)) c.in_ok-write_words.ensures c.loop.invariant
+    space_more c.args.text.now.items c.loop.text.items c.push.new.self.items c.args.count c.loop.counter
+    (omega (arith, c.loop-test.true)) c.in_ok-push.ensures.items c.loop.invariant
 
 pub returns : goal.returns
 returns g c =
