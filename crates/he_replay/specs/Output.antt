@@ -6,6 +6,7 @@ use Rattle.he_explain.specs.Course.{IsExplanation}
 use Rattle.he_json.specs.Explanation.{IsExplanationJson}
 use Rattle.he_json.specs.Orders.{IsOrderJson}
 use Rattle.he_json.specs.Transcripts.{IsTranscriptJson}
+use Rattle.he_page.specs.Page.{IsSection}
 use Rattle.he_plan.specs.Changes.{ChangeValues, changed}
 use Rattle.he_plan.specs.Race.{Race}
 use Rattle.he_plan.specs.Transcript.{IsTranscript, Report}
@@ -37,7 +38,8 @@ IsTextOf contents.TranscriptJson number line = IsTranscriptJson
 IsTextOf contents.OrderJson number line = IsOrderJson
 IsTextOf contents.ExplanationJson number line = IsExplanationJson
 IsTextOf (contents.Picture look width) number line = IsPicture number line look width
-IsTextOf contents.Image number line = IsSvg number line
+IsTextOf contents.Image number line = IsSvg true number line
+IsTextOf contents.Section number line = IsSection number line
 
 -- whether that has the race's place in the input
 abbrev pub has_place : Content → Bool
@@ -50,6 +52,7 @@ has_place contents.OrderJson = false
 has_place contents.ExplanationJson = false
 has_place (contents.Picture look width) = true
 has_place contents.Image = true
+has_place contents.Section = true
 
 -- the same of the race with these changes of its settings
 abbrev pub IsTextWith : Content → ChangeValues → ℕ → ℕ → List ℕ → Race → Type 0

@@ -1,28 +1,30 @@
 //! Replaying races: texts of timelines read from an input, and what happens in each written to an output.
 //!
-//! [`replay`] writes of each race what is asked for ([`Content`]): its transcript, the order of its addresses (RFC 6724),
-//! why it went as it did, or that for a person to read (`he_story`), with changes of its settings where there are any.
+//! [`replay`] writes of each race what is asked for ([`Content`]): its transcript, the order of its addresses (RFC
+//! 6724), why it went as it did, or that for a person to read (`he_story`), with changes of its settings where there
+//! are any.
 //!
 //! Proved, whatever the input and the output (by `specs/Stream` and `specs/Output`): what is written is put in rounds,
 //! each of which ends in a flush. After success and after a fault of the text it is the transcripts, orders,
-//! explanations or stories of the races up to the first fault, the line of a fault counted over the whole input, and so
-//! are the number and the line of a race in its story; after a step of the input that failed, or the bound of steps, of
-//! the races before it; after a step of the output or a flush that failed, a first part of those of some first races;
-//! after want of memory, those of some first races. No other step leads to such a fault. An input has one output and one
-//! fault, and a fault of the text is told only where the input ended, where nothing that follows could change it, in
-//! which case the input may not be read further, or of a policy table in which the input broke off (`laws`).
+//! explanations or stories of the races up to the first fault, the line of a fault counted over the whole input, and
+//! so are the number and the line of a race in its story; after a step of the input that failed, or the bound of
+//! steps, of the races before it; after a step of the output or a flush that failed, a first part of those of some
+//! first races; after want of memory, those of some first races. No other step leads to such a fault. An input has one
+//! output and one fault, and a fault of the text is told only where the input ended, where nothing that follows could
+//! change it, in which case the input may not be read further, or of a policy table in which the input broke off
+//! (`laws`).
 //!
 //! Where races come faster than they are told, and more than one worker may be taken, `replay` cuts the bytes of a
-//! step into pieces behind races. Each worker takes pieces from a board (`he_board`), reads them and writes the
-//! texts of their races, in a thread of its own. Proved, for every number of workers and every order of their steps: the
+//! step into pieces behind races. Each worker takes pieces from a board (`he_board`), reads them and writes the texts
+//! of their races, in a thread of its own. Proved, for every number of workers and every order of their steps: the
 //! clauses of `replay`.
 //!
 //! `replay_batch` (`he_pool`), which shares the attempts of races that are in memory, is offered here too; `replay`
 //! does not go through it.
 //!
-//! Only tested: that `replay` tells want of memory only where a growth was refused, that it writes what is asked for of a
-//! race before it reads on, and that it reads nothing after a failed write. Neither proved nor
-//! tested: where bytes are cut for workers, that their pieces are told at once, and any speed.
+//! Only tested: that `replay` tells want of memory only where a growth was refused, that it writes what is asked for
+//! of a race before it reads on, and that it reads nothing after a failed write. Neither proved nor tested: where
+//! bytes are cut for workers, that their pieces are told at once, and any speed.
 #![tactic(auto)]
 
 pub mod laws;

@@ -13,22 +13,18 @@ pub const MOST_PIECES: usize = 1_024;
 pub const PIECES_OF_A_WORKER: usize = 2;
 
 /// The room for the first read, in bytes. A read that fills its room is followed by one with four times as much: a
-/// short input takes little memory, and a long one is read in few steps. It is the same where workers share the races,
-/// so that they cost a short input nothing.
+/// short input takes little memory, and a long one is read in few steps.
 pub const FIRST_ROOM: usize = 262_144;
 
-/// The most room for a read of which the calling thread tells the races, in bytes.
+/// The most room for a read, in bytes: more takes memory, and no less time.
 pub const MOST_ROOM: usize = 1_048_576;
-
-/// The most room for a read of which workers share the races, in bytes: their threads are made anew for each read.
-pub const MOST_SHARED_ROOM: usize = 4_194_304;
 
 /// The bytes that the arena has at first in which a race is kept while it is told: the calling thread has one, and
 /// each worker. Races of a few addresses need less, so they take no memory anew.
 pub const ARENA_BYTES: usize = 65_536;
 
-/// The room that the text of a race has at first, in bytes, other than a transcript: an order of three addresses mostly
-/// needs no more.
+/// The room that the text of a race has at first, in bytes, other than a transcript: an order of three addresses
+/// mostly needs no more.
 pub const TEXT_ROOM: usize = 128;
 
 /// The bytes behind the last whole race that are held before they are looked at for a fault, where more are ready to

@@ -9,6 +9,7 @@ use he_addr::Memory;
 use he_draw::{Look, write_picture, write_svg};
 use he_explain::write_explanation;
 use he_json::{write_explanation_json, write_order_json, write_transcript_json};
+use he_page::write_section;
 use he_plan::{Changes, Timeline, Transcript, transcript_of};
 use he_story::write_story;
 use he_text::{write_order, write_transcript};
@@ -19,12 +20,12 @@ use std::alloc::{AllocError, Allocator};
 pub enum Content {
     /// What happens in it ([`write_transcript`]).
     Transcript,
-    /// In which order its addresses are to be tried (RFC 6724 section 6): its usable addresses, whatever the ticks of the
-    /// answers, each with the source that the host uses for it ([`write_order`]).
+    /// In which order its addresses are to be tried (RFC 6724 section 6): its usable addresses, whatever the ticks of
+    /// the answers, each with the source that the host uses for it ([`write_order`]).
     Order,
-    /// Why it went as it did: the order of its addresses, each from the second on with the rule that puts it behind the
-    /// one before (RFC 6724 section 6), then what happened at which tick, each attempt with what started it (RFC 8305
-    /// sections 3 to 5) ([`write_explanation`]).
+    /// Why it went as it did: the order of its addresses, each from the second on with the rule that puts it behind
+    /// the one before (RFC 6724 section 6), then what happened at which tick, each attempt with what started it (RFC
+    /// 8305 sections 3 to 5) ([`write_explanation`]).
     Explanation,
     /// Its story, for a person to read, behind its number in the input and the line where it begins, both counted from
     /// 1 ([`write_story`]).
@@ -34,10 +35,13 @@ pub enum Content {
     TranscriptJson,
     OrderJson,
     ExplanationJson,
-    /// Its picture, of so many columns, behind its number in the input and the line where it begins ([`write_picture`]).
+    /// Its picture, of so many columns, behind its number in the input and the line where it begins
+    /// ([`write_picture`]).
     Picture { look: Look, width: u16 },
     /// The same as an SVG image ([`write_svg`]).
     Image,
+    /// That image beside its story, a part of a page ([`write_section`]).
+    Section,
 }
 
 impl Content {
@@ -47,7 +51,7 @@ impl Content {
     {
         matches!(
             self,
-            Content::Story | Content::Picture { .. } | Content::Image
+            Content::Story | Content::Picture { .. } | Content::Image | Content::Section
         )
     }
 }
@@ -162,6 +166,7 @@ fn write<A: Allocator + Copy>(
         Content::Picture { look, width } => {
             write_picture(alloc, timeline, number, line, look, width, text)
         }
-        Content::Image => write_svg(alloc, timeline, number, line, text),
+        Content::Image => write_svg(alloc, timeline, true, number, line, text),
+        Content::Section => write_section(alloc, timeline, number, line, text),
     }
 }

@@ -6,27 +6,26 @@ ghost use Rattle.he_replay.specs.Stream.{Replays};
 
 use crate::limits::{LEAST_WORKERS, MOST_WORKERS};
 use crate::race_texts::Asked;
-use crate::sharing::stream_shared;
 use crate::streaming::stream_races;
 use he_stream::{InputStream, OutputStream};
 use he_text::StreamFault;
 use std::alloc::Allocator;
 use std::thread::Threads;
 
-/// Reads timelines to the end of the input and writes what is asked for of each, its transcript say, by at most so many
-/// workers.
+/// Reads timelines to the end of the input and writes what is asked for of each, its transcript say, by at most so
+/// many workers.
 ///
 /// What is written and answered does not depend on the number of workers, nor on the order of their steps.
 ///
-/// It is written as the races come: when a step of the input has given the last line of a race, what is asked for of all
-/// races that are whole by then is written and flushed before the next step. No more is held than the bytes of one race
-/// and one step, and what is asked for of the races that one step completes.
+/// It is written as the races come: when a step of the input has given the last line of a race, what is asked for of
+/// all races that are whole by then is written and flushed before the next step. No more is held than the bytes of one
+/// race and one step, and what is asked for of the races that one step completes.
 ///
 /// One worker, the calling thread, reads each race and follows it to its end before the next. More share the bytes of
 /// one step: these are cut into pieces behind races (`limits::PIECE_BYTES` each, or more), each worker takes pieces
 /// until none is left, reads them and writes what is asked for of their races, in a thread of its own, and all are put
-/// together in the order of the races. No more workers are taken than have `limits::PIECES_OF_A_WORKER` pieces each, and
-/// one alone where what is asked for has the race's place in the input ([`Content::has_place`]).
+/// together in the order of the races. No more workers are taken than have `limits::PIECES_OF_A_WORKER` pieces each,
+/// and one alone where what is asked for has the race's place in the input ([`Content::has_place`]).
 ///
 /// After `Text` and `Read` all that the input before the fault asks for was written, after `Write` a first part of it,
 /// after `Memory` what some first races ask for. The output is flushed at the end, after `Text` and `Read` too. After
@@ -63,9 +62,10 @@ pub fn replay<
         (PutsRoundsPart O.contents O.puts O.flushes output.old output.new)
         (PutsInRounds O.contents O.puts O.flushes output.old output.new) result }
 {
-    if workers == LEAST_WORKERS || asked.content.has_place() {
-        stream_races(alloc, &asked, input, output)
+    let workers = if asked.content.has_place() {
+        LEAST_WORKERS
     } else {
-        stream_shared(rt, alloc, workers, &asked, input, output)
-    }
+        workers
+    };
+    stream_races(rt, alloc, workers, &asked, input, output)
 }

@@ -3,31 +3,46 @@ ghost use Rattle.std.specs.Prelude.{◌≡◌, ◌+◌, ◌-◌, ◌^◌, ◌<�
 ghost use Rattle.he_stream.specs.declared.limits.TheConstants.{READ_SIZE};
 ghost use Rattle.he_stream.specs.Input.{Gives, GivesSoFar};
 ghost use Rattle.he_stream.specs.Output.{PutsAndEnds, PutsInRounds, PutsRoundsPart};
+ghost use Rattle.he_pool.specs.declared.limits.TheConstants.{LEAST_WORKERS, MOST_WORKERS};
 ghost use Rattle.he_text.specs.declared.walks.Ending.TheVariants as endings;
 ghost use Rattle.he_text.specs.Ranges.{most_races};
 ghost use Rattle.he_text.specs.Walks.{ending_of};
+ghost use Rattle.he_replay.specs.Pieces.{IsAnywhere};
 ghost use Rattle.he_replay.specs.Rounds.{HasTold, IsAsked, PutsRound};
 ghost use Rattle.he_replay.specs.Stream.{Streams};
 
-use crate::limits::{FIRST_ROOM, MOST_ROOM, TRIED_BYTES};
+use crate::limits::{FIRST_ROOM, LEAST_WORKERS, MOST_ROOM, MOST_WORKERS, TRIED_BYTES};
 use crate::race_texts::Asked;
 use crate::rounds::{Held, Part, put_round};
+use crate::sharing::begin_shared;
 use he_stream::limits::MOST_READS;
 use he_stream::{InputStream, OutputStream, Taken, take_piece};
 use he_text::{Ending, StreamFault, Walk};
 use memchr::memmem::rfind;
 use std::alloc::Allocator;
+use std::thread::Threads;
 
 // The bytes that end a race: its last line, with the line end before it.
 pub(crate) const RACE_END: &[u8] = b"\nend\n";
 
-// Takes an input to its end and puts what is asked for of its races into the output, as they come.
-pub(crate) fn stream_races<A: Allocator + Copy, I: InputStream, O: OutputStream>(
+// Takes an input to its end and puts what is asked for of its races into the output, as they come. So many workers
+// share the races that a step of the input completes, where they are worth it.
+pub(crate) fn stream_races<
+    R: Threads + Sync,
+    A: Allocator + Copy + Send + Sync,
+    I: InputStream,
+    O: OutputStream,
+>(
+    rt: &R,
     alloc: A,
+    workers: u16,
     asked: &Asked,
     input: &mut I,
     output: &mut O,
 ) -> Result<(), StreamFault>
+    requires anywhere { LEAST_WORKERS < workers → IsAnywhere (IsAsked asked.now) }
+    requires some { LEAST_WORKERS ≤ workers }
+    requires few { workers ≤ MOST_WORKERS }
     ensures { Streams (IsAsked asked.now) (Gives I.remaining I.takes input.old input.new)
         (GivesSoFar I.remaining I.takes input.old input.new)
         (PutsAndEnds O.contents O.puts O.flushes output.old output.new)
@@ -39,10 +54,9 @@ pub(crate) fn stream_races<A: Allocator + Copy, I: InputStream, O: OutputStream>
     for _steps in 0..MOST_READS {
         match take_piece(input, &mut held.bytes, held.filled, held.room)? {
             Taken::Bytes(count) => {
-                text.clear();
-                let begun = held.walk;
+                let begun = begin_shared(rt, alloc, &held, count, workers, asked, &mut text)?;
                 tell_held(alloc, &mut held, count, begun, asked, &mut text, output)?;
-                held.room = next_room(held.room, count, MOST_ROOM);
+                held.room = next_room(held.room, count);
             }
             Taken::Interrupted => {}
             Taken::End => return end_held(alloc, &mut held, false, asked, &mut text, output),
@@ -54,22 +68,21 @@ pub(crate) fn stream_races<A: Allocator + Copy, I: InputStream, O: OutputStream>
 
 // The room for the step behind one that took so many bytes: four times as much where its room was filled, since much
 // more may be ready then.
-pub(crate) fn next_room(room: usize, count: usize, most: usize) -> usize
+fn next_room(room: usize, count: usize) -> usize
     requires some { 0 < room }
     requires few { room ≤ READ_SIZE }
-    requires most { (0 < most) × (most ≤ READ_SIZE) }
     ensures some { 0 < result }
     ensures few { result ≤ READ_SIZE }
 {
     if count < room {
         room
     } else {
-        (4 * room).min(most)
+        (4 * room).min(MOST_ROOM)
     }
 }
 
 // Tells what stands ready when so many more bytes were taken, and forgets what was told.
-pub(crate) fn tell_held<A: Allocator + Copy, O: OutputStream>(
+fn tell_held<A: Allocator + Copy, O: OutputStream>(
     alloc: A,
     held: &mut Held<A>,
     count: usize,
@@ -106,7 +119,7 @@ pub(crate) fn tell_held<A: Allocator + Copy, O: OutputStream>(
 }
 
 // Tells what is held, behind which nothing follows: the input ended, or broke off.
-pub(crate) fn end_held<A: Allocator + Copy, O: OutputStream>(
+fn end_held<A: Allocator + Copy, O: OutputStream>(
     alloc: A,
     held: &mut Held<A>,
     is_broken: bool,

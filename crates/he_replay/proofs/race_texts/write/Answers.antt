@@ -15,3 +15,6 @@ returns-in-Picture g c = rw c.in-Picture.is (written _ _ _ _ c.write_picture.ens
 
 pub returns-in-Image : goal.returns-in-Image
 returns-in-Image g c = rw c.in-Image.is (written _ _ _ _ c.write_svg.ensures.ok)
+
+pub returns-in-Section : goal.returns-in-Section
+returns-in-Section g c = rw c.in-Section.is (written _ _ _ _ c.write_section.ensures)

@@ -9,9 +9,8 @@ use Rattle.he_text.specs.declared.stream_fault.StreamFault.TheVariants as faults
 use Rattle.he_replay.specs.Rounds.{IsAsked}
 use Rattle.he_replay.proofs.Ends.{at_piece, at_round, at_same, ends_given, ends_handed, ends_refused, ends_told}
 use Rattle.he_replay.proofs.Input.{gives_broken, gives_no_end, gives_so_far, gives_whole}
-use Rattle.he_replay.proofs.Told.{none_told}
 use Rattle.he_replay.proofs.streaming.stream_races.Goals as goal
-use Rattle.he_replay.proofs.streaming.stream_races.Goals.{in-Bytes+in_ok-tell_held-in-Bytes, in-Interrupted}
+use Rattle.he_replay.proofs.streaming.stream_races.Goals.{in-Bytes+in_ok-begun-in-Bytes+in_ok-tell_held-in-Bytes, in-Interrupted}
 
 pub returns-in_err-count : goal.returns-in_err-count
 returns-in_err-count g c =
@@ -39,8 +38,26 @@ tell_held-requires-clause-lines g c =
     let most : c.loop-steps.held.room ≤ READ_SIZE = c.loop-steps.invariant.5 in
     omega (arith, small, most, size, few)
 
-pub tell_held-requires-clause-begun : goal.tell_held-requires-clause-begun
-tell_held-requires-clause-begun g c = none_told (IsAsked c.args.asked.now) _ c.loop-steps.held.walk _ c.loop-steps.invariant.2.front c.loop-steps.invariant.2.few c.clear.ensures.items
+pub begin_shared-requires-clause-within : goal.begin_shared-requires-clause-within
+begin_shared-requires-clause-within g c =
+    let step = rw c.in-Bytes.is at c.in_ok-count.ensures.step in
+    let small : c.in-Bytes.count ≤ c.loop-steps.held.room = omega (arith, step.0.1, length-take {A = ℕ}) in
+    let room : c.loop-steps.held.filled + c.loop-steps.held.room ≤ vec_len c.take_piece.new.bytes = c.in_ok-count.ensures.room in
+    omega (arith, small, room)
+
+pub returns-in_err-begun-in-Bytes : goal.returns-in_err-begun-in-Bytes
+returns-in_err-begun-in-Bytes g c =
+    let before = c.loop-steps.invariant in
+    let step = rw c.in-Bytes.is at c.in_ok-count.ensures.step in
+    let small : c.in-Bytes.count ≤ c.loop-steps.held.room = omega (arith, step.0.1, length-take {A = ℕ}) in
+    let few : c.loop-steps._steps + 1 ≤ most_reads = omega (arith, c.loop-steps-test.true) in
+    let at = at_piece (IsAsked c.args.asked.now) _ _ _ _ c.loop-steps.held.bytes.items c.take_piece.new.bytes.items c.loop-steps.held.filled _ c.in_ok-count.ensures.front before.2 c.in-Bytes.count c.loop-steps.held.room small step.0.2 in
+    let on = one_step_more _ _ _ _ _ _ _ before.3 tt step.1 in
+    let taken = gives_so_far g.I.InputStream.remaining g.I.InputStream.takes c.args.input.now c.take_piece.new.input c.take_piece.new.input (c.loop-steps._steps + 1) on few refl in
+    ends_handed _ _ _ _ _ _ c.from_residual-in_err-begun-in-Bytes.result faults.Memory c.from_residual-in_err-begun-in-Bytes.ensures
+    (ends_refused (IsAsked c.args.asked.now) _ _ _ _ _ _ _ _ _ at
+    (Gives g.I.InputStream.remaining g.I.InputStream.takes c.args.input.now c.take_piece.new.input)
+    (GivesSoFar g.I.InputStream.remaining g.I.InputStream.takes c.args.input.now c.take_piece.new.input) taken refl)
 
 pub returns-in_err-tell_held-in-Bytes : goal.returns-in_err-tell_held-in-Bytes
 returns-in_err-tell_held-in-Bytes g c =
@@ -85,7 +102,7 @@ pub loop-steps-preserved : goal.loop-steps-preserved
 loop-steps-preserved g c =
     let before = c.loop-steps.invariant in
     elim c.match-branch-2.branch [
-      | in-Bytes+in_ok-tell_held-in-Bytes w ↦
+      | in-Bytes+in_ok-begun-in-Bytes+in_ok-tell_held-in-Bytes w ↦
           let step = rw w.in-Bytes.is at c.in_ok-count.ensures.step in
           let small : w.in-Bytes.count ≤ c.loop-steps.held.room = omega (arith, step.0.1, length-take {A = ℕ}) in
           let at = at_piece (IsAsked c.args.asked.now) _ _ _ _ c.loop-steps.held.bytes.items c.take_piece.new.bytes.items c.loop-steps.held.filled _ c.in_ok-count.ensures.front before.2 w.in-Bytes.count c.loop-steps.held.room small step.0.2 in
