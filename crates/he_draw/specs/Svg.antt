@@ -1,5 +1,5 @@
 -- The picture of a race as an SVG image: the same rows, each as high as the next, on one scale of time.
-use Rattle.std.specs.Prelude.{ℕ, ◌≡◌, ◌+◌, ◌-◌, ◌++◌, List, [], ◌∷◌, codes, decimal, length}
+use Rattle.std.specs.Prelude.{ℕ, ◌≡◌, ◌+◌, ◌-◌, ◌++◌, Bool, true, false, List, [], ◌∷◌, codes, decimal, length}
 use Rattle.std.specs.List.{concat}
 use Rattle.he_plan.specs.declared.transcript.Mark.{Mark}
 use Rattle.he_plan.specs.declared.transcript.Mark.TheVariants as marks
@@ -91,6 +91,11 @@ style_text =
 unfoldable pub body_svg : ℕ → List Row → List ℕ
 body_svg end drawn = edges_text end (length drawn) ++ rows_svg end 0 drawn
 
+-- an image that stands alone has a style of its own; on a page it stands once, above all images
+abbrev pub own_style : Bool → List ℕ
+own_style true = style_text
+own_style false = []
+
 unfoldable pub title_text : List ℕ → List ℕ
 title_text heading = codes "<title>" ++ (heading ++ codes "</title>\n")
 
@@ -99,22 +104,22 @@ unfoldable pub caption_text : List ℕ → List ℕ
 caption_text heading = codes "<text y='18'>" ++ (heading ++ codes "</text>\n")
 
 -- what stands above the rows
-unfoldable pub top_text : List ℕ → List ℕ
-top_text heading = title_text heading ++ (style_text ++ caption_text heading)
+unfoldable pub top_text : Bool → List ℕ → List ℕ
+top_text is_alone heading = title_text heading ++ (own_style is_alone ++ caption_text heading)
 
-abbrev pub svg_text : ℕ → ℕ → Race → Report → List ℕ
-svg_text number line race report =
+abbrev pub svg_text : Bool → ℕ → ℕ → Race → Report → List ℕ
+svg_text is_alone number line race report =
     opening_text (length (rows_of race report))
-    ++ (top_text (heading_text number line report.result)
+    ++ (top_text is_alone (heading_text number line report.result)
     ++ (body_svg (end_tick report.result) (rows_of race report) ++ codes "</svg>\n"))
 
--- the text is the image of the race, by its transcript: the race of this number in its input, counted from 1, which
--- begins at this line
-pub record IsSvg (number line : ℕ) (drawn : List ℕ) (race : Race) : Type 0 where
+-- the text is the image of the race, alone or of a page, by its transcript: the race of this number in its input, counted
+-- from 1, which begins at this line
+pub record IsSvg (is_alone : Bool) (number line : ℕ) (drawn : List ℕ) (race : Race) : Type 0 where
   pub report : Report
   pub is : IsTranscript race report
-  pub text : drawn ≡ svg_text number line race report
+  pub text : drawn ≡ svg_text is_alone number line race report
 
 -- the image has been appended
-abbrev pub DrawsSvg : ℕ → ℕ → Race → List ℕ → List ℕ → Type 0
-DrawsSvg number line race old new = (text : List ℕ) × IsSvg number line text race × (new ≡ old ++ text)
+abbrev pub DrawsSvg : Bool → ℕ → ℕ → Race → List ℕ → List ℕ → Type 0
+DrawsSvg is_alone number line race old new = (text : List ℕ) × IsSvg is_alone number line text race × (new ≡ old ++ text)

@@ -40,4 +40,4 @@ pub use collecting::collect_rows;
 pub use look::Look;
 pub use picture::write_picture;
 pub use rows::Row;
-pub use svg::write_svg;
+pub use svg::{write_style, write_svg};

@@ -28,9 +28,10 @@ fn write_opening<A: Allocator + Copy>(count: usize, text: &mut Vec<u8, A>) -> Re
     )
 }
 
-// The colours, in a light and in a dark scheme, and how a wait is dotted and a pause is hatched.
+/// Appends the style of images: the colours, in a light and in a dark scheme, and how a wait is dotted and a pause is
+/// hatched. After `Memory` the vector holds a first part of it too.
 #[tactic(auto, unfolding(crate::specs::Svg::style_text))]
-fn write_style<A: Allocator + Copy>(text: &mut Vec<u8, A>) -> Result<(), Memory>
+pub fn write_style<A: Allocator + Copy>(text: &mut Vec<u8, A>) -> Result<(), Memory>
     ensures { OnOk result (text.new.items ≡ text.old.items ++ style_text) }
 {
     write_parts(
@@ -87,15 +88,18 @@ fn write_caption<A: Allocator + Copy>(
 // What stands above the rows.
 #[tactic(auto, unfolding(crate::specs::Svg::top_text))]
 fn write_top<A: Allocator + Copy>(
+    is_alone: bool,
     number: usize,
     line: u64,
     ending: Outcome3,
     text: &mut Vec<u8, A>,
 ) -> Result<(), Memory>
-    ensures { OnOk result (text.new.items ≡ text.old.items ++ top_text (heading_text number line ending)) }
+    ensures { OnOk result (text.new.items ≡ text.old.items ++ top_text is_alone (heading_text number line ending)) }
 {
     write_title(number, line, ending, text)?;
-    write_style(text)?;
+    if is_alone {
+        write_style(text)?;
+    }
     write_caption(number, line, ending, text)
 }
 
@@ -141,17 +145,18 @@ fn write_body<A: Allocator + Copy>(
 fn svg<A: Allocator + Copy, B: Allocator>(
     alloc: A,
     timeline: &Timeline<B>,
+    is_alone: bool,
     number: usize,
     line: u64,
 ) -> Result<Vec<u8, A>, Memory>
-    ensures { IfOk result (λ text. IsSvg number line text.items timeline.now) }
+    ensures { IfOk result (λ text. IsSvg is_alone number line text.items timeline.now) }
 {
     let transcript = transcript_of(alloc, timeline)?;
     let ending = transcript.result();
     let rows = collect_rows(alloc, timeline, &transcript)?;
     let mut text = Vec::new(alloc);
     write_opening(rows.len(), &mut text)?;
-    write_top(number, line, ending, &mut text)?;
+    write_top(is_alone, number, line, ending, &mut text)?;
     write_body(end_tick(ending), &rows, &mut text)?;
     write_words(b"</svg>\n", &mut text)?;
     Ok(text)
@@ -160,17 +165,19 @@ fn svg<A: Allocator + Copy, B: Allocator>(
 /// Appends the picture of the race as one SVG image: its title says how the race ended, and it has the rows of
 /// [`collect_rows`], each with a bar from its start to its end and these ticks, in milliseconds. Bars are told apart
 /// by colour, and by a sign or a pattern too. `number` is the race's number in its input, counted from 1, and `line`
-/// the line at which it begins. After `Memory` the vector holds what it held.
+/// the line at which it begins. An image that does not stand alone has no style: [`write_style`] writes it, once for
+/// all images of a page. After `Memory` the vector holds what it held.
 pub fn write_svg<A: Allocator + Copy, B: Allocator>(
     alloc: A,
     timeline: &Timeline<B>,
+    is_alone: bool,
     number: usize,
     line: u64,
     out: &mut Vec<u8, A>,
 ) -> Result<(), Memory>
-    ensures ok { OnOk result (DrawsSvg number line timeline.now out.old.items out.new.items) }
+    ensures ok { OnOk result (DrawsSvg is_alone number line timeline.now out.old.items out.new.items) }
     ensures err { OnErr result (out.new.items ≡ out.old.items) }
 {
-    let text = svg(alloc, timeline, number, line)?;
+    let text = svg(alloc, timeline, is_alone, number, line)?;
     out.extend_from_slice(&text).map_err(|_| Memory)
 }
