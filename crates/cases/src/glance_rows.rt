@@ -11,7 +11,25 @@ A answer      |            o               | 25 ms, 1 usable
 
 ";
 
+// Of the input, and of no race more.
+const TWO_PICTURES: &[u8] = b"==> - <==
+race 1, line 1: won after 55 ms by attempt 1
+AAAA answer   |         o                  | 20 ms, 1 usable
+A answer      |            o               | 25 ms, 1 usable
+2001:db8:1::1 |         ==================*| 20-55 ms won
+               0                      55 ms
+
+==> - <==
+";
+
 const SUMMARY: &[u8] = b"1 race: 1 won (1 by IPv6, 0 by IPv4), 0 exhausted, 0 at the limit
+time to connect: median 55 ms, 90 of 100 within 55 ms, 99 of 100 within 55 ms, greatest 55 ms
+attempts: 1, at most 1 in a race
+the Resolution Delay was waited out in 0 races
+";
+
+// Of the input, and of a file with a race that is given up at its limit.
+const SUMMARY_OF_TWO: &[u8] = b"2 races: 1 won (1 by IPv6, 0 by IPv4), 0 exhausted, 1 at the limit
 time to connect: median 55 ms, 90 of 100 within 55 ms, 99 of 100 within 55 ms, greatest 55 ms
 attempts: 1, at most 1 in a race
 the Resolution Delay was waited out in 0 races
@@ -46,7 +64,7 @@ const EXPLANATION_JSON: &[u8] =
 \"own\":35,\"before\":40}],\"events\":[{\"tick\":20,\"event\":\"answer\"";
 
 /// Those that draw it, sum it up, or write JSON.
-pub static GLANCE_ROWS: [Row; 17] = [
+pub static GLANCE_ROWS: [Row; 20] = [
     (
         &["he", "draw", "--ascii", "--width", "60"],
         TEXT,
@@ -175,5 +193,29 @@ pub static GLANCE_ROWS: [Row; 17] = [
         1,
         TRANSCRIPT,
         b"he: cannot read the input\n  ",
+    ),
+    (
+        &["he", "draw", "--ascii", "--width", "60", "-", "-"],
+        TEXT,
+        Streams::Whole,
+        0,
+        TWO_PICTURES,
+        b"",
+    ),
+    (
+        &["he", "draw", "--svg", "-", "-"],
+        TEXT,
+        Streams::Whole,
+        0,
+        b"<svg ",
+        b"",
+    ),
+    (
+        &["he", "summary", "-", "explained-no-answer.timeline"],
+        TEXT,
+        Streams::Whole,
+        0,
+        SUMMARY_OF_TWO,
+        b"",
     ),
 ];

@@ -29,6 +29,53 @@ with the changes given up at its limit after 30 ms, won only without them
 1 won only without them, 0 not won either way; no race was won both ways
 ";
 
+// Of the input, which has its heading.
+const HEADED_STORY: &[u8] = b"==> - <==
+race 1, line 1: connected to 2001:db8:1::1 after 55 ms, by attempt 1 of 1
+preferred, once every answer is known:
+  1. 2001:db8:1::1 from 2001:db8::2
+  2. 198.51.100.1 from 192.0.2.2; precedence 35, the one before 40 (RFC 6724 rule 6)
+what happened:
+  20 ms  AAAA answer: 1 address to try; the A answer is not there yet
+  20 ms  attempt 1 to 2001:db8:1::1: the AAAA answer is there; the only address known
+  25 ms  A answer: 1 address to try
+  55 ms  attempt 1 connected after 35 ms
+no address of the A answer was tried
+";
+
+// Of the input and of a file.
+const TWO_STORIES: &[u8] = b"==> - <==
+race 1, line 1: connected to 2001:db8:1::1 after 55 ms, by attempt 1 of 1
+preferred, once every answer is known:
+  1. 2001:db8:1::1 from 2001:db8::2
+  2. 198.51.100.1 from 192.0.2.2; precedence 35, the one before 40 (RFC 6724 rule 6)
+what happened:
+  20 ms  AAAA answer: 1 address to try; the A answer is not there yet
+  20 ms  attempt 1 to 2001:db8:1::1: the AAAA answer is there; the only address known
+  25 ms  A answer: 1 address to try
+  55 ms  attempt 1 connected after 35 ms
+no address of the A answer was tried
+==> explained-no-answer.timeline <==
+race 1, line 1: not connected by the limit of 100 ms, after 0 attempts
+no address to try
+what happened:
+   90 ms  pause: the client sees and starts nothing until 200 ms
+  100 ms  the limit: the race is given up
+no AAAA answer came
+no A answer came
+";
+
+// Of the input, and of no race more.
+const TWO_COMPARISONS: &[u8] = b"==> - <==
+race 1, line 1: won after 55 ms by 2001:db8:1::1; \
+with the changes given up at its limit after 30 ms, won only without them
+1 race: 0 sooner, 0 later, 0 at the same time, 0 won only with the changes, \
+1 won only without them, 0 not won either way; no race was won both ways
+==> - <==
+0 races: 0 sooner, 0 later, 0 at the same time, 0 won only with the changes, \
+0 won only without them, 0 not won either way; no race was won both ways
+";
+
 const TWO_RACES_WARNED: &[u8] =
     b"he: line 1: warning: this race has no source line, so its host reaches no address: write its addresses, as `he host` does for this machine
 he: line 1: warning: this race has no aaaa line, so it can't be exhausted: for an answer without an address write `aaaa TICK none`
@@ -39,7 +86,7 @@ he: line 3: warning: this race has no a line, so it can't be exhausted: for an a
 ";
 
 /// Those that explain, compare or check it.
-pub static TELLING_ROWS: [Row; 22] = [
+pub static TELLING_ROWS: [Row; 29] = [
     (&["he", "explain"], TEXT, Streams::Whole, 0, STORY, b""),
     (
         &["he", "explain"],
@@ -208,5 +255,60 @@ pub static TELLING_ROWS: [Row; 22] = [
         0,
         b"Checks timelines of races",
         b"",
+    ),
+    (&["he", "explain", "-"], TEXT, Streams::Whole, 0, STORY, b""),
+    (
+        &["he", "explain", "-", "explained-no-answer.timeline"],
+        TEXT,
+        Streams::Whole,
+        0,
+        TWO_STORIES,
+        b"",
+    ),
+    (
+        &[
+            "he",
+            "explain",
+            "-",
+            "nowhere.timeline",
+            "explained-no-answer.timeline",
+        ],
+        TEXT,
+        Streams::Whole,
+        1,
+        HEADED_STORY,
+        b"he: nowhere.timeline: No such file or directory",
+    ),
+    (
+        &["he", "explain", "-", "explained-no-answer.timeline"],
+        TEXT,
+        Streams::Room(3),
+        1,
+        b"==>",
+        b"he: -: cannot write the output\n",
+    ),
+    (
+        &["he", "explain", "--lines", "-", "-"],
+        TEXT,
+        Streams::Whole,
+        0,
+        EXPLANATION,
+        b"",
+    ),
+    (
+        &["he", "compare", "--set", "limit=30", "-", "-"],
+        TEXT,
+        Streams::Whole,
+        0,
+        TWO_COMPARISONS,
+        b"",
+    ),
+    (
+        &["he", "check", "-", "-"],
+        TEXT,
+        Streams::Whole,
+        0,
+        b"1 race, 9 lines\n0 races, 0 lines\n",
+        b"he: -: line 1: warning: the input has no race",
     ),
 ];

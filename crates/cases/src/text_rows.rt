@@ -20,7 +20,7 @@ end
 const NO_TIME: &[u8] = b"race 1\nset limit 1\nend\n";
 
 /// Commands that read a text.
-pub static TEXT_ROWS: [Row; 48] = [
+pub static TEXT_ROWS: [Row; 49] = [
     (&["he", "replay"], TEXT, Streams::Whole, 0, TRANSCRIPT, b""),
     (
         &["he", "replay", "--workers", "1"],
@@ -369,5 +369,13 @@ pub static TEXT_ROWS: [Row; 48] = [
         1,
         b"exhausted",
         WRITE_LINE,
+    ),
+    (
+        &["he", "replay", "-", "explained-no-answer.timeline"],
+        TEXT,
+        Streams::Whole,
+        0,
+        b"attempt 0 20 2001:db8:1::1 won 55\nwon 0 55\nlimit 100\n",
+        b"",
     ),
 ];

@@ -1,2 +1,3 @@
 mod InTurn
-mod Added
+mod Adding
+mod Asked

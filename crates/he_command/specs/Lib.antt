@@ -1,4 +1,6 @@
+pub mod Pages
 pub mod Run
 pub mod Status
+pub mod Streams
 pub mod Summaries
 pub mod Texts

@@ -1,55 +1,62 @@
 -- One summary of the texts that a line names.
-use Rattle.std.specs.Prelude.{◌≡◌, ◌≢◌, ◌⊎◌, ◌≤◌, ◌<◌, ◌+◌, ◌*◌, ◌^◌, ℕ, List, [], ◌∷◌, Option, Result, length}
+use Rattle.std.specs.Prelude.{◌≡◌, ◌≢◌, ◌⊎◌, ◌≤◌, ◌<◌, ◌+◌, ◌*◌, ◌^◌, ℕ, List, [], Option, Some, None, Result, Err, length}
+use Rattle.std.specs.Borrow.{Bor}
 use Rattle.he_plan.specs.Changes.{ChangeValues}
-use Rattle.he_stream.specs.Input.{Gives}
-use Rattle.he_stream.specs.declared.answer.Taken.{Taken}
+use Rattle.he_stream.specs.declared.stream.InputStream as inputs
+use Rattle.he_stream.specs.declared.stream.OutputStream as outputs
 use Rattle.he_summary.specs.Courses.{Raced}
 use Rattle.he_summary.specs.Summed.{Adds, HasSummed, IsWritten, Sums}
 use Rattle.he_summary.specs.declared.summary.Form.{Form}
 use Rattle.he_text.specs.Ranges.{most_races}
 use Rattle.he_text.specs.declared.stream_fault.StreamFault.{StreamFault}
+use Rattle.he_text.specs.declared.stream_fault.StreamFault.TheVariants.{Memory}
 use Rattle.he_command.specs.Status.{status_of}
+use Rattle.he_command.specs.Streams.{Gave, IsRefused, TookAll, TookPart}
+use Rattle.he_command.specs.Texts.{OfText, RunsTexts}
 use Rattle.he_command.specs.declared.limits.TheConstants.{MOST_FILES}
-use Rattle.he_command.specs.declared.run.TheConstants.{DONE, FAULT, USAGE}
+use Rattle.he_command.specs.declared.run.TheConstants.{DONE, FAULT}
 
--- so many inputs more can be summed
-abbrev pub MayAddAll : Sums → ℕ → Type 0
-MayAddAll sums inputs = (races : List Raced) × HasSummed sums races × (length races + most_races * inputs ≤ 2 ^ 50)
+-- so many inputs more can be summed; there are no sums where there was no memory for them
+abbrev pub MayAddAll : Option Sums → ℕ → Type 0
+MayAddAll None inputs = ⊥
+MayAddAll (Some sums) inputs = (races : List Raced) × HasSummed sums races × (length races + most_races * inputs ≤ 2 ^ 50)
 
--- the races of an input that went from the first to the last state were added, up to its first fault
-abbrev pub AddsFrom : {I : Type 0} → (I → Option (List ℕ)) → (I → Taken → I → Type 0) → ChangeValues → I → I → Sums → Sums → ℕ → Type 0
-AddsFrom remaining takes changes first last old new status =
-    (result : Result (Unit {0}) StreamFault) × Adds changes (Gives remaining takes first last) old new result × (status ≡ status_of result)
-
--- those of the input, where no file is named
-abbrev pub AddsTexts : {N : Type 0} → List N → Type 0 → Type 0 → Type 0
-AddsTexts [] OfInput OfNames = OfInput
-AddsTexts (name ∷ more) OfInput OfNames = OfNames
+-- the races of a text were added, up to its first fault; or there was no memory for them, and there are no sums from
+-- here on
+abbrev pub AddsText : ChangeValues → OfText (Option Sums)
+AddsText changes name I input first last (Some old) (Some new) status =
+    (result : Result (Unit {0}) StreamFault) × Adds changes (Gave input first last) old new result × (result ≢ Err Memory)
+    × (status ≡ status_of result)
+AddsText changes name I input first last (Some old) None status = status ≡ FAULT
+AddsText changes name I input first last None (Some new) status = ⊥
+AddsText changes name I input first last None None status = status ≡ FAULT
 
 -- the summary of these races, or a first part of it, was put into the output; or there was no memory for it
-abbrev pub PutsSummary : Form → Sums → (List ℕ → Type 0) → (List ℕ → Type 0) → Type 0 → ℕ → Type 0
-PutsSummary form sums Whole Part Kept status =
-    ((status ≡ FAULT) × Kept)
+abbrev pub PutsSummary : {O : Type 0} → outputs.Ghosts O → Form → Sums → O → O → ℕ → Type 0
+PutsSummary output form sums before after status =
+    ((status ≡ FAULT) × (after ≡ before))
     ⊎ ((text : List ℕ) × ((races : List Raced) → HasSummed sums races → IsWritten form races [] text)
-    × (((status ≡ DONE) × Whole text) ⊎ ((status ≡ FAULT) × Part text)))
+    × (((status ≡ DONE) × TookAll output before after text) ⊎ ((status ≡ FAULT) × TookPart output before after text)))
 
--- the texts were added up to the first that has a fault, and their summary was put. Adding: what comes of that, by the sums
--- before and behind it and by the status
-pub record IsSummedUp (form : Form) (Adding : Sums → Sums → ℕ → Type 0) (Whole Part : List ℕ → Type 0) (Kept : Type 0) (status : ℕ) : Type 0 where
+-- the texts were added up to the first that has a fault, and their summary was put. Adding: what comes of that, by the
+-- sums before and behind it and by the status
+pub record IsSummedUp {O : Type 0} (output : outputs.Ghosts O) (form : Form) (Adding : Option Sums → Option Sums → ℕ → Type 0) (before after : O) (status : ℕ) : Type 0 where
   pub first : Sums
   pub last : Sums
   pub none : HasSummed first []
   pub added : ℕ
-  pub adding : Adding first last added
+  pub adding : Adding (Some first) (Some last) added
   pub put : ℕ
-  pub puts : PutsSummary form last Whole Part Kept put
+  pub puts : PutsSummary output form last before after put
   pub status_is : ((added ≡ DONE) × (status ≡ put)) ⊎ ((added ≢ DONE) × (status ≡ added))
 
 -- that, or there was no memory
-abbrev pub SumsUp : Form → (Sums → Sums → ℕ → Type 0) → (List ℕ → Type 0) → (List ℕ → Type 0) → Type 0 → ℕ → Type 0
-SumsUp form Adding Whole Part Kept status = ((status ≡ FAULT) × Kept) ⊎ IsSummedUp form Adding Whole Part Kept status
+abbrev pub SumsUp : {O : Type 0} → outputs.Ghosts O → Form → (Option Sums → Option Sums → ℕ → Type 0) → O → O → ℕ → Type 0
+SumsUp output form Adding before after status =
+    ((status ≡ FAULT) × (after ≡ before)) ⊎ IsSummedUp output form Adding before after status
 
 -- that, or there are too many files, and the line is refused
-abbrev pub Summarizes : Form → ℕ → (Sums → Sums → ℕ → Type 0) → (List ℕ → Type 0) → (List ℕ → Type 0) → Type 0 → ℕ → Type 0
-Summarizes form files Adding Whole Part Kept status =
-    ((MOST_FILES < files) × (status ≡ USAGE) × Kept) ⊎ ((files ≤ MOST_FILES) × SumsUp form Adding Whole Part Kept status)
+abbrev pub Summarizes : {I F O : Type 0} → inputs.Ghosts I → inputs.Ghosts F → outputs.Ghosts O → Form → ChangeValues → List (Bor (List ℕ)) → I → I → O → O → ℕ → Type 0
+Summarizes input file output form changes files first last before after status =
+    ((MOST_FILES < length files) × IsRefused first last before after status)
+    ⊎ ((length files ≤ MOST_FILES) × SumsUp output form (RunsTexts (AddsText changes) input file files first last) before after status)

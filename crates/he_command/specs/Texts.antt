@@ -1,17 +1,20 @@
 -- What is done with texts of races, of standard input or of files, and how the status tells how that ended.
-use Rattle.std.specs.Prelude.{◌≡◌, ◌≢◌, ◌⊎◌, ℕ, Bool, List, [], ◌∷◌, Option, Result, codes}
+use Rattle.std.specs.Prelude.{◌≡◌, ◌≢◌, ◌⊎◌, ◌++◌, ℕ, Bool, true, false, List, [], ◌∷◌, Option, Some, None, Result, Err, codes}
+use Rattle.std.specs.Borrow.{Bor}
 use Rattle.he_check.specs.Stream.{Checks}
 use Rattle.he_compare.specs.Stream.{Compares}
+use Rattle.he_page.specs.Page.{name_text}
 use Rattle.he_plan.specs.Changes.{ChangeValues}
 use Rattle.he_replay.specs.Stream.{HasWorkers, Replays}
-use Rattle.he_stream.specs.Input.{Gives, GivesSoFar}
-use Rattle.he_stream.specs.Output.{PutsAndEnds, PutsInRounds, PutsPart, PutsRoundsPart, PutsWhole}
-use Rattle.he_stream.specs.declared.answer.Flushed.{Flushed}
-use Rattle.he_stream.specs.declared.answer.Put.{Put}
-use Rattle.he_stream.specs.declared.answer.Taken.{Taken}
+use Rattle.he_replay.specs.declared.race_texts.Content.{Content}
+use Rattle.he_replay.specs.declared.race_texts.Content.TheVariants as contents
+use Rattle.he_stream.specs.declared.stream.InputStream as inputs
+use Rattle.he_stream.specs.declared.stream.OutputStream as outputs
 use Rattle.he_text.specs.declared.stream_fault.StreamFault.{StreamFault}
 use Rattle.he_command.specs.Status.{status_of}
+use Rattle.he_command.specs.Streams.{Gave, GaveSoFar, TookAll, TookPart, TookRounds, TookRoundsPart, TookToTheEnd}
 use Rattle.he_command.specs.declared.run.TheConstants.{DONE, FAULT}
+use Rattle.he_command.specs.declared.tasks.Work.{Work}
 use Rattle.he_command.specs.declared.texts.Task.{Task}
 use Rattle.he_command.specs.declared.texts.Task.TheVariants.{Write, Compare, Check}
 
@@ -21,41 +24,91 @@ HasTaskWorkers (Write content workers) = HasWorkers workers
 HasTaskWorkers Compare = Unit {0}
 HasTaskWorkers (Check is_all) = Unit {0}
 
--- what comes of a text, each of whose races has these changes of its settings: Given, Taken, Ended, Failed and Put as
--- `Replays` has them, Whole, Part and Kept as `Checks`. That a check tells all faults, or the first, is no part of it
-abbrev pub RunsTask : Task → ChangeValues → (List ℕ → Bool → Type 0) → (List ℕ → Type 0) → (List ℕ → Type 0) → (List ℕ → Type 0) → (List ℕ → Type 0) → (List ℕ → Type 0) → (List ℕ → Type 0) → Type 0 → Result (Unit {0}) StreamFault → Type 0
-RunsTask (Write content workers) changes Given Taken Ended Failed Put Whole Part Kept result = Replays content changes Given Taken Ended Failed Put result
-RunsTask Compare changes Given Taken Ended Failed Put Whole Part Kept result = Compares changes Given Whole Part Kept result
-RunsTask (Check is_all) changes Given Taken Ended Failed Put Whole Part Kept result = Checks Given Whole Part Kept result
+-- what comes of a text, each of whose races has these changes of its settings, where its input went from the first to
+-- the last state, and the output from before to after. That a check tells all faults, or the first, is no part of it
+abbrev pub RunsTask : {I O : Type 0} → inputs.Ghosts I → outputs.Ghosts O → Task → ChangeValues → I → I → O → O → Result (Unit {0}) StreamFault → Type 0
+RunsTask input output (Write content workers) changes first last before after =
+    Replays content changes (Gave input first last) (GaveSoFar input first last)
+    (TookToTheEnd output before after) (TookRoundsPart output before after) (TookRounds output before after)
+RunsTask input output Compare changes first last before after =
+    Compares changes (Gave input first last) (TookAll output before after) (TookPart output before after) (after ≡ before)
+RunsTask input output (Check is_all) changes first last before after =
+    Checks (Gave input first last) (TookAll output before after) (TookPart output before after) (after ≡ before)
 
--- the same, by the status
-abbrev pub RunsText : Task → ChangeValues → (List ℕ → Bool → Type 0) → (List ℕ → Type 0) → (List ℕ → Type 0) → (List ℕ → Type 0) → (List ℕ → Type 0) → (List ℕ → Type 0) → (List ℕ → Type 0) → Type 0 → ℕ → Type 0
-RunsText task changes Given Taken Ended Failed Put Whole Part Kept status =
-    (result : Result (Unit {0}) StreamFault) × RunsTask task changes Given Taken Ended Failed Put Whole Part Kept result × (status ≡ status_of result)
+-- a line as head(1) and tail(1) write it above each of several files
+abbrev pub name_line : List ℕ → List ℕ
+name_line name = codes "==> " ++ name ++ codes " <==\n"
 
--- what comes of the text of an input that went from the first to the last state, where the output went from before to after
-abbrev pub RunsOver : {I O : Type 0} → (I → Option (List ℕ)) → (I → Taken → I → Type 0) → (O → Option (List ℕ)) → (O → Put → O → Type 0) → (O → Flushed → O → Type 0) → Task → ChangeValues → I → I → O → O → ℕ → Type 0
-RunsOver remaining takes contents puts flushes task changes first last before after status =
-    RunsText task changes (Gives remaining takes first last) (GivesSoFar remaining takes first last)
-    (PutsAndEnds contents puts flushes before after) (PutsRoundsPart contents puts flushes before after)
-    (PutsInRounds contents puts flushes before after) (PutsWhole contents puts flushes before after)
-    (PutsPart contents puts flushes before after) (after ≡ before) status
+-- the heading of a text of this name before what is written of its races, where that has their places in the text, as
+-- `race 1, line 1`, and does not stand for itself alone
+abbrev pub heading_of_content : List ℕ → Content → Option (List ℕ)
+heading_of_content name contents.Story = Some (name_line name)
+heading_of_content name (contents.Picture look width) = Some (name_line name)
+heading_of_content name contents.Section = Some (name_text name)
+heading_of_content name _ = None
+
+abbrev pub heading_of_task : List ℕ → Task → Option (List ℕ)
+heading_of_task name (Write content workers) = heading_of_content name content
+heading_of_task name Compare = Some (name_line name)
+heading_of_task name (Check is_all) = None
+
+-- whether there are several, so that they have headings
+abbrev pub has_headings : {N : Type 0} → List N → Bool
+has_headings [] = false
+has_headings (one ∷ []) = false
+has_headings (one ∷ two ∷ more) = true
+
+-- the heading of a text that has this name, if it has one
+abbrev pub heading : Task → Bool → Option (Bor (List ℕ)) → Option (List ℕ)
+heading task true (Some name) = heading_of_task name.now task
+heading task true None = None
+heading task false name = None
+
+-- the heading, where there is one, was put
+abbrev pub HasHeading : {O : Type 0} → outputs.Ghosts O → Option (List ℕ) → O → O → Type 0
+HasHeading output None before after = after ≡ before
+HasHeading output (Some text) before after = TookAll output before after text
+
+-- a first part of it was put until that failed, or nothing for want of memory
+abbrev pub LacksHeading : {O : Type 0} → outputs.Ghosts O → Option (List ℕ) → O → O → Type 0
+LacksHeading output None before after = ⊥
+LacksHeading output (Some text) before after = TookPart output before after text ⊎ (after ≡ before)
+
+-- the task was done behind the heading; or there was a fault in that, and nothing was read
+abbrev pub RunsHeaded : {I O : Type 0} → inputs.Ghosts I → outputs.Ghosts O → Task → ChangeValues → Option (List ℕ) → I → I → O → O → Result (Unit {0}) StreamFault → Type 0
+RunsHeaded {I} {O} input output task changes text first last before after result =
+    ((between : O) × HasHeading output text before between × RunsTask input output task changes first last between after result)
+    ⊎ ((fault : StreamFault) × (result ≡ Err fault) × (last ≡ first) × LacksHeading output text before after)
+
+-- what comes of a text that has this name, if it has one, by the states of its input and of what it is worked into,
+-- and by the status
+abbrev pub OfText : Type 0 → Type 1
+OfText S = Option (Bor (List ℕ)) → (I : Type 0) → inputs.Ghosts I → I → I → S → S → ℕ → Type 0
+
+-- it was done behind its heading, and the status tells how that ended
+abbrev pub RunsText : {O : Type 0} → outputs.Ghosts O → Task → ChangeValues → Bool → OfText O
+RunsText output task changes headed name I input first last before after status =
+    (result : Result (Unit {0}) StreamFault)
+    × RunsHeaded input output task changes (heading task headed name) first last before after result × (status ≡ status_of result)
+
+abbrev pub RunsWork : {O : Type 0} → outputs.Ghosts O → Work → OfText O
+RunsWork output work = RunsText output work.task work.changes work.has_headings
 
 -- what comes of a name: `-` is the input; another is a file, which gave a text, or which can't be opened
-abbrev pub RunsFile : {I F O : Type 0} → (I → I → O → O → ℕ → Type 0) → (F → F → O → O → ℕ → Type 0) → List ℕ → I → I → O → O → ℕ → Type 0
-RunsFile {I} {F} OfInput OfFile name first last before after status =
-    ((name ≡ codes "-") × OfInput first last before after status)
-    ⊎ ((name ≢ codes "-") × (last ≡ first)
-    × (((opened : F) × (closed : F) × OfFile opened closed before after status) ⊎ ((after ≡ before) × (status ≡ FAULT))))
+abbrev pub RunsFile : {I F S : Type 0} → OfText S → inputs.Ghosts I → inputs.Ghosts F → Bor (List ℕ) → I → I → S → S → ℕ → Type 0
+RunsFile {I} {F} Runs input file name first last before after status =
+    ((name.now ≡ codes "-") × Runs (Some name) I input first last before after status)
+    ⊎ ((name.now ≢ codes "-") × (last ≡ first)
+    × (((opened : F) × (closed : F) × Runs (Some name) F file opened closed before after status) ⊎ ((after ≡ before) × (status ≡ FAULT))))
 
 -- what comes of files, one after the other: all was done, or there was a fault in one and those behind it are left out
-abbrev pub RunsFiles : {N I O : Type 0} → (N → I → I → O → O → ℕ → Type 0) → List N → I → I → O → O → ℕ → Type 0
+abbrev pub RunsFiles : {N I S : Type 0} → (N → I → I → S → S → ℕ → Type 0) → List N → I → I → S → S → ℕ → Type 0
 RunsFiles Runs [] first last before after status = (last ≡ first) × (after ≡ before) × (status ≡ DONE)
-RunsFiles {N} {I} {O} Runs (name ∷ more) first last before after status =
+RunsFiles {N} {I} {S} Runs (name ∷ more) first last before after status =
     ((status ≢ DONE) × Runs name first last before after status)
-    ⊎ ((input : I) × (output : O) × Runs name first input before output DONE × RunsFiles Runs more input last output after status)
+    ⊎ ((next : I) × (between : S) × Runs name first next before between DONE × RunsFiles Runs more next last between after status)
 
--- what comes of texts: of the input where no file is named
-abbrev pub RunsTexts : {N : Type 0} → List N → Type 0 → Type 0 → Type 0
-RunsTexts [] OfInput OfNames = OfInput
-RunsTexts (name ∷ more) OfInput OfNames = OfNames
+-- what comes of the texts that a line names; of that of the input where it names no file
+abbrev pub RunsTexts : {I F S : Type 0} → OfText S → inputs.Ghosts I → inputs.Ghosts F → List (Bor (List ℕ)) → I → I → S → S → ℕ → Type 0
+RunsTexts {I} Runs input file [] = Runs None I input
+RunsTexts Runs input file (name ∷ more) = RunsFiles (RunsFile Runs input file) (name ∷ more)

@@ -16,6 +16,8 @@ pub(crate) enum OptionFault {
     Resolver,
     #[error("more than 4294967296 files")]
     Files,
+    #[error("invalid value for '--html <FILE>': the name of a page ends in `.html`")]
+    Page,
     #[error("invalid value for '--set <NAME=N>': {0}")]
     Setting(SettingFault),
 }

@@ -8,7 +8,7 @@ use crate::asking::{Options, connect_command, options_of};
 use crate::racing::{LiveOptions, live_command, live_options_of};
 use crate::texts::{
     Task, Texts, alone, check_command, check_of, compare_command, draw_command, draw_of,
-    explain_command, explain_of, order_command, order_of, replay_command, replay_of,
+    explain_command, explain_of, order_command, order_of, page_path, replay_command, replay_of,
     summary_command, texts_of,
 };
 use clap::{Arg, ArgMatches, Command, Error};
@@ -21,6 +21,8 @@ use std::alloc::{AllocError, Global};
 pub enum Request<'a> {
     /// To do something with the races of texts.
     Texts(Task, Texts<'a>),
+    /// To write a page of the races of texts to this file; None where the line names none for a page.
+    Page(Option<&'a str>, Texts<'a>),
     /// To write one summary of the races of texts.
     Summary(Form, Texts<'a>),
     /// To run the race of the input on real sockets.
@@ -42,7 +44,9 @@ const ABOUT: &str =
 /// Whether a line asks for something that takes a text from standard input.
 pub fn takes_text(line: &Result<Request<'_>, Error>) -> bool {
     match line {
-        Ok(Request::Texts(_, texts) | Request::Summary(_, texts)) => texts.files.is_empty(),
+        Ok(Request::Texts(_, texts) | Request::Page(_, texts) | Request::Summary(_, texts)) => {
+            texts.files.is_empty()
+        }
         Ok(Request::Live(_)) => true,
         _ => false,
     }
@@ -180,7 +184,7 @@ fn request_of<'a>(
     match matches.subcommand() {
         Some(("order", order)) => task_of(alloc, alone(order_of(order)), order),
         Some(("explain", explain)) => task_of(alloc, alone(explain_of(explain)), explain),
-        Some(("draw", draw)) => task_of(alloc, alone(draw_of(draw, columns)), draw),
+        Some(("draw", draw)) => drawing_of(alloc, draw, columns),
         Some(("summary", summary)) => summary_of(alloc, summary),
         Some(("compare", compare)) => task_of(alloc, Task::Compare, compare),
         Some(("check", check)) => task_of(alloc, check_of(check), check),
@@ -206,6 +210,20 @@ fn task_of<'a>(
     ensures { IfOk result IsRequest }
 {
     Ok(Request::Texts(task, texts_of(alloc, matches)?))
+}
+
+// To draw the races of the texts that the line names, in a page where it names a file for one.
+fn drawing_of<'a>(
+    alloc: Global,
+    matches: &ArgMatches<'a>,
+    columns: u16,
+) -> Result<Request<'a>, AllocError>
+    ensures { IfOk result IsRequest }
+{
+    match matches.get_str("html") {
+        Some(path) => Ok(Request::Page(page_path(path), texts_of(alloc, matches)?)),
+        None => task_of(alloc, alone(draw_of(matches, columns)), matches),
+    }
 }
 
 // To sum up the texts that the line names.

@@ -1,23 +1,29 @@
 //! The command line of the program `he`, and what is done for it.
 //!
-//! `he replay` reads texts of races, of files or of the input, and writes a transcript for each race to the output, `he
-//! order` the order of its addresses; `he check` counts the races and lines, or explains the first fault; `he live`
-//! runs the one race of the input on real sockets, and writes its transcript and its record; `he host` writes the
-//! addresses and routes of this machine as lines of a race. [`run_words`] does all of it over an input, an output and a
-//! writer of faults; the program hands it its words, standard input, standard output and standard error.
+//! [`run_words`] reads a line and does what it asks for over an input, an output and a writer of faults; the program
+//! hands it its words, standard input, standard output and standard error. `he replay`, `order`, `explain`, `draw`,
+//! `summary`, `compare` and `check` read texts of races, of the files that the line names or of the input; `he live`
+//! runs the one race of the input on real sockets, `he connect` a race to a host, and relays; `he names` finds a
+//! host's addresses, `he host` the lines of this machine.
 //!
-//! Proved (`run_line`): `he replay` writes the transcripts of a text's races and `he order` their orders, as `he_replay`
-//! says, `he check` the numbers of its races and lines where nothing is wrong with it, as `he_check` says: those of the
-//! input where the line names no file, else of the text that each file gave, one file after the other, up to the first
-//! that can't be opened or has a fault, whose status is the run's (`specs/Texts`). `he live` writes a transcript and a
-//! record that replays to it, as `he_live` says, `he host` one text, which no clause here names, and the status tells
-//! how that ended. `he connect` runs its race with exactly the settings that the line asks for, as `he_connect` says,
-//! and is refused, with status 2, exactly where they are none or the resolver is none; `he live` exactly where the
-//! settings that it is given fit no race. A line that asks for none of them leaves the input alone: help and the version
-//! go to the output, whole with status 0, or with status 1 after a fault; a line that is refused leaves the output alone
-//! too, with status 2, or with 1 where it was refused for want of memory.
+//! Proved (`run_line`): each does with the input, the output and the files what its crate says, as `he replay` what
+//! `he_replay` does, and the status tells how that ended.
 //!
-//! Only tested: which words ask for what, and what help, usage, faults and their explanations say.
+//! - Files are read one after the other, `-` among them the input, up to the first that can't be opened or has a
+//!   fault, whose status is the run's. Where there are several, what `explain`, `draw` and `compare` write of each
+//!   stands behind its heading, but not lines, JSON or SVG (`specs/Texts`).
+//! - `he draw --html` leaves the output alone, and puts the head of a page and then the same of its races into the
+//!   file that was opened for it (`specs/Pages`).
+//! - `he summary` writes one summary of the races of all of them, up to the first fault, or nothing where memory was
+//!   refused (`specs/Summaries`).
+//! - A line is refused, with status 2, where a setting is none, or out of its range, and `he connect` and `names`
+//!   where the resolver is none: nothing is read or written then. Else the settings are exactly those that the line
+//!   asks for.
+//! - A line that asks for none of these leaves the input alone: help and the version go to the output; a line that is
+//!   refused leaves the output alone too, with status 2, or with 1 where that was for want of memory.
+//!
+//! Only tested: which words ask for what, which files are opened, what `he host` writes, and what help, faults and
+//! their explanations say.
 #![tactic(auto)]
 
 mod arguments;
@@ -27,9 +33,12 @@ mod files;
 pub mod lender;
 pub mod limits;
 mod numbers;
+mod pages;
 pub mod racing;
+mod reports;
 pub mod run;
 mod summing;
+mod tasks;
 pub mod texts;
 
 pub use command::{Request, read_words, takes_text};

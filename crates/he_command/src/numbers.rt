@@ -101,8 +101,8 @@ fn given_of(matches: &ArgMatches<'_>) -> Option<Given> {
     Some(given)
 }
 
-// The settings of `he connect`: where none is given that of RFC 8305 section 8, and the least floor. These are in their
-// ranges.
+// The settings of `he connect`: where none is given that of RFC 8305 section 8, and the least floor. These are in
+// their ranges.
 pub(crate) fn settings_of(changes: Changes) -> Option<Settings>
     ensures { result ≡ Some (connect_settings changes) }
 {

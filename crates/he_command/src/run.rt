@@ -1,20 +1,19 @@
 //! A whole run of the program over an input, an output and a writer of faults.
 ghost use Rattle.std.specs.Prelude.{◌≡◌, ◌≢◌, [], Err, IfOk, IsSome, MatchResult, Ok, OnErr, Result};
 ghost use Rattle.clap.specs.Values.{kind_of};
-ghost use Rattle.he_stream.specs.Input.{Gives, GivesSoFar};
-ghost use Rattle.he_stream.specs.Output.{PutsAndEnds, PutsInRounds, PutsPart, PutsRoundsPart, PutsWhole};
-ghost use Rattle.he_command.specs.Run.{AnswersLine, IsRequest, RunsConnect, RunsLine, RunsLive, RunsNames, RunsRace, RunsRequest, Shows, TellsRace, connect_settings};
+ghost use Rattle.he_command.specs.Run.{AnswersLine, IsRequest, RunsConnect, RunsLine, RunsLive, RunsNames, RunsRace, RunsRequest, TellsRace, connect_settings};
 ghost use Rattle.he_command.specs.Status.{status_of, status_of_connection, status_of_live};
-ghost use Rattle.he_command.specs.Texts.{RunsFile, RunsFiles, RunsOver};
+ghost use Rattle.he_command.specs.Streams.{Shows};
 
 use crate::arguments::OptionFault;
 use crate::asking::Options;
 use crate::command::{Request, read_words};
-use crate::files::run_texts;
 use crate::lender::{Lender, columns_of};
 use crate::numbers::{SettingFault, settings_of};
+use crate::pages::run_page;
 use crate::racing::LiveOptions;
 use crate::summing::run_summary;
+use crate::tasks::run_texts;
 use clap::Error;
 use clap::error::ErrorKind;
 use he_connect::{Asked, ConnectFault, Ended, Lines, connect};
@@ -22,7 +21,7 @@ use he_host::machine::write_machine;
 use he_live::{FailedAttempt, LiveFault, Told, first_local, live, write_failures};
 use he_plan::{Changes, Outcome3, Settings};
 use he_resolver::{Choice, TellFault, write_names};
-use he_stream::{FromReader, InputStream, OutputStream, write_whole};
+use he_stream::{FromReader, InputStream, OutputStream, ToWriter, write_whole};
 use he_text::StreamFault;
 use std::alloc::Global;
 use std::fmt::Display;
@@ -59,14 +58,7 @@ where
     O: OutputStream + Send,
     F: Write,
     ensures { (line : Result Request Error) × IfOk line IsRequest
-        × RunsLine line (Gives I.remaining I.takes input.old input.new)
-        (GivesSoFar I.remaining I.takes input.old input.new) (input.new ≡ input.old)
-        (PutsAndEnds O.contents O.puts O.flushes output.old output.new)
-        (PutsRoundsPart O.contents O.puts O.flushes output.old output.new)
-        (PutsInRounds O.contents O.puts O.flushes output.old output.new)
-        (PutsWhole O.contents O.puts O.flushes output.old output.new)
-        (PutsPart O.contents O.puts O.flushes output.old output.new) (output.new ≡ output.old)
-        (λ task changes files status. RunsFiles (λ name. RunsFile (RunsOver I.remaining I.takes O.contents O.puts O.flushes task changes) (RunsOver ⟦<FromReader<R::File> as InputStream>⟧.remaining ⟦<FromReader<R::File> as InputStream>⟧.takes O.contents O.puts O.flushes task changes) name.now) files input.old input.new output.old output.new status) result }
+        × RunsLine I.InputStream ⟦<FromReader<R::File> as InputStream>⟧ ⟦<ToWriter<R::File> as OutputStream>⟧ O.OutputStream line input.old input.new output.old output.new result }
 {
     let line = read_words(alloc, words, columns_of(rt));
     run_line(rt, alloc, line, input, output, faults)
@@ -87,14 +79,7 @@ where
     O: OutputStream + Send,
     F: Write,
     requires { IfOk line IsRequest }
-    ensures { RunsLine line.entry (Gives I.remaining I.takes input.old input.new)
-        (GivesSoFar I.remaining I.takes input.old input.new) (input.new ≡ input.old)
-        (PutsAndEnds O.contents O.puts O.flushes output.old output.new)
-        (PutsRoundsPart O.contents O.puts O.flushes output.old output.new)
-        (PutsInRounds O.contents O.puts O.flushes output.old output.new)
-        (PutsWhole O.contents O.puts O.flushes output.old output.new)
-        (PutsPart O.contents O.puts O.flushes output.old output.new) (output.new ≡ output.old)
-        (λ task changes files status. RunsFiles (λ name. RunsFile (RunsOver I.remaining I.takes O.contents O.puts O.flushes task changes) (RunsOver ⟦<FromReader<R::File> as InputStream>⟧.remaining ⟦<FromReader<R::File> as InputStream>⟧.takes O.contents O.puts O.flushes task changes) name.now) files input.old input.new output.old output.new status) result }
+    ensures { RunsLine I.InputStream ⟦<FromReader<R::File> as InputStream>⟧ ⟦<ToWriter<R::File> as OutputStream>⟧ O.OutputStream line.entry input.old input.new output.old output.new result }
 {
     match line {
         Ok(request) => run_request(rt, alloc, request, input, output, faults),
@@ -117,17 +102,11 @@ where
     O: OutputStream + Send,
     F: Write,
     requires { IsRequest request }
-    ensures { RunsRequest request.entry (Gives I.remaining I.takes input.old input.new)
-        (GivesSoFar I.remaining I.takes input.old input.new)
-        (PutsAndEnds O.contents O.puts O.flushes output.old output.new)
-        (PutsRoundsPart O.contents O.puts O.flushes output.old output.new)
-        (PutsInRounds O.contents O.puts O.flushes output.old output.new)
-        (PutsWhole O.contents O.puts O.flushes output.old output.new)
-        (PutsPart O.contents O.puts O.flushes output.old output.new) (output.new ≡ output.old)
-        (λ task changes files status. RunsFiles (λ name. RunsFile (RunsOver I.remaining I.takes O.contents O.puts O.flushes task changes) (RunsOver ⟦<FromReader<R::File> as InputStream>⟧.remaining ⟦<FromReader<R::File> as InputStream>⟧.takes O.contents O.puts O.flushes task changes) name.now) files input.old input.new output.old output.new status) result }
+    ensures { RunsRequest I.InputStream ⟦<FromReader<R::File> as InputStream>⟧ ⟦<ToWriter<R::File> as OutputStream>⟧ O.OutputStream request.entry input.old input.new output.old output.new result }
 {
     match request {
         Request::Texts(task, texts) => run_texts(rt, alloc, task, &texts, input, output, faults),
+        Request::Page(path, texts) => run_page(rt, alloc, path, &texts, input, output, faults),
         Request::Summary(form, texts) => {
             run_summary(rt, alloc, form, &texts, input, output, faults)
         }
@@ -154,9 +133,7 @@ where
     I: InputStream,
     O: OutputStream,
     F: Write,
-    ensures { RunsLive options.now (Gives I.remaining I.takes input.old input.new)
-        (PutsWhole O.contents O.puts O.flushes output.old output.new)
-        (PutsPart O.contents O.puts O.flushes output.old output.new) (output.new ≡ output.old) result }
+    ensures { RunsLive I.InputStream O.OutputStream options.now input.old input.new output.old output.new result }
 {
     match options.changes {
         Ok(changes) => run_changed(rt, alloc, options, changes, input, output, faults),
@@ -179,9 +156,7 @@ where
     I: InputStream,
     O: OutputStream,
     F: Write,
-    ensures { RunsRace options.now changes (Gives I.remaining I.takes input.old input.new)
-        (PutsWhole O.contents O.puts O.flushes output.old output.new)
-        (PutsPart O.contents O.puts O.flushes output.old output.new) (output.new ≡ output.old) result }
+    ensures { RunsRace I.InputStream O.OutputStream options.now changes input.old input.new output.old output.new result }
 {
     let mut told = Told::new(alloc);
     let end = live(rt, alloc, input, output, options.port, changes, &mut told);
@@ -227,8 +202,7 @@ where
     R: Lender,
     O: OutputStream,
     F: Write,
-    ensures { Shows (PutsWhole O.contents O.puts O.flushes output.old output.new)
-        (PutsPart O.contents O.puts O.flushes output.old output.new) (output.new ≡ output.old) result }
+    ensures { Shows O.OutputStream output.old output.new result }
 {
     let mut lines = Vec::new(alloc);
     let mut remarks = Vec::new(alloc);
@@ -243,8 +217,7 @@ where
 }
 
 fn put_lines<O: OutputStream>(lines: &[u8], output: &mut O) -> Result<(), StreamFault>
-    ensures { Shows (PutsWhole O.contents O.puts O.flushes output.old output.new)
-        (PutsPart O.contents O.puts O.flushes output.old output.new) (output.new ≡ output.old) (status_of result) }
+    ensures { Shows O.OutputStream output.old output.new (status_of result) }
 {
     write_whole(output, lines).map_err(|_| StreamFault::Write)
 }
@@ -262,8 +235,7 @@ where
     R: Lender,
     O: OutputStream,
     F: Write,
-    ensures { RunsNames resolver (PutsWhole O.contents O.puts O.flushes output.old output.new)
-        (PutsPart O.contents O.puts O.flushes output.old output.new) (output.new ≡ output.old) result }
+    ensures { RunsNames O.OutputStream resolver output.old output.new result }
 {
     match resolver {
         Some(choice) => report_names(write_names(rt, alloc, output, host, choice), host, faults),
@@ -285,8 +257,7 @@ where
     I: InputStream,
     O: OutputStream + Send,
     F: Write,
-    ensures { RunsConnect options.now (PutsInRounds O.contents O.puts O.flushes output.old output.new)
-        (PutsRoundsPart O.contents O.puts O.flushes output.old output.new) (output.new ≡ output.old) result }
+    ensures { RunsConnect O.OutputStream options.now input.old input.new output.old output.new result }
 {
     let Some(resolver) = options.resolver else {
         return refuse_option(OptionFault::Resolver, faults);
@@ -372,8 +343,7 @@ fn answer_line<O: OutputStream, F: Write>(
     output: &mut O,
     faults: &mut F,
 ) -> u8
-    ensures { AnswersLine (kind_of error.now) (PutsWhole O.contents O.puts O.flushes output.old output.new)
-        (PutsPart O.contents O.puts O.flushes output.old output.new) (output.new ≡ output.old) result }
+    ensures { AnswersLine O.OutputStream (kind_of error.now) output.old output.new result }
 {
     if error.kind() == ErrorKind::OutOfMemory {
         report(StreamFault::Memory, faults)
@@ -390,8 +360,7 @@ fn write_help<O: OutputStream>(
     error: &Error,
     output: &mut O,
 ) -> Result<(), StreamFault>
-    ensures { Shows (PutsWhole O.contents O.puts O.flushes output.old output.new)
-        (PutsPart O.contents O.puts O.flushes output.old output.new) (output.new ≡ output.old) (status_of result) }
+    ensures { Shows O.OutputStream output.old output.new (status_of result) }
 {
     let text = format!(in alloc; "{error}").map_err(|_| StreamFault::Memory)?;
     match write_whole(output, text.as_bytes()) {

@@ -1,18 +1,18 @@
 //! One summary of the races of all texts that a line names.
-ghost use Rattle.std.specs.Prelude.{◌≡◌, ◌≢◌, ◌≤◌, ◌+◌, ◌⊎◌, IfOk, MatchResult, length};
-ghost use Rattle.he_stream.specs.Output.{PutsPart, PutsWhole};
-ghost use Rattle.he_command.specs.Summaries.{AddsFrom, AddsTexts, MayAddAll, PutsSummary, Summarizes, SumsUp};
-ghost use Rattle.he_command.specs.Texts.{RunsFile, RunsFiles};
+ghost use Rattle.std.specs.Prelude.{◌≡◌, ◌≢◌, ◌≤◌, ◌+◌, ◌⊎◌, ℕ, MatchResult, Some, length};
+ghost use Rattle.he_command.specs.Streams.{IsRefused};
+ghost use Rattle.he_command.specs.Summaries.{AddsText, MayAddAll, PutsSummary, Summarizes, SumsUp};
+ghost use Rattle.he_command.specs.Texts.{RunsFile, RunsFiles, RunsTexts};
 ghost use Rattle.he_command.specs.declared.limits.TheConstants.{MOST_FILES};
-ghost use Rattle.he_command.specs.declared.run.TheConstants.{DONE, FAULT, USAGE};
+ghost use Rattle.he_command.specs.declared.run.TheConstants.{DONE, FAULT};
 
 use crate::arguments::OptionFault;
-use crate::files::{STANDARD_INPUT, explain_in, report_end_in, report_in, tell_reason};
+use crate::files::STANDARD_INPUT;
 use crate::lender::Lender;
 use crate::limits::MOST_FILES;
-use crate::run::{DONE, refuse_option, report};
+use crate::reports::{explain_in, report_end_in, report_in, tell_reason};
+use crate::run::{DONE, FAULT, refuse_option, report};
 use crate::texts::Texts;
-use he_addr::Memory;
 use he_plan::Changes;
 use he_stream::{FromReader, InputStream, OutputStream, write_whole};
 use he_summary::{Form, Summary};
@@ -46,12 +46,8 @@ where
     O: OutputStream,
     F: Write,
     ensures { MatchResult texts.now.changes
-        (λ changes. Summarizes form (length texts.now.files.items)
-        (λ old new status. AddsTexts texts.now.files.items (AddsFrom I.remaining I.takes changes input.old input.new old new status)
-        (RunsFiles (λ name. RunsFile (AddsFrom I.remaining I.takes changes) (AddsFrom ⟦<FromReader<R::File> as InputStream>⟧.remaining ⟦<FromReader<R::File> as InputStream>⟧.takes changes) name.now) texts.now.files.items input.old input.new old new status))
-        (PutsWhole O.contents O.puts O.flushes output.old output.new)
-        (PutsPart O.contents O.puts O.flushes output.old output.new) (output.new ≡ output.old) result)
-        (λ _. (result ≡ USAGE) × (output.new ≡ output.old)) }
+        (λ changes. Summarizes I.InputStream ⟦<FromReader<R::File> as InputStream>⟧ O.OutputStream form changes texts.now.files.items input.old input.new output.old output.new result)
+        (λ _. IsRefused input.old input.new output.old output.new result) }
 {
     let changes = match texts.changes {
         Ok(changes) => changes,
@@ -85,19 +81,16 @@ where
     O: OutputStream,
     F: Write,
     requires { length names.now ≤ MOST_FILES }
-    ensures { SumsUp form
-        (λ old new status. AddsTexts names.now (AddsFrom I.remaining I.takes summing.now.changes input.old input.new old new status)
-        (RunsFiles (λ name. RunsFile (AddsFrom I.remaining I.takes summing.now.changes) (AddsFrom ⟦<FromReader<R::File> as InputStream>⟧.remaining ⟦<FromReader<R::File> as InputStream>⟧.takes summing.now.changes) name.now) names.now input.old input.new old new status))
-        (PutsWhole O.contents O.puts O.flushes output.old output.new)
-        (PutsPart O.contents O.puts O.flushes output.old output.new) (output.new ≡ output.old) result }
+    ensures { SumsUp O.OutputStream form (RunsTexts (AddsText summing.now.changes) I.InputStream ⟦<FromReader<R::File> as InputStream>⟧ names.now input.old input.new) output.old output.new result }
 {
-    let mut summary = Summary::new(alloc);
-    match add_texts(rt, alloc, summing, names, input, &mut summary, faults) {
-        Ok(added) => {
+    let mut sums = Some(Summary::new(alloc));
+    let added = add_texts(rt, alloc, summing, names, input, &mut sums, faults);
+    match sums {
+        Some(mut summary) => {
             let put = put_summary(alloc, form, &mut summary, summing, output, faults);
             status_of_both(added, put)
         }
-        Err(_) => report(StreamFault::Memory, faults),
+        None => FAULT,
     }
 }
 
@@ -108,28 +101,28 @@ fn status_of_both(first: u8, then: u8) -> u8
     if first == DONE { then } else { first }
 }
 
-// Adds the texts of these names, up to the first that has a fault, which is told; that of the input where there are none.
+// Adds the texts of these names, up to the first that has a fault, which is told; that of the input where there are
+// none. There are no sums behind one for which there was no memory.
 fn add_texts<R, I, F>(
     rt: &R,
     alloc: Global,
     summing: &Summing,
     names: &[&str],
     input: &mut I,
-    summary: &mut Summary<Global>,
+    sums: &mut Option<Summary<Global>>,
     faults: &mut F,
-) -> Result<u8, Memory>
+) -> u8
 where
     R: Lender,
     I: InputStream,
     F: Write,
-    requires { MayAddAll summary.old (length names.now + 1) }
-    ensures { IfOk result (λ status. AddsTexts names.now (AddsFrom I.remaining I.takes summing.now.changes input.old input.new summary.old summary.new status)
-        (RunsFiles (λ name. RunsFile (AddsFrom I.remaining I.takes summing.now.changes) (AddsFrom ⟦<FromReader<R::File> as InputStream>⟧.remaining ⟦<FromReader<R::File> as InputStream>⟧.takes summing.now.changes) name.now) names.now input.old input.new summary.old summary.new status)) }
+    requires { MayAddAll sums.old (length names.now + 1) }
+    ensures { RunsTexts (AddsText summing.now.changes) I.InputStream ⟦<FromReader<R::File> as InputStream>⟧ names.now input.old input.new sums.old sums.new result }
 {
     if names.is_empty() {
-        add_text(rt, alloc, summing, None, input, summary, faults)
+        add_text(rt, alloc, summing, None, input, sums, faults)
     } else {
-        add_files(rt, alloc, summing, names, input, summary, faults)
+        add_files(rt, alloc, summing, names, input, sums, faults)
     }
 }
 
@@ -139,22 +132,22 @@ fn add_files<R, I, F>(
     summing: &Summing,
     names: &[&str],
     input: &mut I,
-    summary: &mut Summary<Global>,
+    sums: &mut Option<Summary<Global>>,
     faults: &mut F,
-) -> Result<u8, Memory>
+) -> u8
 where
     R: Lender,
     I: InputStream,
     F: Write,
-    requires { MayAddAll summary.old (length names.now) }
-    ensures { IfOk result (λ status. RunsFiles (λ name. RunsFile (AddsFrom I.remaining I.takes summing.now.changes) (AddsFrom ⟦<FromReader<R::File> as InputStream>⟧.remaining ⟦<FromReader<R::File> as InputStream>⟧.takes summing.now.changes) name.now) names.now input.old input.new summary.old summary.new status) }
+    requires { MayAddAll sums.old (length names.now + 1) }
+    ensures { RunsFiles (RunsFile (AddsText summing.now.changes) I.InputStream ⟦<FromReader<R::File> as InputStream>⟧) names.now input.old input.new sums.old sums.new result }
 {
     let Some((name, more)) = names.split_first() else {
-        return Ok(DONE);
+        return DONE;
     };
-    match add_name(rt, alloc, summing, name, input, summary, faults)? {
-        DONE => add_files(rt, alloc, summing, more, input, summary, faults),
-        status => Ok(status),
+    match add_name(rt, alloc, summing, name, input, sums, faults) {
+        DONE => add_files(rt, alloc, summing, more, input, sums, faults),
+        status => status,
     }
 }
 
@@ -164,22 +157,23 @@ fn add_name<R, I, F>(
     summing: &Summing,
     name: &str,
     input: &mut I,
-    summary: &mut Summary<Global>,
+    sums: &mut Option<Summary<Global>>,
     faults: &mut F,
-) -> Result<u8, Memory>
+) -> u8
 where
     R: Lender,
     I: InputStream,
     F: Write,
-    requires { MayAddAll summary.old 1 }
-    ensures { IfOk result (λ status. RunsFile (AddsFrom I.remaining I.takes summing.now.changes) (AddsFrom ⟦<FromReader<R::File> as InputStream>⟧.remaining ⟦<FromReader<R::File> as InputStream>⟧.takes summing.now.changes) name.now input.old input.new summary.old summary.new status) }
+    requires { (more : ℕ) × MayAddAll sums.old (more + 1) }
+    ensures done { RunsFile (AddsText summing.now.changes) I.InputStream ⟦<FromReader<R::File> as InputStream>⟧ name.entry input.old input.new sums.old sums.new result }
+    ensures more { result ≡ DONE → (more : ℕ) → MayAddAll sums.old (more + 1) → MayAddAll sums.new more }
 {
     if name == STANDARD_INPUT {
-        return add_text(rt, alloc, summing, Some(name), input, summary, faults);
+        return add_text(rt, alloc, summing, Some(name), input, sums, faults);
     }
     match fs::open(rt, name) {
-        Ok(file) => add_file(rt, alloc, summing, name, file, summary, faults),
-        Err(error) => Ok(report_in(Some(name), error, faults)),
+        Ok(file) => add_file(rt, alloc, summing, name, file, sums, faults),
+        Err(error) => report_in(Some(name), error, faults),
     }
 }
 
@@ -190,17 +184,18 @@ fn add_file<R, F>(
     summing: &Summing,
     name: &str,
     file: R::File,
-    summary: &mut Summary<Global>,
+    sums: &mut Option<Summary<Global>>,
     faults: &mut F,
-) -> Result<u8, Memory>
+) -> u8
 where
     R: Lender,
     F: Write,
-    requires { MayAddAll summary.old 1 }
-    ensures { IfOk result (λ status. (opened : FromReader R.File) × (closed : FromReader R.File) × AddsFrom ⟦<FromReader<R::File> as InputStream>⟧.remaining ⟦<FromReader<R::File> as InputStream>⟧.takes summing.now.changes opened closed summary.old summary.new status) }
+    requires { (more : ℕ) × MayAddAll sums.old (more + 1) }
+    ensures done { (opened : FromReader R.File) × (closed : FromReader R.File) × AddsText summing.now.changes (Some name.entry) _ ⟦<FromReader<R::File> as InputStream>⟧ opened closed sums.old sums.new result }
+    ensures more { result ≡ DONE → (more : ℕ) → MayAddAll sums.old (more + 1) → MayAddAll sums.new more }
 {
     let mut input = FromReader::new(file);
-    let status = add_text(rt, alloc, summing, Some(name), &mut input, summary, faults);
+    let status = add_text(rt, alloc, summing, Some(name), &mut input, sums, faults);
     drop(input);
     status
 }
@@ -212,19 +207,24 @@ fn add_text<R, I, F>(
     summing: &Summing,
     name: Option<&str>,
     input: &mut I,
-    summary: &mut Summary<Global>,
+    sums: &mut Option<Summary<Global>>,
     faults: &mut F,
-) -> Result<u8, Memory>
+) -> u8
 where
     R: Lender,
     I: InputStream,
     F: Write,
-    requires { MayAddAll summary.old 1 }
-    ensures { IfOk result (AddsFrom I.remaining I.takes summing.now.changes input.old input.new summary.old summary.new) }
+    requires { (more : ℕ) × MayAddAll sums.old (more + 1) }
+    ensures done { AddsText summing.now.changes name.entry _ I.InputStream input.old input.new sums.old sums.new result }
+    ensures more { result ≡ DONE → (more : ℕ) → MayAddAll sums.old (more + 1) → MayAddAll sums.new more }
 {
+    let Some(mut summary) = sums.take() else {
+        return FAULT;
+    };
     let end = summary.add(summing.changes, input);
-    if end == Err(StreamFault::Memory) {
-        return Err(Memory);
+    match end {
+        Err(StreamFault::Memory) => drop(summary),
+        _ => *sums = Some(summary),
     }
     let status = report_end_in(name, end, faults);
     if summing.explains {
@@ -234,7 +234,7 @@ where
             _ => {}
         }
     }
-    Ok(status)
+    status
 }
 
 // Writes the summary, and answers the exit status.
@@ -246,8 +246,7 @@ fn put_summary<O: OutputStream, F: Write>(
     output: &mut O,
     faults: &mut F,
 ) -> u8
-    ensures { PutsSummary form summary.old (PutsWhole O.contents O.puts O.flushes output.old output.new)
-        (PutsPart O.contents O.puts O.flushes output.old output.new) (output.new ≡ output.old) result }
+    ensures { PutsSummary O.OutputStream form summary.old output.old output.new result }
 {
     let mut text = Vec::new(alloc);
     let Ok(()) = summary.write(form, &mut text) else {

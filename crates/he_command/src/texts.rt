@@ -1,8 +1,9 @@
 //! The words of the commands that read texts of races: replay, order, explain, draw, summary, compare and check.
-ghost use Rattle.std.specs.Prelude.{◌≤◌};
-ghost use Rattle.he_command.specs.Texts.{HasTaskWorkers};
+ghost use Rattle.std.specs.Prelude.{◌≡◌, ◌≤◌};
+ghost use Rattle.he_command.specs.Texts.{HasTaskWorkers, has_headings};
+ghost use Rattle.he_command.specs.declared.texts.Task.TheVariants.{Write};
 
-use crate::arguments::{flag, plain};
+use crate::arguments::{file, flag, plain};
 use crate::limits::{DEFAULT_WORKERS, DEFAULT_WORKERS_TEXT, LEAST_WIDTH, MOST_WIDTH};
 use crate::numbers::{SettingFault, changes_of, set};
 use clap::{Arg, ArgAction, ArgMatches, Command, value_parser};
@@ -31,6 +32,10 @@ const CHECK_ABOUT: &str =
 const FILE_HELP: &str =
     "A file with a text, `-` for standard input; of several one after the other. Standard input where none is given";
 
+const HEADED_FILE_HELP: &str =
+    "A file with a text, `-` for standard input; of several one after the other, each behind a line `==> NAME <==`, \
+but not in lines, JSON or SVG. Standard input where none is given";
+
 const VERBOSE_HELP: &str =
     "Explains the fault of a file, as `he check` does, and why it can't be read or nothing be written";
 
@@ -44,6 +49,9 @@ const SUMMARY_JSON_HELP: &str = "Writes the same as one JSON object, on one line
 const ASCII_HELP: &str = "Draws with characters of ASCII alone";
 
 const SVG_HELP: &str = "Draws each race as an SVG image";
+
+const HTML_HELP: &str =
+    "Writes a page for a browser to this file, whose name ends in `.html`: of each race its image beside its story";
 
 const WIDTH_HELP: &str =
     "The columns of a line, 40 to 1000; those of the environment's COLUMNS where it isn't given, 80 else";
@@ -287,7 +295,7 @@ refused.";
 // The command `he replay`.
 pub(crate) fn replay_command<'a>(alloc: Global) -> Result<Command<'a>, AllocError> {
     let args = vec![in alloc;
-        files(alloc),
+        files(alloc, FILE_HELP),
         workers(alloc),
         set(alloc, SET_HELP),
         json(alloc),
@@ -298,14 +306,14 @@ pub(crate) fn replay_command<'a>(alloc: Global) -> Result<Command<'a>, AllocErro
 
 // The command `he order`.
 pub(crate) fn order_command<'a>(alloc: Global) -> Result<Command<'a>, AllocError> {
-    let args = vec![in alloc; files(alloc), json(alloc), verbose(alloc)]?;
+    let args = vec![in alloc; files(alloc, FILE_HELP), json(alloc), verbose(alloc)]?;
     plain(alloc, "order", ORDER_ABOUT, ORDER_EXAMPLE).args(args)
 }
 
 // The command `he explain`.
 pub(crate) fn explain_command<'a>(alloc: Global) -> Result<Command<'a>, AllocError> {
     let args = vec![in alloc;
-        files(alloc),
+        files(alloc, HEADED_FILE_HELP),
         flag(alloc, "lines", LINES_HELP).long("lines"),
         set(alloc, SET_HELP),
         json(alloc),
@@ -317,10 +325,11 @@ pub(crate) fn explain_command<'a>(alloc: Global) -> Result<Command<'a>, AllocErr
 // The command `he draw`.
 pub(crate) fn draw_command<'a>(alloc: Global) -> Result<Command<'a>, AllocError> {
     let args = vec![in alloc;
-        files(alloc),
+        files(alloc, HEADED_FILE_HELP),
         flag(alloc, "ascii", ASCII_HELP).long("ascii"),
         width(alloc),
         flag(alloc, "svg", SVG_HELP).long("svg"),
+        file(alloc, "html", HTML_HELP).long("html"),
         set(alloc, SET_HELP),
         verbose(alloc),
     ]?;
@@ -330,29 +339,37 @@ pub(crate) fn draw_command<'a>(alloc: Global) -> Result<Command<'a>, AllocError>
 // The command `he summary`.
 pub(crate) fn summary_command<'a>(alloc: Global) -> Result<Command<'a>, AllocError> {
     let json = flag(alloc, "json", SUMMARY_JSON_HELP).long("json");
-    let args = vec![in alloc; files(alloc), json, set(alloc, SET_HELP), verbose(alloc)]?;
+    let args = vec![in alloc;
+        files(alloc, FILE_HELP),
+        json,
+        set(alloc, SET_HELP),
+        verbose(alloc),
+    ]?;
     plain(alloc, "summary", SUMMARY_ABOUT, SUMMARY_EXAMPLE).args(args)
 }
 
 // The command `he compare`.
 pub(crate) fn compare_command<'a>(alloc: Global) -> Result<Command<'a>, AllocError> {
     let set = set(alloc, SET_HELP).required(true);
-    let args = vec![in alloc; files(alloc), set, verbose(alloc)]?;
+    let args = vec![in alloc; files(alloc, HEADED_FILE_HELP), set, verbose(alloc)]?;
     plain(alloc, "compare", COMPARE_ABOUT, COMPARE_EXAMPLE).args(args)
 }
 
 // The command `he check`.
 pub(crate) fn check_command<'a>(alloc: Global) -> Result<Command<'a>, AllocError> {
-    let args = vec![in alloc; files(alloc), flag(alloc, "all", ALL_HELP).long("all")]?;
+    let args = vec![in alloc;
+        files(alloc, FILE_HELP),
+        flag(alloc, "all", ALL_HELP).long("all"),
+    ]?;
     plain(alloc, "check", CHECK_ABOUT, CHECK_EXAMPLE).args(args)
 }
 
 // The files of the texts.
-fn files<'a>(alloc: Global) -> Arg<'a> {
+fn files<'a>(alloc: Global, help: &'a str) -> Arg<'a> {
     Arg::new(alloc, "file")
         .value_name("FILE")
         .action(ArgAction::Append)
-        .help(FILE_HELP)
+        .help(help)
 }
 
 // Whether it is written as JSON.
@@ -398,8 +415,9 @@ pub enum Task {
 }
 
 impl Task {
-    pub(crate) fn is_check(self) -> bool {
-        matches!(self, Task::Check { .. })
+    // Whether a fault is explained: where that is asked for, and always by a check.
+    pub(crate) fn explains(self, is_asked: bool) -> bool {
+        is_asked || matches!(self, Task::Check { .. })
     }
 
     // Whether what it tells of a text has each fault.
@@ -417,6 +435,13 @@ pub struct Texts<'a> {
     pub files: Vec<&'a str>,
     /// Whether a fault is explained: that of a file as a check does, and why it can't be read or nothing written.
     pub explains: bool,
+}
+
+// Whether there are several, so that they have headings.
+pub(crate) fn has_headings(files: &[&str]) -> bool
+    ensures { result ≡ has_headings files.now }
+{
+    files.len() > 1
 }
 
 // The texts that the line names. What a check tells has its reason always.
@@ -492,9 +517,20 @@ pub(crate) fn draw_of(matches: &ArgMatches<'_>, columns: u16) -> Content {
     }
 }
 
+// The file of a page: one whose name says so, since it is made anew, and a text that was named in its place would be
+// lost.
+pub(crate) fn page_path<'a>(path: &'a str) -> Option<&'a str> {
+    if path.ends_with(".html") {
+        Some(path)
+    } else {
+        None
+    }
+}
+
 // To write this of each race, by one worker.
 pub(crate) fn alone(content: Content) -> Task
-    ensures { HasTaskWorkers result }
+    ensures has { HasTaskWorkers result }
+    ensures is { result ≡ Write content 1 }
 {
     Task::Write {
         content,

@@ -1,10 +1,10 @@
 use Rattle.std.proofs.Common.{inr}
-use Rattle.he_command.proofs.Added.{on_ok}
+use Rattle.std.proofs.lemmas.Result.{IfOk-at_ok}
 use Rattle.he_command.proofs.summing.put_summary.Goals as goal
 
 pub returns : goal.returns
 returns g c = inr (
   c.write.new.text.items,
-  (λ races has. on_ok c.write.result tt c.in-Ok.is (rw c.new-text.ensures.items at c.write.ensures.written races has)),
+  (λ races has. IfOk-at_ok (λ _. _) c.in-Ok.is (rw c.new-text.ensures.items at c.write.ensures.written races has)),
   inr (c.report_write.ensures, rw c.as_slice.ensures.value at c.in-Err.ensures.err),
 )

@@ -1,13 +1,13 @@
 use Rattle.std.proofs.Common.{inr}
 use Rattle.he_command.proofs.summing.sum_up.Goals as goal
 
-pub returns-in-Ok : goal.returns-in-Ok
-returns-in-Ok g c = inr (record {
-  first = c.new-summary.result;
-  last = c.add_texts.new.summary;
-  none = c.new-summary.ensures;
-  added = c.in-Ok.added;
-  adding = c.in-Ok.ensures;
+pub returns-in-Some : goal.returns-in-Some
+returns-in-Some g c = inr (record {
+  first = c.new.result;
+  last = c.in-Some.summary;
+  none = c.new.ensures;
+  added = c.add_texts-added.result;
+  adding = rw c.in-Some.is at c.add_texts-added.ensures;
   put = c.put_summary-put.result;
   puts = c.put_summary-put.ensures;
   status_is = c.status_of_both.ensures;
