@@ -1,5 +1,5 @@
 # What a newcomer needs. README.md and CONTRIBUTING.md say what each is for and how long it takes.
-.PHONY: help race test edits install install-library library deb examples documents explained hostile cost refused hosts captures live names connect fuzz manual kit program
+.PHONY: help race test edits install install-library library deb examples documents explained page hostile cost refused hosts captures live names connect fuzz manual kit program
 
 PREFIX ?= /usr/local
 RACE ?= crates/cases/data/ipv6-late-but-within-delay-leads.timeline
@@ -37,6 +37,7 @@ help:
 	@echo 'make fuzz SECONDS=60 SEED=1 HE=FILE'
 	@echo '                           compares a built program with a plain reading of the rules, on texts that are drawn'
 	@echo 'make explained HE=FILE     compares what a built program explains with its transcripts and orders'
+	@echo 'make page HE=FILE          reads pages that a built program draws as a browser would'
 	@echo 'make manual HE=FILE        compares the help of a built program with its manual page and its completions'
 
 # What a target needs, each told in one line where it lacks.
@@ -114,6 +115,9 @@ manual: program
 
 explained: program
 	scripts/explained $(HE)
+
+page: program
+	scripts/page $(HE)
 
 refused: program $(CASES)
 	scripts/refused $(HE) $(CASES)

@@ -12,7 +12,7 @@ _he() {
         replay) options='--workers --set --json --verbose -v --help -h' ;;
         order) options='--json --verbose -v --help -h' ;;
         explain) options='--lines --set --json --verbose -v --help -h' ;;
-        draw) options='--ascii --width --svg --set --verbose -v --help -h' ;;
+        draw) options='--ascii --width --svg --html --set --verbose -v --help -h' ;;
         summary) options='--json --set --verbose -v --help -h' ;;
         compare) options='--set --verbose -v --help -h' ;;
         check) options='--all --help -h' ;;

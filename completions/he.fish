@@ -27,6 +27,7 @@ complete -c he -n '__fish_seen_subcommand_from summary' -l json -d 'One JSON obj
 complete -c he -n '__fish_seen_subcommand_from draw' -l ascii -d 'Characters of ASCII alone'
 complete -c he -n '__fish_seen_subcommand_from draw' -l width -x -d 'Columns of a line, 40 to 1000'
 complete -c he -n '__fish_seen_subcommand_from draw' -l svg -d 'An SVG image of each race'
+complete -c he -n '__fish_seen_subcommand_from draw' -l html -r -F -d 'File for a page of all races'
 complete -c he -n '__fish_seen_subcommand_from check' -l all -d 'Tell each fault, not the first one alone'
 complete -c he -n '__fish_seen_subcommand_from live' -l port -x -d 'TCP port, 1 to 65535'
 complete -c he -n '__fish_seen_subcommand_from live' -l must-connect -d 'Status 3 where no connection was made'
