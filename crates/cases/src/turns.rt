@@ -3,7 +3,8 @@
 use crate::resolving::{Heard, is_heard};
 use futures::task::{Doorbell, Solo};
 use he_addr::Memory;
-use he_plan::{Fate, Mark, Timeline, Transcript, plan};
+use he_plan::{Fate, Mark, Transcript, plan};
+use he_timeline::Timeline;
 use he_race::{race_one, run_attempt};
 use he_replay::limits::MOST_RACES;
 use he_text::{TextKind, read_race, write_transcript};

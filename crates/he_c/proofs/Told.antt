@@ -1,6 +1,6 @@
 -- One race more of an input that is told, and how its walk ends.
 use Rattle.std.proofs.Common.{ℕ, List, [], ◌∷◌, ◌++◌, Some, None, false, sym, subst}
-use Rattle.he_plan.specs.Race.{Race}
+use Rattle.he_timeline.specs.Race.{Race}
 use Rattle.he_text.specs.declared.inputs.InputFault.{InputFault}
 use Rattle.he_text.specs.declared.walks.Walk.{Walk}
 use Rattle.he_text.specs.declared.walks.WalkFault.TheVariants as walks

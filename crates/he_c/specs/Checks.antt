@@ -3,7 +3,7 @@ use Rattle.std.specs.Prelude.{ℕ, ◌≡◌, false, List, Option, Some, None}
 use Rattle.he_check.specs.Checked.{IsRight}
 use Rattle.he_check.specs.Stream.{report_text}
 use Rattle.he_check.specs.declared.input.Checked.{Checked}
-use Rattle.he_plan.specs.Race.{Race}
+use Rattle.he_timeline.specs.Race.{Race}
 use Rattle.he_text.specs.declared.inputs.InputFault.{InputFault}
 use Rattle.he_text.specs.Inputs.{HasRaces}
 use Rattle.he_c.specs.Answers.{Leaves}

@@ -1,7 +1,7 @@
 -- Mirrors the code: how far the walk over an input has come whose races are told. What is told of the whole input stands
 -- in `Outputs`.
 use Rattle.std.specs.Prelude.{ℕ, ◌≡◌, ◌++◌, List}
-use Rattle.he_plan.specs.Race.{Race}
+use Rattle.he_timeline.specs.Race.{Race}
 use Rattle.he_text.specs.declared.walks.Walk.{Walk}
 use Rattle.he_text.specs.Inputs.{AreTexts}
 use Rattle.he_text.specs.Walks.{HasPassed, IsWithin}

@@ -8,7 +8,8 @@ ghost use Rattle.he_c.specs.Telling.{WritesRace};
 
 use he_addr::Memory;
 use he_explain::write_explanation;
-use he_plan::{Timeline, Transcript, transcript_of};
+use he_plan::{Transcript, transcript_of};
+use he_timeline::Timeline;
 use he_text::{Ending, InputFault, Walk, WalkFault, write_order, write_transcript};
 use std::alloc::Global;
 

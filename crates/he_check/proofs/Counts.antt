@@ -3,7 +3,7 @@ use Rattle.std.proofs.Common.{ℕ, ◌≡◌, ◌+◌, ◌-◌, ◌≤◌, ◌==
 use Rattle.std.specs.List.{slice_range}
 use Rattle.std.proofs.lemmas.List.{append-nil, take_all}
 use Rattle.std.proofs.Math.Seq.{take-add}
-use Rattle.he_plan.specs.Race.{Race}
+use Rattle.he_timeline.specs.Race.{Race}
 use Rattle.he_text.specs.Inputs.{line_count}
 use Rattle.he_text.specs.Text.{IsRaceText}
 use Rattle.he_text.specs.Walks.{IsNextOf, IsWalkFault, IsWithin, PassesRace, ending_of}

@@ -1,6 +1,6 @@
 -- The faults of an input, part by part, and what is said of them.
 use Rattle.std.proofs.Common.{ℕ, ◌≡◌, ◌⊎◌, ◌↔◌, ◌+◌, ◌≤◌, Bool, true, false, List, [], ◌∷◌, ◌++◌, length, take, drop, Option, Some, None, Err, refl, sym, subst, subst₂, ◌∙◌, ap, append_assoc, append-nil, take-append-drop, arith, codes, decimal, inl, inr}
-use Rattle.he_plan.specs.Race.{Race}
+use Rattle.he_timeline.specs.Race.{Race}
 use Rattle.he_text.specs.FaultSearch.{fault_of}
 use Rattle.he_text.specs.FirstFault.{IsFirstFaultOf}
 use Rattle.he_text.specs.Inputs.{HasRaces, IsFaultBehind, fault_behind, line_count}

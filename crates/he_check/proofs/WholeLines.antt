@@ -3,7 +3,7 @@ use Rattle.std.proofs.Common.{ℕ, ◌≡◌, ◌+◌, ◌-◌, ◌<◌, ◌≤�
 use Rattle.std.specs.List.{join_with_byte, onto_first}
 use Rattle.std.proofs.lemmas.List.Splits.{join_with_byte-slice_split, length-slice_split, slice_split-cons_yes}
 use Rattle.std.proofs.lemmas.Option.{unwrap_or-slice_get}
-use Rattle.he_plan.specs.Race.{Race}
+use Rattle.he_timeline.specs.Race.{Race}
 use Rattle.he_text.specs.Inputs.{AreRaceTexts, line_count}
 use Rattle.he_text.specs.Parts.{lines_of}
 use Rattle.he_text.specs.Text.{IsRaceText}

@@ -1,7 +1,7 @@
 -- Which faults of an input are told where a check goes on behind a faulty race: the first one of each part of it. A
 -- part begins with the input, or with the next race behind a faulty one.
 use Rattle.std.specs.Prelude.{ℕ, ◌≡◌, ◌⊎◌, ◌≤◌, ◌+◌, Bool, true, false, List, [], ◌∷◌, ◌++◌, length, take, drop, codes, decimal, Some, None}
-use Rattle.he_plan.specs.Race.{Race}
+use Rattle.he_timeline.specs.Race.{Race}
 use Rattle.he_text.specs.Inputs.{HasRaces, line_count}
 use Rattle.he_text.specs.Ranges.{line_end}
 use Rattle.he_text.specs.Words.{header_of}

@@ -1,6 +1,6 @@
 -- What a check of an input tells: its races and lines, or its first fault.
 use Rattle.std.specs.Prelude.{ℕ, ◌≡◌, ⊤, Bool, List, length, Some, None}
-use Rattle.he_plan.specs.Race.{Race}
+use Rattle.he_timeline.specs.Race.{Race}
 use Rattle.he_text.specs.Inputs.{HasRaces, line_count}
 use Rattle.he_text.specs.declared.inputs.InputFault.TheVariants as inputs
 use Rattle.he_text.specs.declared.stream_fault.StreamFault.{StreamFault}

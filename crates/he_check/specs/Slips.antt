@@ -6,8 +6,8 @@ use Rattle.he_addr.specs.Ip.{is_usable}
 use Rattle.he_addr.specs.declared.ip.Family.{Family}
 use Rattle.he_addr.specs.declared.ip.Family.TheVariants as families
 use Rattle.he_addr.specs.declared.ip.Ip.{Ip}
-use Rattle.he_plan.specs.Race.{Race, Reply}
-use Rattle.he_plan.specs.Settings.{SettingValues}
+use Rattle.he_timeline.specs.Race.{Race, Reply}
+use Rattle.he_timeline.specs.Settings.{SettingValues}
 use Rattle.he_text.specs.Inputs.{line_count}
 use Rattle.he_text.specs.Text.{IsRaceText}
 use Rattle.he_check.specs.declared.slips.Slip.{Slip}

@@ -1,7 +1,7 @@
 -- Mirrors the code: how far the walk over an input has come whose races are counted, and their warnings; and what is
 -- left of an input whose faults are told. What a check tells stands in `Checked`, `Slips` and `AllFaults`.
 use Rattle.std.specs.Prelude.{ℕ, ◌≡◌, ◌⊎◌, ◌≤◌, ◌+◌, ◌^◌, Bool, true, false, List, [], ◌∷◌, ◌++◌, ◌||◌, length, take, drop, codes, Option, Some, None}
-use Rattle.he_plan.specs.Race.{Race}
+use Rattle.he_timeline.specs.Race.{Race}
 use Rattle.he_text.specs.Inputs.{HasRaces, line_count}
 use Rattle.he_text.specs.Ranges.{line_end}
 use Rattle.he_text.specs.Walks.{HasPassed, IsWithin}

@@ -7,7 +7,7 @@ use crate::place::{Place, first_word, token, token_count};
 use crate::repeats::find_repeat;
 use crate::sentence::{Sentence, SharedPrecedence, WrongPart};
 use he_addr::read_number;
-use he_plan::limits::{DEFAULT_ATTEMPT, MAX_ADDRESSES};
+use he_timeline::limits::{DEFAULT_ATTEMPT, MAX_ADDRESSES};
 use he_select::PolicyFault;
 use he_text::limits::{MAX_LINE, MOST_RACES};
 use he_text::{LINE_END, Name, TOKEN_END, TextKind, Word};

@@ -3,7 +3,7 @@
 use crate::place::{Place, first_word, token, token_count};
 use crate::sentence::{Numbers, Sentence};
 use he_addr::{Family, Ip, read_ip, read_ip_of, read_number, read_prefix, read_source};
-use he_plan::limits::{MAX_DURATION, MAX_PAUSE_END, MAX_TICK, MIN_DURATION};
+use he_timeline::limits::{MAX_DURATION, MAX_PAUSE_END, MAX_TICK, MIN_DURATION};
 use he_text::limits::{MAX_INTERFACE, MAX_LABEL, MAX_PRECEDENCE, MIN_INTERFACE, MIN_PAUSE_END};
 use he_text::{LINE_END, Name, TOKEN_END, Word};
 

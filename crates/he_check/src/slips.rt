@@ -2,11 +2,11 @@
 ghost use Rattle.std.specs.Prelude.{◌≡◌, ◌++◌, map, OnOk};
 ghost use Rattle.std.specs.List.{list_any};
 ghost use Rattle.he_addr.specs.Ip.{is_usable};
-ghost use Rattle.he_plan.specs.Race.{reply_of};
+ghost use Rattle.he_timeline.specs.Race.{reply_of};
 ghost use Rattle.he_check.specs.Slips.{answer_slips, are_unusable, is_floor_idle, slip_if, warning_at, warnings_of};
 
 use he_addr::{Family, Ip};
-use he_plan::{Settings, Timeline};
+use he_timeline::{Settings, Timeline};
 use std::alloc::{AllocError, Allocator};
 
 /// What is allowed in a race, and surely not meant. It is no fault: the race means what it says.

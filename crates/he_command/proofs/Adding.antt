@@ -1,7 +1,7 @@
 -- Texts that are summed up one after the other.
 use Rattle.std.proofs.Math.Nat.{suc-ne-zero}
 use Rattle.std.proofs.Common.{◌≡◌, ◌+◌, ◌⊎◌, ◌++◌, ◌∙◌, ℕ, Bool, List, Option, Some, Result, Ok, Err, arith, inl, inr, length-append, sym}
-use Rattle.he_plan.specs.Changes.{ChangeValues}
+use Rattle.he_timeline.specs.Changes.{ChangeValues}
 use Rattle.he_summary.specs.Courses.{Raced}
 use Rattle.he_summary.specs.Summed.{Adds, Sums}
 use Rattle.he_text.specs.declared.stream_fault.StreamFault.{StreamFault}

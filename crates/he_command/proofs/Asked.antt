@@ -1,7 +1,7 @@
 -- Settings that were asked for.
 use Rattle.std.proofs.Common.{◌≡◌, ◌∙◌, Result, Ok, Err, MatchResult, sym, subst}
-use Rattle.he_plan.specs.Changes.{ChangeValues}
-use Rattle.he_plan.specs.Settings.{SettingValues}
+use Rattle.he_timeline.specs.Changes.{ChangeValues}
+use Rattle.he_timeline.specs.Settings.{SettingValues}
 use Rattle.he_command.specs.Run.{connect_settings}
 use Rattle.he_command.specs.declared.numbers.SettingFault.{SettingFault}
 

@@ -2,7 +2,7 @@
 use Rattle.std.specs.Prelude.{◌≡◌, ◌⊎◌, ℕ, List}
 use Rattle.std.specs.Borrow.{Bor}
 use Rattle.he_page.specs.Page.{head_text}
-use Rattle.he_plan.specs.Changes.{ChangeValues}
+use Rattle.he_timeline.specs.Changes.{ChangeValues}
 use Rattle.he_replay.specs.declared.race_texts.Content.TheVariants.{Section}
 use Rattle.he_stream.specs.declared.stream.InputStream as inputs
 use Rattle.he_stream.specs.declared.stream.OutputStream as outputs

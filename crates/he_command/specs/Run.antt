@@ -14,9 +14,9 @@ use Rattle.he_live.specs.declared.recording.Told.{Told}
 use Rattle.he_resolver.specs.Told.{TellsNames}
 use Rattle.he_resolver.specs.declared.choice.Choice.{Choice}
 use Rattle.he_resolver.specs.declared.fault.TellFault.{TellFault}
-use Rattle.he_plan.specs.Changes.{ChangeValues, changed_settings}
-use Rattle.he_plan.specs.Settings.{SettingValues}
-use Rattle.he_plan.specs.declared.limits.TheConstants.{DEFAULT_ATTEMPT, DEFAULT_COUNT, DEFAULT_LIMIT, DEFAULT_RESOLUTION, MIN_FLOOR}
+use Rattle.he_timeline.specs.Changes.{ChangeValues, changed_settings}
+use Rattle.he_timeline.specs.Settings.{SettingValues}
+use Rattle.he_timeline.specs.declared.limits.TheConstants.{DEFAULT_ATTEMPT, DEFAULT_COUNT, DEFAULT_LIMIT, DEFAULT_RESOLUTION, MIN_FLOOR}
 use Rattle.he_plan.specs.declared.transcript.Outcome3.{Outcome3}
 use Rattle.he_stream.specs.declared.stream.InputStream as inputs
 use Rattle.he_stream.specs.declared.stream.OutputStream as outputs

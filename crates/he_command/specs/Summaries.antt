@@ -1,7 +1,7 @@
 -- One summary of the texts that a line names.
 use Rattle.std.specs.Prelude.{◌≡◌, ◌≢◌, ◌⊎◌, ◌≤◌, ◌<◌, ◌+◌, ◌*◌, ◌^◌, ℕ, List, [], Option, Some, None, Result, Err, length}
 use Rattle.std.specs.Borrow.{Bor}
-use Rattle.he_plan.specs.Changes.{ChangeValues}
+use Rattle.he_timeline.specs.Changes.{ChangeValues}
 use Rattle.he_stream.specs.declared.stream.InputStream as inputs
 use Rattle.he_stream.specs.declared.stream.OutputStream as outputs
 use Rattle.he_summary.specs.Courses.{Raced}

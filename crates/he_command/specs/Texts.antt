@@ -4,7 +4,7 @@ use Rattle.std.specs.Borrow.{Bor}
 use Rattle.he_check.specs.Stream.{Checks}
 use Rattle.he_compare.specs.Stream.{Compares}
 use Rattle.he_page.specs.Page.{name_text}
-use Rattle.he_plan.specs.Changes.{ChangeValues}
+use Rattle.he_timeline.specs.Changes.{ChangeValues}
 use Rattle.he_replay.specs.Stream.{HasWorkers, Replays}
 use Rattle.he_replay.specs.declared.race_texts.Content.{Content}
 use Rattle.he_replay.specs.declared.race_texts.Content.TheVariants as contents

@@ -7,7 +7,7 @@ use crate::numbers::{SettingFault, changes_of, set, timeout};
 use clap::{Arg, ArgMatches, Command};
 use he_addr::Family;
 use he_connect::Families;
-use he_plan::Changes;
+use he_timeline::Changes;
 use he_resolver::Choice;
 use std::alloc::{AllocError, Global};
 

@@ -4,10 +4,10 @@ ghost use Rattle.he_command.specs.Run.{connect_settings};
 
 use clap::{Arg, ArgAction, ArgMatches};
 use he_addr::read_number;
-use he_plan::limits::{
+use he_timeline::limits::{
     DEFAULT_ATTEMPT, DEFAULT_COUNT, DEFAULT_LIMIT, DEFAULT_RESOLUTION, MIN_FLOOR,
 };
-use he_plan::{Changes, Range, Settings};
+use he_timeline::{Changes, Range, Settings};
 use std::alloc::Global;
 use thiserror::Error;
 

@@ -11,7 +11,7 @@ use crate::run::refuse_option;
 use crate::tasks::{put_text, run_with_changes};
 use crate::texts::{Texts, alone};
 use he_page::write_head;
-use he_plan::Changes;
+use he_timeline::Changes;
 use he_replay::Content;
 use he_stream::{FromReader, InputStream, OutputStream, ToWriter};
 use he_text::StreamFault;

@@ -5,7 +5,7 @@ ghost use Rattle.he_command.specs.declared.limits.TheConstants.{LEAST_PORT};
 use crate::arguments::{file, flag, plain, port, port_of};
 use crate::numbers::{SettingFault, changes_of, set, timeout};
 use clap::{Arg, ArgMatches, Command};
-use he_plan::Changes;
+use he_timeline::Changes;
 use std::alloc::{AllocError, Global};
 
 const ABOUT: &str = "Races real connections, and writes what happened and a record of it";

@@ -13,7 +13,7 @@ use crate::limits::MOST_FILES;
 use crate::reports::{explain_in, report_end_in, report_in, tell_reason};
 use crate::run::{DONE, FAULT, refuse_option, report};
 use crate::texts::Texts;
-use he_plan::Changes;
+use he_timeline::Changes;
 use he_stream::{FromReader, InputStream, OutputStream, write_whole};
 use he_summary::{Form, Summary};
 use he_text::StreamFault;

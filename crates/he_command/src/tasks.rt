@@ -14,7 +14,7 @@ use he_addr::Memory;
 use he_check::check;
 use he_compare::compare;
 use he_page::write_name;
-use he_plan::Changes;
+use he_timeline::Changes;
 use he_replay::{Asked, Content, replay};
 use he_stream::{FromReader, InputStream, OutputStream, write_whole};
 use he_text::StreamFault;

@@ -8,7 +8,7 @@ use crate::limits::{DEFAULT_WORKERS, DEFAULT_WORKERS_TEXT, LEAST_WIDTH, MOST_WID
 use crate::numbers::{SettingFault, changes_of, set};
 use clap::{Arg, ArgAction, ArgMatches, Command, value_parser};
 use he_draw::Look;
-use he_plan::Changes;
+use he_timeline::Changes;
 use he_replay::Content;
 use he_replay::limits::{LEAST_WORKERS, MOST_WORKERS};
 use std::alloc::{AllocError, Global};

@@ -3,8 +3,8 @@ use Rattle.std.proofs.Common.{ℕ, Result, IsErr, IsErrAnd, ◌≡◌, ◌+◌, 
 use Rattle.std.specs.List.{slice_range}
 use Rattle.std.proofs.lemmas.List.{append-nil, take-append-drop}
 use Rattle.std.proofs.Math.Seq.{take-add}
-use Rattle.he_plan.specs.Changes.{ChangeValues}
-use Rattle.he_plan.specs.Race.{Race}
+use Rattle.he_timeline.specs.Changes.{ChangeValues}
+use Rattle.he_timeline.specs.Race.{Race}
 use Rattle.he_text.specs.Inputs.{line_count}
 use Rattle.he_text.specs.Text.{IsRaceText}
 use Rattle.he_text.specs.Walks.{IsNextOf, IsWalkFault, IsWithin, PassesRace, ending_of}

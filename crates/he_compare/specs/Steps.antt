@@ -1,8 +1,8 @@
 -- Mirrors the code: what is told while the walk over an input goes on. What a comparison is stands in `Compared`.
 use Rattle.std.specs.Prelude.{ℕ, ◌≡◌, ◌<◌, ◌^◌, ⊤, Bool, true, false, List, [], ◌∷◌, ◌++◌, length, map, take, Some, None, Result, Ok, Err}
 use Rattle.std.specs.List.{filter_map, flat_map}
-use Rattle.he_plan.specs.Changes.{ChangeValues}
-use Rattle.he_plan.specs.Race.{Race}
+use Rattle.he_timeline.specs.Changes.{ChangeValues}
+use Rattle.he_timeline.specs.Race.{Race}
 use Rattle.he_text.specs.Walks.{HasPassed, IsWithin}
 use Rattle.he_text.specs.declared.walks.Walk.{Walk}
 use Rattle.he_text.specs.declared.walks.WalkFault.{WalkFault}

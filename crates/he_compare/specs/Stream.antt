@@ -1,6 +1,6 @@
 -- What is taken from an input that is compared, and put into an output.
 use Rattle.std.specs.Prelude.{ℕ, Bool, List, Option, Some, None, Result, Ok, Err}
-use Rattle.he_plan.specs.Changes.{ChangeValues}
+use Rattle.he_timeline.specs.Changes.{ChangeValues}
 use Rattle.he_text.specs.declared.inputs.InputFault.{InputFault}
 use Rattle.he_text.specs.declared.inputs.InputFault.TheVariants as inputs
 use Rattle.he_compare.specs.Compared.{IsComparison}

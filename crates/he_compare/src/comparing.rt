@@ -5,7 +5,7 @@ ghost use Rattle.he_stream.specs.Output.{PutsPart, PutsWhole};
 ghost use Rattle.he_compare.specs.Stream.{Compares};
 
 use crate::races::compare_races;
-use he_plan::Changes;
+use he_timeline::Changes;
 use he_stream::{InputStream, OutputStream, take_input, write_whole};
 use he_text::StreamFault;
 use std::alloc::Allocator;

@@ -1,8 +1,8 @@
 //! A law of comparisons, the contract of a function that runs nothing.
 ghost use Rattle.std.specs.Prelude.{◌≡◌, None};
-ghost use Rattle.he_plan.specs.Changes.{changed};
-ghost use Rattle.he_plan.specs.Race.{Race};
-ghost use Rattle.he_plan.specs.Timeline.{IsRace};
+ghost use Rattle.he_timeline.specs.Changes.{changed};
+ghost use Rattle.he_timeline.specs.Race.{Race};
+ghost use Rattle.he_timeline.specs.Timeline.{IsRace};
 ghost use Rattle.he_plan.specs.Transcript.{IsTranscript, Report};
 
 use he_plan::laws::one_transcript;

@@ -1,7 +1,7 @@
 //! What each race of an input would have been with other settings.
 //!
 //! [`compare`] reads an input of timelines to its end and tells of each race how it ends, how it would end with the
-//! changes of its settings ([`Changes`](he_plan::Changes)), and what they do to it; then the sums over all races:
+//! changes of its settings ([`Changes`](he_timeline::Changes)), and what they do to it; then the sums over all races:
 //!
 //! ```text
 //! race 1, line 1: won after 300 ms by 192.0.2.1; with the changes won after 30 ms by 2001:db8::1, 270 ms sooner

@@ -6,7 +6,8 @@ ghost use Rattle.he_compare.specs.Steps.{EndsWalk, HasTold, HasWalked, MayCount,
 use crate::told::Told;
 use bumpalo::Bump;
 use he_addr::Memory;
-use he_plan::{Changes, Timeline, transcript_of};
+use he_plan::transcript_of;
+use he_timeline::{Changes, Timeline};
 use he_text::{Ending, InputFault, Walk, WalkFault};
 use std::alloc::Allocator;
 use std::mem::drop;

@@ -6,7 +6,7 @@ use Rattle.he_connect.specs.declared.connecting.Ended.{Ended}
 use Rattle.he_connect.specs.declared.connecting.Ended.TheVariants as ends
 use Rattle.he_connect.specs.declared.fault.ConnectFault.{ConnectFault}
 use Rattle.he_connect.specs.Connects.{Connects, IsRun, Ran}
-use Rattle.he_plan.specs.Settings.{SettingValues}
+use Rattle.he_timeline.specs.Settings.{SettingValues}
 
 -- what was won is what the race's end says
 pub ended_so : (RanTo : Bool → Type 0) (won : Bool) (Put PutPart : List ℕ → Type 0) (Kept : Type 0) (result : Result Ended ConnectFault)

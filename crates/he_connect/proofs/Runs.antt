@@ -1,8 +1,8 @@
 -- What a race that was run comes to.
 use Rattle.std.proofs.Common.{◌≡◌, ◌∙◌, ℕ, List, is_some}
 use Rattle.std.specs.Prelude.{Result, Ok, Err, IfOk}
-use Rattle.he_plan.specs.Race.{Race}
-use Rattle.he_plan.specs.Settings.{SettingValues}
+use Rattle.he_timeline.specs.Race.{Race}
+use Rattle.he_timeline.specs.Settings.{SettingValues}
 use Rattle.he_race.specs.declared.live.Raced.{Raced}
 use Rattle.he_race.specs.Resolving.{ReplaysGiven}
 use Rattle.he_text.specs.Written.{timeline_text}

@@ -1,7 +1,7 @@
 -- What a connection that is asked for did.
 use Rattle.std.specs.Prelude.{ℕ, ◌≡◌, ◌⊎◌, List, [], Bool, true, false, Result, Ok, Err}
-use Rattle.he_plan.specs.Race.{Race}
-use Rattle.he_plan.specs.Settings.{SettingValues}
+use Rattle.he_timeline.specs.Race.{Race}
+use Rattle.he_timeline.specs.Settings.{SettingValues}
 use Rattle.he_plan.specs.Transcript.{IsTranscript, Report}
 use Rattle.he_race.specs.Recording.{is_won}
 use Rattle.he_race.specs.Resolving.{KeepsGiven}

@@ -1,7 +1,7 @@
 //! What a connection is asked for.
 
 use he_addr::Family;
-use he_plan::Settings;
+use he_timeline::Settings;
 use he_resolver::Choice;
 
 /// The address families that are tried.

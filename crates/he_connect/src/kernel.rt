@@ -1,7 +1,8 @@
 //! The sources that the kernel takes, beside those that the lines of the host say.
 
 use he_addr::{Ip, Memory, write_ip};
-use he_plan::{Line, Timeline};
+use he_plan::Line;
+use he_timeline::Timeline;
 use std::net::{IpAddr, Ipv4Addr, Ipv6Addr, Net, UdpSocket};
 
 // The port of a connect that sends nothing: the discard service.

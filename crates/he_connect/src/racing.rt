@@ -12,7 +12,7 @@ use crate::start::start_race;
 use crate::telling::Telling;
 use crate::tried::write_tried;
 use he_live::{Steps, resolving_race_on};
-use he_plan::Timeline;
+use he_timeline::Timeline;
 use he_race::Raced;
 use he_resolver::{Lookup, NamesFault, SystemResolver};
 use he_story::write_story;

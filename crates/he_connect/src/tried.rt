@@ -3,7 +3,8 @@
 use crate::asked::Asked;
 use he_addr::{Family, Memory, write_ip, write_number};
 use he_live::{Reason, Steps};
-use he_plan::{Line, Mark, Timeline, Transcript};
+use he_plan::{Line, Mark, Transcript};
+use he_timeline::Timeline;
 use std::alloc::Global;
 
 /// Appends the line, as `he: no connection to example.org port 443: 2 addresses tried: 2001:db8::1 refused after

@@ -1,6 +1,6 @@
 -- The picture of a race, for a terminal.
 use Rattle.std.specs.Prelude.{ℕ, ◌≡◌, ◌++◌, List, codes}
-use Rattle.he_plan.specs.Race.{Race}
+use Rattle.he_timeline.specs.Race.{Race}
 use Rattle.he_plan.specs.Transcript.{IsTranscript, Report}
 use Rattle.he_draw.specs.declared.look.Look.{Look}
 use Rattle.he_draw.specs.Drawn.{drawn_text, frame_of}

@@ -3,8 +3,8 @@ use Rattle.std.specs.Prelude.{ℕ, ◌+◌, ◌&&◌, ◌++◌, if◌then◌else
 use Rattle.std.specs.List.{flat_map, list_any}
 use Rattle.he_addr.specs.declared.ip.Family.TheVariants as families
 use Rattle.he_addr.specs.Ip.{is_usable}
-use Rattle.he_plan.specs.Attempts.{seen}
-use Rattle.he_plan.specs.Race.{Race, Reply}
+use Rattle.he_timeline.specs.Seen.{seen}
+use Rattle.he_timeline.specs.Race.{Race, Reply}
 use Rattle.he_plan.specs.Transcript.{Report}
 use Rattle.he_plan.specs.declared.transcript.Outcome3.{Outcome3}
 use Rattle.he_plan.specs.declared.transcript.Outcome3.TheVariants as results

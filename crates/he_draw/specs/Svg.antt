@@ -3,7 +3,7 @@ use Rattle.std.specs.Prelude.{ℕ, ◌≡◌, ◌+◌, ◌-◌, ◌++◌, Bool, 
 use Rattle.std.specs.List.{concat}
 use Rattle.he_plan.specs.declared.transcript.Mark.{Mark}
 use Rattle.he_plan.specs.declared.transcript.Mark.TheVariants as marks
-use Rattle.he_plan.specs.Race.{Race}
+use Rattle.he_timeline.specs.Race.{Race}
 use Rattle.he_plan.specs.Transcript.{IsTranscript, Report}
 use Rattle.he_draw.specs.declared.look.Look.TheVariants as looks
 use Rattle.he_draw.specs.declared.rows.Row.{Row}

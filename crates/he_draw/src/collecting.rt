@@ -8,7 +8,8 @@ ghost use Rattle.he_draw.specs.declared.rows.Row.TheVariants as kinds;
 
 use crate::rows::Row;
 use he_addr::{Family, Ip, Memory};
-use he_plan::{Line, Outcome3, Timeline, Transcript};
+use he_plan::{Line, Outcome3, Transcript};
+use he_timeline::Timeline;
 use std::alloc::{AllocError, Allocator};
 
 // That of the AAAA answer, and that of the A answer.

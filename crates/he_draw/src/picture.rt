@@ -10,7 +10,8 @@ use crate::heading::write_heading;
 use crate::look::Look;
 use crate::parts::write_words;
 use he_addr::Memory;
-use he_plan::{Timeline, Transcript, transcript_of};
+use he_plan::{Transcript, transcript_of};
+use he_timeline::Timeline;
 use std::alloc::Allocator;
 
 // The rows, and the scale below them.

@@ -10,7 +10,8 @@ use crate::parts::{Part, write_parts, write_words};
 use crate::rows::Row;
 use crate::shapes::write_shapes;
 use he_addr::Memory;
-use he_plan::{Outcome3, Timeline, transcript_of};
+use he_plan::{Outcome3, transcript_of};
+use he_timeline::Timeline;
 use std::alloc::Allocator;
 
 // What begins an image of so many rows.

@@ -5,11 +5,12 @@ use Rattle.std.specs.List.{list_any}
 use Rattle.std.proofs.lemmas.Bool.{cases_lt}
 use Rattle.he_addr.specs.Ip.{family_of, is_usable}
 use Rattle.he_plan.specs.declared.attempts.Attempt.{Attempt}
-use Rattle.he_plan.specs.Attempts.{HasWaited, HaveFailed, IsAnswered, IsFree, IsLeast, IsPositive, IsSeen, MayBegin, MayFollow, MayStart, is_untried, last_of, received, seen, seen_past}
-use Rattle.he_plan.specs.Race.{Race, Reply, reply_of}
-use Rattle.he_plan.specs.Timeline.{IsRace}
-use Rattle.he_plan.proofs.Bools.{and_right, clash, lt_from, lt_test, not_lt}
-use Rattle.he_plan.proofs.Starting.{IsSeen-seen}
+use Rattle.he_plan.specs.Attempts.{HasWaited, HaveFailed, IsAnswered, IsPositive, MayBegin, MayFollow, MayStart, is_untried, last_of, received}
+use Rattle.he_timeline.specs.Seen.{IsFree, IsLeast, IsSeen, seen, seen_past}
+use Rattle.he_timeline.specs.Race.{Race, Reply, reply_of}
+use Rattle.he_timeline.specs.Timeline.{IsRace}
+use Rattle.he_timeline.proofs.Bools.{and_right, clash, lt_from, lt_test, not_lt}
+use Rattle.he_timeline.proofs.Seen.{IsSeen-seen}
 use Rattle.he_explain.specs.declared.cause.Cause.{Cause}
 use Rattle.he_explain.specs.declared.cause.Cause.TheVariants.{AaaaAnswer, BothAnswers, ResolutionDelay, AttemptDelay, Floor, LastFailure, LaterAnswer}
 use Rattle.he_explain.specs.Causes.{cause_of, delay_cause, due_of, first_cause_by, floor_cause, last_failure, later_cause, tick_of}

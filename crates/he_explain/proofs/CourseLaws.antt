@@ -3,7 +3,7 @@ use Rattle.std.proofs.Common.{◌≡◌, ℕ, zero, suc, ◌+◌, ◌<◌, ◌�
 use Rattle.std.specs.List.Sorted.{IsNonDecreasingBy, IsPermutation}
 use Rattle.std.proofs.lemmas.List.{append-nil}
 use Rattle.std.proofs.lemmas.List.Sorted.{IsNonDecreasingBy-insert, IsNonDecreasingBy-short, IsPermutation-append_right, IsPermutation-insert, IsPermutation-middle, IsPermutation-refl, IsPermutation-sym, IsPermutation-trans}
-use Rattle.he_plan.proofs.Bools.{lt_from}
+use Rattle.he_timeline.proofs.Bools.{lt_from}
 use Rattle.he_explain.specs.declared.events.Event.{Event}
 use Rattle.he_explain.specs.Course.{course, put_event, put_events}
 use Rattle.he_explain.specs.Events.{events_by_kind}

@@ -2,11 +2,12 @@
 use Rattle.std.proofs.Common.{◌≡◌, ℕ, ◌+◌, ◌≤◌, ◌<◌, false, List, refl, subst, arith, inl, inr}
 use Rattle.std.specs.Prelude.{Option, None, Some, IsSomeAnd, IsTrue}
 use Rattle.he_plan.specs.declared.attempts.Attempt.{Attempt}
-use Rattle.he_plan.specs.Attempts.{HasWaited, HaveFailed, IsFree, IsSeen, seen}
-use Rattle.he_plan.specs.Race.{Race}
-use Rattle.he_plan.specs.Timeline.{IsRace}
-use Rattle.he_plan.proofs.Bools.{clash}
-use Rattle.he_plan.proofs.Starting.{IsSeen-seen}
+use Rattle.he_plan.specs.Attempts.{HasWaited, HaveFailed}
+use Rattle.he_timeline.specs.Seen.{IsFree, IsSeen, seen}
+use Rattle.he_timeline.specs.Race.{Race}
+use Rattle.he_timeline.specs.Timeline.{IsRace}
+use Rattle.he_timeline.proofs.Bools.{clash}
+use Rattle.he_timeline.proofs.Seen.{IsSeen-seen}
 use Rattle.he_explain.specs.declared.cause.Cause.{Cause}
 use Rattle.he_explain.specs.declared.cause.Cause.TheVariants.{AaaaAnswer, BothAnswers, ResolutionDelay, AttemptDelay, Floor, LastFailure, LaterAnswer}
 use Rattle.he_explain.specs.Causes.{cause_of, last_failure}

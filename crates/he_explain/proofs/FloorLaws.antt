@@ -4,13 +4,14 @@ use Rattle.std.specs.Prelude.{Option, None, Some}
 use Rattle.std.specs.List.{list_all}
 use Rattle.std.proofs.lemmas.Bool.{cases_lt}
 use Rattle.he_plan.specs.declared.attempts.Attempt.{Attempt}
-use Rattle.he_plan.specs.declared.outcome.Outcome.{Outcome}
-use Rattle.he_plan.specs.declared.outcome.Outcome.TheVariants as outcomes
-use Rattle.he_plan.specs.Attempts.{HaveFailed, IsSeen, has_failed, has_failed_by, last_of, outcome_of, seen}
-use Rattle.he_plan.specs.Race.{Race}
-use Rattle.he_plan.specs.Timeline.{IsRace}
-use Rattle.he_plan.proofs.Bools.{and_both, and_left, and_right, le_from, le_test}
-use Rattle.he_plan.proofs.Starting.{IsSeen-seen}
+use Rattle.he_timeline.specs.declared.outcome.Outcome.{Outcome}
+use Rattle.he_timeline.specs.declared.outcome.Outcome.TheVariants as outcomes
+use Rattle.he_plan.specs.Attempts.{HaveFailed, has_failed, has_failed_by, last_of}
+use Rattle.he_timeline.specs.Seen.{IsSeen, seen}
+use Rattle.he_timeline.specs.Race.{outcome_of, Race}
+use Rattle.he_timeline.specs.Timeline.{IsRace}
+use Rattle.he_timeline.proofs.Bools.{and_both, and_left, and_right, le_from, le_test}
+use Rattle.he_timeline.proofs.Seen.{IsSeen-seen}
 use Rattle.he_explain.specs.Causes.{failure_by, failure_of, last_failure}
 
 -- a later tick is seen no sooner

@@ -6,8 +6,8 @@ use Rattle.he_addr.specs.declared.ip.Ip.{Ip}
 use Rattle.he_plan.specs.Alternating.{interlace}
 use Rattle.he_plan.specs.Attempts.{order, order_at, received, received_of}
 use Rattle.he_plan.specs.Planning.{interlaced_list, is_of_included, is_received, part_of, parts_of}
-use Rattle.he_plan.specs.Race.{Race, Reply, addresses_of, race_input, usable_addresses}
-use Rattle.he_plan.specs.Timeline.{IsRace}
+use Rattle.he_timeline.specs.Race.{Race, Reply, addresses_of, race_input, usable_addresses}
+use Rattle.he_timeline.specs.Timeline.{IsRace}
 use Rattle.he_plan.proofs.Listed.{list_kept}
 use Rattle.he_select.specs.declared.standing.Standing.{Standing}
 use Rattle.he_select.specs.Preference.{order_of}

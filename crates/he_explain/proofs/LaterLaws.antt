@@ -13,12 +13,14 @@ use Rattle.he_select.specs.Preference.{Member, members_from, order_of}
 use Rattle.he_select.specs.Selection.{SelectionInput}
 use Rattle.he_select.proofs.Equality.{ip_self}
 use Rattle.he_plan.specs.declared.attempts.Attempt.{Attempt}
-use Rattle.he_plan.specs.Attempts.{HasWaited, IsFree, IsNext, IsSeen, MayFollow, is_untried, order, order_at, received, received_of, seen}
-use Rattle.he_plan.specs.Race.{Race, Reply, race_input, reply_of}
-use Rattle.he_plan.specs.Timeline.{IsRace, are_of, is_answer, is_of}
+use Rattle.he_plan.specs.Attempts.{HasWaited, IsNext, MayFollow, is_untried, order, order_at, received, received_of}
+use Rattle.he_timeline.specs.Seen.{IsFree, IsSeen, seen}
+use Rattle.he_timeline.specs.Race.{Race, Reply, race_input, reply_of}
+use Rattle.he_timeline.specs.Timeline.{IsRace, are_of, is_answer, is_of}
 use Rattle.he_plan.proofs.Alternation.{list_any-interlace}
-use Rattle.he_plan.proofs.Bools.{and_both, and_left, and_right, clash, le_from, le_test, or_left, or_one, or_right}
-use Rattle.he_plan.proofs.Starting.{IsSeen-seen, any_filter}
+use Rattle.he_timeline.proofs.Bools.{and_both, and_left, and_right, clash, le_from, le_test, or_left, or_one, or_right}
+use Rattle.he_timeline.proofs.Seen.{IsSeen-seen}
+use Rattle.he_plan.proofs.Starting.{any_filter}
 
 pub found_passes : {X : Type 0} (p : X → Bool) (xs : List X) (y : X) → find p xs ≡ Some y → p y ≡ true
 found_passes p [] y h = cc

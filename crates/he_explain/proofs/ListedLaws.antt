@@ -7,7 +7,7 @@ use Rattle.he_addr.specs.Ip.{same_ip}
 use Rattle.he_select.proofs.Equality.{ip_from, ip_self}
 use Rattle.he_plan.specs.declared.attempts.Attempt.{Attempt}
 use Rattle.he_plan.specs.Attempts.{is_tried, is_untried, order_at}
-use Rattle.he_plan.proofs.Bools.{clash}
+use Rattle.he_timeline.proofs.Bools.{clash}
 use Rattle.he_explain.specs.Laws.{IsFirstUntried, PlacesStand}
 use Rattle.he_explain.specs.Listing.{place_in}
 use Rattle.he_explain.proofs.LaterLaws.{found_passes}

@@ -6,7 +6,7 @@ use Rattle.std.proofs.lemmas.List.{append-nil, get_or-map, length-map}
 use Rattle.std.proofs.lemmas.List.Elements.{filter-append}
 use Rattle.std.proofs.lemmas.List.Sorted.{IsNonDecreasingBy-short}
 use Rattle.std.specs.List.Sorted.{ties, IsNonDecreasingBy, IsStableByKey}
-use Rattle.he_plan.proofs.Bools.{lt_from}
+use Rattle.he_timeline.proofs.Bools.{lt_from}
 use Rattle.he_explain.specs.declared.events.Event.{Event}
 use Rattle.he_explain.specs.Course.{put_event, put_events}
 use Rattle.he_explain.proofs.CourseLaws.{put_ascends, puts_ascend, tick_of_event}

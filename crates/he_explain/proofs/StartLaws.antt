@@ -5,9 +5,9 @@ use Rattle.he_plan.specs.declared.attempts.Attempt.{Attempt}
 use Rattle.he_plan.specs.declared.transcript.Line.{Line}
 use Rattle.he_plan.specs.Attempts.{HaveFailed, MayBegin, MayFollow, last_of}
 use Rattle.he_plan.specs.Continuing.{Follow}
-use Rattle.he_plan.specs.Race.{Race}
+use Rattle.he_timeline.specs.Race.{Race}
 use Rattle.he_plan.specs.Transcript.{line_of, stop_of}
-use Rattle.he_plan.proofs.Bools.{not_lt}
+use Rattle.he_timeline.proofs.Bools.{not_lt}
 use Rattle.he_plan.proofs.InTurn.{in_turn-follow}
 use Rattle.he_plan.proofs.Planned.{last_of-more}
 use Rattle.he_explain.specs.Events.{start_events}

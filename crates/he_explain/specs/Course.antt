@@ -3,7 +3,7 @@ use Rattle.std.specs.Prelude.{ℕ, ◌≡◌, ◌++◌, if◌then◌else◌, Boo
 use Rattle.std.specs.List.{flat_map}
 use Rattle.he_addr.specs.declared.ip.Family.TheVariants as families
 use Rattle.he_addr.specs.Printing.{printed}
-use Rattle.he_plan.specs.Race.{Race}
+use Rattle.he_timeline.specs.Race.{Race}
 use Rattle.he_plan.specs.Transcript.{IsTranscript, Report}
 use Rattle.he_text.specs.Ranges.{line_end}
 use Rattle.he_explain.specs.declared.cause.Cause.{Cause}

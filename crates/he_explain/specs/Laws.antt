@@ -5,9 +5,10 @@ use Rattle.std.specs.List.Sorted.{IsNonDecreasingBy, IsPermutation}
 use Rattle.he_addr.specs.declared.ip.Ip.{Ip}
 use Rattle.he_addr.specs.Ip.{family_of, is_usable}
 use Rattle.he_plan.specs.declared.attempts.Attempt.{Attempt}
-use Rattle.he_plan.specs.Attempts.{HasWaited, HaveFailed, IsAnswered, IsFree, IsLeast, IsNext, is_tried, is_untried, last_of, order_at, received, seen}
-use Rattle.he_plan.specs.Race.{Race, reply_of}
-use Rattle.he_plan.specs.Timeline.{IsRace}
+use Rattle.he_plan.specs.Attempts.{HasWaited, HaveFailed, IsAnswered, IsNext, is_tried, is_untried, last_of, order_at, received}
+use Rattle.he_timeline.specs.Seen.{IsFree, IsLeast, seen}
+use Rattle.he_timeline.specs.Race.{Race, reply_of}
+use Rattle.he_timeline.specs.Timeline.{IsRace}
 use Rattle.he_plan.specs.Transcript.{IsTranscript, Report}
 use Rattle.he_select.specs.Deciding.{DecidesAt, deciding_rule, rules_in_order}
 use Rattle.he_select.specs.Preference.{Member}

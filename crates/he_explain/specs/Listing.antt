@@ -6,7 +6,7 @@ use Rattle.std.specs.Option.{option_map_or}
 use Rattle.he_addr.specs.declared.ip.Ip.{Ip}
 use Rattle.he_addr.specs.Ip.{is_v6, same_ip}
 use Rattle.he_plan.specs.Attempts.{order_at}
-use Rattle.he_plan.specs.Race.{Race}
+use Rattle.he_timeline.specs.Race.{Race}
 use Rattle.he_explain.specs.declared.listing.Listed.{Listed}
 use Rattle.he_explain.specs.declared.listing.Turn.{Turn}
 use Rattle.he_explain.specs.declared.listing.Turn.TheVariants.{Leads, InTurn, RunOut}

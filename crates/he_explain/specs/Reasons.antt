@@ -3,7 +3,7 @@ use Rattle.std.specs.Prelude.{ℕ, ◌+◌, ◌-◌, List, [], ◌∷◌, ◌++�
 use Rattle.std.specs.Option.{option_map_or}
 use Rattle.he_addr.specs.Printing.{printed}
 use Rattle.he_plan.specs.Attempts.{order}
-use Rattle.he_plan.specs.Race.{Race, race_input, usable_addresses}
+use Rattle.he_timeline.specs.Race.{Race, race_input, usable_addresses}
 use Rattle.he_select.specs.declared.deciding.DestinationRule.{DestinationRule}
 use Rattle.he_select.specs.declared.deciding.DestinationRule.TheVariants as rules
 use Rattle.he_select.specs.declared.selection.LabelledSource.{LabelledSource}

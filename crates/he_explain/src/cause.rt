@@ -3,12 +3,13 @@
 ghost use Rattle.std.specs.Prelude.{◌≡◌, ◌+◌, max, nat_lt};
 ghost use Rattle.std.specs.List.{list_any};
 ghost use Rattle.he_addr.specs.Ip.{is_usable};
-ghost use Rattle.he_plan.specs.Attempts.{seen};
-ghost use Rattle.he_plan.specs.Race.{reply_of};
+ghost use Rattle.he_timeline.specs.Seen.{seen};
+ghost use Rattle.he_timeline.specs.Race.{reply_of};
 ghost use Rattle.he_explain.specs.Causes.{cause_of, delay_cause, failure_of, first_cause_by, floor_cause, is_held, later_cause, start_of, tick_of};
 
 use he_addr::{Family, Ip};
-use he_plan::{Attempt, Outcome, Timeline};
+use he_plan::Attempt;
+use he_timeline::{Outcome, Timeline};
 use std::alloc::Allocator;
 
 /// What an attempt waited for before it started.

@@ -5,7 +5,7 @@ ghost use Rattle.std.specs.List.{flat_map};
 ghost use Rattle.he_addr.specs.Ip.{is_usable};
 ghost use Rattle.he_addr.specs.declared.ip.Family.TheVariants as families;
 ghost use Rattle.he_plan.specs.Attempts.{order_at};
-ghost use Rattle.he_plan.specs.Race.{reply_of};
+ghost use Rattle.he_timeline.specs.Race.{reply_of};
 ghost use Rattle.he_explain.specs.Reasons.{standings_of};
 ghost use Rattle.he_explain.specs.Events.{answer_events, attempt_of, cancelled_by, end_event, event_at, events_of, failed_by, is_seen_by, met_events, over_events, pause_events, start_event, start_events, told_events, wait_events};
 
@@ -14,7 +14,8 @@ use crate::events::{Event, EventKind, Start};
 use crate::interlaced::{Interlaced, bring_to};
 use crate::listing::listed_in;
 use he_addr::{Family, Ip, Memory};
-use he_plan::{Attempt, Line, Mark, Outcome3, Timeline, Transcript};
+use he_plan::{Attempt, Line, Mark, Outcome3, Transcript};
+use he_timeline::Timeline;
 use he_select::Standing;
 use std::alloc::{AllocError, Allocator};
 

@@ -13,7 +13,8 @@ use crate::events::{Event, EventKind, Start};
 use crate::listing::{Listed, Turn};
 use crate::writing::{write_bytes, write_labelled, write_labelled_ip, write_values};
 use he_addr::{Family, Ip, Memory, write_number};
-use he_plan::{Timeline, Transcript, sorted_standings};
+use he_plan::{Transcript, sorted_standings};
+use he_timeline::Timeline;
 use he_select::Standing;
 use std::alloc::{AllocError, Allocator};
 

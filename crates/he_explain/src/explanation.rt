@@ -9,7 +9,8 @@ use crate::course::write_course_of;
 use crate::reasons::write_order_of;
 use crate::writing::write_bytes;
 use he_addr::Memory;
-use he_plan::{Timeline, Transcript, sorted_standings, transcript_of};
+use he_plan::{Transcript, sorted_standings, transcript_of};
+use he_timeline::Timeline;
 use he_select::Standing;
 use std::alloc::Allocator;
 

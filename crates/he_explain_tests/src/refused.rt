@@ -4,7 +4,7 @@
 use crate::races::RACES;
 use he_addr::Memory;
 use he_explain::write_explanation;
-use he_plan::Timeline;
+use he_timeline::Timeline;
 use he_text::{TextKind, read_race};
 use refusing::{MOST_RUNS, Refusing};
 

@@ -7,7 +7,7 @@ use Rattle.std.proofs.lemmas.List.Folds.{list_all-append}
 use Rattle.he_addr.specs.declared.ip.Family.{Family}
 use Rattle.he_addr.specs.declared.ip.Family.TheVariants as names
 use Rattle.he_addr.specs.declared.ip.Ip.{Ip}
-use Rattle.he_plan.specs.Race.{Race}
+use Rattle.he_timeline.specs.Race.{Race}
 use Rattle.he_plan.specs.Transcript.{Report}
 use Rattle.he_plan.specs.declared.transcript.Line.{Line}
 use Rattle.he_plan.specs.declared.transcript.Mark.{Mark}

@@ -4,7 +4,7 @@ use Rattle.std.proofs.Common.{◌≡◌, ℕ, ◌+◌, List, [], ◌∷◌, ◌+
 use Rattle.std.specs.Prelude.{Option, None, Some, option_map}
 use Rattle.he_addr.specs.declared.ip.Ip.{Ip}
 use Rattle.he_plan.specs.Attempts.{order}
-use Rattle.he_plan.specs.Race.{Race, race_input, usable_addresses}
+use Rattle.he_timeline.specs.Race.{Race, race_input, usable_addresses}
 use Rattle.he_select.specs.declared.deciding.DestinationRule.{DestinationRule}
 use Rattle.he_select.specs.declared.deciding.DestinationRule.TheVariants as rules
 use Rattle.he_select.specs.declared.standing.Standing.{Standing}

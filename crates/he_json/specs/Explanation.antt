@@ -1,6 +1,6 @@
 -- A race explained as JSON: the order of its addresses with its reasons, and its course.
 use Rattle.std.specs.Prelude.{ℕ, ◌≡◌, ◌++◌, List, [], ◌∷◌, codes, map}
-use Rattle.he_plan.specs.Race.{Race}
+use Rattle.he_timeline.specs.Race.{Race}
 use Rattle.he_plan.specs.Transcript.{IsTranscript, Report}
 use Rattle.he_explain.specs.Course.{course}
 use Rattle.he_json.specs.Events.{event_json}

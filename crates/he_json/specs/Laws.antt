@@ -3,7 +3,7 @@ use Rattle.std.specs.Prelude.{ℕ, ◌≡◌, ◌==◌, ◌&&◌, ◌++◌, not,
 use Rattle.std.specs.List.{list_all}
 use Rattle.he_addr.specs.declared.ip.Ip.{Ip}
 use Rattle.he_addr.specs.Printing.{printed}
-use Rattle.he_plan.specs.Race.{Race}
+use Rattle.he_timeline.specs.Race.{Race}
 use Rattle.he_plan.specs.Transcript.{Report}
 use Rattle.he_select.specs.declared.deciding.DestinationRule.{DestinationRule}
 use Rattle.he_explain.specs.Reasons.{rule_text}

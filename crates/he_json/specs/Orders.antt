@@ -1,6 +1,6 @@
 -- The order of a race's addresses as JSON (RFC 6724 section 6).
 use Rattle.std.specs.Prelude.{ℕ, ◌≡◌, ◌+◌, ◌++◌, List, [], ◌∷◌, decimal, codes}
-use Rattle.he_plan.specs.Race.{Race}
+use Rattle.he_timeline.specs.Race.{Race}
 use Rattle.he_select.specs.declared.standing.Standing.{Standing}
 use Rattle.he_select.specs.Standing.{sourced_from}
 use Rattle.he_explain.specs.Reasons.{standings_of}

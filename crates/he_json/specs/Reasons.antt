@@ -1,6 +1,6 @@
 -- The order of a race's addresses as JSON, each with what puts it behind the one before (RFC 6724 section 6).
 use Rattle.std.specs.Prelude.{ℕ, ◌+◌, ◌++◌, List, [], ◌∷◌, decimal, codes, Option, Some, None}
-use Rattle.he_plan.specs.Race.{Race, race_input}
+use Rattle.he_timeline.specs.Race.{Race, race_input}
 use Rattle.he_select.specs.declared.deciding.DestinationRule.{DestinationRule}
 use Rattle.he_select.specs.declared.deciding.DestinationRule.TheVariants as rules
 use Rattle.he_select.specs.declared.standing.Standing.{Standing}

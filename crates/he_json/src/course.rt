@@ -12,7 +12,8 @@ use he_addr::{Family, Memory};
 use he_explain::{
     Cause, Event, EventKind, Listed, Start, Turn, collect_events, end_tick, sort_events,
 };
-use he_plan::{Timeline, Transcript};
+use he_plan::Transcript;
+use he_timeline::Timeline;
 use he_select::Standing;
 use std::alloc::Allocator;
 

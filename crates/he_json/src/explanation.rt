@@ -8,7 +8,8 @@ use crate::course::write_course;
 use crate::members::write_words;
 use crate::reasons::write_reasons;
 use he_addr::Memory;
-use he_plan::{Timeline, Transcript, sorted_standings, transcript_of};
+use he_plan::{Transcript, sorted_standings, transcript_of};
+use he_timeline::Timeline;
 use std::alloc::Allocator;
 
 // The addresses are sorted once: the order is told of them, and the course takes its lists from it.

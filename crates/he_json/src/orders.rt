@@ -7,7 +7,8 @@ ghost use Rattle.he_json.specs.Orders.{IsOrderJson, place_json, place_members, p
 
 use crate::members::{Member, Value, write_members, write_words};
 use he_addr::Memory;
-use he_plan::{Timeline, sorted_standings};
+use he_plan::sorted_standings;
+use he_timeline::Timeline;
 use he_select::Standing;
 use std::alloc::Allocator;
 

@@ -7,7 +7,8 @@ ghost use Rattle.he_json.specs.Transcripts.{IsTranscriptJson, attempt_json, end_
 
 use crate::members::{Member, Value, write_object, write_words};
 use he_addr::Memory;
-use he_plan::{Line, Mark, Outcome3, Timeline, Transcript, transcript_of};
+use he_plan::{Line, Mark, Outcome3, Transcript, transcript_of};
+use he_timeline::Timeline;
 use std::alloc::Allocator;
 
 fn end_of(mark: Mark) -> &'static [u8]

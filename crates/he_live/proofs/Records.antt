@@ -1,7 +1,7 @@
 -- What a race as a future gives, of the timeline that it was made of.
 use Rattle.std.proofs.Common.{◌≡◌, Option, Some, None, Ok, IsSomeAnd, subst}
-use Rattle.he_plan.specs.Race.{Race}
-use Rattle.he_plan.specs.Building.{unrecorded}
+use Rattle.he_timeline.specs.Race.{Race}
+use Rattle.he_timeline.specs.Building.{unrecorded}
 use Rattle.he_race.specs.Resolving.{MayGive, ReplaysGiven}
 use Rattle.he_race.specs.Turns.{GivesOf, Replays}
 use Rattle.he_race.specs.declared.live.Live.{Live}

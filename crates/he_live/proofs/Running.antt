@@ -1,8 +1,8 @@
 -- What a run of the race of an input comes to.
 use Rattle.std.proofs.Common.{◌≡◌, ◌⊎◌, inl, inr, sym, subst}
 use Rattle.std.specs.Prelude.{ℕ, Bool, List, Result, Ok, Err, IsErr, IsErrAnd}
-use Rattle.he_plan.specs.Changes.{ChangeValues, changed}
-use Rattle.he_plan.specs.Race.{Race}
+use Rattle.he_timeline.specs.Changes.{ChangeValues, changed}
+use Rattle.he_timeline.specs.Race.{Race}
 use Rattle.he_plan.specs.declared.transcript.Outcome3.{Outcome3}
 use Rattle.he_live.specs.Live.{GivesOne, GivesText, IsLiveText, IsRunFault, Lives}
 use Rattle.he_live.specs.declared.fault.LiveFault.{LiveFault}

@@ -1,6 +1,6 @@
 -- Mirrors the code: what the functions answer that read the race of an input, and tell what a run of it came to.
 use Rattle.std.specs.Prelude.{ℕ, ⊤, ◌≡◌, ◌++◌, Bool, List, Result, Ok, Err}
-use Rattle.he_plan.specs.Race.{Race}
+use Rattle.he_timeline.specs.Race.{Race}
 use Rattle.he_plan.specs.Transcript.{Report}
 use Rattle.he_text.specs.declared.inputs.NotOneRace.{NotOneRace}
 use Rattle.he_text.specs.declared.inputs.NotOneRace.TheVariants as ones

@@ -8,7 +8,7 @@ use crate::clock::LiveTicker;
 use crate::fault::LiveFault;
 use crate::sockets::TcpConnector;
 use crate::steps::{Quiet, Steps, Watcher};
-use he_plan::Timeline;
+use he_timeline::Timeline;
 use he_race::{AnswerSource, RaceFault, RaceFuture, Raced, ResolvingRace};
 use std::alloc::{AllocGlobal, Allocator, Global};
 use std::net::{Net, TcpStream};

@@ -2,7 +2,7 @@
 
 use crate::reason::Reason;
 use he_addr::Ip;
-use he_plan::limits::MAX_ATTEMPTS;
+use he_timeline::limits::MAX_ATTEMPTS;
 use std::alloc::{AllocError, Global};
 use std::cell::Cell;
 use std::rc::Rc;

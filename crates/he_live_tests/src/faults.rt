@@ -2,7 +2,7 @@
 
 use crate::homes::{Lender, ONE, REFUSED, Wanted, race_on};
 use he_live::{LiveFault, Reason, Told, live};
-use he_plan::Changes;
+use he_timeline::Changes;
 use he_stream::{FromReader, ToWriter};
 use he_text::{TextFault, TextKind};
 use std::fs::File;

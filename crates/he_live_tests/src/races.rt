@@ -5,7 +5,8 @@ use crate::homes::{
 };
 use he_addr::Ip;
 use he_live::{FailedAttempt, Reason, Told, live};
-use he_plan::{Changes, Outcome3};
+use he_plan::Outcome3;
+use he_timeline::Changes;
 use he_stream::{FromReader, ToWriter};
 use std::io::Read;
 use std::mem::drop;

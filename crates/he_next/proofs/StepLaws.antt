@@ -7,7 +7,7 @@ use Rattle.he_plan.specs.Transcript.{Report}
 use Rattle.he_plan.specs.declared.transcript.Line.{Line}
 use Rattle.he_plan.specs.declared.transcript.Outcome3.{Outcome3}
 use Rattle.he_plan.specs.declared.transcript.Outcome3.TheVariants as results
-use Rattle.he_plan.proofs.Bools.{above, clash, le_from, lt_test}
+use Rattle.he_timeline.proofs.Bools.{above, clash, le_from, lt_test}
 use Rattle.he_next.specs.Steps.{action_of, before_tick, due_action, end_action, end_tick, late_start}
 use Rattle.he_next.specs.declared.step.Action.TheVariants.{Start, Wait}
 

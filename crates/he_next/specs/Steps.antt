@@ -1,7 +1,7 @@
 -- What is due in a race that is being run, by the text of its record so far (RFC 8305 sections 3 to 5): what a replay
 -- of the record says.
 use Rattle.std.specs.Prelude.{ℕ, ◌≡◌, ◌+◌, ◌++◌, List, [], ◌∷◌, false, codes, decimal, if◌then◌else◌, min, nat_le, nat_lt, slice_get, Option, Some, None}
-use Rattle.he_plan.specs.Race.{Race}
+use Rattle.he_timeline.specs.Race.{Race}
 use Rattle.he_plan.specs.Transcript.{IsTranscript, Report}
 use Rattle.he_plan.specs.declared.transcript.Line.{Line}
 use Rattle.he_plan.specs.declared.transcript.Outcome3.{Outcome3}

@@ -1,7 +1,7 @@
 // The record of a race that is being run, read as far as it goes.
 
 ghost use Rattle.std.specs.Prelude.{◌≡◌, ◌≤◌, ◌++◌, IfErr, IfOk, OnOk};
-ghost use Rattle.he_plan.specs.declared.limits.TheConstants.{MAX_LIMIT};
+ghost use Rattle.he_timeline.specs.declared.limits.TheConstants.{MAX_LIMIT};
 ghost use Rattle.he_next.specs.Faults.{IsFaultOf};
 ghost use Rattle.he_next.specs.Steps.{IsSoFar, ended, with_pause};
 

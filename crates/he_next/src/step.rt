@@ -1,7 +1,7 @@
 // What is due in a race that is being run.
 
 ghost use Rattle.std.specs.Prelude.{◌≡◌, ◌≤◌, IfErr, IfOk, Some, None};
-ghost use Rattle.he_plan.specs.declared.limits.TheConstants.{MAX_LIMIT};
+ghost use Rattle.he_timeline.specs.declared.limits.TheConstants.{MAX_LIMIT};
 ghost use Rattle.he_next.specs.Faults.{IsFaultOf, IsNextFault};
 ghost use Rattle.he_next.specs.Steps.{IsStep, Says, action_of, due_action, end_action, end_tick, late_start, before_tick, tick_of, with_pause};
 

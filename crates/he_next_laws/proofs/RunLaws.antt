@@ -6,12 +6,13 @@ use Rattle.std.proofs.lemmas.List.Elements.{filter-append}
 use Rattle.std.proofs.lemmas.Option.{slice_get-map}
 use Rattle.std.proofs.Math.Seq.{take-append_seam}
 use Rattle.he_plan.specs.Agreement.{AgreeBelow, FailAlike}
-use Rattle.he_plan.specs.Attempts.{AreNextInTurn, IsNext, MayStart, seen}
-use Rattle.he_plan.specs.Building.{with_pause}
+use Rattle.he_plan.specs.Attempts.{AreNextInTurn, IsNext, MayStart}
+use Rattle.he_timeline.specs.Seen.{seen}
+use Rattle.he_timeline.specs.Building.{with_pause}
 use Rattle.he_plan.specs.Continuing.{Follow}
 use Rattle.he_plan.specs.Finish.{fate_of}
-use Rattle.he_plan.specs.Race.{Race, Reply}
-use Rattle.he_plan.specs.Timeline.{IsRace}
+use Rattle.he_timeline.specs.Race.{Race, Reply}
+use Rattle.he_timeline.specs.Timeline.{IsRace}
 use Rattle.he_plan.specs.Transcript.{IsTranscript, Report, failures, greatest, is_exhausted, is_failed, is_tried_out, line_of, result_of, stop_of, without_winner}
 use Rattle.he_plan.specs.declared.attempts.Attempt.{Attempt}
 use Rattle.he_plan.specs.declared.finish.Fate.{Fate}
@@ -20,7 +21,7 @@ use Rattle.he_plan.specs.declared.transcript.Line.{Line}
 use Rattle.he_plan.specs.declared.transcript.Outcome3.{Outcome3}
 use Rattle.he_plan.specs.declared.transcript.Outcome3.TheVariants as results
 use Rattle.he_plan.proofs.Agreeing.{alike-below, in_turn-below}
-use Rattle.he_plan.proofs.Bools.{and_both, and_left, and_right, le_from, lt_from, lt_test, above}
+use Rattle.he_timeline.proofs.Bools.{and_both, and_left, and_right, le_from, lt_from, lt_test, above}
 use Rattle.he_plan.proofs.Ends.{ends-in_turn}
 use Rattle.he_plan.proofs.Finishing.{failure-in_range}
 use Rattle.he_plan.proofs.Growing.{pause-below}

@@ -2,11 +2,11 @@
 use Rattle.std.specs.Prelude.{ℕ, ◌≡◌, ◌⊎◌, ◌++◌, List, [], ◌∷◌, None, IsTrue, length, nat_le, nat_lt}
 use Rattle.std.specs.List.{list_all}
 use Rattle.he_addr.specs.declared.ip.Family.{Family}
-use Rattle.he_plan.specs.Building.{with_answer, with_pause}
-use Rattle.he_plan.specs.Race.{Race, Reply, reply_of}
-use Rattle.he_plan.specs.Timeline.{IsRace}
+use Rattle.he_timeline.specs.Building.{with_answer, with_pause}
+use Rattle.he_timeline.specs.Race.{Race, Reply, reply_of}
+use Rattle.he_timeline.specs.Timeline.{IsRace}
 use Rattle.he_plan.specs.Transcript.{IsTranscript, Report}
-use Rattle.he_plan.specs.Underway.{EndsOne}
+use Rattle.he_plan.specs.RaceState.{EndsOne}
 use Rattle.he_plan.specs.declared.attempts.Attempt.{Attempt}
 use Rattle.he_plan.specs.declared.transcript.Line.{Line}
 use Rattle.he_next.specs.Steps.{action_of, end_tick, late_start}

@@ -7,8 +7,8 @@
 
 ghost use Rattle.std.specs.Prelude.{◌≡◌, ℕ, List, map};
 ghost use Rattle.he_plan.specs.Attempts.{AreNextInTurn};
-ghost use Rattle.he_plan.specs.Race.{Race};
-ghost use Rattle.he_plan.specs.Timeline.{IsRace};
+ghost use Rattle.he_timeline.specs.Race.{Race};
+ghost use Rattle.he_timeline.specs.Timeline.{IsRace};
 ghost use Rattle.he_plan.specs.Transcript.{IsTranscript, Report};
 ghost use Rattle.he_next_laws.specs.Runs.{IsOver, Runs, State, attempt_of};
 

@@ -3,7 +3,7 @@ use Rattle.std.specs.Prelude.{ℕ, ◌≡◌, ◌==◌, ◌++◌, if◌then◌el
 use Rattle.std.specs.List.{concat, flat_map}
 use Rattle.std.specs.Borrow.{Bor}
 use Rattle.he_draw.specs.Svg.{IsSvg, style_text}
-use Rattle.he_plan.specs.Race.{Race}
+use Rattle.he_timeline.specs.Race.{Race}
 use Rattle.he_story.specs.Story.{IsStory}
 
 -- a text that is shared

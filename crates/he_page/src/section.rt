@@ -5,7 +5,7 @@ ghost use Rattle.he_page.specs.Page.{WritesSection};
 
 use he_addr::Memory;
 use he_draw::write_svg;
-use he_plan::Timeline;
+use he_timeline::Timeline;
 use he_story::write_story;
 use std::alloc::Allocator;
 

@@ -1,5 +1,5 @@
--- What two races share: at a tick at which both are free the same may start, and below a tick up to which they are free at
--- the same ticks the same happens.
+-- What two races share: at a tick at which both are free the same may start, and below a tick up to which they are
+-- free at the same ticks the same happens.
 use Rattle.std.proofs.Common.{◌≡◌, ℕ, ◌+◌, ◌≤◌, ◌<◌, ◌↔◌, ◌++◌, Bool, true, false, List, [], ◌∷◌, if◌then◌else◌, find, filter, Option, Some, None, MatchOption, IsSomeAnd, nat_le, nat_lt, refl, sym, ◌∙◌, ap, subst, arith, inl, inr}
 use Rattle.std.specs.List.{All, list_all, list_any}
 use Rattle.std.proofs.lemmas.Bool.{cases_lt}
@@ -9,18 +9,20 @@ use Rattle.he_addr.specs.Ip.{is_usable}
 use Rattle.he_plan.specs.declared.attempts.Attempt.{Attempt}
 use Rattle.he_plan.specs.declared.finish.Fate.{Fate}
 use Rattle.he_plan.specs.declared.finish.Fate.TheVariants.{Succeeded, Failed, Running}
-use Rattle.he_plan.specs.declared.outcome.Outcome.{Outcome}
-use Rattle.he_plan.specs.declared.outcome.Outcome.TheVariants as outcomes
+use Rattle.he_timeline.specs.declared.outcome.Outcome.{Outcome}
+use Rattle.he_timeline.specs.declared.outcome.Outcome.TheVariants as outcomes
 use Rattle.he_plan.specs.Agreement.{AgreeBelow, AreAlike, FailAlike}
-use Rattle.he_plan.specs.Attempts.{AreNextInTurn, HasWaited, HaveFailed, IsAnswered, IsFree, IsNext, IsPositive, IsSeen, MayBegin, MayFollow, MayStart, has_failed, has_failed_by, is_untried, last_of, order, order_at, received, received_of, seen}
+use Rattle.he_plan.specs.Attempts.{AreNextInTurn, HasWaited, HaveFailed, IsAnswered, IsNext, IsPositive, MayBegin, MayFollow, MayStart, has_failed, has_failed_by, is_untried, last_of, order, order_at, received, received_of}
+use Rattle.he_timeline.specs.Seen.{IsFree, IsSeen, seen}
 use Rattle.he_plan.specs.Continuing.{Follow}
-use Rattle.he_plan.specs.Finish.{fate_by, finish_of, known_at, known_by, outcome_of}
+use Rattle.he_plan.specs.Finish.{fate_by, finish_of, known_at, known_by}
+use Rattle.he_timeline.specs.Race.{outcome_of, Race, Reply}
 use Rattle.he_plan.specs.Alternating.{interlace}
-use Rattle.he_plan.specs.Race.{Race, Reply}
-use Rattle.he_plan.specs.Timeline.{IsRace}
-use Rattle.he_plan.proofs.Bools.{and_left, and_right, le_test, lt_from, not_le}
+use Rattle.he_timeline.specs.Timeline.{IsRace}
+use Rattle.he_timeline.proofs.Bools.{and_left, and_right, le_test, lt_from, not_le}
 use Rattle.he_plan.proofs.InTurn.{follow-in_turn, in_turn-follow}
-use Rattle.he_plan.proofs.Starting.{IsSeen-seen, SeesOwn, SeesOwn-free, StartsAt, StartsAt-MayStart}
+use Rattle.he_timeline.proofs.Seen.{IsSeen-seen}
+use Rattle.he_plan.proofs.Starting.{SeesOwn, SeesOwn-free, StartsAt, StartsAt-MayStart}
 
 -- the race with these outcomes and pauses
 abbrev but : Race → List (Ip × Outcome) → List (ℕ × ℕ) → Race

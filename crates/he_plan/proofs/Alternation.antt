@@ -9,7 +9,7 @@ use Rattle.he_addr.specs.declared.ip.Family.{Family}
 use Rattle.he_addr.specs.declared.ip.Ip.{Ip}
 use Rattle.he_addr.specs.Ip.{family_of}
 use Rattle.he_plan.specs.Alternating.{alternate, interlace_by, interlace}
-use Rattle.he_plan.specs.Timeline.{is_of}
+use Rattle.he_timeline.specs.Timeline.{is_of}
 
 pub alternate-nil : (xs : List Ip) → alternate xs [] ≡ xs
 alternate-nil [] = refl

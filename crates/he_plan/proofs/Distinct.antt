@@ -1,4 +1,5 @@
--- No address stands twice in the interlaced list of a race's answers, and none of a family whose answer does not count.
+-- No address stands twice in the interlaced list of a race's answers, and none of a family whose answer does not
+-- count.
 use Rattle.std.proofs.Common.{◌≡◌, ℕ, ◌+◌, ◌≤◌, ◌||◌, ◌++◌, Bool, true, false, cond, not, List, [], ◌∷◌, filter, take, drop, Option, Some, None, refl, sym, ◌∙◌, ap, subst, arith}
 use Rattle.std.specs.List.{list_any, count_by}
 use Rattle.std.specs.List.Sorted.{IsPermutation}
@@ -15,10 +16,10 @@ use Rattle.he_addr.specs.declared.ip.Ip.TheVariants.{V4, V6}
 use Rattle.he_plan.specs.Attempts.{order}
 use Rattle.he_plan.specs.Alternating.{alternate, interlace_by, interlace}
 use Rattle.he_plan.specs.Planning.{part_of, parts_of, interlaced_list}
-use Rattle.he_plan.specs.Race.{Race, Reply, has_ip}
-use Rattle.he_plan.specs.Timeline.{IsRace, is_of, are_of, are_distinct, is_answer}
-use Rattle.he_plan.proofs.Bools.{and_left, and_right, or_left_none, or_right_none}
-use Rattle.he_plan.proofs.Ranges.{same_ip-sym}
+use Rattle.he_timeline.specs.Race.{Race, Reply, has_ip}
+use Rattle.he_timeline.specs.Timeline.{IsRace, is_of, are_of, are_distinct, is_answer}
+use Rattle.he_timeline.proofs.Bools.{and_left, and_right, or_left_none, or_right_none}
+use Rattle.he_timeline.proofs.Ranges.{same_ip-sym}
 
 pub same_ip-self : (x : Ip) → same_ip x x ≡ true
 same_ip-self (V4 m) = (Decides-eqb m m).1 refl

@@ -6,19 +6,21 @@ use Rattle.std.proofs.lemmas.Bool.{cases_lt}
 use Rattle.he_addr.specs.Ip.{is_usable}
 use Rattle.he_plan.specs.declared.attempts.Attempt.{Attempt}
 use Rattle.he_plan.specs.declared.finish.Fate.TheVariants.{Succeeded, Failed, Running}
-use Rattle.he_plan.specs.declared.limits.TheConstants.{MIN_FLOOR}
-use Rattle.he_plan.specs.declared.outcome.Outcome.TheVariants as outcomes
-use Rattle.he_plan.specs.Attempts.{HasWaited, HaveFailed, IsFree, IsLeast, IsSeen, MayBegin, MayFollow, MayStart, has_failed, is_untried, last_of, order_at, seen}
+use Rattle.he_timeline.specs.declared.limits.TheConstants.{MIN_FLOOR}
+use Rattle.he_timeline.specs.declared.outcome.Outcome.TheVariants as outcomes
+use Rattle.he_plan.specs.Attempts.{HasWaited, HaveFailed, MayBegin, MayFollow, MayStart, has_failed, is_untried, last_of, order_at}
+use Rattle.he_timeline.specs.Seen.{IsFree, IsLeast, IsSeen, seen}
 use Rattle.he_plan.specs.Due.{IsAfterTurn, IsAnswerDue, IsDelayDue, IsDue, IsDueTick, IsTaken, IsWaiting, start_delay}
-use Rattle.he_plan.specs.Finish.{fate_by, fate_of, outcome_of}
+use Rattle.he_plan.specs.Finish.{fate_by, fate_of}
+use Rattle.he_timeline.specs.Race.{outcome_of, Race, Reply}
 use Rattle.he_plan.specs.Planning.{positive_tick, start_after, start_tick, a_begin_tick, wait_end, waiting_tick}
-use Rattle.he_plan.specs.Race.{Race, Reply}
-use Rattle.he_plan.specs.Timeline.{IsRace}
+use Rattle.he_timeline.specs.Timeline.{IsRace}
 use Rattle.he_plan.proofs.Agreeing.{failed-shared, order-shared, starts-shared}
-use Rattle.he_plan.proofs.Bools.{le_test}
+use Rattle.he_timeline.proofs.Bools.{le_test}
 use Rattle.he_plan.proofs.Failing.{waited_from, waited_later}
 use Rattle.he_plan.proofs.Planned.{last_of-some}
-use Rattle.he_plan.proofs.Starting.{IsSeen-seen, MayStart-StartsAt, Reaches, SeesOwn, SeesOwn-free, StartsAt, StartsAt-MayStart, a_from, a_if, a_tick, earlier_left, earlier_one, earlier_right, reaches_if, reaches_then}
+use Rattle.he_timeline.proofs.Seen.{IsSeen-seen}
+use Rattle.he_plan.proofs.Starting.{MayStart-StartsAt, Reaches, SeesOwn, SeesOwn-free, StartsAt, StartsAt-MayStart, a_from, a_if, a_tick, earlier_left, earlier_one, earlier_right, reaches_if, reaches_then}
 
 reaches_later : (o : Option ℕ) (t later : ℕ) → Reaches o t → t ≤ later → Reaches o later
 reaches_later None t later h up = absurd h

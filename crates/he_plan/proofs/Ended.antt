@@ -5,13 +5,15 @@ use Rattle.std.proofs.lemmas.List.Folds.{list_any-append}
 use Rattle.he_addr.specs.declared.ip.Ip.{Ip}
 use Rattle.he_addr.specs.Ip.{is_usable}
 use Rattle.he_plan.specs.declared.attempts.Attempt.{Attempt}
-use Rattle.he_plan.specs.Attempts.{AreAttempts, IsFree, IsSeen, MayBegin, MayFollow, is_tried, is_untried, last_of, received, received_of, seen}
+use Rattle.he_plan.specs.Attempts.{AreAttempts, MayBegin, MayFollow, is_tried, is_untried, last_of, received, received_of}
+use Rattle.he_timeline.specs.Seen.{IsFree, IsSeen, seen}
 use Rattle.he_plan.specs.Planning.{has_room}
-use Rattle.he_plan.specs.Race.{Race, Reply}
-use Rattle.he_plan.specs.Timeline.{IsRace}
+use Rattle.he_timeline.specs.Race.{Race, Reply}
+use Rattle.he_timeline.specs.Timeline.{IsRace}
 use Rattle.he_plan.specs.Transcript.{is_tried_out}
-use Rattle.he_plan.proofs.Bools.{le_test, lt_from, or_left_none, or_right_none}
-use Rattle.he_plan.proofs.Starting.{SeesOwn, SeesOwn-free, IsSeen-seen, any_filter}
+use Rattle.he_timeline.proofs.Bools.{le_test, lt_from, or_left_none, or_right_none}
+use Rattle.he_plan.proofs.Starting.{SeesOwn, SeesOwn-free, any_filter}
+use Rattle.he_timeline.proofs.Seen.{IsSeen-seen}
 
 none_left : (attempts : List Attempt) (ips : List Ip) → list_any (λ ip. is_usable ip && is_untried attempts ip) ips ≡ false → list_all (λ ip. not (is_usable ip) || is_tried attempts ip) ips ≡ true
 none_left attempts [] none = refl

@@ -8,27 +8,28 @@ use Rattle.he_addr.specs.declared.ip.Ip.{Ip}
 use Rattle.he_plan.specs.declared.attempts.Attempt.{Attempt}
 use Rattle.he_plan.specs.declared.finish.Fate.{Fate}
 use Rattle.he_plan.specs.declared.finish.Fate.TheVariants.{Succeeded, Failed, Running, Skipped}
-use Rattle.he_plan.specs.declared.limits.TheConstants.{MAX_LIMIT}
-use Rattle.he_plan.specs.declared.outcome.Outcome.{Outcome}
-use Rattle.he_plan.specs.declared.outcome.Outcome.TheVariants as outcomes
+use Rattle.he_timeline.specs.declared.limits.TheConstants.{MAX_LIMIT}
+use Rattle.he_timeline.specs.declared.outcome.Outcome.{Outcome}
+use Rattle.he_timeline.specs.declared.outcome.Outcome.TheVariants as outcomes
 use Rattle.he_plan.specs.Agreement.{AgreeBelow, FailAlike}
-use Rattle.he_plan.specs.Attempts.{AreNextInTurn, IsNext, IsSeen, finish_of, has_failed, has_failed_by, is_tried, is_untried, last_of, order_at, outcome_in, outcome_of}
-use Rattle.he_plan.specs.Building.{with_outcome}
+use Rattle.he_plan.specs.Attempts.{AreNextInTurn, IsNext, finish_of, has_failed, has_failed_by, is_tried, is_untried, last_of, order_at}
+use Rattle.he_timeline.specs.Seen.{IsSeen}
+use Rattle.he_timeline.specs.Race.{outcome_in, outcome_of, Race, has_outcome}
+use Rattle.he_timeline.specs.Building.{with_outcome}
 use Rattle.he_plan.specs.Continuing.{Follow}
 use Rattle.he_plan.specs.Finish.{fate_by, fate_of}
 use Rattle.he_plan.specs.Planning.{all_failed}
-use Rattle.he_plan.specs.Race.{Race, has_outcome}
-use Rattle.he_plan.specs.Timeline.{IsRace, duration_of}
+use Rattle.he_timeline.specs.Timeline.{IsRace, duration_of}
 use Rattle.he_plan.specs.Transcript.{failures, greatest, is_failed}
-use Rattle.he_plan.specs.Underway.{AreFates, EndsOne, IsQueue, IsUnderway, Progress, Untried, counted}
+use Rattle.he_plan.specs.RaceState.{AreFates, EndsOne, IsQueue, IsUnderway, Progress, UntriedValues, counted}
 use Rattle.he_plan.proofs.Agreeing.{in_turn-below}
-use Rattle.he_plan.proofs.Bools.{clash, not_le, or_left, or_left_none, or_none, or_right_none}
+use Rattle.he_timeline.proofs.Bools.{clash, not_le, or_left, or_left_none, or_none, or_right_none}
 use Rattle.he_plan.proofs.Distinct.{same_ip-is, same_ip-self}
 use Rattle.he_plan.proofs.Few.{found_passes}
 use Rattle.he_plan.proofs.Growing.{outcome-below, outcome-others, outcome-own}
 use Rattle.he_plan.proofs.InTurn.{in_turn-follow}
-use Rattle.he_plan.proofs.Ranges.{same_ip-sym}
-use Rattle.he_plan.proofs.Starting.{IsSeen-seen}
+use Rattle.he_timeline.proofs.Ranges.{same_ip-sym}
+use Rattle.he_timeline.proofs.Seen.{IsSeen-seen}
 
 not_tried : (race : Race) (done : List Attempt) (next : Attempt) → IsNext race done next → is_tried done next.ip ≡ false
 not_tried race done next is = by_test (is_tried done next.ip) (found_passes (is_untried done) (order_at race next.tick) next.ip is.ip)
@@ -254,10 +255,10 @@ pub fates_more : (race : Race) (done : List Attempt) (x : Attempt) → map (fate
 fates_more race [] x = refl
 fates_more race (y ∷ done) x = ap (λ fates. fate_of race y ∷ fates) (fates_more race done x)
 
-abbrev pub with_start : Progress → Attempt → Fate → Untried → Progress
+abbrev pub with_start : Progress → Attempt → Fate → UntriedValues → Progress
 with_start u x fate queue = record { attempts = u.attempts ++ x ∷ []; fates = u.fates ++ fate ∷ []; failed = u.failed; latest = u.latest; queue = queue }
 
-pub underway-started : (race : Race) (u : Progress) (x : Attempt) (queue : Untried) → IsUnderway race u → AreNextInTurn race (u.attempts ++ x ∷ []) → IfSome (last_of (u.attempts ++ x ∷ [])) (λ last. last.tick ≤ MAX_LIMIT) → IsQueue race (u.attempts ++ x ∷ []) queue → IsUnderway race (counted (with_start u x (fate_of race x) queue) (fate_of race x))
+pub underway-started : (race : Race) (u : Progress) (x : Attempt) (queue : UntriedValues) → IsUnderway race u → AreNextInTurn race (u.attempts ++ x ∷ []) → IfSome (last_of (u.attempts ++ x ∷ [])) (λ last. last.tick ≤ MAX_LIMIT) → IsQueue race (u.attempts ++ x ∷ []) queue → IsUnderway race (counted (with_start u x (fate_of race x) queue) (fate_of race x))
 underway-started race u x queue under in_turn in_range is =
     let c : IsCounted u.fates (u.fates ++ fate_of race x ∷ []) (fate_of race x) = more_counted u.fates (fate_of race x) in
     counted-under race (with_start u x (fate_of race x) queue) (fate_of race x) in_turn in_range
@@ -295,7 +296,7 @@ pub underway-ran : (old new : Race) → (u : Progress) (x : Attempt) → IsUnder
 underway-ran old new u x under is =
     ap (λ (fates : List Fate). slice_get fates x.place) under.fates ∙ ran_at old x u.attempts x.place is.silent (alone old u.attempts x under.in_turn is.made)
 
-queue_told : (race : Race) (ip : Ip) (outcome : Outcome) (done : List Attempt) (queue : Untried) → IsQueue race done queue → IsQueue (with_outcome race ip outcome) done queue
+queue_told : (race : Race) (ip : Ip) (outcome : Outcome) (done : List Attempt) (queue : UntriedValues) → IsQueue race done queue → IsQueue (with_outcome race ip outcome) done queue
 queue_told race ip outcome done queue is = record {
   rest = record { members = is.rest.members; own_six = is.rest.own_six; own_four = is.rest.own_four; rest = is.rest.rest; sorted = is.rest.sorted };
   six = is.six;

@@ -5,16 +5,16 @@ use Rattle.std.proofs.lemmas.Bool.{cases_lt}
 use Rattle.he_plan.specs.declared.attempts.Attempt.{Attempt}
 use Rattle.he_plan.specs.declared.finish.Fate.{Fate}
 use Rattle.he_plan.specs.declared.finish.Fate.TheVariants.{Succeeded, Failed, Running, Skipped}
-use Rattle.he_plan.specs.declared.limits.TheConstants.{MIN_FLOOR}
-use Rattle.he_plan.specs.declared.outcome.Outcome.{Outcome}
-use Rattle.he_plan.specs.declared.outcome.Outcome.TheVariants as outcomes
-use Rattle.he_plan.specs.Attempts.{HasWaited, HaveFailed, has_failed, has_failed_by, outcome_of, finish_of}
+use Rattle.he_timeline.specs.declared.limits.TheConstants.{MIN_FLOOR}
+use Rattle.he_timeline.specs.declared.outcome.Outcome.{Outcome}
+use Rattle.he_timeline.specs.declared.outcome.Outcome.TheVariants as outcomes
+use Rattle.he_plan.specs.Attempts.{HasWaited, HaveFailed, has_failed, has_failed_by, finish_of}
+use Rattle.he_timeline.specs.Race.{outcome_of, Race}
 use Rattle.he_plan.specs.Finish.{fate_by, fate_of}
 use Rattle.he_plan.specs.Planning.{all_failed, wait_by, wait_end}
-use Rattle.he_plan.specs.Race.{Race}
-use Rattle.he_plan.specs.Timeline.{IsRace}
+use Rattle.he_timeline.specs.Timeline.{IsRace}
 use Rattle.he_plan.specs.Transcript.{failures, greatest, is_failed}
-use Rattle.he_plan.proofs.Bools.{and_left, and_right, le_from, le_test, not_le}
+use Rattle.he_timeline.proofs.Bools.{and_left, and_right, le_from, le_test, not_le}
 
 -- the fate is a failure by the tick
 abbrev pub fails_by : ℕ → Fate → Bool

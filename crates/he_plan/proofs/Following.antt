@@ -1,5 +1,5 @@
--- The tick from which the next attempt may start, by the queue alone: where an address is left, the end of the delay; where
--- none is, what an answer that was not seen by the last start allows.
+-- The tick from which the next attempt may start, by the queue alone: where an address is left, the end of the delay;
+-- where none is, what an answer that was not seen by the last start allows.
 use Rattle.std.proofs.Common.{◌≡◌, ℕ, ◌≤◌, ◌<◌, ◌&&◌, ◌||◌, Bool, true, false, List, [], ◌∷◌, length, Option, Some, None, MatchOption, option_map, if◌then◌else◌, max, refl, sym, ◌∙◌, ap, arith, inl, inr}
 use Rattle.std.specs.List.{list_any}
 use Rattle.std.proofs.lemmas.List.Folds.{list_any-append}
@@ -9,16 +9,18 @@ use Rattle.he_addr.specs.declared.ip.Family.TheVariants as families
 use Rattle.he_addr.specs.declared.ip.Ip.{Ip}
 use Rattle.he_addr.specs.declared.ip.Ip.TheVariants.{V4, V6}
 use Rattle.he_plan.specs.declared.attempts.Attempt.{Attempt}
-use Rattle.he_plan.specs.Attempts.{IsSeen, is_tried, is_untried, last_of, seen}
+use Rattle.he_timeline.specs.Seen.{IsSeen, seen}
+use Rattle.he_plan.specs.Attempts.{is_tried, is_untried, last_of}
 use Rattle.he_plan.specs.Planning.{earlier, waiting_tick, late_tick, start_after, start_tick, is_received, part_of, parts_of, wait_end}
-use Rattle.he_plan.specs.Race.{Race, Reply}
-use Rattle.he_plan.specs.Timeline.{IsRace, is_of, are_of, is_answer}
-use Rattle.he_plan.specs.Underway.{IsOwn, IsQueue, Untried, was_received}
-use Rattle.he_plan.proofs.Bools.{and_left, and_right, or_none, or_left_none, or_right_none, or_one, le_from}
+use Rattle.he_timeline.specs.Race.{Race, Reply}
+use Rattle.he_timeline.specs.Timeline.{IsRace, is_of, are_of, is_answer}
+use Rattle.he_plan.specs.RaceState.{IsOwn, IsQueue, UntriedValues, was_received}
+use Rattle.he_timeline.proofs.Bools.{and_left, and_right, or_none, or_left_none, or_right_none, or_one, le_from}
 use Rattle.he_plan.proofs.Distinct.{none_counted}
 use Rattle.he_plan.proofs.Failing.{wait_after}
 use Rattle.he_plan.proofs.Queued.{any_counted, left_is}
-use Rattle.he_plan.proofs.Starting.{IsSeen-seen, any_filter}
+use Rattle.he_timeline.proofs.Seen.{IsSeen-seen}
+use Rattle.he_plan.proofs.Starting.{any_filter}
 
 -- addresses of two families differ
 apart : (family : Family) (x y : Ip) → is_of family x ≡ false → is_of family y ≡ true → same_ip x y ≡ false
@@ -95,7 +97,7 @@ earlier_last from x y e late = sym (ap (earlier x) e ∙ last_by x late)
     last_by None late = refl
     last_by (Some t) late = ap Some (let k : from ≤ t = late in omega arith)
 
-pub follows_delay : (race : Race) → IsRace race → (done : List Attempt) (last : Attempt) (queue : Untried) → last_of done ≡ Some last → IsQueue race done queue → 0 < length queue.ips → Some (wait_end race done last) ≡ start_tick race done
+pub follows_delay : (race : Race) → IsRace race → (done : List Attempt) (last : Attempt) (queue : UntriedValues) → last_of done ≡ Some last → IsQueue race done queue → 0 < length queue.ips → Some (wait_end race done last) ≡ start_tick race done
 follows_delay race r done last queue is q below =
     let from : ℕ = wait_end race done last in
     let some : list_any (is_untried done) (parts_of race queue.v6 queue.v4) ≡ true = any_counted (is_untried done) (parts_of race queue.v6 queue.v4) (omega (arith, left_is race done queue q.rest)) in
@@ -106,7 +108,7 @@ follows_delay race r done last queue is q below =
     ]
     ∙ sym (ap (start_after race done) is)
 
-pub follows_late : (race : Race) → IsRace race → (done : List Attempt) (last : Attempt) (queue : Untried) → last_of done ≡ Some last → IsQueue race done queue → length queue.ips ≤ 0 → earlier (late_tick queue.v6 (wait_end race done last) race.aaaa) (late_tick queue.v4 (wait_end race done last) race.a) ≡ start_tick race done
+pub follows_late : (race : Race) → IsRace race → (done : List Attempt) (last : Attempt) (queue : UntriedValues) → last_of done ≡ Some last → IsQueue race done queue → length queue.ips ≤ 0 → earlier (late_tick queue.v6 (wait_end race done last) race.aaaa) (late_tick queue.v4 (wait_end race done last) race.a) ≡ start_tick race done
 follows_late race r done last queue is q over =
     let from : ℕ = wait_end race done last in
     let none : list_any (is_untried done) (parts_of race queue.v6 queue.v4) ≡ false = none_counted (is_untried done) (parts_of race queue.v6 queue.v4) (omega (arith, left_is race done queue q.rest)) in

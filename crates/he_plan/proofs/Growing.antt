@@ -6,20 +6,19 @@ use Rattle.he_addr.specs.declared.ip.Family.{Family}
 use Rattle.he_addr.specs.declared.ip.Ip.{Ip}
 use Rattle.he_addr.specs.declared.ip.Ip.TheVariants.{V4, V6}
 use Rattle.he_addr.specs.Ip.{same_ip}
-use Rattle.he_plan.specs.declared.builder.BuildFault.{BuildFault}
-use Rattle.he_plan.specs.declared.limits.TheConstants.{MAX_PAUSES, MAX_PAUSE_END}
-use Rattle.he_plan.specs.declared.outcome.Outcome.{Outcome}
+use Rattle.he_timeline.specs.declared.builder.BuildFault.{BuildFault}
+use Rattle.he_timeline.specs.declared.limits.TheConstants.{MAX_PAUSES, MAX_PAUSE_END}
+use Rattle.he_timeline.specs.declared.outcome.Outcome.{Outcome}
 use Rattle.he_plan.specs.Agreement.{AgreeBelow}
-use Rattle.he_plan.specs.Attempts.{IsFree, is_paused}
-use Rattle.he_plan.specs.Building.{add_answer, add_outcome, add_pause, add_rtt, add_used, empty_race, last_end, with_answer, with_outcome, with_pause, with_rtt, with_used}
-use Rattle.he_plan.specs.Finish.{outcome_in, outcome_of}
-use Rattle.he_plan.specs.Race.{Race, has_outcome}
-use Rattle.he_plan.specs.Settings.{IsSettings, SettingValues}
-use Rattle.he_plan.specs.Timeline.{IsRace, are_pauses}
-use Rattle.he_plan.proofs.Bools.{above, and_left, and_right, before, le_from, le_test, lt_from, lt_test, or_left_none, or_none, or_right, or_right_none, outside}
+use Rattle.he_timeline.specs.Seen.{IsFree, is_paused}
+use Rattle.he_timeline.specs.Building.{add_answer, add_outcome, add_pause, add_rtt, add_used, empty_race, last_end, with_answer, with_outcome, with_pause, with_rtt, with_used}
+use Rattle.he_timeline.specs.Race.{outcome_in, outcome_of, Race, has_outcome}
+use Rattle.he_timeline.specs.Settings.{IsSettings, SettingValues}
+use Rattle.he_timeline.specs.Timeline.{IsRace, are_pauses}
+use Rattle.he_timeline.proofs.Bools.{above, and_left, and_right, before, le_from, le_test, lt_from, lt_test, or_left_none, or_none, or_right, or_right_none, outside}
 use Rattle.he_plan.proofs.Lawful.{is_paused-more}
-use Rattle.he_plan.proofs.Seen.{IsFirst, first}
-use Rattle.he_plan.proofs.Ranges.{IsRace-with_answer, IsRace-with_outcome, IsRace-with_pause, IsRace-with_rtt, IsRace-with_used, end_from, end_from-is}
+use Rattle.he_timeline.proofs.Seen.{IsFirst, first}
+use Rattle.he_timeline.proofs.Ranges.{IsRace-with_answer, IsRace-with_outcome, IsRace-with_pause, IsRace-with_rtt, IsRace-with_used, end_from, end_from-is}
 use Rattle.he_select.specs.declared.policy.Row.{Row}
 use Rattle.he_select.specs.Hosts.{HostLists, IsHost}
 use Rattle.he_select.specs.Tables.{IsAdmitted}

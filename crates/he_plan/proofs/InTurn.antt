@@ -5,7 +5,7 @@ use Rattle.std.proofs.lemmas.List.{append-nil}
 use Rattle.he_plan.specs.declared.attempts.Attempt.{Attempt}
 use Rattle.he_plan.specs.Attempts.{AreAttempts, AreNextInTurn, IsNext, MayStart}
 use Rattle.he_plan.specs.Continuing.{Continues, Follow}
-use Rattle.he_plan.specs.Race.{Race}
+use Rattle.he_timeline.specs.Race.{Race}
 
 some_is : (x y : Attempt) → Some x ≡ Some y → x ≡ y
 some_is x y h = cc

@@ -14,7 +14,7 @@ use Rattle.he_addr.specs.declared.ip.Ip.TheVariants.{V4, V6}
 use Rattle.he_addr.specs.Ip.{family_of}
 use Rattle.he_plan.specs.Alternating.{alternate, interlace, interlace_by}
 use Rattle.he_plan.specs.Interlacing.{IsInterlaced, Numbered, comes_before, interlacing_key, numbered_after}
-use Rattle.he_plan.specs.Timeline.{is_of}
+use Rattle.he_timeline.specs.Timeline.{is_of}
 use Rattle.he_plan.proofs.StrictlySorted.{Rises, count_cons, one_if, one_sorted, pairs_from}
 
 -- ---- the numbers within one family

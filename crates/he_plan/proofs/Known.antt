@@ -5,7 +5,7 @@ use Rattle.std.proofs.lemmas.List.Folds.{list_all-map}
 use Rattle.he_addr.specs.Ip.{is_usable}
 use Rattle.he_addr.specs.declared.ip.Ip.{Ip}
 use Rattle.he_plan.specs.Planning.{parts_of}
-use Rattle.he_plan.specs.Race.{History, Race, known_of, usable_addresses}
+use Rattle.he_timeline.specs.Race.{History, Race, known_of, usable_addresses}
 use Rattle.he_plan.proofs.Listed.{all_parts}
 use Rattle.he_plan.proofs.Queued.{parts-usable}
 use Rattle.he_select.specs.declared.known.Known.{Known}

@@ -17,10 +17,10 @@ use Rattle.he_select.proofs.Ordered.{one_order}
 use Rattle.he_plan.specs.Alternating.{alternate, interlace, interlace_by}
 use Rattle.he_plan.specs.Attempts.{order}
 use Rattle.he_plan.specs.Planning.{interlaced_list, is_of_included, part_of, parts_of}
-use Rattle.he_plan.specs.Race.{Race, Reply, addresses_of, race_input, usable_addresses}
-use Rattle.he_plan.specs.Timeline.{IsRace, are_of, is_answer, is_of}
+use Rattle.he_timeline.specs.Race.{Race, Reply, addresses_of, race_input, usable_addresses}
+use Rattle.he_timeline.specs.Timeline.{IsRace, are_of, is_answer, is_of}
 use Rattle.he_plan.proofs.Alternation.{alone-interlace_by, filter_short}
-use Rattle.he_plan.proofs.Bools.{and_both, and_left, and_right}
+use Rattle.he_timeline.proofs.Bools.{and_both, and_left, and_right}
 use Rattle.he_plan.proofs.Distinct.{answer_of}
 use Rattle.he_plan.proofs.Existing.{each_both, each_usable}
 

@@ -6,13 +6,14 @@ use Rattle.std.proofs.lemmas.List.Folds.{list_any-append}
 use Rattle.he_addr.specs.declared.ip.Ip.{Ip}
 use Rattle.he_addr.specs.Ip.{is_usable}
 use Rattle.he_plan.specs.declared.attempts.Attempt.{Attempt}
-use Rattle.he_plan.specs.declared.limits.TheConstants.{MAX_LIMIT}
-use Rattle.he_plan.specs.Attempts.{IsPositive, MayBegin, MayFollow, MayStart, received_of, received, is_untried, last_of, seen}
+use Rattle.he_timeline.specs.declared.limits.TheConstants.{MAX_LIMIT}
+use Rattle.he_plan.specs.Attempts.{IsPositive, MayBegin, MayFollow, MayStart, received_of, received, is_untried, last_of}
+use Rattle.he_timeline.specs.Seen.{seen}
 use Rattle.he_plan.specs.Planning.{IsLater}
-use Rattle.he_plan.specs.Race.{Race, Reply}
-use Rattle.he_plan.specs.Timeline.{IsRace}
-use Rattle.he_plan.specs.Underway.{MakesNext}
-use Rattle.he_plan.proofs.Bools.{le_test, or_left, or_right}
+use Rattle.he_timeline.specs.Race.{Race, Reply}
+use Rattle.he_timeline.specs.Timeline.{IsRace}
+use Rattle.he_plan.specs.RaceState.{MakesNext}
+use Rattle.he_timeline.proofs.Bools.{le_test, or_left, or_right}
 use Rattle.he_plan.proofs.Failing.{waited_later}
 
 get_end : (xs : List Attempt) (x : Attempt) → slice_get (xs ++ x ∷ []) (length xs) ≡ Some x

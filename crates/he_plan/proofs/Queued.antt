@@ -11,13 +11,14 @@ use Rattle.he_addr.specs.declared.ip.Family.{Family}
 use Rattle.he_addr.specs.declared.ip.Family.TheVariants as families
 use Rattle.he_addr.specs.declared.ip.Ip.{Ip}
 use Rattle.he_plan.specs.declared.attempts.Attempt.{Attempt}
-use Rattle.he_plan.specs.Attempts.{MayStart, is_tried, is_untried, last_of, order, order_at, received, received_of, seen}
+use Rattle.he_plan.specs.Attempts.{MayStart, is_tried, is_untried, last_of, order, order_at, received, received_of}
+use Rattle.he_timeline.specs.Seen.{seen}
 use Rattle.he_plan.specs.Alternating.{interlace}
 use Rattle.he_plan.specs.Planning.{IsLater, is_received, part_of, parts_of, interlaced_list}
-use Rattle.he_plan.specs.Race.{Race, Reply}
-use Rattle.he_plan.specs.Underway.{AreSorted, IsAtNext, IsOwn, IsQueue, IsRest, Untried, nothing_received, was_received}
-use Rattle.he_plan.specs.Timeline.{IsRace, is_of}
-use Rattle.he_plan.proofs.Bools.{and_both, le_test, le_from, or_none, or_left_none, or_right_none, clash}
+use Rattle.he_timeline.specs.Race.{Race, Reply}
+use Rattle.he_plan.specs.RaceState.{AreSorted, IsAtNext, IsOwn, IsQueue, IsRest, UntriedValues, nothing_received, was_received}
+use Rattle.he_timeline.specs.Timeline.{IsRace, is_of}
+use Rattle.he_timeline.proofs.Bools.{and_both, le_test, le_from, or_none, or_left_none, or_right_none, clash}
 use Rattle.he_plan.proofs.Distinct.{same_ip-self, count_at, count_none, none_counted, count-filter, count-order, order_once, no_v6, no_v4}
 use Rattle.he_plan.proofs.Planned.{last_of-more, starts_any}
 use Rattle.he_select.specs.Preference.{order_of as by_preference}
@@ -70,7 +71,7 @@ counts_any p xs some = counts_by (count_by p xs) refl
     counts_by (suc n) e = omega arith
 
 -- as many addresses are left as are untried
-pub left_is : (race : Race) (done : List Attempt) (q : Untried) → IsRest race done q → length q.ips ≡ count_by (is_untried done) (parts_of race q.v6 q.v4)
+pub left_is : (race : Race) (done : List Attempt) (q : UntriedValues) → IsRest race done q → length q.ips ≡ count_by (is_untried done) (parts_of race q.v6 q.v4)
 left_is race done q rest =
     ap length rest.rest ∙ length-filter (is_untried done) (interlaced_list race q.v6 q.v4) ∙ count-order (is_untried done) race q.v6 q.v4 rest.members
 
@@ -83,7 +84,7 @@ find_first p (x ∷ xs) = find_by (p x) (find_first p xs)
     find_by false rest = rest
 
 -- the queue of what is received at t, at its first untried address, where an attempt may start at t
-at_next : (race : Race) (done : List Attempt) (t : ℕ) (q : Untried) → MayStart race done t → q.v6 ≡ is_received race t race.aaaa → q.v4 ≡ is_received race t race.a → IsRest race done q → IsAtNext race done t q
+at_next : (race : Race) (done : List Attempt) (t : ℕ) (q : UntriedValues) → MayStart race done t → q.v6 ≡ is_received race t race.aaaa → q.v4 ≡ is_received race t race.a → IsRest race done q → IsAtNext race done t q
 at_next race done t q may six four rest =
     let some : list_any (is_untried done) (parts_of race q.v6 q.v4) ≡ true = subst (λ (xs : List Ip). list_any (is_untried done) xs ≡ true) (received_is race t q.v6 q.v4 six four) (starts_any race done t may) in
     record {
@@ -112,7 +113,7 @@ own_still : (family : Family) (done : List Attempt) (old new now : Bool) → new
 own_still family done old new now is own none = own (or_left_none old now (sym is ∙ none))
 
 -- the queue where nothing new is received at t
-pub stays_next : (race : Race) (done : List Attempt) (t : ℕ) (q : Untried) (v6 v4 : Bool) → MayStart race done t → IsLater done t → IsQueue race done q → v6 ≡ (q.v6 || is_received race t race.aaaa) → v4 ≡ (q.v4 || is_received race t race.a) → v6 ≡ q.v6 → v4 ≡ q.v4 → IsAtNext race done t q
+pub stays_next : (race : Race) (done : List Attempt) (t : ℕ) (q : UntriedValues) (v6 v4 : Bool) → MayStart race done t → IsLater done t → IsQueue race done q → v6 ≡ (q.v6 || is_received race t race.aaaa) → v4 ≡ (q.v4 || is_received race t race.a) → v6 ≡ q.v6 → v4 ≡ q.v4 → IsAtNext race done t q
 stays_next race done t q v6 v4 may later queue is6 is4 same6 same4 =
     at_next race done t q may
     (sym same6 ∙ received_now race done t race.aaaa q.v6 v6 later queue.six is6)
@@ -120,7 +121,7 @@ stays_next race done t q v6 v4 may later queue is6 is4 same6 same4 =
     queue.rest
 
 -- the queue made anew
-pub anew_next : (race : Race) (done : List Attempt) (t : ℕ) (old new : Untried) → MayStart race done t → IsLater done t → IsQueue race done old → new.v6 ≡ (old.v6 || is_received race t race.aaaa) → new.v4 ≡ (old.v4 || is_received race t race.a) → IsPermutation (parts_of race new.v6 new.v4) (order race (parts_of race new.v6 new.v4)) → new.ips ≡ filter (is_untried done) (interlaced_list race new.v6 new.v4) → AreSorted race new.sorted → IsAtNext race done t new
+pub anew_next : (race : Race) (done : List Attempt) (t : ℕ) (old new : UntriedValues) → MayStart race done t → IsLater done t → IsQueue race done old → new.v6 ≡ (old.v6 || is_received race t race.aaaa) → new.v4 ≡ (old.v4 || is_received race t race.a) → IsPermutation (parts_of race new.v6 new.v4) (order race (parts_of race new.v6 new.v4)) → new.ips ≡ filter (is_untried done) (interlaced_list race new.v6 new.v4) → AreSorted race new.sorted → IsAtNext race done t new
 anew_next race done t old new may later queue is6 is4 members is sorted =
     at_next race done t new may
     (received_now race done t race.aaaa old.v6 new.v6 later queue.six is6)
@@ -134,7 +135,7 @@ anew_next race done t old new may later queue is6 is4 members is sorted =
     })
 
 -- the queue where memory is refused: no more than its addresses are sorted
-pub IsQueue-sorted : (race : Race) (done : List Attempt) (q : Untried) (sorted : List Ip) → IsQueue race done q → AreSorted race sorted → IsQueue race done (record q { sorted = sorted })
+pub IsQueue-sorted : (race : Race) (done : List Attempt) (q : UntriedValues) (sorted : List Ip) → IsQueue race done q → AreSorted race sorted → IsQueue race done (record q { sorted = sorted })
 IsQueue-sorted race done q sorted queue are = record {
   rest = record { members = queue.rest.members; own_six = queue.rest.own_six; own_four = queue.rest.own_four; rest = queue.rest.rest; sorted = are };
   six = queue.six;
@@ -219,7 +220,7 @@ split_first [] ip h = cc
 split_first (x ∷ ips) ip h = cc
 
 -- the queue after one more attempt, which starts at t at the address that the queue is at
-pub IsQueue-more : (race : Race) → IsRace race → (done : List Attempt) (x : Attempt) (q : Untried) → IsAtNext race done x.tick q → slice_get q.ips 0 ≡ Some x.ip → IsQueue race (done ++ x ∷ []) (record q { ips = drop 1 q.ips })
+pub IsQueue-more : (race : Race) → IsRace race → (done : List Attempt) (x : Attempt) (q : UntriedValues) → IsAtNext race done x.tick q → slice_get q.ips 0 ≡ Some x.ip → IsQueue race (done ++ x ∷ []) (record q { ips = drop 1 q.ips })
 IsQueue-more race r done x q next first =
     let is : filter (is_untried done) (interlaced_list race q.v6 q.v4) ≡ x.ip ∷ drop 1 q.ips = sym next.rest.rest ∙ split_first q.ips x.ip first in
     let last : last_of (done ++ x ∷ []) ≡ Some x = last_of-more done x in

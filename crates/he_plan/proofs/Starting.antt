@@ -1,4 +1,5 @@
--- When the next attempt may start: at a free tick that the answers and the attempts so far allow, pauses not looked at.
+-- When the next attempt may start: at a free tick that the answers and the attempts so far allow, pauses not looked
+-- at.
 use Rattle.std.proofs.Common.{◌≡◌, ℕ, ◌+◌, ◌≤◌, ◌<◌, ◌⊎◌, ◌&&◌, ◌||◌, Bool, true, false, List, [], ◌∷◌, if◌then◌else◌, filter, Option, Some, None, MatchOption, IsSomeAnd, nat_le, min, max, refl, sym, ◌∙◌, arith, inl, inr}
 use Rattle.std.specs.List.{list_any}
 use Rattle.std.specs.Option.{option_map}
@@ -7,21 +8,19 @@ use Rattle.std.proofs.lemmas.Bool.{cases_lt}
 use Rattle.he_addr.specs.declared.ip.Ip.{Ip}
 use Rattle.he_addr.specs.Ip.{is_usable}
 use Rattle.he_plan.specs.declared.attempts.Attempt.{Attempt}
-use Rattle.he_plan.specs.Attempts.{IsLeast, IsFree, IsSeen, seen, received_of, IsAnswered, IsPositive, MayBegin, MayFollow, MayStart, is_untried, last_of}
+use Rattle.he_timeline.specs.Seen.{IsLeast, IsFree, IsSeen, seen}
+use Rattle.he_plan.specs.Attempts.{received_of, IsAnswered, IsPositive, MayBegin, MayFollow, MayStart, is_untried, last_of}
 use Rattle.he_plan.specs.Planning.{earlier, positive_tick, a_begin_tick, waiting_tick, follow_tick, start_after, start_tick, wait_end}
-use Rattle.he_plan.specs.Race.{Race, Reply}
-use Rattle.he_plan.specs.Timeline.{IsRace}
-use Rattle.he_plan.proofs.Bools.{le_test, le_from, or_one, or_left, or_right}
+use Rattle.he_timeline.specs.Race.{Race, Reply}
+use Rattle.he_timeline.specs.Timeline.{IsRace}
+use Rattle.he_timeline.proofs.Bools.{le_test, le_from, or_one, or_left, or_right}
 use Rattle.he_plan.proofs.Failing.{waited_from, waited_to}
-use Rattle.he_plan.proofs.Seen.{seen_past-is}
+use Rattle.he_timeline.proofs.Seen.{IsSeen-seen}
 
 -- at a free tick t a tick is seen by t exactly where it is at most t
 pub record SeesOwn (race : Race) (t : ℕ) : Type 0 where
   pub own : (x : ℕ) → seen race x ≤ t → x ≤ t
   pub back : (x : ℕ) → x ≤ t → seen race x ≤ t
-
-pub IsSeen-seen : (race : Race) → IsRace race → (x : ℕ) → IsSeen race x (seen race x)
-IsSeen-seen race r x = seen_past-is race.pauses 0 x r.pauses
 
 pub SeesOwn-free : (race : Race) → IsRace race → (t : ℕ) → IsFree race t → SeesOwn race t
 SeesOwn-free race r t free = record {

@@ -8,13 +8,14 @@ use Rattle.he_addr.specs.Ip.{InRange}
 use Rattle.he_plan.specs.declared.attempts.Attempt.{Attempt}
 use Rattle.he_plan.specs.declared.finish.Fate.{Fate}
 use Rattle.he_plan.specs.declared.finish.Fate.TheVariants.{Succeeded}
-use Rattle.he_plan.specs.Attempts.{AreAttempts, IsLeast, MayStart}
+use Rattle.he_plan.specs.Attempts.{AreAttempts, MayStart}
+use Rattle.he_timeline.specs.Seen.{IsLeast}
 use Rattle.he_plan.specs.Finish.{fate_of, IsWinner}
 use Rattle.he_plan.specs.Planning.{told_line, told_lines}
-use Rattle.he_plan.specs.Race.{Race, addresses_of}
-use Rattle.he_plan.specs.Timeline.{IsRace}
+use Rattle.he_timeline.specs.Race.{Race, addresses_of}
+use Rattle.he_timeline.specs.Timeline.{IsRace}
 use Rattle.he_plan.specs.Transcript.{IsTranscript, line_of, lines_of, result_of, stop_of}
-use Rattle.he_plan.specs.Underway.{AreFates, IsAtNext, IsStopped, IsUnderway, MakesNext, Progress, Untried, counted, not_begun}
+use Rattle.he_plan.specs.RaceState.{AreFates, IsAtNext, IsStopped, IsUnderway, MakesNext, Progress, UntriedValues, counted, not_begun}
 use Rattle.he_plan.proofs.Ends.{fates_more, underway-started, with_start}
 use Rattle.he_plan.proofs.Existing.{plan-some}
 use Rattle.he_plan.proofs.InTurn.{in_turn-more, in_turn-none}
@@ -27,7 +28,7 @@ pub underway-new : (race : Race) → IsUnderway race not_begun
 underway-new race = record { in_turn = in_turn-none race; in_range = tt; fates = refl; failed = refl; latest = refl; queue = IsQueue-new race }
 
 -- one more attempt, the next one, at the first address of the queue
-pub underway-more : (race : Race) → IsRace race → (u : Progress) (q : Untried) (x : Attempt) → IsUnderway race u → IsLeast (MayStart race u.attempts) x.tick → IsAtNext race u.attempts x.tick q → x.place ≡ length u.attempts → slice_get q.ips 0 ≡ Some x.ip → IsUnderway race (counted (with_start u x (fate_of race x) (record q { ips = drop 1 q.ips })) (fate_of race x))
+pub underway-more : (race : Race) → IsRace race → (u : Progress) (q : UntriedValues) (x : Attempt) → IsUnderway race u → IsLeast (MayStart race u.attempts) x.tick → IsAtNext race u.attempts x.tick q → x.place ≡ length u.attempts → slice_get q.ips 0 ≡ Some x.ip → IsUnderway race (counted (with_start u x (fate_of race x) (record q { ips = drop 1 q.ips })) (fate_of race x))
 underway-more race r u q x under least next place first =
     underway-started race u x (record q { ips = drop 1 q.ips }) under
     (in_turn-more race u.attempts x under.in_turn (record { place = place; tick = least; ip = next.first ∙ first }))

@@ -13,13 +13,14 @@ use Rattle.he_plan.specs.declared.finish.Fate.TheVariants.{Succeeded, Failed, Ru
 use Rattle.he_plan.specs.declared.transcript.Line.{Line}
 use Rattle.he_plan.specs.declared.transcript.Mark.{Mark}
 use Rattle.he_plan.specs.declared.transcript.Mark.TheVariants as marks
-use Rattle.he_plan.specs.Attempts.{AreAttempts, MayStart, is_tried, is_untried, received, received_of, seen}
-use Rattle.he_plan.specs.Finish.{fate_of, outcome_of, known_at, known_by, IsWinner}
+use Rattle.he_plan.specs.Attempts.{AreAttempts, MayStart, is_tried, is_untried, received, received_of}
+use Rattle.he_timeline.specs.Seen.{seen}
+use Rattle.he_plan.specs.Finish.{fate_of, known_at, known_by, IsWinner}
+use Rattle.he_timeline.specs.Race.{outcome_of, Race, Reply, addresses_of}
 use Rattle.he_plan.specs.Planning.{told_line, told_lines}
-use Rattle.he_plan.specs.Race.{Race, Reply, addresses_of}
-use Rattle.he_plan.specs.Timeline.{IsRace}
+use Rattle.he_timeline.specs.Timeline.{IsRace}
 use Rattle.he_plan.specs.Transcript.{AreKnown, IsTranscript, failed_mark, is_tried_out, is_place, line_of, lines_of, mark_at, result_of, stop_of}
-use Rattle.he_plan.proofs.Bools.{and_left, and_right, clash, or_none, le_from, le_test, not_lt}
+use Rattle.he_timeline.proofs.Bools.{and_left, and_right, clash, or_none, le_from, le_test, not_lt}
 use Rattle.he_plan.proofs.Existing.{plan-some}
 use Rattle.he_plan.proofs.Finishing.{success-in_range, failure-in_range, not_skipped}
 use Rattle.he_plan.proofs.Lawful.{attempts-prefix}

@@ -1,5 +1,5 @@
--- Lists of which each element comes before each later one, by a test that holds one way only: a list has one permutation
--- that is sorted so.
+-- Lists of which each element comes before each later one, by a test that holds one way only: a list has one
+-- permutation that is sorted so.
 use Rattle.std.proofs.Common.{◌≡◌, ℕ, zero, suc, ◌+◌, ◌<◌, Bool, true, false, cond, List, [], ◌∷◌, length, refl, sym, ◌∙◌, ap, arith, get_or, slice_get, inl, inr}
 use Rattle.std.specs.Prelude.{Some, count_by, AllPairs, IsPermutation}
 use Rattle.std.specs.List.{AllByRecursion}

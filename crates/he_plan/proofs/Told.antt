@@ -8,10 +8,10 @@ use Rattle.he_plan.specs.declared.transcript.Line.{Line}
 use Rattle.he_plan.specs.Attempts.{AreAttempts}
 use Rattle.he_plan.specs.Finish.{fate_of, IsSuccess, ComesFirst, IsWinner}
 use Rattle.he_plan.specs.Planning.{last_failure, told_line, told_one, told_lines}
-use Rattle.he_plan.specs.Race.{Race}
-use Rattle.he_plan.specs.Timeline.{IsRace}
+use Rattle.he_timeline.specs.Race.{Race}
+use Rattle.he_timeline.specs.Timeline.{IsRace}
 use Rattle.he_plan.specs.Transcript.{IsTranscript, AreTold, IsToldFate, failures, greatest, stop_of, line_of, lines_of, result_of}
-use Rattle.he_plan.proofs.Bools.{lt_from}
+use Rattle.he_timeline.proofs.Bools.{lt_from}
 use Rattle.he_plan.proofs.Finishing.{success_after}
 
 abbrev pub ToldAll : Race → List Fate → List Attempt → List Fate → Type 0

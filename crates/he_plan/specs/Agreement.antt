@@ -1,8 +1,9 @@
 -- What two races have in common: a script and its record, or a race before and after something was added to it.
 use Rattle.std.specs.Prelude.{ℕ, ◌≡◌, ◌<◌, ◌↔◌, List, [], ◌∷◌}
 use Rattle.he_plan.specs.declared.attempts.Attempt.{Attempt}
-use Rattle.he_plan.specs.Attempts.{IsFree, has_failed}
-use Rattle.he_plan.specs.Race.{Race}
+use Rattle.he_timeline.specs.Seen.{IsFree}
+use Rattle.he_plan.specs.Attempts.{has_failed}
+use Rattle.he_timeline.specs.Race.{Race}
 
 -- the second race differs from the first in its outcomes and pauses alone
 abbrev pub AreAlike : Race → Race → Type 0

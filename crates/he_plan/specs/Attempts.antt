@@ -4,36 +4,12 @@ use Rattle.std.specs.List.{list_all, list_any}
 use Rattle.he_addr.specs.declared.ip.Ip.{Ip}
 use Rattle.he_addr.specs.Ip.{is_usable, same_ip}
 use Rattle.he_plan.specs.declared.attempts.Attempt.{Attempt}
-use Rattle.he_plan.specs.declared.outcome.Outcome.{Outcome}
-use Rattle.he_plan.specs.declared.outcome.Outcome.TheVariants as outcomes
+use Rattle.he_timeline.specs.declared.outcome.Outcome.{Outcome}
+use Rattle.he_timeline.specs.declared.outcome.Outcome.TheVariants as outcomes
 use Rattle.he_plan.specs.Alternating.{interlace}
-use Rattle.he_plan.specs.Race.{Race, Reply, race_input}
+use Rattle.he_timeline.specs.Race.{Race, Reply, outcome_of, race_input}
+use Rattle.he_timeline.specs.Seen.{IsFree, IsLeast, seen}
 use Rattle.he_select.specs.Preference.{order_of}
-
--- n is the least number of which P holds
-pub record IsLeast (P : ℕ → Type 0) (n : ℕ) : Type 0 where
-  pub holds : P n
-  pub least : (m : ℕ) → P m → n ≤ m
-
--- a pause covers the tick
-abbrev pub is_paused : List (ℕ × ℕ) → ℕ → Bool
-is_paused pauses t = list_any (λ p. nat_le p.0 t && nat_lt t p.1) pauses
-
--- the client may act at the tick
-abbrev pub IsFree : Race → ℕ → Type 0
-IsFree race t = is_paused race.pauses t ≡ false
-
--- n is the least free tick at or after x
-abbrev pub IsSeen : Race → ℕ → ℕ → Type 0
-IsSeen race x = IsLeast (λ t. (x ≤ t) × IsFree race t)
-
--- that tick: a pause that covers it moves it to the pause's end, and pauses stand in order
-abbrev pub seen_past : List (ℕ × ℕ) → ℕ → ℕ
-seen_past [] x = x
-seen_past (p ∷ pauses) x = seen_past pauses (if nat_le p.0 x && nat_lt x p.1 then p.1 else x)
-
-abbrev pub seen : Race → ℕ → ℕ
-seen race x = seen_past race.pauses x
 
 -- the usable addresses of an answer that is seen at t or earlier
 abbrev pub received_of : Race → ℕ → Option Reply → List Ip
@@ -55,8 +31,8 @@ IsPositive race t reply = IsSomeAnd reply (λ r. IsTrue (list_any is_usable r.ad
 abbrev pub IsDelayOver : Race → ℕ → Type 0
 IsDelayOver race t = IsSomeAnd race.a (λ r. seen race (r.tick + race.settings.resolution) ≤ t)
 
--- the race may begin (RFC 8305 section 3): at once on a positive AAAA answer; on a positive A answer once the AAAA answer,
--- positive or not, is there or the Resolution Delay is over
+-- the race may begin (RFC 8305 section 3): at once on a positive AAAA answer; on a positive A answer once the AAAA
+-- answer, positive or not, is there or the Resolution Delay is over
 abbrev pub MayBegin : Race → ℕ → Type 0
 MayBegin race t =
     IsFree race t
@@ -79,13 +55,6 @@ is_untried done ip = not (is_tried done ip)
 abbrev pub last_of : List Attempt → Option Attempt
 last_of done = slice_get done (length done - 1)
 
--- what the address does when it is tried; none: it is silent
-abbrev pub outcome_in : List (Ip × Outcome) → Ip → Option Outcome
-outcome_in told ip = option_map (λ p. p.1) (find (λ p. same_ip p.0 ip) told)
-
-abbrev pub outcome_of : Race → Ip → Option Outcome
-outcome_of race ip = outcome_in race.outcomes ip
-
 -- an attempt finishes when its duration is over, at a free tick
 abbrev pub finish_of : Race → ℕ → ℕ → ℕ
 finish_of race start duration = seen race (start + duration)
@@ -103,8 +72,8 @@ has_failed race t x = has_failed_by race t x.tick (outcome_of race x.ip)
 abbrev pub HaveFailed : Race → List Attempt → ℕ → Type 0
 HaveFailed race done t = IsTrue (list_all (has_failed race t) done)
 
--- the last attempt was waited for (RFC 8305 section 5): the Connection Attempt Delay has passed since its start; or a floor
--- is given and has passed since, and every attempt so far has failed (own)
+-- the last attempt was waited for (RFC 8305 section 5): the Connection Attempt Delay has passed since its start; or a
+-- floor is given and has passed since, and every attempt so far has failed (own)
 abbrev pub HasWaited : Race → List Attempt → ℕ → Attempt → Type 0
 HasWaited race done t last =
     (last.tick + race.settings.attempt ≤ t)

@@ -1,12 +1,13 @@
--- The due tick of a race that is being run: the least tick at which something is to be done after its last turn, pauses not
--- looked at (RFC 8305 sections 3 and 5).
+-- The due tick of a race that is being run: the least tick at which something is to be done after its last turn,
+-- pauses not looked at (RFC 8305 sections 3 and 5).
 use Rattle.std.specs.Prelude.{ℕ, ◌≡◌, ◌+◌, ◌<◌, ◌≤◌, ◌⊎◌, ◌&&◌, if◌then◌else◌, List, [], Option, Some, None, IfSome, IsSomeAnd, IsTrue}
 use Rattle.std.specs.List.{list_all, list_any}
 use Rattle.std.specs.Option.{option_map_or}
 use Rattle.he_addr.specs.Ip.{is_usable}
 use Rattle.he_plan.specs.declared.attempts.Attempt.{Attempt}
-use Rattle.he_plan.specs.Attempts.{HaveFailed, IsFree, IsLeast, MayStart, has_failed, is_untried, last_of}
-use Rattle.he_plan.specs.Race.{Race, Reply}
+use Rattle.he_plan.specs.Attempts.{HaveFailed, MayStart, has_failed, is_untried, last_of}
+use Rattle.he_timeline.specs.Seen.{IsFree, IsLeast}
+use Rattle.he_timeline.specs.Race.{Race, Reply}
 
 -- the answer was taken by the last turn; none was before the first one
 abbrev pub IsTaken : Option ℕ → Reply → Type 0
@@ -16,7 +17,8 @@ IsTaken turn reply = IsSomeAnd turn (λ tick. reply.tick ≤ tick)
 abbrev pub IsAnswerDue : Option ℕ → Option Reply → ℕ → Type 0
 IsAnswerDue turn reply t = IsSomeAnd reply (λ r. ¬ IsTaken turn r × (r.tick ≡ t))
 
--- the end of the Resolution Delay is due where a positive A answer was taken, no AAAA answer was and no attempt was made
+-- the end of the Resolution Delay is due where a positive A answer was taken, no AAAA answer was and no attempt was
+-- made
 pub record IsDelayDue (race : Race) (turn : Option ℕ) (done : List Attempt) (t : ℕ) : Type 0 where
   pub none : done ≡ []
   pub aaaa : ¬ IsSomeAnd race.aaaa (IsTaken turn)
@@ -26,8 +28,8 @@ pub record IsDelayDue (race : Race) (turn : Option ℕ) (done : List Attempt) (t
 abbrev pub IsWaiting : Option ℕ → List Attempt → Option Reply → Type 0
 IsWaiting turn done reply = IsSomeAnd reply (λ r. IsTaken turn r × IsTrue (list_any (λ ip. is_usable ip && is_untried done ip) r.addresses))
 
--- the delay after the last start: the floor, where it is given and every attempt made has failed by the last turn; else the
--- Connection Attempt Delay
+-- the delay after the last start: the floor, where it is given and every attempt made has failed by the last turn;
+-- else the Connection Attempt Delay
 abbrev pub start_delay : Race → Option ℕ → List Attempt → ℕ
 start_delay race None done = race.settings.attempt
 start_delay race (Some turn) done =

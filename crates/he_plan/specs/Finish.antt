@@ -3,10 +3,11 @@ use Rattle.std.specs.Prelude.{ℕ, ◌≡◌, ◌<◌, ◌≤◌, ◌⊎◌, if�
 use Rattle.he_plan.specs.declared.attempts.Attempt.{Attempt}
 use Rattle.he_plan.specs.declared.finish.Fate.{Fate}
 use Rattle.he_plan.specs.declared.finish.Fate.TheVariants.{Succeeded, Failed, Running, Skipped}
-use Rattle.he_plan.specs.declared.outcome.Outcome.{Outcome}
-use Rattle.he_plan.specs.declared.outcome.Outcome.TheVariants as outcomes
-use Rattle.he_plan.specs.Race.{Race}
-pub use Rattle.he_plan.specs.Attempts.{finish_of, outcome_in, outcome_of}
+use Rattle.he_timeline.specs.declared.outcome.Outcome.{Outcome}
+use Rattle.he_timeline.specs.declared.outcome.Outcome.TheVariants as outcomes
+use Rattle.he_timeline.specs.Race.{Race}
+pub use Rattle.he_plan.specs.Attempts.{finish_of}
+pub use Rattle.he_timeline.specs.Race.{outcome_in, outcome_of}
 
 -- what becomes of an attempt by the limit
 abbrev pub fate_by : Race → ℕ → Option Outcome → Fate

@@ -3,7 +3,7 @@ use Rattle.std.specs.Prelude.{ℕ, ◌+◌, ◌-◌, ◌*◌, ◌≡◌, ◌==�
 use Rattle.std.specs.Option.{option_map_or}
 use Rattle.he_addr.specs.declared.ip.Ip.{Ip}
 use Rattle.he_addr.specs.Ip.{family_of}
-use Rattle.he_plan.specs.Timeline.{is_of}
+use Rattle.he_timeline.specs.Timeline.{is_of}
 
 -- an address of a list, and how many addresses of its family stand before it
 pub record Numbered : Type 0 where
@@ -19,7 +19,8 @@ numbered_after before (ip ∷ ips) = record { ip = ip; number = count_by (is_of 
 abbrev pub is_leading : List Ip → Ip → Bool
 is_leading ips ip = option_map_or (λ first. is_of (family_of first) ip) (slice_get ips 0) false
 
--- the turn: the leading family's first `count` members have 0 and its others 2, 4, 6 .., the other family's members 1, 3, 5 ..
+-- the turn: the leading family's first `count` members have 0 and its others 2, 4, 6 .., the other family's members 1,
+-- 3, 5 ..
 abbrev pub interlacing_key : List Ip → ℕ → Numbered → ℕ
 interlacing_key ips count item = cond (is_leading ips item.ip) (2 * (item.number + 1 - count)) (2 * item.number + 1)
 

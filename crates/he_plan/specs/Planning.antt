@@ -7,19 +7,15 @@ use Rattle.he_addr.specs.Ip.{is_usable, is_v6}
 use Rattle.he_plan.specs.declared.attempts.Attempt.{Attempt}
 use Rattle.he_plan.specs.declared.finish.Fate.{Fate}
 use Rattle.he_plan.specs.declared.finish.Fate.TheVariants.{Succeeded, Failed}
-use Rattle.he_plan.specs.declared.limits.TheConstants.{MAX_LIMIT}
-use Rattle.he_plan.specs.Race.{Race, Reply}
+use Rattle.he_timeline.specs.declared.limits.TheConstants.{MAX_LIMIT}
+use Rattle.he_timeline.specs.Race.{Race, Reply}
 use Rattle.he_plan.specs.declared.transcript.Line.{Line}
-use Rattle.he_plan.specs.Timeline.{are_pauses}
+use Rattle.he_timeline.specs.Timeline.{are_pauses}
 use Rattle.he_plan.specs.Finish.{fate_of}
 use Rattle.he_plan.specs.Transcript.{failures, greatest, is_failed, mark_at}
-use Rattle.he_plan.specs.Attempts.{is_untried, last_of, order, seen}
+use Rattle.he_plan.specs.Attempts.{is_untried, last_of, order}
+use Rattle.he_timeline.specs.Seen.{seen}
 use Rattle.he_plan.specs.Alternating.{interlace}
-
--- pauses in order, of which the first ends after the tick
-abbrev pub are_ahead : ℕ → List (ℕ × ℕ) → Bool
-are_ahead tick [] = true
-are_ahead tick (p ∷ pauses) = nat_lt tick p.1 && are_pauses p.0 (p ∷ pauses)
 
 abbrev pub earlier : Option ℕ → Option ℕ → Option ℕ
 earlier None y = y

@@ -12,8 +12,9 @@ use Rattle.he_plan.specs.declared.transcript.Mark.{Mark}
 use Rattle.he_plan.specs.declared.transcript.Mark.TheVariants as marks
 use Rattle.he_plan.specs.declared.transcript.Outcome3.{Outcome3}
 use Rattle.he_plan.specs.declared.transcript.Outcome3.TheVariants as results
-use Rattle.he_plan.specs.Race.{Race, Reply}
-use Rattle.he_plan.specs.Attempts.{AreAttempts, AreNextInTurn, MayStart, seen, is_tried}
+use Rattle.he_timeline.specs.Race.{Race, Reply}
+use Rattle.he_plan.specs.Attempts.{AreAttempts, AreNextInTurn, MayStart, is_tried}
+use Rattle.he_timeline.specs.Seen.{seen}
 use Rattle.he_plan.specs.Finish.{fate_of, known_at, IsWinner, IsSuccess}
 
 -- what a transcript holds
@@ -110,8 +111,8 @@ pub record AreTold (race : Race) (attempts : List Attempt) (told : List Fate) (w
   pub fates : AllZip (IsToldFate race told) attempts told
   pub wins : IsWinner told winner
 
--- what is handed in are the attempts that a race makes up to its stop, what is known of each of them there, and by that the
--- winner
+-- what is handed in are the attempts that a race makes up to its stop, what is known of each of them there, and by
+-- that the winner
 pub record AreKnown (race : Race) (attempts : List Attempt) (known : List Fate) (winner : Option (ℕ × ℕ)) : Type 0 where
   pub in_turn : AreNextInTurn race attempts
   pub stops : (t : ℕ) → MayStart race attempts t → stop_of race winner ≤ t

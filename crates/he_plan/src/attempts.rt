@@ -1,6 +1,7 @@
 // Attempts, and the plan of a race.
 
 ghost use Rattle.std.specs.Prelude.{◌≡◌};
+ghost use Rattle.he_plan.specs.Attempts.{is_tried};
 
 use he_addr::Ip;
 use std::alloc::{Allocator, Global};
@@ -43,4 +44,11 @@ impl<A: Allocator> Plan<A> {
     {
         self.attempts.as_slice()
     }
+}
+
+// Whether one of these attempts tries the address.
+pub(crate) fn is_tried(done: &[Attempt], ip: Ip) -> bool
+    ensures { result ≡ is_tried done.now ip }
+{
+    done.iter().any(|attempt| attempt.ip == ip)
 }

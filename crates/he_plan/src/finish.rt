@@ -3,11 +3,11 @@
 ghost use Rattle.std.specs.Prelude.{◌≡◌};
 ghost use Rattle.he_plan.specs.Planning.{next_winner};
 ghost use Rattle.he_plan.specs.Finish.{fate_of, IsInTime, IsWinner};
-ghost use Rattle.he_plan.specs.Timeline.{IsRace};
+ghost use Rattle.he_timeline.specs.Timeline.{IsRace};
 
 use crate::attempts::Attempt;
-use crate::outcome::Outcome;
-use crate::timeline::Timeline;
+use he_timeline::Outcome;
+use he_timeline::Timeline;
 use std::alloc::Allocator;
 
 /// What becomes of an attempt: it succeeds or fails at a tick that is at most the limit, it still runs at the limit,
@@ -20,35 +20,34 @@ pub enum Fate {
     Skipped,
 }
 
-impl<A: Allocator> Timeline<A> {
-    /// What becomes of the attempt by the limit: a finish is a tick after its start, at or before the limit.
-    pub fn fate(&self, attempt: &Attempt) -> Fate
-        ensures value { result ≡ fate_of self.now attempt.now }
-        ensures range { IsInTime self.now attempt.now result }
-        ensures race { IsRace self.now }
-    {
-        self.fate_by_limit(attempt)
-    }
+/// What becomes of the attempt by the limit of the timeline's race: a finish is a tick after its start, at or before
+/// the limit.
+pub fn fate_of<A: Allocator>(timeline: &Timeline<A>, attempt: &Attempt) -> Fate
+    ensures value { result ≡ fate_of timeline.now attempt.now }
+    ensures range { IsInTime timeline.now attempt.now result }
+    ensures race { IsRace timeline.now }
+{
+    fate_by_limit(timeline, attempt)
+}
 
-    fn fate_by_limit(&self, attempt: &Attempt) -> Fate
-        ensures value { result ≡ fate_of self.now attempt.now }
-        ensures race { IsRace self.now }
-    {
-        let limit = self.settings().limit();
-        let Some(outcome) = self.outcome(attempt.ip) else {
-            return Fate::Running;
-        };
-        let Some(over) = attempt.tick.checked_add(outcome.duration()) else {
-            return Fate::Running;
-        };
-        let finish = self.seen(over);
-        if finish > limit {
-            return Fate::Running;
-        }
-        match outcome {
-            Outcome::Ok(_) => Fate::Succeeded(finish),
-            Outcome::Fail(_) => Fate::Failed(finish),
-        }
+fn fate_by_limit<A: Allocator>(timeline: &Timeline<A>, attempt: &Attempt) -> Fate
+    ensures value { result ≡ fate_of timeline.now attempt.now }
+    ensures race { IsRace timeline.now }
+{
+    let limit = timeline.settings().limit();
+    let Some(outcome) = timeline.outcome(attempt.ip) else {
+        return Fate::Running;
+    };
+    let Some(over) = attempt.tick.checked_add(outcome.duration()) else {
+        return Fate::Running;
+    };
+    let finish = timeline.seen(over);
+    if finish > limit {
+        return Fate::Running;
+    }
+    match outcome {
+        Outcome::Ok(_) => Fate::Succeeded(finish),
+        Outcome::Fail(_) => Fate::Failed(finish),
     }
 }
 

@@ -3,7 +3,7 @@
 ghost use Rattle.std.specs.Prelude.{◌≡◌, ◌≤◌, ◌<◌, ◌++◌, not, filter, take, drop, IfOk, OnOk};
 ghost use Rattle.he_addr.specs.Ip.{family_of};
 ghost use Rattle.he_plan.specs.Alternating.{interlace, interlace_by, alternate};
-ghost use Rattle.he_plan.specs.Timeline.{is_of};
+ghost use Rattle.he_timeline.specs.Timeline.{is_of};
 
 use he_addr::{Family, Ip, Memory};
 use std::alloc::{AllocError, Allocator};

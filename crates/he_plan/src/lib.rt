@@ -29,39 +29,27 @@
 //! Tested only: that a call succeeds where memory is granted.
 #![tactic(auto)]
 
-mod addresses;
 pub mod agreement;
 pub mod attempts;
-pub mod builder;
-mod by_address;
-pub mod changes;
 pub mod due;
 pub mod finish;
-mod history;
 pub mod interlacing;
 pub mod laws;
-pub mod limits;
 pub mod listing;
-pub mod outcome;
 pub mod planning;
-mod queue;
-pub mod settings;
+mod untried;
 mod starts;
-pub mod timeline;
 pub mod transcript;
-pub mod underway;
+pub mod race_state;
 
 pub use attempts::{Attempt, Plan};
-pub use builder::{BuildFault, TimelineBuilder};
-pub use changes::Changes;
-pub use finish::{Fate, winner};
+pub use finish::{Fate, fate_of, winner};
+pub use he_timeline::{BuildFault, Changes, Outcome, Range, Settings, Timeline, TimelineBuilder};
+pub use he_timeline::limits;
 pub use interlacing::interlace;
 pub use listing::sorted_standings;
-pub use outcome::Outcome;
 pub use planning::plan;
-pub use settings::{Range, Settings};
-pub use timeline::Timeline;
 pub use transcript::{
     Line, Mark, Outcome3, Transcript, transcript_at_stop, transcript_of, transcript_of_fates,
 };
-pub use underway::Underway;
+pub use race_state::RaceState;

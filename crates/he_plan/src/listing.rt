@@ -3,18 +3,19 @@
 ghost use Rattle.std.specs.Prelude.{◌≡◌, ◌≤◌, ◌++◌, true, filter, length, map, IfOk, OnErr, OnOk};
 ghost use Rattle.std.specs.List.Sorted.{IsPermutation};
 ghost use Rattle.he_addr.specs.Ip.{is_usable};
-ghost use Rattle.he_plan.specs.declared.limits.TheConstants.{MAX_ADDRESSES};
+ghost use Rattle.he_timeline.specs.declared.limits.TheConstants.{MAX_ADDRESSES};
 ghost use Rattle.he_plan.specs.Alternating.{interlace};
 ghost use Rattle.he_plan.specs.Attempts.{order};
-ghost use Rattle.he_plan.specs.Building.{empty_history};
+ghost use Rattle.he_timeline.specs.Building.{empty_history};
 ghost use Rattle.he_plan.specs.Planning.{interlaced_list, is_of_included, part_of, parts_of};
-ghost use Rattle.he_plan.specs.Race.{known_of, race_input, reply_of, usable_addresses};
-ghost use Rattle.he_plan.specs.Timeline.{IsRace};
-ghost use Rattle.he_plan.specs.Underway.{AreSorted};
+ghost use Rattle.he_timeline.specs.Race.{known_of, race_input, reply_of, usable_addresses};
+ghost use Rattle.he_timeline.specs.Timeline.{IsRace};
+ghost use Rattle.he_plan.specs.RaceState.{AreSorted};
 ghost use Rattle.he_select.specs.Standing.{standing_of};
 
 use crate::interlacing::{interlace, members};
-use crate::timeline::{Timeline, are_addresses_in_range};
+use he_timeline::Timeline;
+use he_timeline::timeline::{are_addresses_in_range};
 use he_addr::{Family, Ip, Memory};
 use he_select::{Known, Standing, order, order_known, order_known_with_standings};
 use std::alloc::{AllocError, Allocator};
@@ -30,7 +31,8 @@ pub(crate) fn interlaced_list<A: Allocator + Copy, B: Allocator>(
 ) -> Result<Vec<Ip, A>, Memory>
     requires { AreSorted timeline.now sorted.old.items }
     ensures value { IfOk result (λ v. v.items ≡ interlaced_list timeline.now v6 v4) }
-    ensures members { IfOk result (λ _. IsPermutation (parts_of timeline.now v6 v4) (order timeline.now (parts_of timeline.now v6 v4))) }
+    ensures members { IfOk result (λ _. IsPermutation (parts_of timeline.now v6 v4) (order timeline.now
+        (parts_of timeline.now v6 v4))) }
     ensures sorted { AreSorted timeline.now sorted.new.items }
 {
     are_addresses_in_range(timeline);
@@ -117,7 +119,8 @@ pub fn sorted_standings<A: Allocator + Copy, B: Allocator>(
     alloc: A,
     timeline: &Timeline<B>,
 ) -> Result<Vec<Standing, A>, Memory>
-    ensures { IfOk result (λ sorted. sorted.items ≡ map (standing_of (race_input timeline.now)) (order timeline.now (usable_addresses timeline.now))) }
+    ensures { IfOk result (λ sorted. sorted.items ≡ map (standing_of (race_input timeline.now)) (order timeline.now
+        (usable_addresses timeline.now))) }
 {
     let known = known_addresses(alloc, timeline)?;
     order_known_with_standings(alloc, timeline.policy(), timeline.host(), &known)
@@ -141,7 +144,8 @@ fn push_known<A: Allocator, B: Allocator>(
     timeline: &Timeline<B>,
     addresses: &[Ip],
 ) -> Result<(), AllocError>
-    ensures { OnOk result (known.new.items ≡ known.old.items ++ map (known_of timeline.now.history) (filter is_usable addresses.now)) }
+    ensures { OnOk result (known.new.items ≡ known.old.items ++ map (known_of timeline.now.history)
+        (filter is_usable addresses.now)) }
 {
     for ip in addresses {
         if ip.is_usable() {

@@ -1,17 +1,18 @@
 // The plan of a race, and its attempts up to its stop.
 
 ghost use Rattle.std.specs.Prelude.{◌≡◌, ℕ, ◌≤◌, ◌-◌, length, take, IfOk, IfSome, IfNone};
-ghost use Rattle.he_plan.specs.Attempts.{AreAttempts, IsLeast, MayStart};
+ghost use Rattle.he_plan.specs.Attempts.{AreAttempts, MayStart};
+ghost use Rattle.he_timeline.specs.Seen.{IsLeast};
 ghost use Rattle.he_plan.specs.Finish.{IsWinner};
 ghost use Rattle.he_plan.specs.Planning.{is_beaten};
-ghost use Rattle.he_plan.specs.Timeline.{IsRace};
+ghost use Rattle.he_timeline.specs.Timeline.{IsRace};
 ghost use Rattle.he_plan.specs.Transcript.{stop_of};
-ghost use Rattle.he_plan.specs.Underway.{IsStopped, IsUnderway};
+ghost use Rattle.he_plan.specs.RaceState.{IsStopped, IsUnderway};
 
 use crate::attempts::Plan;
 use crate::finish::{Fate, next_winner};
-use crate::timeline::Timeline;
-use crate::underway::Underway;
+use he_timeline::Timeline;
+use crate::race_state::RaceState;
 use he_addr::Memory;
 use std::alloc::Allocator;
 
@@ -22,7 +23,7 @@ pub fn plan<A: Allocator + Copy, B: Allocator>(
 ) -> Result<Plan<A>, Memory>
     ensures { IfOk result (AreAttempts timeline.now) }
 {
-    let mut underway = Underway::new(alloc);
+    let mut underway = RaceState::new(alloc);
     while let Some(tick) = underway.next_tick(timeline) {
         underway.start(alloc, timeline, tick)?;
     }
@@ -34,10 +35,10 @@ pub fn plan<A: Allocator + Copy, B: Allocator>(
 pub(crate) fn run_to_stop<A: Allocator + Copy, B: Allocator>(
     alloc: A,
     timeline: &Timeline<B>,
-) -> Result<(Underway<A>, Option<(u64, usize)>), Memory>
+) -> Result<(RaceState<A>, Option<(u64, usize)>), Memory>
     ensures { IfOk result (λ stopped. IsStopped timeline.now stopped.0 stopped.1) }
 {
-    let mut underway = Underway::new(alloc);
+    let mut underway = RaceState::new(alloc);
     let mut winner = None;
     while let Some(tick) = unbeaten_tick(timeline, &underway, winner) {
         underway.start(alloc, timeline, tick)?;
@@ -49,12 +50,13 @@ pub(crate) fn run_to_stop<A: Allocator + Copy, B: Allocator>(
 // The least tick at which the next attempt may start, if no attempt succeeds by then.
 fn unbeaten_tick<A: Allocator + Copy, B: Allocator>(
     timeline: &Timeline<B>,
-    underway: &Underway<A>,
+    underway: &RaceState<A>,
     winner: Option<(u64, usize)>,
 ) -> Option<u64>
     requires { IsUnderway timeline.now underway.now }
     ensures some { IfSome result (IsLeast (MayStart timeline.now underway.now.attempts)) }
-    ensures none { IfNone result ((t : ℕ) → MayStart timeline.now underway.now.attempts t → stop_of timeline.now winner ≤ t) }
+    ensures none { IfNone result ((t : ℕ) → MayStart timeline.now underway.now.attempts t
+        → stop_of timeline.now winner ≤ t) }
     ensures race { IsRace timeline.now }
 {
     match underway.next_tick(timeline) {

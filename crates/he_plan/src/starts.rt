@@ -3,18 +3,19 @@
 ghost use Rattle.std.specs.Prelude.{◌≡◌, ℕ, ◌≤◌, map, IfSome, IfNone};
 ghost use Rattle.std.specs.List.{list_any};
 ghost use Rattle.he_addr.specs.Ip.{is_usable};
-ghost use Rattle.he_plan.specs.Attempts.{IsLeast, MayStart, is_tried, last_of};
+ghost use Rattle.he_timeline.specs.Seen.{IsLeast};
+ghost use Rattle.he_plan.specs.Attempts.{MayStart, is_tried, last_of};
 ghost use Rattle.he_plan.specs.Finish.{fate_of};
 ghost use Rattle.he_plan.specs.Planning.{all_failed, earlier, positive_tick, a_begin_tick, begin_tick, late_tick, start_tick, wait_by, IsLater};
-ghost use Rattle.he_plan.specs.Race.{reply_of};
-ghost use Rattle.he_plan.specs.Timeline.{IsRace};
-ghost use Rattle.he_plan.specs.Underway.{IsQueue};
+ghost use Rattle.he_timeline.specs.Race.{reply_of};
+ghost use Rattle.he_timeline.specs.Timeline.{IsRace};
+ghost use Rattle.he_plan.specs.RaceState.{IsQueue};
 
 use crate::attempts::Attempt;
-use crate::limits::{MAX_LIMIT, MAX_TICK};
-use crate::queue::Queue;
-use crate::settings::Settings;
-use crate::timeline::Timeline;
+use he_timeline::limits::{MAX_LIMIT, MAX_TICK};
+use crate::untried::Untried;
+use he_timeline::Settings;
+use he_timeline::Timeline;
 use he_addr::{Family, Ip};
 use std::alloc::Allocator;
 
@@ -22,7 +23,7 @@ pub(crate) fn next_tick<A: Allocator, B: Allocator>(
     timeline: &Timeline<A>,
     done: &[Attempt],
     failed: Option<u64>,
-    queue: &Queue<B>,
+    queue: &Untried<B>,
 ) -> Option<u64>
     requires range { IfSome (last_of done.now) (λ last. last.tick ≤ MAX_LIMIT) }
     requires failed { failed ≡ all_failed (map (fate_of timeline.now) done.now) }
@@ -45,7 +46,7 @@ fn start_tick<A: Allocator, B: Allocator>(
     timeline: &Timeline<A>,
     done: &[Attempt],
     failed: Option<u64>,
-    queue: &Queue<B>,
+    queue: &Untried<B>,
 ) -> Option<u64>
     requires range { IfSome (last_of done.now) (λ last. last.tick ≤ MAX_LIMIT) }
     requires failed { failed ≡ all_failed (map (fate_of timeline.now) done.now) }
@@ -143,10 +144,4 @@ fn has_usable(ips: &[Ip]) -> bool
     ensures { result ≡ list_any is_usable ips.now }
 {
     ips.iter().any(|ip| ip.is_usable())
-}
-
-pub(crate) fn is_tried(done: &[Attempt], ip: Ip) -> bool
-    ensures { result ≡ is_tried done.now ip }
-{
-    done.iter().any(|attempt| attempt.ip == ip)
 }

@@ -5,14 +5,14 @@ ghost use Rattle.std.specs.List.{list_all};
 ghost use Rattle.he_addr.specs.Ip.{is_usable};
 ghost use Rattle.he_plan.specs.Attempts.{AreAttempts, is_tried, last_of};
 ghost use Rattle.he_plan.specs.Planning.{told_lines, told_one, has_room, last_failure};
-ghost use Rattle.he_plan.specs.Timeline.{IsRace};
+ghost use Rattle.he_timeline.specs.Timeline.{IsRace};
 ghost use Rattle.he_plan.specs.Transcript.{IsTranscript, AreKnown, AreTold, stop_of, is_place, failed_mark, mark_at, result_of, without_winner, is_failed, is_tried_out, failures, greatest};
 
-use crate::attempts::{Attempt, Plan};
+use crate::attempts::{Attempt, Plan, is_tried};
 use crate::finish::Fate;
 use crate::planning::run_to_stop;
-use crate::starts::is_tried;
-use crate::timeline::{Timeline, are_addresses_in_range};
+use he_timeline::Timeline;
+use he_timeline::timeline::{are_addresses_in_range};
 use he_addr::{Family, Ip, Memory};
 use std::alloc::{Allocator, Global};
 use std::marker::Model;
@@ -52,7 +52,7 @@ pub struct Transcript<A: Allocator = Global> {
 }
 
 impl<A: Allocator> Model for Transcript<A> {
-    ghost use Rattle.he_plan.specs.Timeline.{IsRace};
+    ghost use Rattle.he_timeline.specs.Timeline.{IsRace};
     ghost use Rattle.he_plan.specs.Transcript.{Report};
 
     ghost Value = { Report };
@@ -293,7 +293,8 @@ fn are_tried_out<A: Allocator>(
     requires are { AreAttempts timeline.now attempts.now }
     requires six { timeline.now.aaaa ≡ Some (record { tick = aaaa.0; addresses = aaaa.1.now }) }
     requires four { timeline.now.a ≡ Some (record { tick = a.0; addresses = a.1.now }) }
-    ensures { result ≡ (is_tried_out attempts.now (record { tick = aaaa.entry.0; addresses = aaaa.entry.1.now }) && is_tried_out attempts.now (record { tick = a.entry.0; addresses = a.entry.1.now })) }
+    ensures { result ≡ (is_tried_out attempts.now (record { tick = aaaa.entry.0; addresses = aaaa.entry.1.now })
+        && is_tried_out attempts.now (record { tick = a.entry.0; addresses = a.entry.1.now })) }
 {
     let answered = aaaa.0.max(a.0);
     if has_room(timeline, attempts, answered) {

@@ -2,9 +2,8 @@
 
 use crate::hosts::{HostKind, builder};
 use he_addr::{Family, Ip};
-use he_plan::{
-    BuildFault, Line, Mark, Outcome, Outcome3, Range, Settings, TimelineBuilder, transcript_of,
-};
+use he_plan::{Line, Mark, Outcome3, transcript_of};
+use he_timeline::{BuildFault, Outcome, Range, Settings, TimelineBuilder};
 use refusing::Refusing;
 use std::mem::drop;
 

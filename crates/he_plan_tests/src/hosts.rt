@@ -1,7 +1,7 @@
 // Builders over the standard policy table and the hosts of the worked races.
 
 use he_addr::{Ip, Prefix};
-use he_plan::{Settings, TimelineBuilder};
+use he_timeline::{Settings, TimelineBuilder};
 use he_select::{Host, Policy, Route, Source};
 use refusing::Refusing;
 

@@ -2,10 +2,8 @@
 
 use crate::hosts::{HostKind, builder};
 use he_addr::{Family, Ip, Prefix};
-use he_plan::{
-    BuildFault, Line, Mark, Outcome, Outcome3, Settings, Timeline, TimelineBuilder,
-    sorted_standings, transcript_of,
-};
+use he_plan::{Line, Mark, Outcome3, sorted_standings, transcript_of};
+use he_timeline::{BuildFault, Outcome, Settings, Timeline, TimelineBuilder};
 use he_select::{Host, Policy, Route, Source, Standing};
 use refusing::Refusing;
 use std::mem::drop;

@@ -2,10 +2,8 @@
 
 use crate::hosts::{HostKind, builder};
 use he_addr::{Family, Ip, Memory};
-use he_plan::{
-    Attempt, BuildFault, Line, Outcome, Settings, Timeline, TimelineBuilder, Transcript, interlace,
-    plan, transcript_of,
-};
+use he_plan::{Attempt, Line, Transcript, interlace, plan, transcript_of};
+use he_timeline::{BuildFault, Outcome, Settings, Timeline, TimelineBuilder};
 use refusing::{MOST_RUNS, Refusing};
 use std::mem::drop;
 

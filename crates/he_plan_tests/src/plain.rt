@@ -8,7 +8,8 @@ ghost use Rattle.he_addr.specs.Ip.{is_usable};
 
 use crate::hosts::{HostKind, builder};
 use he_addr::{Family, Ip, Memory};
-use he_plan::{Attempt, Outcome, Settings, Timeline, TimelineBuilder, interlace, plan};
+use he_plan::{Attempt, interlace, plan};
+use he_timeline::{Outcome, Settings, Timeline, TimelineBuilder};
 use he_select::order;
 use refusing::Refusing;
 use std::mem::drop;
@@ -281,7 +282,7 @@ fn draw_outcomes(
 ) -> Option<()> {
     for number in 0..12 {
         let ip = address(family, number, true);
-        if !builder.stands(ip) {
+        if !builder.is_listed(ip) {
             continue;
         }
         if let Some(outcome) = draw_outcome(drawn) {

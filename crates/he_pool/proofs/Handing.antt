@@ -12,8 +12,8 @@ use Rattle.he_plan.specs.declared.attempts.Attempt.{Attempt}
 use Rattle.he_plan.specs.declared.finish.Fate.{Fate}
 use Rattle.he_plan.specs.declared.finish.Fate.TheVariants.{Skipped}
 use Rattle.he_plan.specs.Attempts.{AreAttempts}
-use Rattle.he_plan.specs.Race.{Race}
-use Rattle.he_plan.specs.Timeline.{IsRace}
+use Rattle.he_timeline.specs.Race.{Race}
+use Rattle.he_timeline.specs.Timeline.{IsRace}
 use Rattle.he_plan.specs.Transcript.{AreTold, IsTranscript, Report}
 use Rattle.he_plan.proofs.Few.{plan-few}
 use Rattle.he_pool.specs.declared.attempting.Done.{Done}

@@ -7,7 +7,7 @@ use Rattle.he_board.specs.declared.view.View.{View}
 use Rattle.he_board.specs.Notes.{given, joined, kept, least_of, times}
 use Rattle.he_board.proofs.Lists.{least_of-append, times-append}
 use Rattle.he_plan.specs.declared.attempts.Attempt.{Attempt}
-use Rattle.he_plan.specs.Race.{Race}
+use Rattle.he_timeline.specs.Race.{Race}
 use Rattle.he_pool.specs.declared.attempting.Done.{Done}
 use Rattle.he_pool.specs.Batch.{IsOfSuccess, batch_jobs, job_at}
 use Rattle.he_pool.specs.Working.{ArePlans, IsBlank, IsHonestAt, IsLater, IsWorked}

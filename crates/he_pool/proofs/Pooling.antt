@@ -13,7 +13,7 @@ use Rattle.he_plan.specs.declared.finish.Fate.{Fate}
 use Rattle.he_plan.specs.declared.finish.Fate.TheVariants.{Skipped, Succeeded}
 use Rattle.he_plan.specs.Attempts.{AreAttempts}
 use Rattle.he_plan.specs.Finish.{fate_of, IsSuccess}
-use Rattle.he_plan.specs.Race.{Race}
+use Rattle.he_timeline.specs.Race.{Race}
 use Rattle.he_pool.specs.Batch.{IsOfSuccess, batch_jobs, job_at}
 use Rattle.he_pool.specs.Working.{AreHonest, IsHonest, IsHonestAt, IsLater, IsRun, IsSkipped, IsSound}
 use Rattle.he_pool.specs.declared.attempting.Done.{Done}

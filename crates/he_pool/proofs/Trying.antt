@@ -11,7 +11,7 @@ use Rattle.he_board.specs.Notes.{blank, times}
 use Rattle.he_board.proofs.Lists.{times-append, times-one_same}
 use Rattle.he_plan.specs.declared.attempts.Attempt.{Attempt}
 use Rattle.he_plan.specs.Attempts.{AreAttempts}
-use Rattle.he_plan.specs.Race.{Race}
+use Rattle.he_timeline.specs.Race.{Race}
 use Rattle.he_pool.specs.declared.attempting.Done.{Done}
 use Rattle.he_pool.specs.Batch.{IsOfSuccess, batch_jobs, job_at, job_count}
 use Rattle.he_pool.specs.Working.{ArePlans, HasTried, IsBlank, IsHeld, IsHonestAt, IsMore, IsSound, IsTried, IsTrying, IsWorked, firsts_from}

@@ -12,11 +12,11 @@ use Rattle.he_board.proofs.Found.{least_of-one_of}
 use Rattle.he_plan.specs.declared.attempts.Attempt.{Attempt}
 use Rattle.he_plan.specs.declared.finish.Fate.{Fate}
 use Rattle.he_plan.specs.declared.finish.Fate.TheVariants.{Skipped, Succeeded}
-use Rattle.he_plan.specs.declared.limits.TheConstants.{MAX_LIMIT}
+use Rattle.he_timeline.specs.declared.limits.TheConstants.{MAX_LIMIT}
 use Rattle.he_plan.specs.Attempts.{AreAttempts}
 use Rattle.he_plan.specs.Finish.{ComesFirst, IsSuccess, IsWinner, fate_of}
-use Rattle.he_plan.specs.Race.{Race}
-use Rattle.he_plan.specs.Timeline.{IsRace}
+use Rattle.he_timeline.specs.Race.{Race}
+use Rattle.he_timeline.specs.Timeline.{IsRace}
 use Rattle.he_plan.specs.Transcript.{AreTold, IsToldFate}
 use Rattle.he_plan.proofs.Finishing.{success-in_range}
 use Rattle.he_plan.proofs.Lawful.{plan-one}

@@ -7,7 +7,7 @@ use Rattle.he_board.specs.Notes.{least_of, times, winner_of}
 use Rattle.he_plan.specs.declared.attempts.Attempt.{Attempt}
 use Rattle.he_plan.specs.Attempts.{AreAttempts}
 use Rattle.he_plan.specs.Finish.{fate_of, IsSuccess, IsWinner}
-use Rattle.he_plan.specs.Race.{Race, addresses_of}
+use Rattle.he_timeline.specs.Race.{Race, addresses_of}
 
 -- a race has one job for each usable address of its answers
 abbrev pub job_count : Race → ℕ

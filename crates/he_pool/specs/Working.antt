@@ -12,7 +12,7 @@ use Rattle.he_plan.specs.declared.finish.Fate.{Fate}
 use Rattle.he_plan.specs.declared.finish.Fate.TheVariants.{Skipped, Succeeded}
 use Rattle.he_plan.specs.Attempts.{AreAttempts}
 use Rattle.he_plan.specs.Finish.{fate_of}
-use Rattle.he_plan.specs.Race.{Race}
+use Rattle.he_timeline.specs.Race.{Race}
 use Rattle.he_plan.specs.Transcript.{IsTranscript, Report}
 use Rattle.he_pool.specs.Batch.{IsOfSuccess, IsWinnerOf, batch_jobs, job_at, job_count}
 use Rattle.he_pool.specs.declared.attempting.Done.{Done}

@@ -6,12 +6,13 @@ ghost use Rattle.he_board.specs.Passes.{IsPassOf, notes, races_of};
 ghost use Rattle.he_plan.specs.Attempts.{AreAttempts};
 ghost use Rattle.he_plan.specs.declared.attempts.Attempt.{Attempt};
 ghost use Rattle.he_plan.specs.declared.finish.Fate.TheVariants.{Skipped};
-ghost use Rattle.he_plan.specs.Race.{Race};
+ghost use Rattle.he_timeline.specs.Race.{Race};
 ghost use Rattle.he_pool.specs.Batch.{IsOfSuccess};
 ghost use Rattle.he_pool.specs.Working.{IsHonest, IsLater};
 
 use he_board::{Board, PLACES, Pass};
-use he_plan::{Attempt, Fate, Plan, Timeline};
+use he_plan::{Attempt, Fate, Plan, fate_of};
+use he_timeline::Timeline;
 use std::alloc::Allocator;
 
 // What is handed back of a job: its attempt's fate, or Skipped where it wasn't run.
@@ -50,7 +51,7 @@ pub(crate) fn run_attempt<A: Allocator>(
     if attempt.tick >= seen / PLACES as u64 {
         return Fate::Skipped;
     }
-    let fate = timeline.fate(attempt);
+    let fate = fate_of(timeline, attempt);
     if let Fate::Succeeded(finish) = fate {
         board.offer(pass, number, finish, place);
     }

@@ -16,7 +16,8 @@ use crate::settling::settle;
 use crate::working::Batch;
 use he_addr::Memory;
 use he_board::{Board, Pass};
-use he_plan::{Timeline, Transcript};
+use he_plan::Transcript;
+use he_timeline::Timeline;
 use std::alloc::Allocator;
 use std::thread::Threads;
 

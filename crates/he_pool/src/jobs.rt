@@ -2,13 +2,13 @@
 ghost use Rattle.std.specs.Prelude.{◌≡◌, ◌*◌, ◌≤◌, All, IfOk, count_by, length};
 ghost use Rattle.he_addr.specs.Ip.{is_usable};
 ghost use Rattle.he_board.specs.declared.limits.TheConstants.{PLACES, RACES};
-ghost use Rattle.he_plan.specs.Race.{addresses_of, reply_of};
+ghost use Rattle.he_timeline.specs.Race.{addresses_of, reply_of};
 ghost use Rattle.he_pool.specs.Batch.{batch_jobs, job_count};
 ghost use Rattle.he_pool.specs.Working.{firsts_from};
 
 use he_addr::{Family, Ip, Memory};
-use he_plan::Timeline;
-use he_plan::limits::MAX_ADDRESSES;
+use he_timeline::Timeline;
+use he_timeline::limits::MAX_ADDRESSES;
 use std::alloc::Allocator;
 
 /// How many jobs a batch of these races has: one for each usable address of an answer.

@@ -1,7 +1,7 @@
 //! By race a plan of it, or none.
 ghost use Rattle.std.specs.Prelude.{◌≡◌, ◌<◌, IfSome, List, Some, length, slice_get};
 ghost use Rattle.he_plan.specs.Attempts.{AreAttempts};
-ghost use Rattle.he_plan.specs.Race.{Race};
+ghost use Rattle.he_timeline.specs.Race.{Race};
 ghost use Rattle.he_pool.specs.Working.{ArePlans};
 
 use he_plan::Plan;

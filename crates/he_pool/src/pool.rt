@@ -4,7 +4,7 @@ ghost use denote.Param.Send.{Frees, IsSend, IsSync};
 ghost use Rattle.he_board.specs.declared.view.View.{View};
 ghost use Rattle.he_board.specs.Notes.{joined};
 ghost use Rattle.he_board.specs.Passes.{IsPassOf, notes};
-ghost use Rattle.he_plan.specs.Race.{Race};
+ghost use Rattle.he_timeline.specs.Race.{Race};
 ghost use Rattle.he_pool.specs.Batch.{IsOfSuccess};
 ghost use Rattle.he_pool.specs.Working.{IsDone, IsReady, IsWorked, MayRun};
 
@@ -13,7 +13,7 @@ use crate::plans::join_plans;
 use crate::working::{Batch, Work, run_worker};
 use he_addr::Memory;
 use he_board::{Board, Pass};
-use he_plan::Timeline;
+use he_timeline::Timeline;
 use std::alloc::Allocator;
 use std::thread;
 use std::thread::Threads;

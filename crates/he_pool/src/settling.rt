@@ -7,7 +7,7 @@ ghost use Rattle.he_board.specs.Passes.{IsPassOf, notes};
 ghost use Rattle.he_plan.specs.declared.finish.Fate.TheVariants.{Skipped};
 ghost use Rattle.he_plan.specs.Attempts.{AreAttempts};
 ghost use Rattle.he_plan.specs.declared.attempts.Attempt.{Attempt};
-ghost use Rattle.he_plan.specs.Race.{Race};
+ghost use Rattle.he_timeline.specs.Race.{Race};
 ghost use Rattle.he_plan.specs.Transcript.{AreTold, IsTranscript};
 ghost use Rattle.he_pool.specs.Batch.{HasTakenAll, HasWinners, IsOfSuccess, IsWinnerOf};
 ghost use Rattle.he_pool.specs.Working.{AreFates, ArePlans, AreSettled, IsKept, IsReady, IsWorked, filled};
@@ -18,7 +18,8 @@ use crate::plans::take_plan;
 use crate::working::{Batch, Work, jobs_of_race};
 use he_addr::Memory;
 use he_board::Pass;
-use he_plan::{Fate, Plan, Timeline, Transcript, plan, transcript_of_fates};
+use he_plan::{Fate, Plan, Transcript, plan, transcript_of_fates};
+use he_timeline::Timeline;
 use std::alloc::{AllocError, Allocator};
 
 // A fate of each job, by number: what was handed back of it, or Skipped.

@@ -4,7 +4,7 @@ ghost use Rattle.he_board.specs.declared.limits.TheConstants.{PLACES};
 ghost use Rattle.he_board.specs.Passes.{IsPassOf, jobs_of, notes, races_of};
 ghost use Rattle.he_plan.specs.Attempts.{AreAttempts};
 ghost use Rattle.he_plan.specs.declared.attempts.Attempt.{Attempt};
-ghost use Rattle.he_plan.specs.Race.{Race};
+ghost use Rattle.he_timeline.specs.Race.{Race};
 ghost use Rattle.he_pool.specs.Batch.{IsOfSuccess, batch_jobs, job_at};
 ghost use Rattle.he_pool.specs.declared.limits.TheConstants.{MOST_WORKERS};
 ghost use Rattle.he_pool.specs.Working.{IsBlank, IsHeld, IsMore, IsReady, IsSound, IsTried, IsWorked};
@@ -13,7 +13,8 @@ use crate::attempting::{Done, run_job};
 use crate::gate::Gate;
 use he_addr::Memory;
 use he_board::{Board, Pass};
-use he_plan::{Fate, Plan, Timeline, plan};
+use he_plan::{Fate, Plan, plan};
+use he_timeline::Timeline;
 use std::alloc::Allocator;
 
 // What all workers of a batch share.

@@ -3,15 +3,16 @@
 use Rattle.std.proofs.Common.{◌≡◌, ℕ, ◌≤◌, ◌<◌, ◌⊎◌, ◌&&◌, ◌++◌, Bool, true, false, List, [], ◌∷◌, if◌then◌else◌, Option, Some, None, nat_le, nat_lt, refl, ◌∙◌, ap, arith, inl, inr}
 use Rattle.std.proofs.lemmas.Bool.{cases_lt}
 use Rattle.he_plan.specs.declared.attempts.Attempt.{Attempt}
-use Rattle.he_plan.specs.Attempts.{IsFree, IsSeen, is_paused, seen, seen_past}
-use Rattle.he_plan.specs.Building.{with_pause}
+use Rattle.he_timeline.specs.Seen.{IsFree, IsSeen, is_paused, seen, seen_past}
+use Rattle.he_timeline.specs.Building.{with_pause}
 use Rattle.he_plan.specs.Due.{IsAfterTurn, IsTaken}
-use Rattle.he_plan.specs.Race.{Race, Reply}
-use Rattle.he_plan.specs.Timeline.{IsRace}
-use Rattle.he_plan.proofs.Bools.{before, clash, lt_test, or_none, outside}
+use Rattle.he_timeline.specs.Race.{Race, Reply}
+use Rattle.he_timeline.specs.Timeline.{IsRace}
+use Rattle.he_timeline.proofs.Bools.{before, clash, lt_test, or_none, outside}
 use Rattle.he_plan.proofs.Growing.{pause-away}
 use Rattle.he_plan.proofs.Lawful.{is_paused-more, seen_past-more}
-use Rattle.he_plan.proofs.Starting.{IsSeen-seen, SeesOwn, SeesOwn-free}
+use Rattle.he_timeline.proofs.Seen.{IsSeen-seen}
+use Rattle.he_plan.proofs.Starting.{SeesOwn, SeesOwn-free}
 use Rattle.he_race.specs.Kept.{first_after}
 use Rattle.he_race.specs.Recording.{slept}
 

@@ -2,15 +2,15 @@
 use Rattle.std.proofs.Common.{◌≡◌, ℕ, ◌≤◌, ◌<◌, true, false, List, length, None, Result, Ok, Err, IfErr, OnOk, is_some, refl, sym, ap, subst}
 use Rattle.he_addr.specs.declared.ip.Family.{Family}
 use Rattle.he_addr.specs.declared.ip.Ip.{Ip}
-use Rattle.he_plan.specs.declared.builder.BuildFault.{BuildFault}
-use Rattle.he_plan.specs.declared.builder.BuildFault.TheVariants as faults
-use Rattle.he_plan.specs.declared.limits.TheConstants.{MAX_ADDRESSES, MAX_PAUSES, MAX_PAUSE_END, MAX_TICK}
-use Rattle.he_plan.specs.declared.outcome.Outcome.{Outcome}
-use Rattle.he_plan.specs.Building.{Becomes, add_answer, add_outcome, add_pause, last_end, with_answer, with_outcome, with_pause}
-use Rattle.he_plan.specs.Race.{Race, has_outcome, is_in_answer, reply_of}
-use Rattle.he_plan.specs.Timeline.{IsRace, are_distinct, are_of, duration_of, is_duration}
-use Rattle.he_plan.proofs.Bools.{le_test, lt_test, not_le, not_lt}
-use Rattle.he_plan.proofs.Ranges.{IsRace-with_answer}
+use Rattle.he_timeline.specs.declared.builder.BuildFault.{BuildFault}
+use Rattle.he_timeline.specs.declared.builder.BuildFault.TheVariants as faults
+use Rattle.he_timeline.specs.declared.limits.TheConstants.{MAX_ADDRESSES, MAX_PAUSES, MAX_PAUSE_END, MAX_TICK}
+use Rattle.he_timeline.specs.declared.outcome.Outcome.{Outcome}
+use Rattle.he_timeline.specs.Building.{Becomes, add_answer, add_outcome, add_pause, last_end, with_answer, with_outcome, with_pause}
+use Rattle.he_timeline.specs.Race.{Race, has_outcome, is_in_answer, reply_of}
+use Rattle.he_timeline.specs.Timeline.{IsRace, are_distinct, are_of, duration_of, is_duration}
+use Rattle.he_timeline.proofs.Bools.{le_test, lt_test, not_le, not_lt}
+use Rattle.he_timeline.proofs.Ranges.{IsRace-with_answer}
 
 -- what a call of the builder leaves where its checks are met: the race with what was added, and it refuses nothing but
 -- memory

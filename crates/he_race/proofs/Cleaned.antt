@@ -8,11 +8,11 @@ use Rattle.std.proofs.Math.Seq.{take-suc}
 use Rattle.he_addr.specs.declared.ip.Family.{Family}
 use Rattle.he_addr.specs.declared.ip.Ip.{Ip}
 use Rattle.he_addr.specs.Ip.{same_ip}
-use Rattle.he_plan.specs.declared.limits.TheConstants.{MAX_ADDRESSES}
-use Rattle.he_plan.specs.Race.{has_ip}
-use Rattle.he_plan.specs.Timeline.{are_distinct, are_of, is_of}
-use Rattle.he_plan.proofs.Bools.{and_both, and_left, and_right, lt_test, not_lt, or_left_none, or_none, or_right_none}
-use Rattle.he_plan.proofs.Ranges.{same_ip-sym}
+use Rattle.he_timeline.specs.declared.limits.TheConstants.{MAX_ADDRESSES}
+use Rattle.he_timeline.specs.Race.{has_ip}
+use Rattle.he_timeline.specs.Timeline.{are_distinct, are_of, is_of}
+use Rattle.he_timeline.proofs.Bools.{and_both, and_left, and_right, lt_test, not_lt, or_left_none, or_none, or_right_none}
+use Rattle.he_timeline.proofs.Ranges.{same_ip-sym}
 use Rattle.he_select.proofs.Equality.{ip_from}
 use Rattle.he_race.specs.Heard.{cleaned, each_once}
 

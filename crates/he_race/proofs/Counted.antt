@@ -6,13 +6,13 @@ use Rattle.he_addr.specs.Ip.{is_usable}
 use Rattle.he_addr.specs.declared.ip.Family.{Family}
 use Rattle.he_addr.specs.declared.ip.Family.TheVariants as families
 use Rattle.he_plan.specs.declared.attempts.Attempt.{Attempt}
-use Rattle.he_plan.specs.declared.limits.TheConstants.{MAX_ADDRESSES, MAX_ATTEMPTS, MAX_PAUSES}
+use Rattle.he_timeline.specs.declared.limits.TheConstants.{MAX_ADDRESSES, MAX_ATTEMPTS, MAX_PAUSES}
 use Rattle.he_plan.specs.Attempts.{AreNextInTurn, is_untried}
 use Rattle.he_plan.specs.Continuing.{Follow}
 use Rattle.he_plan.specs.Due.{IsAnswerDue, IsTaken}
-use Rattle.he_plan.specs.Race.{Race, Reply, addresses_of}
-use Rattle.he_plan.specs.Timeline.{IsRace, is_answer}
-use Rattle.he_plan.proofs.Bools.{and_left, and_right, le_from, le_test}
+use Rattle.he_timeline.specs.Race.{Race, Reply, addresses_of}
+use Rattle.he_timeline.specs.Timeline.{IsRace, is_answer}
+use Rattle.he_timeline.proofs.Bools.{and_left, and_right, le_from, le_test}
 use Rattle.he_plan.proofs.Few.{left_of, untried_fewer}
 use Rattle.he_plan.proofs.InTurn.{in_turn-follow}
 use Rattle.he_race.specs.Answered.{is_taken}

@@ -8,14 +8,15 @@ use Rattle.futures.specs.declared.task.Poll.{Poll}
 use Rattle.futures.specs.declared.task.Poll.TheVariants.{Ready, Pending}
 use Rattle.he_plan.specs.declared.attempts.Attempt.{Attempt}
 use Rattle.he_plan.specs.Agreement.{AreAlike}
-use Rattle.he_plan.specs.Attempts.{AreNextInTurn, IsSeen, is_paused, seen}
+use Rattle.he_plan.specs.Attempts.{AreNextInTurn}
+use Rattle.he_timeline.specs.Seen.{IsSeen, is_paused, seen}
 use Rattle.he_plan.specs.Due.{IsAfterTurn}
-use Rattle.he_plan.specs.Race.{Race, Reply}
-use Rattle.he_plan.specs.Timeline.{IsRace}
+use Rattle.he_timeline.specs.Race.{Race, Reply}
+use Rattle.he_timeline.specs.Timeline.{IsRace}
 use Rattle.he_plan.specs.Transcript.{IsTranscript}
-use Rattle.he_plan.proofs.Bools.{clash, lt_test, not_le, not_lt}
+use Rattle.he_timeline.proofs.Bools.{clash, lt_test, not_le, not_lt}
 use Rattle.he_plan.proofs.InTurn.{in_turn-none}
-use Rattle.he_plan.proofs.Starting.{IsSeen-seen}
+use Rattle.he_timeline.proofs.Seen.{IsSeen-seen}
 use Rattle.he_race.specs.declared.connector.Connector.{Ghosts as ConnectorOf}
 use Rattle.he_race.specs.declared.faults.RaceFault.{RaceFault}
 use Rattle.he_race.specs.declared.faults.RaceFault.TheVariants as faults

@@ -6,13 +6,14 @@ use Rattle.std.proofs.lemmas.Bool.{cases_lt}
 use Rattle.std.proofs.lemmas.List.Folds.{list_any-append}
 use Rattle.he_addr.specs.Ip.{is_usable}
 use Rattle.he_plan.specs.declared.attempts.Attempt.{Attempt}
-use Rattle.he_plan.specs.declared.limits.TheConstants.{MIN_FLOOR}
-use Rattle.he_plan.specs.Attempts.{IsAnswered, IsDelayOver, HasWaited, HaveFailed, IsFree, IsLeast, IsPositive, MayBegin, MayFollow, MayStart, has_failed, is_untried, last_of, received, received_of, seen}
-use Rattle.he_plan.specs.Building.{last_end}
+use Rattle.he_timeline.specs.declared.limits.TheConstants.{MIN_FLOOR}
+use Rattle.he_plan.specs.Attempts.{IsAnswered, IsDelayOver, HasWaited, HaveFailed, IsPositive, MayBegin, MayFollow, MayStart, has_failed, is_untried, last_of, received, received_of}
+use Rattle.he_timeline.specs.Seen.{IsFree, IsLeast, seen}
+use Rattle.he_timeline.specs.Building.{last_end}
 use Rattle.he_plan.specs.Due.{IsAfterTurn, IsAnswerDue, IsDelayDue, IsDue, IsDueTick, IsStartDue, IsTaken, IsWaiting, start_delay}
-use Rattle.he_plan.specs.Race.{Race, Reply}
-use Rattle.he_plan.specs.Timeline.{IsRace}
-use Rattle.he_plan.proofs.Bools.{clash, le_from, le_test, not_le, or_left, or_one, or_right}
+use Rattle.he_timeline.specs.Race.{Race, Reply}
+use Rattle.he_timeline.specs.Timeline.{IsRace}
+use Rattle.he_timeline.proofs.Bools.{clash, le_from, le_test, not_le, or_left, or_one, or_right}
 use Rattle.he_plan.proofs.Growing.{pauses-over}
 use Rattle.he_plan.proofs.Planned.{last_of-some}
 use Rattle.he_plan.proofs.Starting.{SeesOwn, SeesOwn-free, any_filter}

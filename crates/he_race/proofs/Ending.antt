@@ -5,15 +5,15 @@ use Rattle.std.proofs.lemmas.List.Elements.{All-contains, All-head, All-tail}
 use Rattle.he_plan.specs.declared.attempts.Attempt.{Attempt}
 use Rattle.he_plan.specs.declared.finish.Fate.{Fate}
 use Rattle.he_plan.specs.declared.finish.Fate.TheVariants.{Succeeded, Failed, Running, Skipped}
-use Rattle.he_plan.specs.declared.outcome.Outcome.{Outcome}
-use Rattle.he_plan.specs.declared.outcome.Outcome.TheVariants as outcomes
+use Rattle.he_timeline.specs.declared.outcome.Outcome.{Outcome}
+use Rattle.he_timeline.specs.declared.outcome.Outcome.TheVariants as outcomes
 use Rattle.he_plan.specs.declared.transcript.Outcome3.{Outcome3}
 use Rattle.he_plan.specs.declared.transcript.Outcome3.TheVariants as results
-use Rattle.he_plan.specs.Attempts.{seen}
-use Rattle.he_plan.specs.Finish.{IsWinner, fate_of, known_at, known_by, outcome_of}
-use Rattle.he_plan.specs.Race.{Race, Reply}
+use Rattle.he_timeline.specs.Seen.{seen}
+use Rattle.he_plan.specs.Finish.{IsWinner, fate_of, known_at, known_by}
+use Rattle.he_timeline.specs.Race.{outcome_of, Race, Reply}
 use Rattle.he_plan.specs.Transcript.{AreKnown, failures, greatest, is_exhausted, result_of, without_winner}
-use Rattle.he_plan.proofs.Bools.{le_test}
+use Rattle.he_timeline.proofs.Bools.{le_test}
 use Rattle.he_plan.proofs.Dueness.{finish-failed, finish-silent, finish-succeeded}
 use Rattle.he_race.specs.Kept.{IsEnded}
 use Rattle.he_race.specs.Recording.{EndedBy, EndsRace, HasSuccess, is_won}

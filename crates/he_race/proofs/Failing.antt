@@ -3,13 +3,14 @@ use Rattle.std.proofs.Common.{◌≡◌, ℕ, ◌+◌, ◌≤◌, ◌<◌, Bool,
 use Rattle.std.specs.List.{All, Contains, list_all}
 use Rattle.std.proofs.lemmas.List.Elements.{All-contains, All-head, All-tail}
 use Rattle.he_plan.specs.declared.attempts.Attempt.{Attempt}
-use Rattle.he_plan.specs.declared.outcome.Outcome.{Outcome}
-use Rattle.he_plan.specs.declared.outcome.Outcome.TheVariants as outcomes
-use Rattle.he_plan.specs.Attempts.{IsFree, IsSeen, has_failed, has_failed_by, outcome_of, seen}
-use Rattle.he_plan.specs.Race.{Race}
-use Rattle.he_plan.specs.Timeline.{IsRace}
-use Rattle.he_plan.proofs.Bools.{and_both, and_left, and_right, le_from, le_test}
-use Rattle.he_plan.proofs.Starting.{IsSeen-seen}
+use Rattle.he_timeline.specs.declared.outcome.Outcome.{Outcome}
+use Rattle.he_timeline.specs.declared.outcome.Outcome.TheVariants as outcomes
+use Rattle.he_timeline.specs.Seen.{IsFree, IsSeen, seen}
+use Rattle.he_plan.specs.Attempts.{has_failed, has_failed_by}
+use Rattle.he_timeline.specs.Race.{outcome_of, Race}
+use Rattle.he_timeline.specs.Timeline.{IsRace}
+use Rattle.he_timeline.proofs.Bools.{and_both, and_left, and_right, le_from, le_test}
+use Rattle.he_timeline.proofs.Seen.{IsSeen-seen}
 
 -- what passes for all passes for one
 pub at-one : (p : Attempt → Bool) (xs : List Attempt) (x : Attempt) → list_all p xs ≡ true → Contains xs x → p x ≡ true

@@ -8,15 +8,14 @@ use Rattle.std.proofs.lemmas.List.Elements.{All-nil, All-weaker}
 use Rattle.he_addr.specs.Ip.{same_ip}
 use Rattle.he_addr.specs.declared.ip.Ip.{Ip}
 use Rattle.he_plan.specs.declared.attempts.Attempt.{Attempt}
-use Rattle.he_plan.specs.declared.outcome.Outcome.{Outcome}
+use Rattle.he_timeline.specs.declared.outcome.Outcome.{Outcome}
 use Rattle.he_plan.specs.Agreement.{AreAlike}
-use Rattle.he_plan.specs.Attempts.{IsFree, seen}
+use Rattle.he_timeline.specs.Seen.{IsFree, seen}
 use Rattle.he_plan.specs.Due.{IsAnswerDue}
-use Rattle.he_plan.specs.Finish.{outcome_of}
-use Rattle.he_plan.specs.Race.{Race, Reply, has_outcome}
-use Rattle.he_plan.specs.Timeline.{duration_of}
+use Rattle.he_timeline.specs.Race.{outcome_of, Race, Reply, has_outcome}
+use Rattle.he_timeline.specs.Timeline.{duration_of}
 use Rattle.he_plan.specs.Transcript.{IsTranscript, Report}
-use Rattle.he_plan.proofs.Bools.{and_left, and_right, le_from, or_one}
+use Rattle.he_timeline.proofs.Bools.{and_left, and_right, le_from, or_one}
 use Rattle.he_race.specs.declared.connector.Connector.{Ghosts as ConnectorOf}
 use Rattle.he_race.specs.declared.live.Live.{Live}
 use Rattle.he_race.specs.declared.live.Raced.{Raced}

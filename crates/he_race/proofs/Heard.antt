@@ -9,16 +9,16 @@ use Rattle.he_addr.specs.declared.ip.Family.{Family}
 use Rattle.he_addr.specs.declared.ip.Family.TheVariants as families
 use Rattle.he_addr.specs.declared.ip.Ip.{Ip}
 use Rattle.he_plan.specs.declared.attempts.Attempt.{Attempt}
-use Rattle.he_plan.specs.declared.outcome.Outcome.{Outcome}
-use Rattle.he_plan.specs.declared.outcome.Outcome.TheVariants as outcomes
+use Rattle.he_timeline.specs.declared.outcome.Outcome.{Outcome}
+use Rattle.he_timeline.specs.declared.outcome.Outcome.TheVariants as outcomes
 use Rattle.he_plan.specs.Agreement.{AreAlike}
-use Rattle.he_plan.specs.Attempts.{AreNextInTurn, IsLeast, IsNext, MayStart, is_paused, is_untried, order_at}
-use Rattle.he_plan.specs.Building.{with_answer}
-use Rattle.he_plan.specs.Finish.{outcome_in, outcome_of}
-use Rattle.he_plan.specs.Race.{Race, Reply, reply_of}
-use Rattle.he_plan.specs.Timeline.{IsRace}
-use Rattle.he_plan.specs.Underway.{MakesNext}
-use Rattle.he_plan.proofs.Bools.{le_test}
+use Rattle.he_plan.specs.Attempts.{AreNextInTurn, IsNext, MayStart, is_untried, order_at}
+use Rattle.he_timeline.specs.Seen.{IsLeast, is_paused}
+use Rattle.he_timeline.specs.Building.{with_answer}
+use Rattle.he_timeline.specs.Race.{outcome_in, outcome_of, Race, Reply, reply_of}
+use Rattle.he_timeline.specs.Timeline.{IsRace}
+use Rattle.he_plan.specs.RaceState.{MakesNext}
+use Rattle.he_timeline.proofs.Bools.{le_test}
 use Rattle.he_race.specs.Heard.{Hears, HearsFrom, HearsOf, IsSilent, StaysSilent, Tells, with_told}
 use Rattle.he_race.specs.Kept.{InTurn, taken, taken_of}
 use Rattle.he_race.specs.Recording.{EndedBy}

@@ -5,9 +5,8 @@ use Rattle.std.proofs.lemmas.List.Elements.{All-head, All-tail}
 use Rattle.he_addr.specs.Ip.{same_ip}
 use Rattle.he_plan.specs.declared.attempts.Attempt.{Attempt}
 use Rattle.he_plan.specs.Attempts.{AreNextInTurn}
-use Rattle.he_plan.specs.Finish.{outcome_of}
-use Rattle.he_plan.specs.Race.{Race, has_outcome}
-use Rattle.he_plan.proofs.Bools.{clash, or_one}
+use Rattle.he_timeline.specs.Race.{outcome_of, Race, has_outcome}
+use Rattle.he_timeline.proofs.Bools.{clash, or_one}
 use Rattle.he_race.specs.declared.live.Unfinished.{Unfinished}
 use Rattle.he_race.specs.declared.scripted.ScriptedTrial.{ScriptedTrial}
 use Rattle.he_race.specs.Following.{is_held}

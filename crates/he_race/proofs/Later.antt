@@ -8,16 +8,16 @@ use Rattle.he_addr.specs.declared.ip.Family.{Family}
 use Rattle.he_addr.specs.declared.ip.Family.TheVariants as families
 use Rattle.he_addr.specs.declared.ip.Ip.{Ip}
 use Rattle.he_plan.specs.declared.attempts.Attempt.{Attempt}
-use Rattle.he_plan.specs.declared.outcome.Outcome.{Outcome}
-use Rattle.he_plan.specs.declared.outcome.Outcome.TheVariants as outcomes
+use Rattle.he_timeline.specs.declared.outcome.Outcome.{Outcome}
+use Rattle.he_timeline.specs.declared.outcome.Outcome.TheVariants as outcomes
 use Rattle.he_plan.specs.Alternating.{interlace}
-use Rattle.he_plan.specs.Attempts.{AreNextInTurn, HasWaited, HaveFailed, IsAnswered, IsNext, IsPositive, MayBegin, MayFollow, MayStart, has_failed, has_failed_by, is_untried, last_of, order, order_at, received, received_of, seen}
-use Rattle.he_plan.specs.Building.{with_answer}
-use Rattle.he_plan.specs.Finish.{outcome_of}
-use Rattle.he_plan.specs.Race.{History, Race, Reply, addresses_of, known_of as told_in, reply_of, usable_addresses}
-use Rattle.he_plan.specs.Timeline.{IsRace}
-use Rattle.he_plan.proofs.Bools.{and_left, and_right, lt_from, not_le}
-use Rattle.he_plan.proofs.Starting.{IsSeen-seen}
+use Rattle.he_plan.specs.Attempts.{AreNextInTurn, HasWaited, HaveFailed, IsAnswered, IsNext, IsPositive, MayBegin, MayFollow, MayStart, has_failed, has_failed_by, is_untried, last_of, order, order_at, received, received_of}
+use Rattle.he_timeline.specs.Seen.{seen}
+use Rattle.he_timeline.specs.Building.{with_answer}
+use Rattle.he_timeline.specs.Race.{outcome_of, History, Race, Reply, addresses_of, known_of as told_in, reply_of, usable_addresses}
+use Rattle.he_timeline.specs.Timeline.{IsRace}
+use Rattle.he_timeline.proofs.Bools.{and_left, and_right, lt_from, not_le}
+use Rattle.he_timeline.proofs.Seen.{IsSeen-seen}
 use Rattle.he_select.specs.declared.known.Known.{Known}
 use Rattle.he_select.specs.Selection.{known_of}
 use Rattle.he_select.proofs.Alike.{Alike, order_of_alike}

@@ -13,9 +13,9 @@ use Rattle.he_addr.specs.declared.ip.Family.{Family}
 use Rattle.he_addr.specs.declared.ip.Family.TheVariants as families
 use Rattle.he_addr.specs.declared.ip.Ip.{Ip}
 use Rattle.he_plan.specs.declared.attempts.Attempt.{Attempt}
-use Rattle.he_plan.specs.Building.{with_answer}
-use Rattle.he_plan.specs.Race.{Race, Reply, reply_of}
-use Rattle.he_plan.proofs.Bools.{not_lt}
+use Rattle.he_timeline.specs.Building.{with_answer}
+use Rattle.he_timeline.specs.Race.{Race, Reply, reply_of}
+use Rattle.he_timeline.proofs.Bools.{not_lt}
 use Rattle.he_race.specs.declared.answers.AnswerSource.{Ghosts as SourceOf}
 use Rattle.he_race.specs.declared.attempt.AttemptFuture.{AttemptFuture}
 use Rattle.he_race.specs.declared.attempt.AttemptFuture.TheVariants.{Sleeping}

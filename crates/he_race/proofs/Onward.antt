@@ -8,22 +8,22 @@ use Rattle.std.proofs.lemmas.List.Folds.{list_all-append, list_any-append}
 use Rattle.he_addr.specs.Ip.{same_ip}
 use Rattle.he_addr.specs.declared.ip.Ip.{Ip}
 use Rattle.he_plan.specs.declared.attempts.Attempt.{Attempt}
-use Rattle.he_plan.specs.declared.outcome.Outcome.{Outcome}
-use Rattle.he_plan.specs.declared.outcome.Outcome.TheVariants as outcomes
+use Rattle.he_timeline.specs.declared.outcome.Outcome.{Outcome}
+use Rattle.he_timeline.specs.declared.outcome.Outcome.TheVariants as outcomes
 use Rattle.he_plan.specs.Agreement.{AreAlike}
-use Rattle.he_plan.specs.Attempts.{AreNextInTurn, IsFree, IsNext, IsSeen, MayStart, has_failed, is_paused, is_untried, seen}
-use Rattle.he_plan.specs.Building.{with_pause}
+use Rattle.he_plan.specs.Attempts.{AreNextInTurn, IsNext, MayStart, has_failed, is_untried}
+use Rattle.he_timeline.specs.Seen.{IsFree, IsSeen, is_paused, seen}
+use Rattle.he_timeline.specs.Building.{with_pause}
 use Rattle.he_plan.specs.Due.{IsAnswerDue}
-use Rattle.he_plan.specs.Finish.{outcome_of}
-use Rattle.he_plan.specs.Race.{Race, Reply, has_outcome}
-use Rattle.he_plan.specs.Timeline.{IsRace, duration_of}
+use Rattle.he_timeline.specs.Race.{outcome_of, Race, Reply, has_outcome}
+use Rattle.he_timeline.specs.Timeline.{IsRace, duration_of}
 use Rattle.he_plan.proofs.Agreeing.{order-shared, starts-shared}
-use Rattle.he_plan.proofs.Bools.{and_both, not_lt, or_left, or_one, or_right}
+use Rattle.he_timeline.proofs.Bools.{and_both, not_lt, or_left, or_one, or_right}
 use Rattle.he_plan.proofs.Dueness.{starts-free}
-use Rattle.he_plan.proofs.Finishing.{outcome_in-lasts}
+use Rattle.he_timeline.proofs.Lasting.{outcome_in-lasts}
 use Rattle.he_plan.proofs.InTurn.{in_turn-more}
-use Rattle.he_plan.proofs.Ranges.{list_all-weaker}
-use Rattle.he_plan.proofs.Starting.{IsSeen-seen}
+use Rattle.he_timeline.proofs.Ranges.{list_all-weaker}
+use Rattle.he_timeline.proofs.Seen.{IsSeen-seen}
 use Rattle.he_race.specs.declared.attempt.AttemptFuture.{AttemptFuture}
 use Rattle.he_race.specs.declared.attempt.AttemptFuture.TheVariants.{Connecting}
 use Rattle.he_race.specs.declared.connector.Connector.{Ghosts as ConnectorOf}

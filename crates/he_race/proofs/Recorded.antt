@@ -10,27 +10,29 @@ use Rattle.he_addr.specs.declared.ip.Ip.{Ip}
 use Rattle.he_addr.specs.declared.ip.Ip.TheVariants.{V4, V6}
 use Rattle.he_addr.specs.Ip.{same_ip}
 use Rattle.he_plan.specs.declared.attempts.Attempt.{Attempt}
-use Rattle.he_plan.specs.declared.outcome.Outcome.{Outcome}
-use Rattle.he_plan.specs.declared.outcome.Outcome.TheVariants as outcomes
+use Rattle.he_timeline.specs.declared.outcome.Outcome.{Outcome}
+use Rattle.he_timeline.specs.declared.outcome.Outcome.TheVariants as outcomes
 use Rattle.he_plan.specs.Agreement.{AgreeBelow, AreAlike, FailAlike}
-use Rattle.he_plan.specs.Attempts.{AreNextInTurn, HasWaited, HaveFailed, IsFree, IsLeast, IsNext, IsSeen, MayBegin, MayFollow, MayStart, has_failed, has_failed_by, is_tried, is_untried, last_of, seen, seen_past}
-use Rattle.he_plan.specs.Building.{last_end, unrecorded, with_outcome, with_pause}
+use Rattle.he_plan.specs.Attempts.{AreNextInTurn, HasWaited, HaveFailed, IsNext, MayBegin, MayFollow, MayStart, has_failed, has_failed_by, is_tried, is_untried, last_of}
+use Rattle.he_timeline.specs.Seen.{IsFree, IsLeast, IsSeen, seen, seen_past}
+use Rattle.he_timeline.specs.Building.{last_end, unrecorded, with_outcome, with_pause}
 use Rattle.he_plan.specs.Continuing.{Follow}
 use Rattle.he_plan.specs.Due.{IsAfterTurn, IsDelayDue, IsDue, IsDueTick, IsStartDue, IsTaken}
-use Rattle.he_plan.specs.Finish.{fate_of, outcome_in, outcome_of}
-use Rattle.he_plan.specs.Race.{Race, Reply, has_outcome}
-use Rattle.he_plan.specs.Timeline.{IsRace, duration_of}
-use Rattle.he_plan.specs.Underway.{EndsOne, IsUnderway, MakesNext, Progress, was_received}
+use Rattle.he_plan.specs.Finish.{fate_of}
+use Rattle.he_timeline.specs.Race.{outcome_in, outcome_of, Race, Reply, has_outcome}
+use Rattle.he_timeline.specs.Timeline.{IsRace, duration_of}
+use Rattle.he_plan.specs.RaceState.{EndsOne, IsUnderway, MakesNext, Progress, was_received}
 use Rattle.he_plan.proofs.Agreeing.{alike-below, failed-shared, in_turn-below, starts-below, starts-shared}
-use Rattle.he_plan.proofs.Bools.{and_both, and_left, and_right, before, clash, inside, le_test, lt_test, not_le, or_left, or_left_none, or_right, or_right_none}
+use Rattle.he_timeline.proofs.Bools.{and_both, and_left, and_right, before, clash, inside, le_test, lt_test, not_le, or_left, or_left_none, or_right, or_right_none}
 use Rattle.he_plan.proofs.Dueness.{due-no_sooner, finish-failed, finish-silent, starts-free, starts-later}
 use Rattle.he_plan.proofs.Ends.{ends-alike, ends-in_turn}
 use Rattle.he_plan.proofs.Growing.{outcome-below, outcome-others, outcome-own, pause-away, pause-below, pauses-over}
 use Rattle.he_plan.proofs.InTurn.{in_turn-follow, in_turn-more, in_turn-none}
 use Rattle.he_plan.proofs.Lawful.{seen_past-more}
 use Rattle.he_plan.proofs.Planned.{last_of-more}
-use Rattle.he_plan.proofs.Ranges.{same_ip-sym}
-use Rattle.he_plan.proofs.Starting.{IsSeen-seen, SeesOwn-free}
+use Rattle.he_timeline.proofs.Ranges.{same_ip-sym}
+use Rattle.he_timeline.proofs.Seen.{IsSeen-seen}
+use Rattle.he_plan.proofs.Starting.{SeesOwn-free}
 use Rattle.he_race.specs.Kept.{Begins, FailedBelow, InTurn, Rests, first_after, taken}
 use Rattle.he_race.specs.Recording.{EndedBy, HasSuccess, ended_by}
 use Rattle.he_race.proofs.Counted.{all_taken_later, due_taken, turn_by}

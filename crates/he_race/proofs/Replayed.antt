@@ -10,19 +10,20 @@ use Rattle.he_addr.specs.declared.ip.Ip.{Ip}
 use Rattle.he_plan.specs.declared.attempts.Attempt.{Attempt}
 use Rattle.he_plan.specs.declared.finish.Fate.{Fate}
 use Rattle.he_plan.specs.declared.finish.Fate.TheVariants.{Succeeded, Failed, Running}
-use Rattle.he_plan.specs.declared.outcome.Outcome.{Outcome}
-use Rattle.he_plan.specs.declared.outcome.Outcome.TheVariants as outcomes
+use Rattle.he_timeline.specs.declared.outcome.Outcome.{Outcome}
+use Rattle.he_timeline.specs.declared.outcome.Outcome.TheVariants as outcomes
 use Rattle.he_plan.specs.declared.transcript.Outcome3.{Outcome3}
 use Rattle.he_plan.specs.declared.transcript.Outcome3.TheVariants as results
 use Rattle.he_plan.specs.Agreement.{AreAlike}
-use Rattle.he_plan.specs.Attempts.{AreNextInTurn, IsFree, MayStart, has_failed, has_failed_by, seen}
-use Rattle.he_plan.specs.Finish.{IsWinner, fate_by, fate_of, known_at, known_by, outcome_in, outcome_of}
+use Rattle.he_plan.specs.Attempts.{AreNextInTurn, MayStart, has_failed, has_failed_by}
+use Rattle.he_timeline.specs.Seen.{IsFree, seen}
+use Rattle.he_plan.specs.Finish.{IsWinner, fate_by, fate_of, known_at, known_by}
+use Rattle.he_timeline.specs.Race.{outcome_in, outcome_of, Race, Reply, addresses_of, has_outcome}
 use Rattle.he_plan.specs.Planning.{next_winner, told_lines}
-use Rattle.he_plan.specs.Race.{Race, Reply, addresses_of, has_outcome}
-use Rattle.he_plan.specs.Timeline.{IsRace, duration_of}
+use Rattle.he_timeline.specs.Timeline.{IsRace, duration_of}
 use Rattle.he_plan.specs.Transcript.{AreKnown, IsTranscript, Report, failures, greatest, is_failed, is_tried_out, result_of, stop_of, without_winner}
 use Rattle.he_plan.proofs.Agreeing.{starts-shared}
-use Rattle.he_plan.proofs.Bools.{le_from, le_test, not_le}
+use Rattle.he_timeline.proofs.Bools.{le_from, le_test, not_le}
 use Rattle.he_plan.proofs.Dueness.{finish-failed, finish-silent, finish-succeeded, starts-free}
 use Rattle.he_plan.proofs.Finishing.{IsWinner-more}
 use Rattle.he_plan.proofs.Lawful.{transcript-one}

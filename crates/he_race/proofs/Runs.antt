@@ -5,16 +5,16 @@ use Rattle.futures.specs.declared.task.Poll.{Poll}
 use Rattle.futures.specs.declared.task.Poll.TheVariants.{Ready, Pending}
 use Rattle.he_plan.specs.declared.attempts.Attempt.{Attempt}
 use Rattle.he_plan.specs.declared.finish.Fate.TheVariants.{Running}
-use Rattle.he_plan.specs.declared.limits.TheConstants.{MIN_DURATION, MAX_DURATION}
-use Rattle.he_plan.specs.declared.outcome.Outcome.{Outcome}
-use Rattle.he_plan.specs.declared.outcome.Outcome.TheVariants as outcomes
-use Rattle.he_plan.specs.Attempts.{IsSeen, seen}
-use Rattle.he_plan.specs.Finish.{fate_by, fate_of, finish_of, outcome_of}
-use Rattle.he_plan.specs.Race.{Race}
-use Rattle.he_plan.specs.Timeline.{IsRace, duration_of}
-use Rattle.he_plan.proofs.Bools.{clash, le_test, lt_test, not_le, not_lt}
-use Rattle.he_plan.proofs.Finishing.{outcome_in-lasts}
-use Rattle.he_plan.proofs.Starting.{IsSeen-seen}
+use Rattle.he_timeline.specs.declared.limits.TheConstants.{MIN_DURATION, MAX_DURATION}
+use Rattle.he_timeline.specs.declared.outcome.Outcome.{Outcome}
+use Rattle.he_timeline.specs.declared.outcome.Outcome.TheVariants as outcomes
+use Rattle.he_timeline.specs.Seen.{IsSeen, seen}
+use Rattle.he_plan.specs.Finish.{fate_by, fate_of, finish_of}
+use Rattle.he_timeline.specs.Race.{outcome_of, Race}
+use Rattle.he_timeline.specs.Timeline.{IsRace, duration_of}
+use Rattle.he_timeline.proofs.Bools.{clash, le_test, lt_test, not_le, not_lt}
+use Rattle.he_timeline.proofs.Lasting.{outcome_in-lasts}
+use Rattle.he_timeline.proofs.Seen.{IsSeen-seen}
 use Rattle.he_race.specs.declared.attempt.AttemptFuture.{AttemptFuture}
 use Rattle.he_race.specs.declared.attempt.AttemptFuture.TheVariants.{Sleeping, Connecting}
 use Rattle.he_race.specs.declared.attempt.Finish.{Finish}

@@ -6,10 +6,10 @@ use Rattle.he_addr.specs.declared.ip.Ip.{Ip}
 use Rattle.he_addr.specs.Ip.{is_usable, same_ip}
 use Rattle.he_plan.specs.declared.attempts.Attempt.{Attempt}
 use Rattle.he_plan.specs.Attempts.{AreNextInTurn, IsNext, is_tried, is_untried}
-use Rattle.he_plan.specs.Race.{Race, addresses_of, has_ip, is_in_answer}
-use Rattle.he_plan.proofs.Bools.{or_left_none, or_none, or_right_none}
+use Rattle.he_timeline.specs.Race.{Race, addresses_of, has_ip, is_in_answer}
+use Rattle.he_timeline.proofs.Bools.{or_left_none, or_none, or_right_none}
 use Rattle.he_plan.proofs.Few.{left_of, untried_fewer}
-use Rattle.he_plan.proofs.Ranges.{same_ip-sym}
+use Rattle.he_timeline.proofs.Ranges.{same_ip-sym}
 
 none_of : (p q : Ip → Bool) (ips : List Ip) → list_any p ips ≡ false → list_any p (filter q ips) ≡ false
 none_of p q [] h = refl

@@ -8,8 +8,8 @@ use Rattle.futures.specs.declared.task.Poll.TheVariants.{Ready, Pending}
 use Rattle.he_plan.specs.declared.attempts.Attempt.{Attempt}
 use Rattle.he_plan.specs.Agreement.{AreAlike}
 use Rattle.he_plan.specs.Due.{IsAfterTurn}
-use Rattle.he_plan.specs.Race.{Race}
-use Rattle.he_plan.proofs.Bools.{le_test, not_le}
+use Rattle.he_timeline.specs.Race.{Race}
+use Rattle.he_timeline.proofs.Bools.{le_test, not_le}
 use Rattle.he_race.specs.declared.attempt.Finish.{Finish}
 use Rattle.he_race.specs.declared.connector.Connector.{Ghosts as ConnectorOf}
 use Rattle.he_race.specs.declared.recorder.Recorder.{Recorder}

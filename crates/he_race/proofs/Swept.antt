@@ -9,16 +9,15 @@ use Rattle.futures.specs.declared.task.Poll.TheVariants.{Ready, Pending}
 use Rattle.he_addr.specs.Ip.{same_ip}
 use Rattle.he_addr.specs.declared.ip.Ip.{Ip}
 use Rattle.he_plan.specs.declared.attempts.Attempt.{Attempt}
-use Rattle.he_plan.specs.declared.outcome.Outcome.{Outcome}
-use Rattle.he_plan.specs.declared.outcome.Outcome.TheVariants as outcomes
+use Rattle.he_timeline.specs.declared.outcome.Outcome.{Outcome}
+use Rattle.he_timeline.specs.declared.outcome.Outcome.TheVariants as outcomes
 use Rattle.he_plan.specs.Agreement.{AreAlike}
-use Rattle.he_plan.specs.Attempts.{IsFree, seen}
-use Rattle.he_plan.specs.Building.{with_outcome}
-use Rattle.he_plan.specs.Finish.{outcome_of}
-use Rattle.he_plan.specs.Race.{Race, has_outcome}
-use Rattle.he_plan.specs.Timeline.{IsRace, duration_of}
-use Rattle.he_plan.proofs.Bools.{not_lt, or_left, or_one, or_right}
-use Rattle.he_plan.proofs.Ranges.{list_all-weaker}
+use Rattle.he_timeline.specs.Seen.{IsFree, seen}
+use Rattle.he_timeline.specs.Building.{with_outcome}
+use Rattle.he_timeline.specs.Race.{outcome_of, Race, has_outcome}
+use Rattle.he_timeline.specs.Timeline.{IsRace, duration_of}
+use Rattle.he_timeline.proofs.Bools.{not_lt, or_left, or_one, or_right}
+use Rattle.he_timeline.proofs.Ranges.{list_all-weaker}
 use Rattle.he_plan.proofs.Starting.{SeesOwn, SeesOwn-free}
 use Rattle.he_race.specs.declared.attempt.AttemptFuture.{AttemptFuture}
 use Rattle.he_race.specs.declared.attempt.AttemptFuture.TheVariants.{Connecting}

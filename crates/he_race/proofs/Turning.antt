@@ -7,16 +7,15 @@ use Rattle.std.proofs.lemmas.List.Elements.{All-append, All-drop, All-take, All-
 use Rattle.he_addr.specs.declared.ip.Ip.{Ip}
 use Rattle.he_addr.specs.Ip.{same_ip}
 use Rattle.he_plan.specs.declared.attempts.Attempt.{Attempt}
-use Rattle.he_plan.specs.declared.outcome.Outcome.{Outcome}
-use Rattle.he_plan.specs.declared.outcome.Outcome.TheVariants as outcomes
+use Rattle.he_timeline.specs.declared.outcome.Outcome.{Outcome}
+use Rattle.he_timeline.specs.declared.outcome.Outcome.TheVariants as outcomes
 use Rattle.he_plan.specs.Agreement.{AreAlike}
 use Rattle.he_plan.specs.Attempts.{MayStart}
-use Rattle.he_plan.specs.Building.{with_pause}
-use Rattle.he_plan.specs.Finish.{outcome_in, outcome_of}
-use Rattle.he_plan.specs.Race.{Race, Reply, has_outcome}
-use Rattle.he_plan.specs.Timeline.{IsRace}
-use Rattle.he_plan.specs.Underway.{IsUnderway}
-use Rattle.he_plan.proofs.Bools.{above, and_left, and_right, le_from, or_left_none, or_one, or_right_none}
+use Rattle.he_timeline.specs.Building.{with_pause}
+use Rattle.he_timeline.specs.Race.{outcome_in, outcome_of, Race, Reply, has_outcome}
+use Rattle.he_timeline.specs.Timeline.{IsRace}
+use Rattle.he_plan.specs.RaceState.{IsUnderway}
+use Rattle.he_timeline.proofs.Bools.{above, and_left, and_right, le_from, or_left_none, or_one, or_right_none}
 use Rattle.he_plan.proofs.Growing.{pauses-over}
 use Rattle.he_plan.proofs.Stopping.{none_left-ends}
 use Rattle.he_race.specs.declared.recorder.Recorder.{Recorder}

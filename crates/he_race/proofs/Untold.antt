@@ -7,12 +7,12 @@ use Rattle.std.proofs.lemmas.List.Folds.{list_any-append}
 use Rattle.he_addr.specs.declared.ip.Ip.{Ip}
 use Rattle.he_addr.specs.Ip.{same_ip}
 use Rattle.he_plan.specs.declared.attempts.Attempt.{Attempt}
-use Rattle.he_plan.specs.declared.outcome.Outcome.{Outcome}
+use Rattle.he_timeline.specs.declared.outcome.Outcome.{Outcome}
 use Rattle.he_plan.specs.Attempts.{AreNextInTurn, IsNext, is_tried}
-use Rattle.he_plan.specs.Building.{with_outcome, with_pause}
-use Rattle.he_plan.specs.Race.{Race, has_outcome}
-use Rattle.he_plan.proofs.Bools.{and_both, and_left, and_right, clash, or_left_none, or_none, or_right_none}
-use Rattle.he_plan.proofs.Ranges.{same_ip-sym}
+use Rattle.he_timeline.specs.Building.{with_outcome, with_pause}
+use Rattle.he_timeline.specs.Race.{Race, has_outcome}
+use Rattle.he_timeline.proofs.Bools.{and_both, and_left, and_right, clash, or_left_none, or_none, or_right_none}
+use Rattle.he_timeline.proofs.Ranges.{same_ip-sym}
 use Rattle.he_race.specs.declared.connector.Connector.{Ghosts as ConnectorOf}
 use Rattle.he_race.specs.declared.faults.ConnectFault.{ConnectFault}
 use Rattle.he_race.specs.declared.live.Unfinished.{Unfinished}

@@ -1,7 +1,7 @@
 -- Mirror: what private functions answer about the answers of a race that is being run.
 use Rattle.std.specs.Prelude.{ℕ, ◌&&◌, Bool, false, not, if◌then◌else◌, List, min, Option, Some, None, nat_le}
 use Rattle.he_plan.specs.declared.attempts.Attempt.{Attempt}
-use Rattle.he_plan.specs.Race.{Reply}
+use Rattle.he_timeline.specs.Race.{Reply}
 use Rattle.he_plan.specs.Transcript.{is_tried_out}
 
 abbrev pub is_taken : Option ℕ → ℕ → Bool

@@ -5,13 +5,13 @@ use Rattle.std.specs.List.{All, Contains, list_all, list_any}
 use Rattle.he_addr.specs.Ip.{InRange, same_ip}
 use Rattle.he_addr.specs.declared.ip.Ip.{Ip}
 use Rattle.he_plan.specs.declared.attempts.Attempt.{Attempt}
-use Rattle.he_plan.specs.declared.outcome.Outcome.{Outcome}
-use Rattle.he_plan.specs.declared.outcome.Outcome.TheVariants as outcomes
+use Rattle.he_timeline.specs.declared.outcome.Outcome.{Outcome}
+use Rattle.he_timeline.specs.declared.outcome.Outcome.TheVariants as outcomes
 use Rattle.he_plan.specs.Agreement.{AreAlike}
-use Rattle.he_plan.specs.Attempts.{AreNextInTurn, IsFree, seen}
-use Rattle.he_plan.specs.Finish.{outcome_of}
-use Rattle.he_plan.specs.Race.{Race, Reply, addresses_of, has_outcome}
-use Rattle.he_plan.specs.Timeline.{IsRace, duration_of}
+use Rattle.he_plan.specs.Attempts.{AreNextInTurn}
+use Rattle.he_timeline.specs.Seen.{IsFree, seen}
+use Rattle.he_timeline.specs.Race.{outcome_of, Race, Reply, addresses_of, has_outcome}
+use Rattle.he_timeline.specs.Timeline.{IsRace, duration_of}
 use Rattle.he_plan.specs.Transcript.{IsTranscript}
 use Rattle.he_race.specs.declared.attempt.AttemptFuture.TheVariants.{Connecting}
 use Rattle.he_race.specs.declared.connector.Connector.{Ghosts as ConnectorOf}

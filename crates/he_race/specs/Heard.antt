@@ -4,10 +4,10 @@ use Rattle.he_addr.specs.declared.ip.Family.{Family}
 use Rattle.he_addr.specs.declared.ip.Family.TheVariants as families
 use Rattle.he_addr.specs.declared.ip.Ip.{Ip}
 use Rattle.he_addr.specs.Ip.{same_ip}
-use Rattle.he_plan.specs.declared.limits.TheConstants.{MAX_ADDRESSES}
-use Rattle.he_plan.specs.Building.{with_answer}
-use Rattle.he_plan.specs.Race.{Race, Reply, reply_of}
-use Rattle.he_plan.specs.Timeline.{is_of}
+use Rattle.he_timeline.specs.declared.limits.TheConstants.{MAX_ADDRESSES}
+use Rattle.he_timeline.specs.Building.{with_answer}
+use Rattle.he_timeline.specs.Race.{Race, Reply, reply_of}
+use Rattle.he_timeline.specs.Timeline.{is_of}
 
 -- what a poll of a source for a family at a tick may tell, and the state that it leaves
 abbrev pub Tells : Type 0 → Type 1

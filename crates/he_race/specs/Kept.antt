@@ -5,11 +5,11 @@ use Rattle.std.specs.List.{All, Contains, list_any, list_all}
 use Rattle.he_addr.specs.declared.ip.Ip.{Ip}
 use Rattle.he_addr.specs.Ip.{same_ip}
 use Rattle.he_plan.specs.declared.attempts.Attempt.{Attempt}
-use Rattle.he_plan.specs.declared.outcome.Outcome.{Outcome}
-use Rattle.he_plan.specs.Building.{last_end}
-use Rattle.he_plan.specs.Race.{Race, has_outcome, Reply}
-use Rattle.he_plan.specs.Timeline.{IsRace}
-use Rattle.he_plan.specs.Underway.{IsUnderway, MakesNext}
+use Rattle.he_timeline.specs.declared.outcome.Outcome.{Outcome}
+use Rattle.he_timeline.specs.Building.{last_end}
+use Rattle.he_timeline.specs.Race.{Race, has_outcome, Reply, outcome_of}
+use Rattle.he_timeline.specs.Timeline.{IsRace}
+use Rattle.he_plan.specs.RaceState.{IsUnderway, MakesNext}
 use Rattle.he_race.specs.declared.connector.Connector.{Ghosts as ConnectorOf}
 use Rattle.he_race.specs.declared.recorder.Recorder.{Recorder}
 use Rattle.he_race.specs.declared.live.Live.{Live}
@@ -17,11 +17,11 @@ use Rattle.he_race.specs.declared.live.Unfinished.{Unfinished}
 use Rattle.he_race.specs.declared.trial.Trial.{Ghosts as TrialOf}
 use Rattle.he_race.specs.Answered.{is_taken}
 use Rattle.he_race.specs.Attempt.{CanPoll}
-use Rattle.he_plan.specs.Attempts.{AreNextInTurn, IsFree, MayStart, is_tried}
+use Rattle.he_plan.specs.Attempts.{AreNextInTurn, MayStart, is_tried}
+use Rattle.he_timeline.specs.Seen.{IsFree}
 use Rattle.he_plan.specs.Due.{IsAfterTurn, IsDueTick}
-use Rattle.he_plan.specs.Finish.{outcome_of}
 use Rattle.he_race.specs.Recording.{EndedBy, EndsRace, HasSuccess}
-use Rattle.he_plan.specs.declared.outcome.Outcome.TheVariants as outcomes
+use Rattle.he_timeline.specs.declared.outcome.Outcome.TheVariants as outcomes
 
 -- the first tick after the last turn
 abbrev pub first_after : Option ℕ → ℕ

@@ -8,7 +8,7 @@ use Rattle.futures.specs.declared.task.context.Context.{Context}
 use Rattle.he_addr.specs.declared.ip.Family.{Family}
 use Rattle.he_addr.specs.declared.ip.Family.TheVariants as families
 use Rattle.he_plan.specs.Agreement.{AreAlike}
-use Rattle.he_plan.specs.Race.{Race}
+use Rattle.he_timeline.specs.Race.{Race}
 use Rattle.he_race.specs.declared.answers.AnswerSource.{Ghosts as SourceOf}
 use Rattle.he_race.specs.declared.attempt.AttemptFuture.{AttemptFuture}
 use Rattle.he_race.specs.declared.connector.Connector.{Ghosts as ConnectorOf}

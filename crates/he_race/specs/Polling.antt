@@ -6,9 +6,9 @@ use Rattle.futures.specs.declared.task.Poll.{Poll}
 use Rattle.futures.specs.declared.task.Poll.TheVariants.{Ready, Pending}
 use Rattle.he_plan.specs.declared.attempts.Attempt.{Attempt}
 use Rattle.he_plan.specs.Agreement.{AreAlike}
-use Rattle.he_plan.specs.Race.{Race, has_outcome}
-use Rattle.he_plan.specs.Timeline.{IsRace}
-use Rattle.he_plan.specs.Underway.{IsUnderway}
+use Rattle.he_timeline.specs.Race.{Race, has_outcome}
+use Rattle.he_timeline.specs.Timeline.{IsRace}
+use Rattle.he_plan.specs.RaceState.{IsUnderway}
 use Rattle.he_race.specs.declared.answers.AnswerSource.{Ghosts as SourceOf}
 use Rattle.he_race.specs.declared.attempt.AttemptFuture.{AttemptFuture}
 use Rattle.he_race.specs.declared.attempt.Finish.{Finish}

@@ -2,14 +2,14 @@
 use Rattle.std.specs.Prelude.{ℕ, ◌≡◌, ◌+◌, ◌≤◌, Bool, true, false, List, Some, if◌then◌else◌, IfSome, nat_lt}
 use Rattle.std.specs.List.{All, Contains}
 use Rattle.he_plan.specs.declared.attempts.Attempt.{Attempt}
-use Rattle.he_plan.specs.declared.outcome.Outcome.{Outcome}
-use Rattle.he_plan.specs.Building.{with_pause}
-use Rattle.he_plan.specs.Race.{Race}
-use Rattle.he_plan.specs.Timeline.{IsRace}
+use Rattle.he_timeline.specs.declared.outcome.Outcome.{Outcome}
+use Rattle.he_timeline.specs.Building.{with_pause}
+use Rattle.he_timeline.specs.Race.{Race, outcome_of}
+use Rattle.he_timeline.specs.Timeline.{IsRace}
 use Rattle.he_plan.specs.declared.transcript.Outcome3.{Outcome3}
-use Rattle.he_plan.specs.Attempts.{AreNextInTurn, IsFree, MayStart}
-use Rattle.he_plan.specs.Finish.{outcome_of}
-use Rattle.he_plan.specs.declared.outcome.Outcome.TheVariants as outcomes
+use Rattle.he_plan.specs.Attempts.{AreNextInTurn, MayStart}
+use Rattle.he_timeline.specs.Seen.{IsFree}
+use Rattle.he_timeline.specs.declared.outcome.Outcome.TheVariants as outcomes
 use Rattle.he_plan.specs.declared.transcript.Outcome3.TheVariants as results
 
 -- how an attempt that started at `start` and finished at `finish` is recorded

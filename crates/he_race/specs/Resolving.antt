@@ -1,7 +1,7 @@
 -- What a turn of a race is whose answers come while it runs, and what the race gives: the public contracts of `ResolvingRace`
 -- cite it.
 use Rattle.std.specs.Prelude.{ℕ, ◌≡◌, ◌+◌, ◌⊎◌, ⊤, min, nat_le, is_some, MatchBool, List, Option, Some, None, option_map, Result}
-use Rattle.he_plan.specs.Race.{Race, Reply}
+use Rattle.he_timeline.specs.Race.{Race, Reply}
 use Rattle.he_plan.specs.Transcript.{IsTranscript}
 use Rattle.he_race.specs.declared.connector.Connector.{Ghosts as ConnectorOf}
 use Rattle.he_race.specs.declared.faults.RaceFault.{RaceFault}

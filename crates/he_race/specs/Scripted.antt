@@ -3,10 +3,9 @@ use Rattle.std.specs.Prelude.{ℕ, ◌≡◌, ◌+◌, Option, Some, None, Resul
 use Rattle.futures.specs.declared.task.Poll.{Poll}
 use Rattle.futures.specs.declared.task.Poll.TheVariants.{Ready, Pending}
 use Rattle.he_addr.specs.declared.ip.Ip.{Ip}
-use Rattle.he_plan.specs.declared.outcome.Outcome.{Outcome}
-use Rattle.he_plan.specs.declared.outcome.Outcome.TheVariants as outcomes
-use Rattle.he_plan.specs.Finish.{outcome_of}
-use Rattle.he_plan.specs.Race.{Race}
+use Rattle.he_timeline.specs.declared.outcome.Outcome.{Outcome}
+use Rattle.he_timeline.specs.declared.outcome.Outcome.TheVariants as outcomes
+use Rattle.he_timeline.specs.Race.{outcome_of, Race}
 use Rattle.he_race.specs.declared.faults.ConnectFault.{ConnectFault}
 use Rattle.he_race.specs.declared.faults.ConnectFault.TheVariants.{Failed}
 use Rattle.he_race.specs.declared.scripted.ScriptedTrial.{ScriptedTrial}

@@ -3,8 +3,8 @@ use Rattle.std.specs.Prelude.{ℕ, ◌≡◌, ◌+◌, ◌<◌, Bool, true, fals
 use Rattle.std.specs.List.{All}
 use Rattle.std.specs.BTreeSet.{insert_key}
 use Rattle.std.specs.Ordering.{nat_cmp}
-use Rattle.he_plan.specs.Attempts.{seen}
-use Rattle.he_plan.specs.Race.{Race}
+use Rattle.he_timeline.specs.Seen.{seen}
+use Rattle.he_timeline.specs.Race.{Race}
 use Rattle.he_race.specs.declared.faults.TickFault.{TickFault}
 use Rattle.he_race.specs.declared.faults.TickFault.TheVariants.{Memory}
 

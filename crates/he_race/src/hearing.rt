@@ -2,12 +2,12 @@
 
 ghost use Rattle.std.specs.Prelude.{◌≡◌, ◌≤◌, ◌&&◌, false, true, not, None, IfNone, IfOk, OnOk, length, nat_lt};
 ghost use Rattle.futures.specs.Task.{Keeps};
-ghost use Rattle.he_plan.specs.declared.limits.TheConstants.{MAX_ADDRESSES, MAX_LIMIT};
+ghost use Rattle.he_timeline.specs.declared.limits.TheConstants.{MAX_ADDRESSES, MAX_LIMIT};
 ghost use Rattle.he_plan.specs.Attempts.{AreNextInTurn};
-ghost use Rattle.he_plan.specs.Building.{with_answer};
-ghost use Rattle.he_plan.specs.Race.{has_ip, reply_of};
-ghost use Rattle.he_plan.specs.Timeline.{IsRace, are_distinct, are_of, is_of};
-ghost use Rattle.he_plan.specs.Underway.{IsUnderway};
+ghost use Rattle.he_timeline.specs.Building.{with_answer};
+ghost use Rattle.he_timeline.specs.Race.{has_ip, reply_of};
+ghost use Rattle.he_timeline.specs.Timeline.{IsRace, are_distinct, are_of, is_of};
+ghost use Rattle.he_plan.specs.RaceState.{IsUnderway};
 ghost use Rattle.he_race.specs.Heard.{Hears, HearsOf, cleaned};
 ghost use Rattle.he_race.specs.Kept.{InTurn};
 ghost use Rattle.he_race.specs.Listening.{ListensFor, SourceListens};
@@ -16,8 +16,9 @@ use crate::answers::AnswerSource;
 use crate::recorder::{Recorder, only_memory};
 use futures::task::{Context, Poll};
 use he_addr::{Family, Ip, Memory};
-use he_plan::limits::MAX_ADDRESSES;
-use he_plan::{Attempt, Timeline, TimelineBuilder, Underway};
+use he_timeline::limits::MAX_ADDRESSES;
+use he_plan::{Attempt, RaceState};
+use he_timeline::{Timeline, TimelineBuilder};
 use std::alloc::Global;
 
 impl Recorder {
@@ -136,13 +137,13 @@ fn has_ip(ips: &[Ip], ip: Ip) -> bool
 }
 
 // The same attempts of a race that has one more answer, made again: the addresses that are left to try are others.
-fn again(alloc: Global, race: &Timeline, attempts: &[Attempt]) -> Result<Underway, Memory>
+fn again(alloc: Global, race: &Timeline, attempts: &[Attempt]) -> Result<RaceState, Memory>
     requires valid { IsRace race.now }
     requires in_turn { AreNextInTurn race.now attempts.now }
     ensures underway { IfOk result (IsUnderway race.now) }
     ensures attempts { IfOk result (λ underway. underway.attempts ≡ attempts.now) }
 {
-    let mut underway = Underway::new(alloc);
+    let mut underway = RaceState::new(alloc);
     for attempt in attempts {
         underway.start(alloc, race, attempt.tick)?;
     }

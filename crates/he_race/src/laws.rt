@@ -5,9 +5,9 @@ ghost use Rattle.std.specs.List.{list_all};
 ghost use Rattle.he_addr.specs.declared.ip.Family.{Family};
 ghost use Rattle.he_plan.specs.declared.attempts.Attempt.{Attempt};
 ghost use Rattle.he_plan.specs.Attempts.{AreNextInTurn, MayStart, order_at};
-ghost use Rattle.he_plan.specs.Building.{with_answer};
-ghost use Rattle.he_plan.specs.Race.{Race, Reply, reply_of};
-ghost use Rattle.he_plan.specs.Timeline.{IsRace};
+ghost use Rattle.he_timeline.specs.Building.{with_answer};
+ghost use Rattle.he_timeline.specs.Race.{Race, Reply, reply_of};
+ghost use Rattle.he_timeline.specs.Timeline.{IsRace};
 
 /// One more answer changes nothing before its tick: neither which ticks an attempt may start at, nor from which list it
 /// takes its address, nor the attempts that were made.

@@ -2,13 +2,13 @@
 
 ghost use Rattle.std.specs.Prelude.{All, if◌then◌else◌, ◌≡◌, ◌+◌, ◌-◌, ◌<◌, ◌≤◌, ◌&&◌, ◌||◌, ◌==◌, Bool, ℕ, [], MatchBool, None, Some, false, length, is_some, min, slice_get, true, vec_len, IfNone, IfOk, IfSome, OnOk};
 ghost use Rattle.futures.specs.Task.{Keeps};
-ghost use Rattle.he_plan.specs.declared.limits.TheConstants.{MAX_LIMIT};
+ghost use Rattle.he_timeline.specs.declared.limits.TheConstants.{MAX_LIMIT};
 ghost use Rattle.he_plan.specs.Agreement.{AreAlike};
-ghost use Rattle.he_plan.specs.Underway.{IsUnderway};
+ghost use Rattle.he_plan.specs.RaceState.{IsUnderway};
 ghost use Rattle.he_race.specs.declared.limits.TheConstants.{MAX_POLL_TICK};
 ghost use Rattle.he_race.specs.Attempt.{CanPoll};
 ghost use Rattle.he_race.specs.Kept.{InTurn, IsEnded, first_after, IsLive, IsUnfinished, are_untold};
-ghost use Rattle.he_plan.specs.Building.{unrecorded};
+ghost use Rattle.he_timeline.specs.Building.{unrecorded};
 ghost use Rattle.he_race.specs.Listening.{AllListen, Listens};
 ghost use Rattle.he_race.specs.Polling.{AllListenAfter, Answers, AsksInTime, BeginsFrom, EndsWith, GoesOn, HeardListensAfter, Polled, PollsAt, TurnHearsAfter, TurnListensAfter, TurnsFrom};
 ghost use Rattle.he_race.specs.Recording.{slept};
@@ -22,7 +22,8 @@ use crate::faults::ConnectFault;
 use crate::recorder::Recorder;
 use futures::task::{Context, Poll};
 use he_addr::Memory;
-use he_plan::{Attempt, Timeline, Transcript};
+use he_plan::{Attempt, Transcript};
+use he_timeline::Timeline;
 use std::alloc::{Allocator, Global};
 use std::mem::drop;
 

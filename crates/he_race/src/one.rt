@@ -2,8 +2,8 @@
 
 ghost use Rattle.std.specs.Prelude.{◌≡◌, ◌+◌, ◌≤◌, ℕ, IfNone, IfOk, IfSome};
 ghost use Rattle.futures.specs.Poll.{OnPending};
-ghost use Rattle.he_plan.specs.declared.limits.TheConstants.{MAX_LIMIT};
-ghost use Rattle.he_plan.specs.Race.{Race};
+ghost use Rattle.he_timeline.specs.declared.limits.TheConstants.{MAX_LIMIT};
+ghost use Rattle.he_timeline.specs.Race.{Race};
 ghost use Rattle.he_plan.specs.Transcript.{IsTranscript};
 ghost use Rattle.he_race.specs.Following.{GivesScripts, IsUnderWay};
 ghost use Rattle.he_race.specs.Racing.{RacePolls};
@@ -20,8 +20,9 @@ use crate::wheel::WheelTicker;
 use futures::Future;
 use futures::task::{Doorbell, Poll, Solo};
 use he_addr::Memory;
-use he_plan::timeline::are_addresses_in_range;
-use he_plan::{Timeline, Transcript};
+use he_timeline::timeline::are_addresses_in_range;
+use he_plan::Transcript;
+use he_timeline::Timeline;
 use std::alloc::{Allocator, Global};
 use std::mem::drop;
 

@@ -4,7 +4,7 @@ ghost use Rattle.std.specs.Prelude.{◌≡◌, None, IfOk, IfSome, IsSomeAnd};
 ghost use Rattle.std.specs.Borrow.{Lends, sem};
 ghost use Rattle.futures.specs.Poll.{IfReady, OnPending};
 ghost use Rattle.futures.specs.Task.{Covers, IsArmed, Keeps};
-ghost use Rattle.he_plan.specs.Building.{unrecorded};
+ghost use Rattle.he_timeline.specs.Building.{unrecorded};
 ghost use Rattle.he_race.specs.contracts.race.RaceFuture.{the_row};
 ghost use Rattle.he_race.specs.Listening.{RaceHears, RaceListens};
 ghost use Rattle.he_race.specs.Racing.{RacePolls, RacePollsBy, fault_of};
@@ -20,7 +20,7 @@ use crate::ticker::Ticker;
 use futures::Future;
 use futures::task::{Context, Poll};
 use he_addr::Memory;
-use he_plan::Timeline;
+use he_timeline::Timeline;
 use std::alloc::{Allocator, Global};
 use std::mem::drop;
 

@@ -4,24 +4,22 @@
 ghost use Rattle.std.specs.Prelude.{◌≡◌, ◌+◌, ◌-◌, ◌<◌, ◌≤◌, ◌&&◌, ◌||◌, not, Bool, [], Ok, Err, Some, None, true, false, length, option_map, IfErr, IfOk, IfSome, OnErr, OnOk};
 ghost use Rattle.std.specs.List.{Contains, list_all};
 ghost use Rattle.he_addr.specs.Ip.{is_usable};
-ghost use Rattle.he_plan.specs.declared.builder.BuildFault.TheVariants as build_faults;
-ghost use Rattle.he_plan.specs.declared.limits.TheConstants.{MAX_LIMIT, MAX_PAUSES, MAX_PAUSE_END};
+ghost use Rattle.he_timeline.specs.declared.builder.BuildFault.TheVariants as build_faults;
+ghost use Rattle.he_timeline.specs.declared.limits.TheConstants.{MAX_LIMIT, MAX_PAUSES, MAX_PAUSE_END};
 ghost use Rattle.he_plan.specs.Attempts.{is_tried};
-ghost use Rattle.he_plan.specs.Building.{last_end, unrecorded, with_outcome, with_pause};
+ghost use Rattle.he_timeline.specs.Building.{last_end, unrecorded, with_outcome, with_pause};
 ghost use Rattle.he_plan.specs.Due.{IsAfterTurn, IsDueTick};
-ghost use Rattle.he_plan.specs.Race.{has_outcome, is_in_answer, reply_of};
-ghost use Rattle.he_plan.specs.Timeline.{IsRace, duration_of, is_duration};
+ghost use Rattle.he_timeline.specs.Race.{has_outcome, is_in_answer, reply_of};
+ghost use Rattle.he_timeline.specs.Timeline.{IsRace, duration_of, is_duration};
 ghost use Rattle.he_plan.specs.Transcript.{IsTranscript};
-ghost use Rattle.he_plan.specs.Underway.{IsUnderway};
+ghost use Rattle.he_plan.specs.RaceState.{IsUnderway};
 ghost use Rattle.he_race.specs.Answered.{earliest, is_taken, is_tried_out_by, untaken_tick};
 ghost use Rattle.he_race.specs.Kept.{Begins, InTurn, IsRecorder, IsEnded, MakesOne, Rests, first_after};
 ghost use Rattle.he_race.specs.Recording.{ended_by, is_won, slept};
 
 use he_addr::{Family, Ip, Memory};
-use he_plan::{
-    Attempt, BuildFault, Outcome, Timeline, TimelineBuilder, Transcript, Underway,
-    transcript_at_stop, winner,
-};
+use he_plan::{Attempt, Transcript, RaceState, transcript_at_stop, winner};
+use he_timeline::{BuildFault, Outcome, Timeline, TimelineBuilder};
 use std::alloc::{Allocator, Global};
 use std::mem::drop;
 
@@ -29,7 +27,7 @@ use std::mem::drop;
 pub(crate) struct Recorder {
     pub(crate) alloc: Global,
     pub(crate) recorded: TimelineBuilder,
-    pub(crate) underway: Underway,
+    pub(crate) underway: RaceState,
     pub(crate) turn: Option<u64>,
     pub(crate) due: u64,
 }
@@ -46,7 +44,7 @@ impl Recorder {
         ensures attempts { IfOk result (λ c. c.underway.attempts ≡ []) }
     {
         let recorded = TimelineBuilder::without_record(alloc, timeline)?;
-        let underway = Underway::new(alloc);
+        let underway = RaceState::new(alloc);
         let due = due_tick(recorded.timeline(), &underway, None);
         Ok(Recorder {
             alloc,
@@ -211,7 +209,7 @@ pub(crate) fn only_memory(answer: Result<(), BuildFault>) -> Result<(), Memory>
 fn start_due(
     alloc: Global,
     race: &Timeline,
-    underway: &mut Underway,
+    underway: &mut RaceState,
     now: u64,
 ) -> Result<(), Memory>
     requires in_turn { InTurn race.now now underway.old.attempts false }
@@ -228,7 +226,7 @@ fn start_due(
 }
 
 // The least tick at which something is due after the turn.
-fn due_tick(race: &Timeline, underway: &Underway, turn: Option<u64>) -> u64
+fn due_tick(race: &Timeline, underway: &RaceState, turn: Option<u64>) -> u64
     requires underway { IsUnderway race.now underway.now }
     requires after { IsAfterTurn race.now turn underway.now.attempts }
     requires over { last_end race.now.pauses ≤ first_after turn }

@@ -4,7 +4,7 @@ ghost use Rattle.std.specs.Prelude.{◌≡◌, None, IfOk, IfSome, IsSomeAnd};
 ghost use Rattle.std.specs.Borrow.{Lends, sem};
 ghost use Rattle.futures.specs.Poll.{IfReady, OnPending};
 ghost use Rattle.futures.specs.Task.{Covers, Keeps};
-ghost use Rattle.he_plan.specs.Building.{unrecorded};
+ghost use Rattle.he_timeline.specs.Building.{unrecorded};
 ghost use Rattle.he_race.specs.contracts.resolving.ResolvingRace.{the_row};
 ghost use Rattle.he_race.specs.Kept.{IsLive};
 ghost use Rattle.he_race.specs.Listening.{RaceHears, RaceListens};
@@ -21,7 +21,7 @@ use crate::ticker::Ticker;
 use futures::Future;
 use futures::task::{Context, Poll};
 use he_addr::Memory;
-use he_plan::Timeline;
+use he_timeline::Timeline;
 use std::alloc::{Allocator, Global};
 
 /// A race whose answers come while it runs (RFC 8305 section 3): each turn polls its source for each family that has no

@@ -14,7 +14,8 @@ use crate::limits::MAX_POLL_TICK;
 use crate::scripted::{Scripted, ScriptedTrial};
 use futures::task::{Doorbell, Poll, Solo};
 use he_addr::Memory;
-use he_plan::{Attempt, Fate, Plan, Timeline};
+use he_plan::{Attempt, Fate, Plan};
+use he_timeline::Timeline;
 use std::alloc::{Allocator, Global};
 
 /// What becomes of the plan's attempt of this place, by polling it at its start and then at each tick at which it is

@@ -7,7 +7,7 @@ use crate::faults::ConnectFault;
 use crate::trial::Trial;
 use futures::task::{Context, Poll};
 use he_addr::Ip;
-use he_plan::{Outcome, Timeline};
+use he_timeline::{Outcome, Timeline};
 use std::alloc::{Allocator, Global};
 
 /// The connector that gives a timeline's outcomes: a trial that begins at a tick answers its address's outcome once

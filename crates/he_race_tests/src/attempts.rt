@@ -1,7 +1,8 @@
 // One attempt at a time: what it comes to by the rules of a race.
 
 use crate::homes::{Given, race};
-use he_plan::{Fate, Outcome, Plan, Timeline, plan};
+use he_plan::{Fate, Plan, plan};
+use he_timeline::{Outcome, Timeline};
 use he_race::run_attempt;
 use std::alloc::Global;
 use std::mem::drop;

@@ -1,7 +1,7 @@
 // The host and the addresses of the worked races.
 
 use he_addr::{Family, Ip, Prefix};
-use he_plan::{Outcome, Range, Settings, Timeline, TimelineBuilder};
+use he_timeline::{Outcome, Range, Settings, Timeline, TimelineBuilder};
 use he_select::{Host, Policy, Route, Source};
 use std::alloc::Global;
 use std::mem::drop;

@@ -3,7 +3,8 @@
 use crate::homes::{Known, V4_A, V6_A, V6_B, known_race};
 use crate::races::{Stepping, drive};
 use futures::task::{Doorbell, Solo};
-use he_plan::{Line, Mark, Outcome3, Timeline};
+use he_plan::{Line, Mark, Outcome3};
+use he_timeline::Timeline;
 use he_race::{RaceFault, RaceFuture, Raced, Scripted, WheelTicker};
 use std::alloc::Global;
 use std::mem::drop;

@@ -7,7 +7,8 @@ use crate::homes::{Given, V4_A, V6_A, first_race, race};
 use futures::Future;
 use futures::task::{Context, Doorbell, Poll, Solo};
 use he_addr::Ip;
-use he_plan::{Mark, Outcome, Outcome3, Timeline};
+use he_plan::{Mark, Outcome3};
+use he_timeline::{Outcome, Timeline};
 use he_race::{
     ConnectFault, Connector, RaceFault, RaceFuture, Raced, Scripted, ScriptedTrial, TickFault,
     Ticker, WheelTicker,

@@ -2,7 +2,7 @@
 
 use crate::homes::{Given, race};
 use futures::task::{Doorbell, Solo};
-use he_plan::Timeline;
+use he_timeline::Timeline;
 use he_race::{Ticker, WheelTicker};
 use std::alloc::Global;
 use std::mem::drop;

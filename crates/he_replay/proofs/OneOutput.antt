@@ -6,8 +6,8 @@ use Rattle.he_explain.specs.Course.{explanation_text}
 use Rattle.he_json.specs.Explanation.{explanation_json}
 use Rattle.he_json.specs.Transcripts.{transcript_json}
 use Rattle.he_page.specs.Page.{section_text}
-use Rattle.he_plan.specs.Changes.{ChangeValues, changed}
-use Rattle.he_plan.specs.Race.{Race}
+use Rattle.he_timeline.specs.Changes.{ChangeValues, changed}
+use Rattle.he_timeline.specs.Race.{Race}
 use Rattle.he_plan.specs.Transcript.{Report, IsTranscript}
 use Rattle.he_story.specs.Floor.{floored}
 use Rattle.he_story.specs.Story.{IsStory, story_text}

@@ -1,7 +1,7 @@
 -- Texts of races, each at its place in the input.
 use Rattle.std.proofs.Common.{ℕ, ◌≡◌, ◌+◌, ◌++◌, ◌∙◌, List, [], ◌∷◌, length, sym, ap, subst, arith, append_assoc}
 use Rattle.std.proofs.lemmas.List.{append_cancel_left}
-use Rattle.he_plan.specs.Race.{Race}
+use Rattle.he_timeline.specs.Race.{Race}
 use Rattle.he_text.specs.Inputs.{AreRaceTexts, line_count}
 use Rattle.he_text.specs.Text.{IsRaceText}
 use Rattle.he_text.proofs.WalkLaws.{line_count-append}

@@ -7,8 +7,8 @@ use Rattle.he_json.specs.Explanation.{IsExplanationJson}
 use Rattle.he_json.specs.Orders.{IsOrderJson}
 use Rattle.he_json.specs.Transcripts.{IsTranscriptJson}
 use Rattle.he_page.specs.Page.{IsSection}
-use Rattle.he_plan.specs.Changes.{ChangeValues, changed}
-use Rattle.he_plan.specs.Race.{Race}
+use Rattle.he_timeline.specs.Changes.{ChangeValues, changed}
+use Rattle.he_timeline.specs.Race.{Race}
 use Rattle.he_plan.specs.Transcript.{IsTranscript, Report}
 use Rattle.he_story.specs.Story.{IsStory}
 use Rattle.he_text.specs.declared.inputs.InputFault.{InputFault}

@@ -4,7 +4,7 @@ use Rattle.std.specs.Prelude.{ℕ, ◌≤◌, List, All, drop, length}
 use Rattle.he_board.specs.declared.board.Board.{Board}
 use Rattle.he_board.specs.declared.pass.Pass.{Pass}
 use Rattle.he_board.specs.Passes.{IsPassOf, jobs_of, notes}
-use Rattle.he_plan.specs.Race.{Race}
+use Rattle.he_timeline.specs.Race.{Race}
 use Rattle.he_text.specs.declared.walks.Walk.{Walk}
 use Rattle.he_replay.specs.declared.pieces.Piece.{Piece}
 use Rattle.he_replay.specs.Output.{TextRelation}

@@ -1,7 +1,7 @@
 -- What is taken from an input of races and put into an output.
 use Rattle.std.specs.Prelude.{ℕ, ◌≡◌, ◌≤◌, ◌⊎◌, ◌++◌, Bool, List, Option, None, Some, Result, Ok, Err, length}
-use Rattle.he_plan.specs.Changes.{ChangeValues}
-use Rattle.he_plan.specs.Race.{Race}
+use Rattle.he_timeline.specs.Changes.{ChangeValues}
+use Rattle.he_timeline.specs.Race.{Race}
 use Rattle.he_pool.specs.declared.limits.TheConstants.{LEAST_WORKERS, MOST_WORKERS}
 use Rattle.he_text.specs.declared.fault.TextFault.{TextFault}
 use Rattle.he_text.specs.declared.inputs.InputFault.{InputFault}

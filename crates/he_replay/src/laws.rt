@@ -5,7 +5,7 @@ ghost use Rattle.he_text.specs.declared.inputs.InputFault.{InputFault};
 ghost use Rattle.he_text.specs.declared.inputs.InputFault.TheVariants.{Text};
 ghost use Rattle.he_pool.specs.declared.limits.TheConstants.{LEAST_WORKERS, MOST_WORKERS};
 ghost use Rattle.he_pool.specs.Limits.{least_workers, most_workers};
-ghost use Rattle.he_plan.specs.Changes.{ChangeValues};
+ghost use Rattle.he_timeline.specs.Changes.{ChangeValues};
 ghost use Rattle.he_replay.specs.declared.race_texts.Content.{Content};
 ghost use Rattle.he_replay.specs.Known.{IsKnown};
 ghost use Rattle.he_replay.specs.Output.{IsOutput, IsTextWith};

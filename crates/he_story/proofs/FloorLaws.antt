@@ -5,15 +5,15 @@ use Rattle.std.specs.List.{list_all}
 use Rattle.std.proofs.lemmas.Bool.{cases_lt}
 use Rattle.he_addr.specs.declared.ip.Ip.{Ip}
 use Rattle.he_plan.specs.declared.attempts.Attempt.{Attempt}
-use Rattle.he_plan.specs.declared.limits.TheConstants.{MIN_FLOOR}
-use Rattle.he_plan.specs.declared.outcome.Outcome.{Outcome}
-use Rattle.he_plan.specs.declared.outcome.Outcome.TheVariants as outcomes
+use Rattle.he_timeline.specs.declared.limits.TheConstants.{MIN_FLOOR}
+use Rattle.he_timeline.specs.declared.outcome.Outcome.{Outcome}
+use Rattle.he_timeline.specs.declared.outcome.Outcome.TheVariants as outcomes
 use Rattle.he_plan.specs.declared.transcript.Line.{Line}
-use Rattle.he_plan.specs.Attempts.{AreAttempts, HasWaited, HaveFailed, IsNext, MayBegin, MayFollow, MayStart, has_failed, has_failed_by, last_of, outcome_of}
+use Rattle.he_plan.specs.Attempts.{AreAttempts, HasWaited, HaveFailed, IsNext, MayBegin, MayFollow, MayStart, has_failed, has_failed_by, last_of}
+use Rattle.he_timeline.specs.Race.{outcome_of, Race}
 use Rattle.he_plan.specs.Continuing.{Continues}
-use Rattle.he_plan.specs.Race.{Race}
 use Rattle.he_plan.specs.Transcript.{IsTranscript, Report, line_of, lines_of, stop_of}
-use Rattle.he_plan.proofs.Bools.{and_left, and_right, clash, le_from, lt_test, not_lt}
+use Rattle.he_timeline.proofs.Bools.{and_left, and_right, clash, le_from, lt_test, not_lt}
 use Rattle.he_plan.proofs.InTurn.{are-continues, continues-are, in_turn-none}
 use Rattle.he_plan.proofs.Lawful.{attempts-prefix}
 use Rattle.he_story.specs.Beginning.{begins_unfailing, is_failure}

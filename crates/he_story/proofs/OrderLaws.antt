@@ -6,7 +6,7 @@ use Rattle.std.specs.List.{concat}
 use Rattle.he_addr.specs.declared.ip.Ip.{Ip}
 use Rattle.he_addr.specs.Printing.{printed}
 use Rattle.he_plan.specs.Attempts.{order}
-use Rattle.he_plan.specs.Race.{Race, race_input, usable_addresses}
+use Rattle.he_timeline.specs.Race.{Race, race_input, usable_addresses}
 use Rattle.he_select.specs.declared.deciding.DestinationRule.{DestinationRule}
 use Rattle.he_select.specs.declared.host.Route.{Route}
 use Rattle.he_select.specs.declared.standing.Standing.{Standing}

@@ -1,10 +1,9 @@
 -- Mirrors the code: what private functions answer of a race's first attempt.
 use Rattle.std.specs.Prelude.{Bool, false, true, not, List, [], ◌∷◌, Option, Some}
-use Rattle.he_plan.specs.declared.outcome.Outcome.{Outcome}
-use Rattle.he_plan.specs.declared.outcome.Outcome.TheVariants as outcomes
+use Rattle.he_timeline.specs.declared.outcome.Outcome.{Outcome}
+use Rattle.he_timeline.specs.declared.outcome.Outcome.TheVariants as outcomes
 use Rattle.he_plan.specs.declared.transcript.Line.{Line}
-use Rattle.he_plan.specs.Attempts.{outcome_of}
-use Rattle.he_plan.specs.Race.{Race}
+use Rattle.he_timeline.specs.Race.{outcome_of, Race}
 
 abbrev pub is_failure : Option Outcome → Bool
 is_failure (Some (outcomes.Fail duration)) = true

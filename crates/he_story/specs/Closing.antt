@@ -6,9 +6,9 @@ use Rattle.he_addr.specs.declared.ip.Family.TheVariants as families
 use Rattle.he_addr.specs.declared.ip.Ip.{Ip}
 use Rattle.he_addr.specs.Ip.{is_usable}
 use Rattle.he_plan.specs.declared.transcript.Line.{Line}
-use Rattle.he_plan.specs.Attempts.{seen}
-use Rattle.he_plan.specs.Race.{Race, Reply}
-use Rattle.he_plan.specs.Timeline.{is_of}
+use Rattle.he_timeline.specs.Seen.{seen}
+use Rattle.he_timeline.specs.Race.{Race, Reply}
+use Rattle.he_timeline.specs.Timeline.{is_of}
 use Rattle.he_plan.specs.Transcript.{Report}
 use Rattle.he_explain.specs.Events.{end_event}
 

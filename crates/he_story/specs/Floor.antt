@@ -1,9 +1,9 @@
 -- What a floor would have changed: the least time between two starts where all attempts so far have failed (own).
 use Rattle.std.specs.Prelude.{ℕ, ◌++◌, ◌&&◌, if◌then◌else◌, List, [], ◌∷◌, decimal, codes, Bool, is_none, nat_lt, Some, None}
 use Rattle.std.specs.List.{concat}
-use Rattle.he_plan.specs.declared.limits.TheConstants.{MIN_FLOOR}
-use Rattle.he_plan.specs.Changes.{changed}
-use Rattle.he_plan.specs.Race.{Race}
+use Rattle.he_timeline.specs.declared.limits.TheConstants.{MIN_FLOOR}
+use Rattle.he_timeline.specs.Changes.{changed}
+use Rattle.he_timeline.specs.Race.{Race}
 use Rattle.he_plan.specs.Transcript.{Report}
 use Rattle.he_explain.specs.Events.{end_event}
 use Rattle.he_story.specs.Heading.{ending_text}

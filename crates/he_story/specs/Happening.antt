@@ -7,7 +7,7 @@ use Rattle.he_addr.specs.declared.ip.Family.TheVariants as families
 use Rattle.he_addr.specs.Ip.{family_of}
 use Rattle.he_addr.specs.Printing.{printed}
 use Rattle.he_plan.specs.declared.transcript.Line.{Line}
-use Rattle.he_plan.specs.Race.{Race, reply_of}
+use Rattle.he_timeline.specs.Race.{Race, reply_of}
 use Rattle.he_plan.specs.Transcript.{Report}
 use Rattle.he_explain.specs.declared.cause.Cause.{Cause}
 use Rattle.he_explain.specs.declared.cause.Cause.TheVariants as causes

@@ -6,7 +6,7 @@ use Rattle.he_addr.specs.declared.ip.Ip.{Ip}
 use Rattle.he_addr.specs.declared.ip.Ip.TheVariants.{V4, V6}
 use Rattle.he_addr.specs.Bits.{agrees}
 use Rattle.he_addr.specs.Printing.{printed}
-use Rattle.he_plan.specs.Race.{Race, race_input}
+use Rattle.he_timeline.specs.Race.{Race, race_input}
 use Rattle.he_select.specs.declared.deciding.DestinationRule.{DestinationRule}
 use Rattle.he_select.specs.declared.deciding.DestinationRule.TheVariants as rules
 use Rattle.he_select.specs.declared.host.Route.{Route}

@@ -1,6 +1,6 @@
 -- The story of a race, for a person to read.
 use Rattle.std.specs.Prelude.{ℕ, ◌≡◌, ◌++◌, List}
-use Rattle.he_plan.specs.Race.{Race}
+use Rattle.he_timeline.specs.Race.{Race}
 use Rattle.he_plan.specs.Transcript.{IsTranscript, Report}
 use Rattle.he_story.specs.Closing.{closing_text}
 use Rattle.he_story.specs.Floor.{floor_text, floored}

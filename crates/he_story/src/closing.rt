@@ -3,15 +3,16 @@
 ghost use Rattle.std.specs.Prelude.{◌≡◌, ◌++◌, OnOk};
 ghost use Rattle.std.specs.List.{list_any};
 ghost use Rattle.he_addr.specs.Ip.{is_usable};
-ghost use Rattle.he_plan.specs.Race.{reply_of};
-ghost use Rattle.he_plan.specs.Timeline.{is_of};
+ghost use Rattle.he_timeline.specs.Race.{reply_of};
+ghost use Rattle.he_timeline.specs.Timeline.{is_of};
 ghost use Rattle.he_explain.specs.Events.{end_event};
 ghost use Rattle.he_story.specs.Closing.{answer_text, closing_text, first_of, gap_text, missing_text, name_of, seen_text};
 
 use crate::parts::{Part, write_parts};
 use he_addr::{Family, Ip, Memory};
 use he_explain::end_tick;
-use he_plan::{Line, Timeline, Transcript};
+use he_plan::{Line, Transcript};
+use he_timeline::Timeline;
 use std::alloc::Allocator;
 
 fn name_of(family: Family) -> &'static [u8]

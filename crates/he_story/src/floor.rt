@@ -1,7 +1,7 @@
 // What a floor would have changed.
 
 ghost use Rattle.std.specs.Prelude.{◌≡◌, ◌++◌, None, Some, IfOk, IsTrue, OnOk};
-ghost use Rattle.he_plan.specs.declared.limits.TheConstants.{MIN_FLOOR};
+ghost use Rattle.he_timeline.specs.declared.limits.TheConstants.{MIN_FLOOR};
 ghost use Rattle.he_plan.specs.Transcript.{IsTranscript};
 ghost use Rattle.he_story.specs.Beginning.{begins_unfailing, is_failure};
 ghost use Rattle.he_story.specs.Floor.{ends_sooner, floor_text, floored, setting_text, with_floor_text};
@@ -10,8 +10,9 @@ use crate::heading::write_ending_of;
 use crate::parts::{Part, write_parts, write_words};
 use he_addr::Memory;
 use he_explain::end_tick;
-use he_plan::limits::MIN_FLOOR;
-use he_plan::{Changes, Line, Outcome, Timeline, Transcript, transcript_of};
+use he_timeline::limits::MIN_FLOOR;
+use he_plan::{Line, Transcript, transcript_of};
+use he_timeline::{Changes, Outcome, Timeline};
 use std::alloc::Allocator;
 
 // Whether there is a first attempt, and it does not fail.

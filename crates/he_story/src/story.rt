@@ -10,7 +10,8 @@ use crate::happening::write_happening;
 use crate::heading::write_heading;
 use crate::preferred::write_preferred;
 use he_addr::Memory;
-use he_plan::{Timeline, Transcript, sorted_standings, transcript_of};
+use he_plan::{Transcript, sorted_standings, transcript_of};
+use he_timeline::Timeline;
 use std::alloc::Allocator;
 
 #[tactic(auto, unfolding(he_explain::specs::Reasons::standings_of))]

@@ -10,13 +10,13 @@ use Rattle.std.proofs.lemmas.List.Sums.{count_by-le-length, length-filter, sum_b
 use Rattle.std.proofs.lemmas.Option.{slice_get-map}
 use Rattle.he_addr.specs.declared.ip.Family.TheVariants as families
 use Rattle.he_plan.specs.Finish.{IsWinner, fate_of}
-use Rattle.he_plan.specs.Race.{Race, Reply}
-use Rattle.he_plan.specs.Timeline.{IsRace}
+use Rattle.he_timeline.specs.Race.{Race, Reply}
+use Rattle.he_timeline.specs.Timeline.{IsRace}
 use Rattle.he_plan.specs.Transcript.{IsTranscript, Report, is_exhausted, line_of, result_of, stop_of, without_winner}
 use Rattle.he_plan.specs.declared.attempts.Attempt.{Attempt}
 use Rattle.he_plan.specs.declared.finish.Fate.{Fate}
 use Rattle.he_plan.specs.declared.finish.Fate.TheVariants.{Succeeded}
-use Rattle.he_plan.specs.declared.limits.TheConstants.{MAX_ATTEMPTS}
+use Rattle.he_timeline.specs.declared.limits.TheConstants.{MAX_ATTEMPTS}
 use Rattle.he_plan.specs.declared.transcript.Outcome3.{Outcome3}
 use Rattle.he_plan.specs.declared.transcript.Outcome3.TheVariants as results
 use Rattle.he_plan.proofs.Few.{plan-most}

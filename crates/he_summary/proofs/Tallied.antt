@@ -8,10 +8,10 @@ use Rattle.std.proofs.lemmas.List.Sums.{sum_by_push}
 use Rattle.he_addr.specs.Ip.{same_ip}
 use Rattle.he_addr.specs.contracts.ip.IpPartialEq.TheImpl.{eq-value}
 use Rattle.he_addr.specs.declared.ip.Ip.{Ip}
-use Rattle.he_plan.proofs.ByAddress.{same_as}
+use Rattle.he_timeline.proofs.ByAddress.{same_as}
 use Rattle.he_plan.proofs.Distinct.{same_ip-is}
-use Rattle.he_plan.proofs.Ranges.{same_ip-sym}
-use Rattle.he_plan.specs.Race.{Race}
+use Rattle.he_timeline.proofs.Ranges.{same_ip-sym}
+use Rattle.he_timeline.specs.Race.{Race}
 use Rattle.he_plan.specs.declared.transcript.Line.{Line}
 use Rattle.he_summary.specs.Counting.{tried}
 use Rattle.he_summary.specs.Tries.{AreTallies, Try, is_lost, tally_at, tally_of, try_of}

@@ -4,8 +4,8 @@ use Rattle.std.specs.List.{sum_by}
 use Rattle.he_addr.specs.Ip.{family_of}
 use Rattle.he_addr.specs.declared.ip.Family.{Family}
 use Rattle.he_addr.specs.declared.ip.Family.TheVariants as families
-use Rattle.he_plan.specs.Attempts.{seen}
-use Rattle.he_plan.specs.Race.{Race, Reply}
+use Rattle.he_timeline.specs.Seen.{seen}
+use Rattle.he_timeline.specs.Race.{Race, Reply}
 use Rattle.he_plan.specs.Transcript.{Report}
 use Rattle.he_plan.specs.declared.transcript.Line.{Line}
 use Rattle.he_plan.specs.declared.transcript.Outcome3.{Outcome3}

@@ -1,8 +1,8 @@
 -- Mirrors the code: what is kept while the walk over an input goes on. What a summary is stands in `Summed`.
 use Rattle.std.specs.Prelude.{ℕ, ◌≡◌, ◌<◌, ◌^◌, ⊤, Bool, true, false, List, ◌∷◌, [], ◌++◌, drop, length, Option, Some, None, Result, Ok, Err}
 use Rattle.std.specs.List.{AllZip}
-use Rattle.he_plan.specs.Changes.{ChangeValues, changed}
-use Rattle.he_plan.specs.Race.{Race}
+use Rattle.he_timeline.specs.Changes.{ChangeValues, changed}
+use Rattle.he_timeline.specs.Race.{Race}
 use Rattle.he_plan.specs.Transcript.{IsTranscript, Report}
 use Rattle.he_text.specs.Inputs.{HasRaces}
 use Rattle.he_text.specs.Walks.{EndsAt, HasPassed, IsWalkFault, IsWithin, PassesRace, ending_of}

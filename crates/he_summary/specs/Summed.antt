@@ -2,10 +2,10 @@
 use Rattle.std.specs.Prelude.{ℕ, ◌≡◌, ◌≤◌, ◌*◌, ◌^◌, ◌++◌, ⊤, Bool, List, map, length, IsPermutation, Option, Some, None, Result, Ok, Err}
 use Rattle.std.specs.List.{filter_map, flat_map, AllZip}
 use Rattle.he_addr.specs.declared.ip.Ip.{Ip}
-use Rattle.he_plan.specs.Changes.{ChangeValues, changed}
-use Rattle.he_plan.specs.Race.{Race}
+use Rattle.he_timeline.specs.Changes.{ChangeValues, changed}
+use Rattle.he_timeline.specs.Race.{Race}
 use Rattle.he_plan.specs.Transcript.{IsTranscript}
-use Rattle.he_plan.specs.declared.limits.TheConstants.{MAX_ATTEMPTS}
+use Rattle.he_timeline.specs.declared.limits.TheConstants.{MAX_ATTEMPTS}
 use Rattle.he_text.specs.Inputs.{HasRaces}
 use Rattle.he_text.specs.Ranges.{most_races}
 use Rattle.he_text.specs.declared.inputs.InputFault.{InputFault}

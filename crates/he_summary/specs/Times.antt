@@ -1,6 +1,6 @@
 -- The times to connect of races.
 use Rattle.std.specs.Prelude.{ℕ, ◌≡◌, ◌≤◌, ◌*◌, List, [], length, count_by, nat_le, Option, Some, None}
-use Rattle.he_plan.specs.Attempts.{IsLeast}
+use Rattle.he_timeline.specs.Seen.{IsLeast}
 use Rattle.he_summary.specs.declared.times.Spread.{Spread}
 
 -- the least time within which at least so many of 100 of the times lie

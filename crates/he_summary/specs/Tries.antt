@@ -8,9 +8,8 @@ use Rattle.std.specs.Ordering.{nat_cmp, ordering_then}
 use Rattle.std.specs.declared.cmp.Ordering.{Ordering}
 use Rattle.he_addr.specs.Ip.{mapped_of, same_ip}
 use Rattle.he_addr.specs.declared.ip.Ip.{Ip}
-use Rattle.he_plan.specs.Attempts.{outcome_of}
-use Rattle.he_plan.specs.Race.{Race}
-use Rattle.he_plan.specs.declared.outcome.Outcome.{Outcome}
+use Rattle.he_timeline.specs.Race.{outcome_of, Race}
+use Rattle.he_timeline.specs.declared.outcome.Outcome.{Outcome}
 use Rattle.he_plan.specs.declared.transcript.Line.{Line}
 use Rattle.he_plan.specs.declared.transcript.Mark.{Mark}
 use Rattle.he_plan.specs.declared.transcript.Mark.TheVariants.{Won, Failed, Cancelled}

@@ -1,10 +1,11 @@
 // How a race went, as it is counted.
 ghost use Rattle.std.specs.Prelude.{◌≡◌};
-ghost use Rattle.he_plan.specs.Timeline.{IsRace};
+ghost use Rattle.he_timeline.specs.Timeline.{IsRace};
 ghost use Rattle.he_summary.specs.Courses.{course_of, ending_of, family_at, has_waited};
 
 use he_addr::Family;
-use he_plan::{Line, Outcome3, Timeline, Transcript};
+use he_plan::{Line, Outcome3, Transcript};
+use he_timeline::Timeline;
 use std::alloc::Allocator;
 
 // How a race ended. A win has the family of the winner's address, and the time to connect in milliseconds.

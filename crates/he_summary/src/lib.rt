@@ -1,7 +1,7 @@
 //! Many races at a glance.
 //!
 //! A [`Summary`] reads inputs of timelines, one after the other, and tells of all their races, with the changes of
-//! their settings ([`Changes`](he_plan::Changes)), in few lines or in one JSON object:
+//! their settings ([`Changes`](he_timeline::Changes)), in few lines or in one JSON object:
 //!
 //! ```text
 //! 2000 races: 1890 won (1500 by IPv6, 390 by IPv4), 90 exhausted, 20 at the limit

@@ -5,7 +5,8 @@ ghost use Rattle.he_summary.specs.Tries.{AreRanked, AreTallies, Try, failed_firs
 ghost use Rattle.he_summary.specs.Counting.{MayTally, tried};
 
 use he_addr::{Ip, Memory};
-use he_plan::{Line, Mark, Timeline, Transcript};
+use he_plan::{Line, Mark, Transcript};
+use he_timeline::Timeline;
 use indexmap::IndexMap;
 use std::alloc::Allocator;
 use std::cmp::Reverse;

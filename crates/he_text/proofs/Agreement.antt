@@ -5,8 +5,8 @@ use Rattle.std.specs.Prelude.{◌⊎◌, ◌||◌}
 use Rattle.std.proofs.lemmas.Slice.Eq.{bytes_eq-Decides}
 use Rattle.std.specs.Str.{bytes_eq}
 use Rattle.std.proofs.lemmas.Bool.{ltb-false, leb-false, lt-leb}
-use Rattle.he_plan.specs.Building.{empty_race}
-use Rattle.he_plan.specs.Race.{Race}
+use Rattle.he_timeline.specs.Building.{empty_race}
+use Rattle.he_timeline.specs.Race.{Race}
 use Rattle.he_text.specs.declared.draft.LastGroup.{LastGroup}
 use Rattle.he_text.specs.declared.fault.TextKind.{TextKind}
 use Rattle.he_text.specs.declared.fault.TextKind.TheVariants as kinds

@@ -5,10 +5,10 @@ use Rattle.std.specs.List.{AllZip, AllByRecursion, filter_map, cons_option, list
 use Rattle.std.proofs.lemmas.Bool.{lt-leb, le-leb, le-ltb, leb-true, and_from, and_parts}
 use Rattle.std.proofs.lemmas.List.Elements.{filter_map-append}
 use Rattle.he_addr.specs.declared.ip.Family.TheVariants as families
-use Rattle.he_plan.specs.declared.limits.TheConstants.{MAX_PAUSES, MIN_FLOOR, DEFAULT_ATTEMPT}
-use Rattle.he_plan.specs.Building.{last_end}
-use Rattle.he_plan.specs.Race.{has_ip, has_outcome, is_told}
-use Rattle.he_plan.specs.Timeline.{are_distinct, are_pauses, are_told_once}
+use Rattle.he_timeline.specs.declared.limits.TheConstants.{MAX_PAUSES, MIN_FLOOR, DEFAULT_ATTEMPT}
+use Rattle.he_timeline.specs.Building.{last_end}
+use Rattle.he_timeline.specs.Race.{has_ip, has_outcome, is_told}
+use Rattle.he_timeline.specs.Timeline.{are_distinct, are_pauses, are_told_once}
 use Rattle.he_select.proofs.Admitted.{no_fault_from}
 use Rattle.he_select.specs.declared.limits.TheConstants.{ROWS, SOURCES, ROUTES}
 use Rattle.he_select.specs.declared.policy.Row.{Row}

@@ -8,11 +8,11 @@ use Rattle.std.proofs.lemmas.List.Elements.{filter_map-append}
 use Rattle.std.proofs.lemmas.List.Folds.{list_any-append, list_all-append}
 use Rattle.he_addr.specs.declared.ip.Ip.{Ip}
 use Rattle.he_addr.specs.Ip.{same_ip}
-use Rattle.he_plan.specs.Building.{last_end}
-use Rattle.he_plan.specs.declared.limits.TheConstants.{MAX_PAUSE_END}
-use Rattle.he_plan.specs.Race.{has_ip, is_told}
-use Rattle.he_plan.specs.Timeline.{are_distinct, are_told_once, are_pauses}
-use Rattle.he_plan.proofs.Ranges.{same_ip-sym}
+use Rattle.he_timeline.specs.Building.{last_end}
+use Rattle.he_timeline.specs.declared.limits.TheConstants.{MAX_PAUSE_END}
+use Rattle.he_timeline.specs.Race.{has_ip, is_told}
+use Rattle.he_timeline.specs.Timeline.{are_distinct, are_told_once, are_pauses}
+use Rattle.he_timeline.proofs.Ranges.{same_ip-sym}
 use Rattle.he_select.specs.Refusals.{repeat_from, first_repeat}
 
 -- what stands before, at and behind one that gives something

@@ -9,13 +9,13 @@ use Rattle.he_addr.specs.declared.ip.Family.TheVariants as families
 use Rattle.he_addr.specs.declared.ip.Ip.{Ip}
 use Rattle.he_addr.specs.Ip.{is_usable}
 use Rattle.he_addr.specs.Prefix.{width_of}
-use Rattle.he_plan.specs.declared.limits.TheConstants.{MAX_TICK, MAX_ADDRESSES}
-use Rattle.he_plan.specs.Race.{Reply, addresses_of, has_ip, is_in_answer}
-use Rattle.he_plan.specs.Timeline.{IsRace, are_of, are_distinct, is_answer, is_rtt, is_outcome, is_duration, duration_of}
+use Rattle.he_timeline.specs.declared.limits.TheConstants.{MAX_TICK, MAX_ADDRESSES}
+use Rattle.he_timeline.specs.Race.{Reply, addresses_of, has_ip, is_in_answer}
+use Rattle.he_timeline.specs.Timeline.{IsRace, are_of, are_distinct, is_answer, is_rtt, is_outcome, is_duration, duration_of}
 use Rattle.he_select.proofs.Admitted.{no_fault as no_table_fault}
 use Rattle.he_select.proofs.Causes.{none_stands, unmapped, not_caused}
 use Rattle.he_select.proofs.Hosted.{all_sound, no_fault as no_host_fault}
-use Rattle.he_select.specs.Hosts.{IsHost}
+use Rattle.he_select.specs.Hosts.{IsHost, same_source, same_route}
 use Rattle.he_select.specs.declared.host.HostFault.TheVariants as hosts
 use Rattle.he_select.specs.declared.policy.PolicyFault.TheVariants as policies
 use Rattle.he_select.specs.declared.host.Source.{Source}
@@ -23,7 +23,6 @@ use Rattle.he_select.specs.declared.host.Route.{Route}
 use Rattle.he_select.specs.declared.limits.TheConstants.{ROWS, SOURCES, ROUTES}
 use Rattle.he_select.specs.declared.policy.Row.{Row}
 use Rattle.he_select.specs.HostFaults.{host_causes, host_fault, is_sound_source}
-use Rattle.he_select.specs.Hosts.{same_source, same_route}
 use Rattle.he_select.specs.Refusals.{first_repeat}
 use Rattle.he_select.specs.TableFaults.{table_causes, table_fault}
 use Rattle.he_select.specs.Tables.{IsAdmitted, same_row}

@@ -7,8 +7,8 @@ use Rattle.he_addr.specs.declared.ip.Family.{Family}
 use Rattle.he_addr.specs.declared.ip.Ip.{Ip}
 use Rattle.he_addr.specs.Ip.{is_usable}
 use Rattle.he_addr.specs.Reading.{number_in, ip_in, prefix_in, source_in}
-use Rattle.he_plan.specs.Timeline.{is_of}
-use Rattle.he_plan.specs.declared.limits.TheConstants.{MAX_ADDRESSES}
+use Rattle.he_timeline.specs.Timeline.{is_of}
+use Rattle.he_timeline.specs.declared.limits.TheConstants.{MAX_ADDRESSES}
 use Rattle.he_text.specs.Ranges.{most_source_marks, most_route_marks}
 use Rattle.he_text.specs.declared.fault.TextKind.{TextKind}
 use Rattle.he_text.specs.declared.fault.TextKind.TheVariants as kinds

@@ -5,12 +5,11 @@ use Rattle.std.specs.Option.{ok_or}
 use Rattle.he_addr.specs.declared.ip.Family.{Family}
 use Rattle.he_addr.specs.declared.ip.Family.TheVariants as families
 use Rattle.he_addr.specs.declared.ip.Ip.{Ip}
-use Rattle.he_addr.specs.Reading.{ip_in, ip_of_in}
-use Rattle.he_addr.specs.Reading.{◌>>=◌ as bound}
-use Rattle.he_plan.specs.Timeline.{is_of}
+use Rattle.he_addr.specs.Reading.{ip_in, ip_of_in, ◌>>=◌ as bound}
+use Rattle.he_timeline.specs.Timeline.{is_of}
 use Rattle.he_text.specs.declared.fault.TextKind.{TextKind}
-use Rattle.he_plan.specs.Building.{add_answer}
-use Rattle.he_plan.specs.Race.{Race}
+use Rattle.he_timeline.specs.Building.{add_answer}
+use Rattle.he_timeline.specs.Race.{Race}
 use Rattle.he_text.specs.declared.fault.TextKind.TheVariants as kinds
 use Rattle.he_text.specs.Forms.{address_in, addresses_in, listed_in, answer_in, setting_in, pause_in, row_in, connect_in, ◌>>=◌}
 use Rattle.he_text.specs.Reading.{prepend, built, with_tick, take_listed, take_answer}

@@ -11,11 +11,11 @@ use Rattle.he_addr.specs.declared.ip.Ip.{Ip}
 use Rattle.he_addr.specs.Ip.{is_usable}
 use Rattle.std.specs.Net.Reader.{read_ipv4, read_octet, read_number, read_ipv6, read_segments, read_segment}
 use Rattle.he_addr.specs.Reading.{ip_in, prefix_in, source_in, v4_in, v6_in}
-use Rattle.he_plan.specs.declared.limits.TheConstants.{MAX_TICK, MIN_DURATION, MAX_DURATION, MAX_PAUSE_END, MAX_ADDRESSES}
-use Rattle.he_plan.specs.declared.outcome.Outcome.{Outcome}
-use Rattle.he_plan.specs.declared.outcome.Outcome.TheVariants as outcomes
-use Rattle.he_plan.specs.Race.{Reply}
-use Rattle.he_plan.specs.Timeline.{is_of, are_of, duration_of}
+use Rattle.he_timeline.specs.declared.limits.TheConstants.{MAX_TICK, MIN_DURATION, MAX_DURATION, MAX_PAUSE_END, MAX_ADDRESSES}
+use Rattle.he_timeline.specs.declared.outcome.Outcome.{Outcome}
+use Rattle.he_timeline.specs.declared.outcome.Outcome.TheVariants as outcomes
+use Rattle.he_timeline.specs.Race.{Reply}
+use Rattle.he_timeline.specs.Timeline.{is_of, are_of, duration_of}
 use Rattle.he_select.specs.declared.host.Route.{Route}
 use Rattle.he_select.specs.declared.host.Source.{Source}
 use Rattle.he_select.specs.declared.policy.Row.{Row}

@@ -6,7 +6,7 @@ use Rattle.std.specs.Option.{option_map_or, option_or}
 use Rattle.std.proofs.lemmas.Bool.{le-leb, le-ltb, and_from, ne_eqb}
 use Rattle.he_addr.specs.declared.ip.Ip.{Ip}
 use Rattle.he_addr.specs.Prefix.{width_of}
-use Rattle.he_plan.specs.Building.{empty_race}
+use Rattle.he_timeline.specs.Building.{empty_race}
 use Rattle.he_select.specs.declared.limits.TheConstants.{SOURCES, ROUTES}
 use Rattle.he_select.specs.declared.policy.Row.{Row}
 use Rattle.he_select.specs.declared.policy.PolicyFault.{PolicyFault}

@@ -6,8 +6,8 @@ use Rattle.he_addr.specs.declared.ip.Ip.{Ip}
 use Rattle.he_addr.specs.Reading.{number_in, ip_in, prefix_in, source_in}
 use Rattle.he_addr.specs.Text.{Spells}
 use Rattle.he_addr.proofs.ReadLaws.{read_number_spells, spelled_number_reads, read_address_spells, spelled_address_reads, read_source_spells, spelled_source_reads, read_prefix_spells, spelled_prefix_reads}
-use Rattle.he_plan.specs.declared.limits.TheConstants.{MAX_TICK, MIN_DURATION, MAX_DURATION, MAX_PAUSE_END, MAX_ADDRESSES}
-use Rattle.he_plan.specs.Timeline.{duration_of}
+use Rattle.he_timeline.specs.declared.limits.TheConstants.{MAX_TICK, MIN_DURATION, MAX_DURATION, MAX_PAUSE_END, MAX_ADDRESSES}
+use Rattle.he_timeline.specs.Timeline.{duration_of}
 use Rattle.he_text.specs.declared.limits.TheConstants.{MAX_PRECEDENCE, MAX_LABEL, MIN_INTERFACE, MAX_INTERFACE}
 use Rattle.he_text.specs.declared.words.Word.TheVariants as words
 use Rattle.he_text.specs.Forms.{least_value, most_value}

@@ -7,9 +7,9 @@ use Rattle.std.proofs.lemmas.Bool.{eq-eqb, leb-false}
 use Rattle.he_addr.specs.declared.ip.Family.TheVariants as families
 use Rattle.he_addr.specs.declared.ip.Ip.{Ip}
 use Rattle.he_addr.specs.Reading.{ip_in}
-use Rattle.he_plan.specs.declared.limits.TheConstants.{MIN_DURATION, MAX_DURATION, MAX_PAUSES}
-use Rattle.he_plan.specs.declared.outcome.Outcome.{Outcome}
-use Rattle.he_plan.specs.Race.{Reply}
+use Rattle.he_timeline.specs.declared.limits.TheConstants.{MIN_DURATION, MAX_DURATION, MAX_PAUSES}
+use Rattle.he_timeline.specs.declared.outcome.Outcome.{Outcome}
+use Rattle.he_timeline.specs.Race.{Reply}
 use Rattle.he_select.specs.declared.limits.TheConstants.{SOURCES, ROUTES}
 use Rattle.he_select.specs.declared.host.Source.{Source}
 use Rattle.he_select.specs.declared.host.Route.{Route}

@@ -7,16 +7,16 @@ use Rattle.std.proofs.lemmas.Bool.{leb-true, ltb-true, ltb-false, leb-false, and
 use Rattle.he_addr.specs.declared.ip.Family.{Family}
 use Rattle.he_addr.specs.declared.ip.Family.TheVariants as families
 use Rattle.he_addr.specs.declared.ip.Ip.{Ip}
-use Rattle.he_plan.specs.declared.builder.BuildFault.{BuildFault}
-use Rattle.he_plan.specs.declared.builder.BuildFault.TheVariants as faults
-use Rattle.he_plan.specs.declared.limits.TheConstants.{MAX_TICK, MAX_ADDRESSES, MAX_PAUSES, MAX_PAUSE_END, MAX_RESOLUTION, MIN_ATTEMPT, MAX_ATTEMPT, MIN_COUNT, MAX_COUNT, MIN_LIMIT, MAX_LIMIT, MIN_FLOOR, DEFAULT_RESOLUTION, DEFAULT_ATTEMPT, DEFAULT_COUNT, DEFAULT_LIMIT}
-use Rattle.he_plan.specs.declared.outcome.Outcome.{Outcome}
-use Rattle.he_plan.specs.declared.settings.Range.TheVariants as ranges
-use Rattle.he_plan.specs.Building.{add_answer, add_rtt, add_used, add_outcome, add_pause, empty_race, with_answer, with_rtt, with_used, with_outcome, with_pause, last_end}
-use Rattle.he_plan.specs.Race.{Race, Reply, reply_of, has_ip, is_in_answer, is_told, has_outcome}
-use Rattle.he_plan.specs.Settings.{SettingValues, IsSettings, settings_of}
-use Rattle.he_plan.specs.Timeline.{IsRace, are_of, are_distinct, is_duration, duration_of}
-use Rattle.he_plan.proofs.Ranges.{IsRace-with_answer, IsRace-with_rtt, IsRace-with_used, IsRace-with_outcome, IsRace-with_pause}
+use Rattle.he_timeline.specs.declared.builder.BuildFault.{BuildFault}
+use Rattle.he_timeline.specs.declared.builder.BuildFault.TheVariants as faults
+use Rattle.he_timeline.specs.declared.limits.TheConstants.{MAX_TICK, MAX_ADDRESSES, MAX_PAUSES, MAX_PAUSE_END, MAX_RESOLUTION, MIN_ATTEMPT, MAX_ATTEMPT, MIN_COUNT, MAX_COUNT, MIN_LIMIT, MAX_LIMIT, MIN_FLOOR, DEFAULT_RESOLUTION, DEFAULT_ATTEMPT, DEFAULT_COUNT, DEFAULT_LIMIT}
+use Rattle.he_timeline.specs.declared.outcome.Outcome.{Outcome}
+use Rattle.he_timeline.specs.declared.settings.Range.TheVariants as ranges
+use Rattle.he_timeline.specs.Building.{add_answer, add_rtt, add_used, add_outcome, add_pause, empty_race, with_answer, with_rtt, with_used, with_outcome, with_pause, last_end}
+use Rattle.he_timeline.specs.Race.{Race, Reply, reply_of, has_ip, is_in_answer, is_told, has_outcome}
+use Rattle.he_timeline.specs.Settings.{SettingValues, IsSettings, settings_of}
+use Rattle.he_timeline.specs.Timeline.{IsRace, are_of, are_distinct, is_duration, duration_of}
+use Rattle.he_timeline.proofs.Ranges.{IsRace-with_answer, IsRace-with_rtt, IsRace-with_used, IsRace-with_outcome, IsRace-with_pause}
 use Rattle.he_select.specs.declared.host.HostFault.{HostFault}
 use Rattle.he_select.specs.declared.host.Route.{Route}
 use Rattle.he_select.specs.declared.host.Source.{Source}

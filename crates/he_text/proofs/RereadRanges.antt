@@ -10,11 +10,11 @@ use Rattle.he_addr.specs.declared.ip.Ip.{Ip}
 use Rattle.he_addr.specs.declared.ip.Ip.TheVariants.{V4, V6}
 use Rattle.he_addr.specs.Ip.{InRange, is_usable, same_ip}
 use Rattle.he_addr.specs.Prefix.{width_of}
-use Rattle.he_plan.specs.declared.limits.TheConstants.{MAX_TICK, MAX_ADDRESSES, MAX_PAUSE_END, MIN_DURATION, MAX_DURATION, MIN_FLOOR, MAX_ATTEMPT}
-use Rattle.he_plan.specs.declared.outcome.Outcome.{Outcome}
-use Rattle.he_plan.specs.Race.{Race, Reply, addresses_of, has_ip, is_in_answer}
-use Rattle.he_plan.specs.Settings.{SettingValues, IsSettings}
-use Rattle.he_plan.specs.Timeline.{IsRace, are_of, are_distinct, is_answer, is_outcome, is_rtt, is_duration, duration_of, are_pauses}
+use Rattle.he_timeline.specs.declared.limits.TheConstants.{MAX_TICK, MAX_ADDRESSES, MAX_PAUSE_END, MIN_DURATION, MAX_DURATION, MIN_FLOOR, MAX_ATTEMPT}
+use Rattle.he_timeline.specs.declared.outcome.Outcome.{Outcome}
+use Rattle.he_timeline.specs.Race.{Race, Reply, addresses_of, has_ip, is_in_answer}
+use Rattle.he_timeline.specs.Settings.{SettingValues, IsSettings}
+use Rattle.he_timeline.specs.Timeline.{IsRace, are_of, are_distinct, is_answer, is_outcome, is_rtt, is_duration, duration_of, are_pauses}
 use Rattle.he_select.proofs.Causes.{none_stands, unmapped}
 use Rattle.he_select.proofs.Hosted.{no_fault as no_host_fault}
 use Rattle.he_select.specs.Hosts.{IsHost}

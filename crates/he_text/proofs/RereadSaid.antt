@@ -10,10 +10,10 @@ use Rattle.he_addr.specs.Printing.{printed, source_text, prefix_text}
 use Rattle.he_addr.specs.Reading.{ip_in}
 use Rattle.he_addr.specs.Text.{IsToken}
 use Rattle.he_addr.proofs.TextLaws.{numbers_read_back, addresses_read_back, sources_read_back, prefixes_read_back, numbers_are_tokens, addresses_are_tokens, sources_are_tokens, prefixes_are_tokens}
-use Rattle.he_plan.specs.declared.limits.TheConstants.{MAX_TICK, MIN_DURATION, MAX_DURATION, MAX_PAUSE_END, MAX_ADDRESSES}
-use Rattle.he_plan.specs.declared.outcome.Outcome.{Outcome}
-use Rattle.he_plan.specs.declared.outcome.Outcome.TheVariants as outcomes
-use Rattle.he_plan.specs.Timeline.{duration_of}
+use Rattle.he_timeline.specs.declared.limits.TheConstants.{MAX_TICK, MIN_DURATION, MAX_DURATION, MAX_PAUSE_END, MAX_ADDRESSES}
+use Rattle.he_timeline.specs.declared.outcome.Outcome.{Outcome}
+use Rattle.he_timeline.specs.declared.outcome.Outcome.TheVariants as outcomes
+use Rattle.he_timeline.specs.Timeline.{duration_of}
 use Rattle.he_text.specs.declared.limits.TheConstants.{MAX_LINE, MAX_PRECEDENCE, MAX_LABEL, MIN_INTERFACE, MAX_INTERFACE}
 use Rattle.he_text.specs.declared.words.Name.{Name}
 use Rattle.he_text.specs.declared.words.Name.TheVariants.{Resolution, Attempt, Count, Limit, Floor}

@@ -9,9 +9,9 @@ use Rattle.std.proofs.lemmas.List.Folds.{flat_map-map}
 use Rattle.he_addr.specs.declared.ip.Family.{Family}
 use Rattle.he_addr.specs.declared.ip.Family.TheVariants as families
 use Rattle.he_addr.specs.declared.ip.Ip.{Ip}
-use Rattle.he_plan.specs.Race.{Race, Reply}
-use Rattle.he_plan.specs.Settings.{SettingValues}
-use Rattle.he_plan.specs.Timeline.{IsRace}
+use Rattle.he_timeline.specs.Race.{Race, Reply}
+use Rattle.he_timeline.specs.Settings.{SettingValues}
+use Rattle.he_timeline.specs.Timeline.{IsRace}
 use Rattle.he_text.specs.Parts.{lines_of}
 use Rattle.he_text.specs.InRange.{RaceInRange}
 use Rattle.he_text.specs.declared.words.Version.{Version}

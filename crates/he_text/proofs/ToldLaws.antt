@@ -5,14 +5,14 @@ use Rattle.std.proofs.lemmas.Bool.{le-leb, le-ltb, lt-leb, and_from}
 use Rattle.he_addr.specs.declared.ip.Family.{Family}
 use Rattle.he_addr.specs.declared.ip.Family.TheVariants as families
 use Rattle.he_addr.specs.declared.ip.Ip.{Ip}
-use Rattle.he_plan.specs.Building.{add_answer, add_rtt, add_used, add_outcome, add_pause, with_answer, last_end}
-use Rattle.he_plan.specs.declared.builder.BuildFault.{BuildFault}
-use Rattle.he_plan.specs.declared.builder.BuildFault.TheVariants as faults
-use Rattle.he_plan.specs.declared.limits.TheConstants.{MAX_TICK, MIN_DURATION, MAX_DURATION, MAX_PAUSE_END, MAX_PAUSES, MAX_ADDRESSES}
-use Rattle.he_plan.specs.declared.outcome.Outcome.{Outcome}
+use Rattle.he_timeline.specs.Building.{add_answer, add_rtt, add_used, add_outcome, add_pause, with_answer, last_end}
+use Rattle.he_timeline.specs.declared.builder.BuildFault.{BuildFault}
+use Rattle.he_timeline.specs.declared.builder.BuildFault.TheVariants as faults
+use Rattle.he_timeline.specs.declared.limits.TheConstants.{MAX_TICK, MIN_DURATION, MAX_DURATION, MAX_PAUSE_END, MAX_PAUSES, MAX_ADDRESSES}
+use Rattle.he_timeline.specs.declared.outcome.Outcome.{Outcome}
 use Rattle.he_select.specs.declared.limits.TheConstants.{SOURCES, ROUTES}
-use Rattle.he_plan.specs.Race.{Race, Reply, reply_of, has_ip, is_in_answer, is_told, has_outcome}
-use Rattle.he_plan.specs.Timeline.{are_of, are_distinct, is_duration, duration_of}
+use Rattle.he_timeline.specs.Race.{Race, Reply, reply_of, has_ip, is_in_answer, is_told, has_outcome}
+use Rattle.he_timeline.specs.Timeline.{are_of, are_distinct, is_duration, duration_of}
 use Rattle.he_text.specs.declared.fault.TextKind.{TextKind}
 use Rattle.he_text.specs.declared.fault.TextKind.TheVariants as kinds
 use Rattle.he_text.specs.declared.words.Word.{Word}

@@ -6,10 +6,10 @@ use Rattle.std.proofs.lemmas.List.{append-nil, take_rest}
 use Rattle.std.proofs.lemmas.List.Splits.{length-slice_split}
 use Rattle.std.proofs.lemmas.List.Sums.{count_by-le-length, sum_by-append}
 use Rattle.std.proofs.Math.Seq.{take-add}
-use Rattle.he_plan.specs.Race.{Race}
+use Rattle.he_timeline.specs.Race.{Race}
 use Rattle.he_text.specs.Beginnings.{FaultStands, MayChange, MayGoOn, awaited}
 use Rattle.he_text.specs.FaultSearch.{fault_of}
-use Rattle.he_plan.specs.Timeline.{IsRace}
+use Rattle.he_timeline.specs.Timeline.{IsRace}
 use Rattle.he_text.specs.Inputs.{AreTexts, HasRaces, IsFaultBehind, IsNotOne, fault_at_end, fault_behind, line_count}
 use Rattle.he_text.specs.Parts.{lines_of}
 use Rattle.he_text.specs.Ranges.{most_races}

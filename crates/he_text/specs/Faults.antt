@@ -6,10 +6,10 @@ use Rattle.std.specs.List.{filter_map, list_any}
 use Rattle.std.specs.Result.{result_ok, result_err}
 use Rattle.std.specs.Str.{bytes_eq}
 use Rattle.he_addr.specs.declared.ip.Ip.{Ip}
-use Rattle.he_plan.specs.Building.{last_end}
-use Rattle.he_plan.specs.Race.{has_ip, is_in_answer, is_told, has_outcome}
-use Rattle.he_plan.specs.Settings.{SettingValues}
-use Rattle.he_plan.specs.Timeline.{are_distinct}
+use Rattle.he_timeline.specs.Building.{last_end}
+use Rattle.he_timeline.specs.Race.{has_ip, is_in_answer, is_told, has_outcome}
+use Rattle.he_timeline.specs.Settings.{SettingValues}
+use Rattle.he_timeline.specs.Timeline.{are_distinct}
 use Rattle.he_text.specs.Ranges.{most_line_bytes}
 use Rattle.he_text.specs.declared.fault.TextKind.{TextKind}
 use Rattle.he_text.specs.declared.fault.TextKind.TheVariants as kinds

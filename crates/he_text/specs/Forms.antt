@@ -6,12 +6,12 @@ use Rattle.std.specs.Str.{bytes_eq}
 use Rattle.he_addr.specs.declared.ip.Family.{Family}
 use Rattle.he_addr.specs.declared.ip.Family.TheVariants as families
 use Rattle.he_addr.specs.declared.ip.Ip.{Ip}
-use Rattle.he_plan.specs.declared.outcome.Outcome.{Outcome}
-use Rattle.he_plan.specs.declared.outcome.Outcome.TheVariants as outcomes
-use Rattle.he_plan.specs.Race.{Reply}
-use Rattle.he_plan.specs.Timeline.{is_of}
+use Rattle.he_timeline.specs.declared.outcome.Outcome.{Outcome}
+use Rattle.he_timeline.specs.declared.outcome.Outcome.TheVariants as outcomes
+use Rattle.he_timeline.specs.Race.{Reply}
+use Rattle.he_timeline.specs.Timeline.{is_of}
 use Rattle.he_select.specs.Ranges.{least_interface}
-use Rattle.he_plan.specs.declared.limits.TheConstants.{MAX_ADDRESSES, MAX_RESOLUTION, MIN_ATTEMPT, MAX_ATTEMPT, MIN_COUNT, MAX_COUNT, MIN_LIMIT, MAX_LIMIT, MIN_FLOOR, MAX_TICK, MIN_DURATION, MAX_DURATION, MAX_PAUSE_END}
+use Rattle.he_timeline.specs.declared.limits.TheConstants.{MAX_ADDRESSES, MAX_RESOLUTION, MIN_ATTEMPT, MAX_ATTEMPT, MIN_COUNT, MAX_COUNT, MIN_LIMIT, MAX_LIMIT, MIN_FLOOR, MAX_TICK, MIN_DURATION, MAX_DURATION, MAX_PAUSE_END}
 use Rattle.he_text.specs.Ranges.{most_source_marks, most_route_marks, most_u16, least_pause_end}
 use Rattle.he_text.specs.declared.fault.TextKind.{TextKind}
 use Rattle.he_text.specs.declared.fault.TextKind.TheVariants as kinds

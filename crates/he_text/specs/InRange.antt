@@ -5,7 +5,7 @@ use Rattle.std.specs.List.{All}
 use Rattle.he_addr.specs.Ip.{InRange}
 use Rattle.he_addr.specs.declared.ip.Ip.{Ip}
 use Rattle.he_addr.specs.Prefix.{IsPrefix}
-use Rattle.he_plan.specs.Race.{Race, addresses_of}
+use Rattle.he_timeline.specs.Race.{Race, addresses_of}
 use Rattle.he_select.specs.declared.policy.Row.{Row}
 use Rattle.he_select.specs.declared.host.Source.{Source}
 use Rattle.he_select.specs.declared.host.Route.{Route}

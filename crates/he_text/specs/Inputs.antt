@@ -1,6 +1,6 @@
 -- What an input of races has: races, and what is wrong behind them.
 use Rattle.std.specs.Prelude.{ℕ, ◌≡◌, ◌≢◌, ◌≤◌, ◌+◌, ◌==◌, ◌++◌, ⊤, Bool, true, false, List, [], ◌∷◌, length, count_by, ◌⊎◌, Option, Some, None}
-use Rattle.he_plan.specs.Race.{Race}
+use Rattle.he_timeline.specs.Race.{Race}
 use Rattle.he_text.specs.declared.fault.TextKind.{TextKind}
 use Rattle.he_text.specs.declared.fault.TextKind.TheVariants as kinds
 use Rattle.he_text.specs.declared.inputs.InputFault.{InputFault}

@@ -3,7 +3,7 @@ use Rattle.std.specs.Prelude.{ℕ, ◌+◌, List, [], ◌∷◌, ◌++◌, decim
 use Rattle.he_addr.specs.declared.ip.Ip.{Ip}
 use Rattle.he_addr.specs.Printing.{printed}
 use Rattle.he_plan.specs.Attempts.{order}
-use Rattle.he_plan.specs.Race.{Race, race_input, usable_addresses}
+use Rattle.he_timeline.specs.Race.{Race, race_input, usable_addresses}
 use Rattle.he_select.specs.declared.host.Source.{Source}
 use Rattle.he_select.specs.Selection.{SelectionInput, source_of}
 use Rattle.he_text.specs.Written.{written_line}

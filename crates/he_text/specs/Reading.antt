@@ -7,12 +7,12 @@ use Rattle.std.specs.Str.{bytes_eq}
 use Rattle.he_addr.specs.declared.ip.Ip.{Ip}
 use Rattle.he_addr.specs.declared.ip.Family.{Family}
 use Rattle.he_addr.specs.declared.ip.Family.TheVariants as families
-use Rattle.he_plan.specs.declared.builder.BuildFault.{BuildFault}
-use Rattle.he_plan.specs.declared.builder.BuildFault.TheVariants as faults
-use Rattle.he_plan.specs.declared.limits.TheConstants.{DEFAULT_RESOLUTION, DEFAULT_ATTEMPT, DEFAULT_COUNT, DEFAULT_LIMIT}
-use Rattle.he_plan.specs.Building.{add_answer, add_rtt, add_used, add_outcome, add_pause, empty_race}
-use Rattle.he_plan.specs.Race.{Race, Reply, is_in_answer}
-use Rattle.he_plan.specs.Settings.{SettingValues, settings_of, with_floor}
+use Rattle.he_timeline.specs.declared.builder.BuildFault.{BuildFault}
+use Rattle.he_timeline.specs.declared.builder.BuildFault.TheVariants as faults
+use Rattle.he_timeline.specs.declared.limits.TheConstants.{DEFAULT_RESOLUTION, DEFAULT_ATTEMPT, DEFAULT_COUNT, DEFAULT_LIMIT}
+use Rattle.he_timeline.specs.Building.{add_answer, add_rtt, add_used, add_outcome, add_pause, empty_race}
+use Rattle.he_timeline.specs.Race.{Race, Reply, is_in_answer}
+use Rattle.he_timeline.specs.Settings.{SettingValues, settings_of, with_floor}
 use Rattle.he_select.specs.declared.policy.Row.{Row}
 use Rattle.he_select.specs.declared.policy.PolicyFault.{PolicyFault}
 use Rattle.he_select.specs.declared.policy.PolicyFault.TheVariants as tables

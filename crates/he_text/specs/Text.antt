@@ -8,12 +8,12 @@ use Rattle.he_addr.specs.Ip.{is_usable}
 use Rattle.he_addr.specs.Text.{SpellsNumber, Spells, SpellsSource, SpellsPrefix}
 use Rattle.he_select.specs.declared.host.Source.{Source}
 use Rattle.he_select.specs.declared.host.Route.{Route}
-use Rattle.he_plan.specs.declared.outcome.Outcome.{Outcome}
-use Rattle.he_plan.specs.declared.outcome.Outcome.TheVariants as outcomes
-use Rattle.he_plan.specs.Race.{Race}
-use Rattle.he_plan.specs.Timeline.{IsRace, are_of, duration_of}
+use Rattle.he_timeline.specs.declared.outcome.Outcome.{Outcome}
+use Rattle.he_timeline.specs.declared.outcome.Outcome.TheVariants as outcomes
+use Rattle.he_timeline.specs.Race.{Race}
+use Rattle.he_timeline.specs.Timeline.{IsRace, are_of, duration_of}
 use Rattle.he_select.specs.Ranges.{least_interface}
-use Rattle.he_plan.specs.declared.limits.TheConstants.{MAX_ADDRESSES, MAX_TICK, MIN_DURATION, MAX_DURATION, MAX_PAUSE_END}
+use Rattle.he_timeline.specs.declared.limits.TheConstants.{MAX_ADDRESSES, MAX_TICK, MIN_DURATION, MAX_DURATION, MAX_PAUSE_END}
 use Rattle.he_text.specs.Ranges.{most_line_bytes, most_u16, least_pause_end}
 use Rattle.he_text.specs.declared.fault.TextKind.{TextKind}
 use Rattle.he_text.specs.declared.fault.TextKind.TheVariants as kinds

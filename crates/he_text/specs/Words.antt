@@ -2,7 +2,7 @@
 use Rattle.std.specs.Prelude.{ℕ, ◌==◌, List, [], ◌∷◌, Bool, true, false, Option, Some, None, find, codes}
 use Rattle.std.specs.Str.{bytes_eq}
 use Rattle.he_select.specs.Ranges.{most_rows, most_sources, most_routes}
-use Rattle.he_plan.specs.declared.limits.TheConstants.{MAX_PAUSES}
+use Rattle.he_timeline.specs.declared.limits.TheConstants.{MAX_PAUSES}
 use Rattle.he_text.specs.Ranges.{most_answers}
 use Rattle.he_text.specs.declared.fault.TextKind.{TextKind}
 use Rattle.he_text.specs.declared.fault.TextKind.TheVariants as kinds

@@ -8,10 +8,10 @@ use Rattle.he_plan.specs.declared.transcript.Mark.TheVariants as marks
 use Rattle.he_plan.specs.declared.transcript.Outcome3.{Outcome3}
 use Rattle.he_plan.specs.declared.transcript.Outcome3.TheVariants as results
 use Rattle.he_plan.specs.Transcript.{Report}
-use Rattle.he_plan.specs.declared.outcome.Outcome.{Outcome}
-use Rattle.he_plan.specs.Race.{History, Race, Reply}
-use Rattle.he_plan.specs.Settings.{SettingValues}
-use Rattle.he_plan.specs.Timeline.{duration_of}
+use Rattle.he_timeline.specs.declared.outcome.Outcome.{Outcome}
+use Rattle.he_timeline.specs.Race.{History, Race, Reply}
+use Rattle.he_timeline.specs.Settings.{SettingValues}
+use Rattle.he_timeline.specs.Timeline.{duration_of}
 use Rattle.he_select.specs.declared.policy.Row.{Row}
 use Rattle.he_select.specs.declared.host.Source.{Source}
 use Rattle.he_select.specs.declared.host.Route.{Route}

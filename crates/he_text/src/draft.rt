@@ -10,8 +10,8 @@ use crate::forms::AnswerLine;
 use crate::parts::Tokens;
 use crate::words::{Name, Word};
 use he_addr::Family;
-use he_plan::limits::{DEFAULT_ATTEMPT, DEFAULT_COUNT, DEFAULT_LIMIT, DEFAULT_RESOLUTION};
-use he_plan::{Settings, TimelineBuilder};
+use he_timeline::limits::{DEFAULT_ATTEMPT, DEFAULT_COUNT, DEFAULT_LIMIT, DEFAULT_RESOLUTION};
+use he_timeline::{Settings, TimelineBuilder};
 use std::alloc::Allocator;
 
 // The group of the last line that was read, and how many lines of that group there are, if there may be only so many.

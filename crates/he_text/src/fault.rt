@@ -4,7 +4,7 @@ ghost use Rattle.std.specs.Prelude.{◌≡◌};
 ghost use Rattle.he_text.specs.declared.fault.TextKind.TheVariants as kinds;
 ghost use Rattle.he_text.specs.Reading.{kind_of, table_kind, host_kind};
 
-use he_plan::{BuildFault, Range};
+use he_timeline::{BuildFault, Range};
 use he_select::{HostFault, PolicyFault};
 use std::alloc::{AllocError, AllocFailed};
 use thiserror::Error;

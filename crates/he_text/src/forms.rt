@@ -14,7 +14,7 @@ use crate::parts::Tokens;
 use crate::words::Name;
 pub(crate) use answers::{AnswerLine, address, answer, connect, listed, round_trip, used};
 use he_addr::read_number;
-use he_plan::limits::{MAX_PAUSE_END, MAX_TICK};
+use he_timeline::limits::{MAX_PAUSE_END, MAX_TICK};
 pub(crate) use selection::{route, row, source};
 
 // In line, as `known` of answers.rt.

@@ -2,7 +2,7 @@
 
 ghost use Rattle.std.specs.Prelude.{◌≡◌, ◌⊎◌, ◌++◌, [], ◌∷◌, Ok, Err, IsOk, option_map, MatchResult};
 ghost use Rattle.std.specs.Option.{option_map_or};
-ghost use Rattle.he_plan.specs.Building.{empty_race};
+ghost use Rattle.he_timeline.specs.Building.{empty_race};
 ghost use Rattle.he_select.specs.TableFaults.{table_fault};
 ghost use Rattle.he_text.specs.declared.fault.TextKind.TheVariants as kinds;
 ghost use Rattle.he_text.specs.declared.words.Word.TheVariants as words;
@@ -17,7 +17,7 @@ use crate::first_words::is_next;
 use crate::forms;
 use crate::parts::Tokens;
 use crate::words::{Name, Word};
-use he_plan::Settings;
+use he_timeline::Settings;
 use he_select::limits::ROWS;
 use he_select::{Host, Policy, PolicyFault, Route, Row, Source};
 use std::alloc::Allocator;

@@ -1,6 +1,6 @@
 //! Inputs that are to have one race.
 ghost use Rattle.std.specs.Prelude.{ℕ, List, Bool, Option, ◌≡◌, [], ◌∷◌, None, false, IfOk, IfErr};
-ghost use Rattle.he_plan.specs.Race.{Race};
+ghost use Rattle.he_timeline.specs.Race.{Race};
 ghost use Rattle.he_text.specs.declared.inputs.InputFault.{InputFault};
 ghost use Rattle.he_text.specs.Inputs.{HasRaces, IsNotOne};
 ghost use Rattle.he_text.specs.WalkSteps.{HasFirst, not_one};
@@ -9,7 +9,7 @@ ghost use Rattle.he_text.specs.Walks.{HasPassed};
 use crate::fault::TextFault;
 use crate::laws::{begins_where_no_fault, one_race_first};
 use crate::walks::{Ending, Walk, WalkFault};
-use he_plan::Timeline;
+use he_timeline::Timeline;
 use std::alloc::Allocator;
 use std::mem::drop;
 

@@ -2,8 +2,8 @@
 
 ghost use Rattle.std.specs.Prelude.{◌≡◌, ◌⊎◌, ◌↔◌, ◌≤◌, ◌++◌, ℕ, List, [], Bool, Some, None, Ok, MatchOption};
 ghost use Rattle.he_addr.specs.declared.ip.Ip.{Ip};
-ghost use Rattle.he_plan.specs.Race.{Race};
-ghost use Rattle.he_plan.specs.Timeline.{IsRace};
+ghost use Rattle.he_timeline.specs.Race.{Race};
+ghost use Rattle.he_timeline.specs.Timeline.{IsRace};
 ghost use Rattle.he_text.specs.declared.fault.TextKind.{TextKind};
 ghost use Rattle.he_text.specs.declared.limits.TheConstants.{MAX_LINE, MAX_ANSWERS, SOURCE_MARKS, ROUTE_MARKS, MAX_PRECEDENCE, MAX_LABEL, MIN_INTERFACE, MAX_INTERFACE, MIN_PAUSE_END, MOST_RACES};
 ghost use Rattle.he_text.specs.declared.parts.TheConstants.{LINE_END, TOKEN_END};
@@ -20,7 +20,7 @@ ghost use Rattle.he_text.specs.Written.{timeline_text};
 
 use crate::ranges::timeline_range;
 use he_addr::Family;
-use he_plan::Timeline;
+use he_timeline::Timeline;
 use std::alloc::Allocator;
 
 /// A text is a race's with at most one value. Runs nothing.

@@ -8,7 +8,8 @@ ghost use Rattle.he_text.specs.Writing.{AppendsText, origin_text, sourced_line, 
 use crate::parts::{LINE_END, TOKEN_END};
 use crate::writing::{LINE_ROOM, write_bytes, write_line};
 use he_addr::{Ip, Memory, prepend_byte, prepend_bytes, prepend_ip, prepend_number};
-use he_plan::{Timeline, sorted_standings};
+use he_plan::sorted_standings;
+use he_timeline::Timeline;
 use he_select::{Sourced, Standing};
 use std::alloc::Allocator;
 

@@ -4,11 +4,11 @@ ghost use Rattle.std.specs.Prelude.{◌≡◌, ℕ};
 ghost use Rattle.std.specs.List.{All};
 ghost use Rattle.he_addr.specs.Ip.{InRange};
 ghost use Rattle.he_addr.specs.declared.ip.Ip.{Ip};
-ghost use Rattle.he_plan.specs.Race.{reply_of, addresses_of};
+ghost use Rattle.he_timeline.specs.Race.{reply_of, addresses_of};
 ghost use Rattle.he_text.specs.InRange.{RowInRange, SourceInRange, RouteInRange, RaceInRange};
 
 use he_addr::{Family, Ip};
-use he_plan::Timeline;
+use he_timeline::Timeline;
 use he_select::{Route, Row, Source};
 use std::alloc::Allocator;
 

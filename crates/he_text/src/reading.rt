@@ -1,9 +1,9 @@
 // Reading a race.
 
 ghost use Rattle.std.specs.Prelude.{◌≡◌, ◌+◌, ◌≤◌, ◌<◌, ◌↔◌, ℕ, List, length, drop, slice_range, IfOk, IfSome, IsNone, Some, None, Ok, Err, IfErr, MatchOption, MatchResult};
-ghost use Rattle.he_plan.specs.Building.{empty_race};
-ghost use Rattle.he_plan.specs.Race.{Race};
-ghost use Rattle.he_plan.specs.Timeline.{IsRace};
+ghost use Rattle.he_timeline.specs.Building.{empty_race};
+ghost use Rattle.he_timeline.specs.Race.{Race};
+ghost use Rattle.he_timeline.specs.Timeline.{IsRace};
 ghost use Rattle.he_text.specs.declared.fault.TextKind.TheVariants as kinds;
 ghost use Rattle.he_text.specs.FaultSearch.{fault_of};
 ghost use Rattle.he_text.specs.declared.draft.LastGroup.{LastGroup};
@@ -19,7 +19,7 @@ use crate::head::Head;
 use crate::lines::Lines;
 use crate::parts::{Line, Tokens};
 use crate::words::{Version, Word};
-use he_plan::{Timeline, TimelineBuilder};
+use he_timeline::{Timeline, TimelineBuilder};
 use std::alloc::Allocator;
 
 // The word of a line and the tokens behind it, if the word is of the first four groups and of the version.

@@ -2,14 +2,14 @@
 
 ghost use Rattle.std.specs.Prelude.{◌≡◌, ◌++◌, OnOk, OnErr};
 ghost use Rattle.std.specs.List.{flat_map};
-ghost use Rattle.he_plan.specs.Race.{reply_of};
+ghost use Rattle.he_timeline.specs.Race.{reply_of};
 ghost use Rattle.he_text.specs.Writing.{AppendsText};
 ghost use Rattle.he_text.specs.Written.{setting_text, delays_text, bounds_text, floor_text, settings_text, version_of, top_text, reply_text, answer_text, answers_text, rtt_text, used_text, history_text, outcome_text, pause_text, told_text, row_text, host_source_text, host_route_text, host_text, selection_text, timeline_text};
 
 use crate::words::Version;
 use crate::writing::{Token, write_line, write_listed};
 use he_addr::{Family, Ip, Memory};
-use he_plan::{Outcome, Settings, Timeline};
+use he_timeline::{Outcome, Settings, Timeline};
 use he_select::{Host, Route, Row, Source};
 use std::alloc::Allocator;
 

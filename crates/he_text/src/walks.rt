@@ -10,7 +10,7 @@ use crate::inputs::InputFault;
 use crate::laws::faults_stand;
 use crate::limits::MOST_RACES;
 use crate::reading::read_first;
-use he_plan::Timeline;
+use he_timeline::Timeline;
 use std::alloc::Allocator;
 
 /// What follows the bytes of an input that are there.

@@ -7,7 +7,7 @@ ghost use Rattle.he_text.specs.Reading.{header_in, is_head_word};
 
 use crate::fault::TextKind;
 use crate::limits::MAX_ANSWERS;
-use he_plan::limits::{
+use he_timeline::limits::{
     MAX_ATTEMPT, MAX_COUNT, MAX_LIMIT, MAX_PAUSES, MAX_RESOLUTION, MIN_ATTEMPT, MIN_COUNT,
     MIN_FLOOR, MIN_LIMIT,
 };

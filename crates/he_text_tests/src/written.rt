@@ -2,7 +2,8 @@
 // and what isn't answers and writes the same as ever.
 
 use he_addr::Memory;
-use he_plan::{Timeline, Transcript, transcript_of};
+use he_plan::{Transcript, transcript_of};
+use he_timeline::Timeline;
 use he_text::{
     NotOneRace, TextKind, read_one_race, read_race, write_order, write_timeline, write_transcript,
 };

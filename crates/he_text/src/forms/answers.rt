@@ -3,8 +3,8 @@
 
 ghost use Rattle.std.specs.Prelude.{◌≡◌, ◌<◌, ◌≤◌, ◌++◌, [], ◌∷◌, Ok, Err, true, length, IfOk, MatchResult};
 ghost use Rattle.he_addr.specs.declared.ip.Family.{Family};
-ghost use Rattle.he_plan.specs.declared.limits.TheConstants.{MAX_ADDRESSES};
-ghost use Rattle.he_plan.specs.Race.{is_in_answer};
+ghost use Rattle.he_timeline.specs.declared.limits.TheConstants.{MAX_ADDRESSES};
+ghost use Rattle.he_timeline.specs.Race.{is_in_answer};
 ghost use Rattle.he_text.specs.Forms.{address_in, addresses_in, listed_in, answer_in, known_in, round_trip_in, used_in, mark_in, connect_in};
 ghost use Rattle.he_text.specs.Reading.{Fails, with_tick};
 ghost use Rattle.he_text.specs.Left.{tokens_left};
@@ -13,8 +13,8 @@ use super::number;
 use crate::fault::TextKind;
 use crate::parts::Tokens;
 use he_addr::{Family, Ip, read_ip, read_ip_of};
-use he_plan::limits::{MAX_ADDRESSES, MAX_DURATION, MAX_TICK, MIN_DURATION};
-use he_plan::{Outcome, TimelineBuilder};
+use he_timeline::limits::{MAX_ADDRESSES, MAX_DURATION, MAX_TICK, MIN_DURATION};
+use he_timeline::{Outcome, TimelineBuilder};
 use std::alloc::Allocator;
 
 // An address of the family.
@@ -113,7 +113,7 @@ fn known<A: Allocator + Copy>(token: &[u8], race: &TimelineBuilder<A>) -> Result
     let Some(ip) = read_ip(token) else {
         return Err(TextKind::Address);
     };
-    if race.stands(ip) {
+    if race.is_listed(ip) {
         Ok(ip)
     } else {
         Err(TextKind::Address)

@@ -1,4 +1,4 @@
-use Rattle.he_plan.specs.Settings.{SettingValues}
+use Rattle.he_timeline.specs.Settings.{SettingValues}
 use Rattle.he_command.specs.Run.{RunsConnection}
 use Rattle.he_command.proofs.Asked.{of_settings}
 use Rattle.he_command.proofs.run.run_connect.Goals as goal

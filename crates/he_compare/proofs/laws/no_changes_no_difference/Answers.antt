@@ -1,9 +1,9 @@
 use Rattle.std.proofs.Common.{ℕ, ◌≡◌, ◌≤◌, Option, Some, None, IfSome, min, option_map, refl, ap, subst, arith}
-use Rattle.he_plan.specs.Changes.{changed}
-use Rattle.he_plan.specs.Race.{Race}
-use Rattle.he_plan.specs.Settings.{IsSettings}
+use Rattle.he_timeline.specs.Changes.{changed}
+use Rattle.he_timeline.specs.Race.{Race}
+use Rattle.he_timeline.specs.Settings.{IsSettings}
 use Rattle.he_plan.specs.Transcript.{IsTranscript}
-use Rattle.he_plan.specs.declared.limits.TheConstants.{MIN_FLOOR}
+use Rattle.he_timeline.specs.declared.limits.TheConstants.{MIN_FLOOR}
 use Rattle.he_compare.proofs.laws.no_changes_no_difference.Goals as goal
 
 -- a floor at most the Connection Attempt Delay stays

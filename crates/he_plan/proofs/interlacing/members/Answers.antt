@@ -1,5 +1,5 @@
 use Rattle.std.proofs.Common.{sym, ◌∙◌, ap}
-use Rattle.he_plan.specs.Timeline.{is_of}
+use Rattle.he_timeline.specs.Timeline.{is_of}
 use Rattle.he_plan.proofs.Kept.{kept_next, left_next}
 use Rattle.he_plan.proofs.interlacing.members.Goals as goal
 use Rattle.he_plan.proofs.interlacing.members.Goals.{then-is_of+in_ok-push, else-is_of}

@@ -1,5 +1,5 @@
 use Rattle.std.proofs.Common.{◌≡◌, filter, take}
-use Rattle.he_plan.specs.Timeline.{is_of}
+use Rattle.he_timeline.specs.Timeline.{is_of}
 use Rattle.he_plan.proofs.interlacing.members.Given as goal
 
 abbrev pub invariant-loop-ip : goal.invariant-loop-ip

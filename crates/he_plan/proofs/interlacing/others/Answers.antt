@@ -1,6 +1,6 @@
 use Rattle.std.proofs.Common.{not, sym, ◌∙◌, ap}
 use Rattle.he_addr.specs.declared.ip.Ip.{Ip}
-use Rattle.he_plan.specs.Timeline.{is_of}
+use Rattle.he_timeline.specs.Timeline.{is_of}
 use Rattle.he_plan.proofs.Kept.{kept_next, left_next}
 use Rattle.he_plan.proofs.interlacing.others.Goals as goal
 use Rattle.he_plan.proofs.interlacing.others.Goals.{then-not-is_of+in_ok-push, else-not-is_of}

@@ -1,4 +1,4 @@
-use Rattle.he_plan.specs.Race.{reply_of}
+use Rattle.he_timeline.specs.Race.{reply_of}
 use Rattle.he_plan.proofs.Listed.{part_short}
 use Rattle.he_plan.proofs.listing.part_count.Goals as goal
 

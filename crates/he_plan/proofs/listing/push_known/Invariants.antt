@@ -1,6 +1,6 @@
 use Rattle.std.proofs.Common.{◌≡◌, ◌++◌, filter, map, take}
 use Rattle.he_addr.specs.Ip.{is_usable}
-use Rattle.he_plan.specs.Race.{known_of}
+use Rattle.he_timeline.specs.Race.{known_of}
 use Rattle.he_plan.proofs.listing.push_known.Given as goal
 
 abbrev pub invariant-loop-ip : goal.invariant-loop-ip

@@ -1,5 +1,5 @@
 use Rattle.std.proofs.Common.{◌∙◌}
-use Rattle.he_plan.specs.Race.{usable_addresses}
+use Rattle.he_timeline.specs.Race.{usable_addresses}
 use Rattle.he_plan.proofs.Known.{known_ips, known_usable}
 use Rattle.he_plan.proofs.listing.sorted_known.Goals as goal
 

@@ -1,5 +1,5 @@
 use Rattle.he_plan.specs.Attempts.{last_of}
-use Rattle.he_plan.specs.Underway.{IsUnderway}
+use Rattle.he_plan.specs.RaceState.{IsUnderway}
 use Rattle.he_plan.proofs.Planned.{ticks_left}
 use Rattle.he_plan.proofs.planning.plan.Given as goal
 

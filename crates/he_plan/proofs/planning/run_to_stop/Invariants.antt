@@ -1,6 +1,6 @@
 use Rattle.he_plan.specs.Attempts.{last_of}
 use Rattle.he_plan.specs.Finish.{IsWinner}
-use Rattle.he_plan.specs.Underway.{IsUnderway}
+use Rattle.he_plan.specs.RaceState.{IsUnderway}
 use Rattle.he_plan.proofs.Planned.{ticks_left}
 use Rattle.he_plan.proofs.planning.run_to_stop.Given as goal
 

@@ -1,6 +1,6 @@
 use Rattle.std.proofs.Common.{◌≡◌, ◌≤◌, ◌<◌, None, sym, ◌∙◌, arith}
 use Rattle.std.proofs.lemmas.Grind.{common_steps}
-use Rattle.he_plan.specs.Attempts.{seen}
+use Rattle.he_timeline.specs.Seen.{seen}
 use Rattle.he_plan.specs.Planning.{start_tick}
 use Rattle.he_plan.proofs.Starting.{starts_at, none_starts_late, none_starts}
 use Rattle.he_plan.proofs.starts.next_tick.Goals as goal

@@ -34,6 +34,6 @@ returns-in_default g c = record {
   known = ap (λ (v : View). v.known) c.least-seen.ensures.noted;
   later = looked_later _ _ _ _ c.least-seen.ensures.noted;
   real = λ races stands real. subst (λ (v : View). All (IsOfSuccess races) v.offers) (sym c.least-seen.ensures.noted) real;
-  honest = other_honest _ _ _ _ _ _ c.fate-fate.ensures.value c.in_default.not-Succeeded;
+  honest = other_honest _ _ _ _ _ _ c.fate_of-fate.ensures.value c.in_default.not-Succeeded;
   skips = λ late. not_late c.args.number c.least-seen.result _ _ _ c.least-seen.ensures.below c.if-attempt-seen.false late;
 }

@@ -2,7 +2,7 @@ use Rattle.std.proofs.Common.{List, arith, ◌≡◌, ◌∙◌, ◌≤◌, ap, 
 use Rattle.std.specs.List.{All}
 use Rattle.std.proofs.lemmas.List.{take_all}
 use Rattle.he_board.specs.declared.limits.TheConstants.{PLACES}
-use Rattle.he_plan.specs.Race.{Race}
+use Rattle.he_timeline.specs.Race.{Race}
 use Rattle.he_pool.specs.Batch.{job_count}
 use Rattle.he_pool.specs.Working.{firsts_from}
 use Rattle.he_pool.proofs.Trying.{firsts_next}

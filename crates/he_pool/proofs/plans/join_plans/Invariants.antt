@@ -1,5 +1,5 @@
 use Rattle.std.proofs.Common.{◌≡◌, List, length}
-use Rattle.he_plan.specs.Race.{Race}
+use Rattle.he_timeline.specs.Race.{Race}
 use Rattle.he_pool.specs.Working.{ArePlans}
 use Rattle.he_pool.proofs.plans.join_plans.Given as goal
 

@@ -1,5 +1,5 @@
 use Rattle.std.proofs.Common.{arith}
-use Rattle.he_plan.specs.Building.{with_answer}
+use Rattle.he_timeline.specs.Building.{with_answer}
 use Rattle.he_race.proofs.Builds.{Adds, answer-adds, answer-valid, left-ok, valid-ok}
 use Rattle.he_race.proofs.hearing.add_answer.Goals as goal
 

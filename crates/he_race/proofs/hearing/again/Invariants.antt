@@ -1,5 +1,5 @@
 use Rattle.std.proofs.Common.{◌≡◌, take}
-use Rattle.he_plan.specs.Underway.{IsUnderway}
+use Rattle.he_plan.specs.RaceState.{IsUnderway}
 use Rattle.he_race.proofs.hearing.again.Given as goal
 
 abbrev pub invariant-loop-attempt : goal.invariant-loop-attempt

@@ -1,5 +1,5 @@
 use Rattle.std.proofs.Common.{◌≡◌, ◌∙◌, Ok, refl, ap}
-use Rattle.he_plan.specs.Race.{Race}
+use Rattle.he_timeline.specs.Race.{Race}
 use Rattle.he_race.specs.Scripted.{script_of}
 use Rattle.he_race.proofs.Driven.{starts-under_way}
 use Rattle.he_race.proofs.one.run_race.Goals as goal

@@ -1,5 +1,5 @@
-use Rattle.he_plan.specs.Building.{with_outcome}
-use Rattle.he_plan.proofs.Ranges.{IsRace-with_outcome}
+use Rattle.he_timeline.specs.Building.{with_outcome}
+use Rattle.he_timeline.proofs.Ranges.{IsRace-with_outcome}
 use Rattle.he_race.proofs.Builds.{Adds, left-ok, outcome-adds, valid-ok}
 use Rattle.he_race.proofs.recorder.add_outcome.Goals as goal
 

@@ -1,5 +1,5 @@
-use Rattle.he_plan.specs.Building.{with_pause}
-use Rattle.he_plan.proofs.Ranges.{IsRace-with_pause}
+use Rattle.he_timeline.specs.Building.{with_pause}
+use Rattle.he_timeline.proofs.Ranges.{IsRace-with_pause}
 use Rattle.he_race.proofs.Builds.{Adds, left-ok, pause-adds, valid-ok}
 use Rattle.he_race.proofs.recorder.add_pause.Goals as goal
 

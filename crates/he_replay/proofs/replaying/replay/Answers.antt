@@ -1,5 +1,5 @@
 use Rattle.std.proofs.Common.{◌≡◌, ◌∙◌, arith, false, sym, true≢false}
-use Rattle.he_plan.specs.Changes.{ChangeValues}
+use Rattle.he_timeline.specs.Changes.{ChangeValues}
 use Rattle.he_replay.specs.declared.race_texts.Content.{Content}
 use Rattle.he_replay.specs.declared.race_texts.Content.TheVariants as contents
 use Rattle.he_replay.specs.Output.{IsTextWith, has_place}

@@ -1,5 +1,5 @@
 use Rattle.std.proofs.Common.{◌++◌, codes}
-use Rattle.he_plan.specs.declared.limits.TheConstants.{MIN_FLOOR}
+use Rattle.he_timeline.specs.declared.limits.TheConstants.{MIN_FLOOR}
 use Rattle.he_story.specs.Floor.{setting_text}
 use Rattle.he_story.specs.Heading.{ending_text}
 use Rattle.he_story.proofs.TextLaws.{then_text}

@@ -1,5 +1,5 @@
 use Rattle.std.proofs.Common.{refl, subst}
-use Rattle.he_plan.specs.Race.{Race}
+use Rattle.he_timeline.specs.Race.{Race}
 use Rattle.he_text.proofs.WalkLaws.{none_behind}
 use Rattle.he_summary.specs.Steps.{SumsNext, SumsRace}
 use Rattle.he_summary.proofs.Walked.{handed, stops}

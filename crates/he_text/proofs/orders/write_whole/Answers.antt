@@ -1,7 +1,7 @@
 use Rattle.std.proofs.Common.{◌∷◌, [], ◌∙◌}
 use Rattle.std.specs.Prelude.{codes}
 use Rattle.he_plan.specs.Attempts.{order}
-use Rattle.he_plan.specs.Race.{race_input, usable_addresses}
+use Rattle.he_timeline.specs.Race.{race_input, usable_addresses}
 use Rattle.he_text.specs.Orders.{order_lines}
 use Rattle.he_text.specs.Written.{written_line}
 use Rattle.he_text.proofs.OrderTexts.{order_written}

@@ -1,6 +1,6 @@
 use Rattle.std.proofs.Common.{◌≡◌, ℕ, List, Result, Ok, sym, ◌∙◌, ap, subst}
-use Rattle.he_plan.specs.Building.{empty_race}
-use Rattle.he_plan.specs.Race.{Race}
+use Rattle.he_timeline.specs.Building.{empty_race}
+use Rattle.he_timeline.specs.Race.{Race}
 use Rattle.he_text.specs.declared.fault.TextKind.{TextKind}
 use Rattle.he_text.specs.Left.{lines_left}
 use Rattle.he_text.specs.Reading.{FailsAt, read_body, read_lines}

@@ -1,7 +1,7 @@
 use Rattle.std.proofs.Common.{ℕ, ◌++◌, List, ◌∙◌, ap, subst}
 use Rattle.std.specs.List.{flat_map}
 use Rattle.he_addr.specs.declared.ip.Ip.{Ip}
-use Rattle.he_plan.specs.declared.outcome.Outcome.{Outcome}
+use Rattle.he_timeline.specs.declared.outcome.Outcome.{Outcome}
 use Rattle.he_text.specs.Writing.{AppendsText}
 use Rattle.he_text.specs.Written.{outcome_text, pause_text}
 use Rattle.he_text.proofs.WritingLaws.{writes_then}

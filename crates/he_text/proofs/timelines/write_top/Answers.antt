@@ -1,5 +1,5 @@
 use Rattle.std.proofs.Common.{List, ℕ, ◌++◌, ◌∷◌, [], ◌∙◌, ap, subst}
-use Rattle.he_plan.specs.Settings.{SettingValues}
+use Rattle.he_timeline.specs.Settings.{SettingValues}
 use Rattle.he_text.specs.Words.{header_of}
 use Rattle.he_text.specs.Writing.{AppendsText}
 use Rattle.he_text.specs.Written.{written_line, settings_text, version_of}

@@ -1,5 +1,5 @@
 use Rattle.std.proofs.Common.{◌-◌, length, List}
-use Rattle.he_plan.specs.Race.{Race}
+use Rattle.he_timeline.specs.Race.{Race}
 use Rattle.he_text.specs.Walks.{HasPassed, IsWithin}
 use Rattle.he_check.proofs.parts.Part.first_fault.Given as goal
 

@@ -1,6 +1,6 @@
 use Rattle.std.proofs.Common.{◌≡◌, is_some, refl, sym, subst}
 use Rattle.he_plan.specs.Agreement.{AreAlike}
-use Rattle.he_plan.specs.Race.{Race}
+use Rattle.he_timeline.specs.Race.{Race}
 use Rattle.he_plan.specs.Transcript.{IsTranscript}
 use Rattle.he_race.proofs.live.Live.end.Goals as goal
 

@@ -3,7 +3,7 @@ use Rattle.std.specs.List.{All}
 use Rattle.std.proofs.lemmas.List.Elements.{All-weaker}
 use Rattle.he_plan.specs.declared.attempts.Attempt.{Attempt}
 use Rattle.he_plan.specs.Attempts.{AreNextInTurn}
-use Rattle.he_plan.specs.Race.{Race}
+use Rattle.he_timeline.specs.Race.{Race}
 use Rattle.he_race.specs.declared.limits.TheConstants.{MAX_POLL_TICK}
 use Rattle.he_race.specs.Kept.{first_after, IsUnfinished, are_untold}
 use Rattle.he_race.specs.Turns.{StartsOne}

@@ -2,7 +2,7 @@ use Rattle.std.proofs.Common.{◌≡◌, ◌∙◌, ◌<◌, Some, length, refl,
 use Rattle.std.proofs.lemmas.List.Elements.{All-set}
 use Rattle.futures.specs.declared.task.Poll.TheVariants.{Pending, Ready}
 use Rattle.he_plan.specs.declared.attempts.Attempt.{Attempt}
-use Rattle.he_plan.specs.Race.{Race}
+use Rattle.he_timeline.specs.Race.{Race}
 use Rattle.he_race.specs.Kept.{IsUnfinished}
 use Rattle.he_race.specs.Turns.{told}
 use Rattle.he_race.proofs.Listening.{set-at}

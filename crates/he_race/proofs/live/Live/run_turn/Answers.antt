@@ -1,5 +1,5 @@
 use Rattle.std.proofs.Common.{◌≡◌, ◌∙◌, true, false, is_some, sym, ap, subst, arith}
-use Rattle.he_plan.proofs.Bools.{or_left_none}
+use Rattle.he_timeline.proofs.Bools.{or_left_none}
 use Rattle.he_race.specs.Kept.{InTurn}
 use Rattle.he_race.specs.Turns.{is_over, unpolled}
 use Rattle.he_race.proofs.Listening.{ended-listens, gone-listens}

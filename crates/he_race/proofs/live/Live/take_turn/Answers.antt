@@ -1,7 +1,7 @@
 use Rattle.std.proofs.Common.{◌≡◌, ◌+◌, ◌∙◌, IfOk, ap, sym, subst, arith}
 use Rattle.std.specs.List.{All}
 use Rattle.he_plan.specs.Agreement.{AreAlike}
-use Rattle.he_plan.specs.Race.{Race}
+use Rattle.he_timeline.specs.Race.{Race}
 use Rattle.he_race.specs.declared.recorder.Recorder.{Recorder}
 use Rattle.he_race.specs.Recording.{slept}
 use Rattle.he_race.specs.Kept.{IsUnfinished}

@@ -1,8 +1,8 @@
 use Rattle.std.proofs.Common.{◌≡◌, subst, sym}
-use Rattle.he_plan.specs.declared.outcome.Outcome.{Outcome}
-use Rattle.he_plan.specs.Building.{with_outcome}
-use Rattle.he_plan.specs.Race.{Race}
-use Rattle.he_plan.specs.Underway.{EndsOne}
+use Rattle.he_timeline.specs.declared.outcome.Outcome.{Outcome}
+use Rattle.he_timeline.specs.Building.{with_outcome}
+use Rattle.he_timeline.specs.Race.{Race}
+use Rattle.he_plan.specs.RaceState.{EndsOne}
 use Rattle.he_race.proofs.Recorded.{ends-one}
 use Rattle.he_race.proofs.Standing.{stands-made}
 use Rattle.he_race.proofs.recorder.Recorder.finish.Goals as goal

@@ -1,6 +1,6 @@
 use Rattle.std.proofs.Common.{None, subst}
 use Rattle.he_plan.specs.Due.{IsDueTick}
-use Rattle.he_plan.specs.Race.{Race}
+use Rattle.he_timeline.specs.Race.{Race}
 use Rattle.he_race.proofs.Recorded.{rests-new}
 use Rattle.he_race.proofs.recorder.Recorder.new.Goals as goal
 

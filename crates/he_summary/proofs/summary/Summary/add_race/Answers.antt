@@ -1,7 +1,7 @@
 use Rattle.std.proofs.Common.{◌≡◌, ◌+◌, ◌<◌, ◌≤◌, ◌^◌, ◌++◌, IfSome, [], ◌∷◌, length, sym, ◌∙◌, ap, subst, arith}
 use Rattle.std.specs.List.{filter_map}
 use Rattle.std.proofs.lemmas.Result.{on_ok_weaker}
-use Rattle.he_plan.specs.declared.limits.TheConstants.{MAX_ATTEMPTS}
+use Rattle.he_timeline.specs.declared.limits.TheConstants.{MAX_ATTEMPTS}
 use Rattle.he_summary.specs.Counting.{MayCount, counted}
 use Rattle.he_summary.specs.Courses.{Raced, time_of}
 use Rattle.he_summary.specs.Summed.{HasSummed, Sums, all_tries}

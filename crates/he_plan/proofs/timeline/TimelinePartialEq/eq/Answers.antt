@@ -1,7 +1,0 @@
-use Rattle.std.proofs.Common.{sym, ◌∙◌}
-use Rattle.he_plan.specs.EqualityLaws.{race_from, race_is}
-use Rattle.he_plan.proofs.timeline.TimelinePartialEq.eq.Goals as goal
-
-pub returns-clause-lists : goal.returns-clause-lists
-returns-clause-lists g c =
-    (λ h. race_from c.args.self.now c.args.other.now (sym c.is_same.ensures ∙ h), λ e. c.is_same.ensures ∙ race_is c.args.self.now c.args.other.now e)

@@ -1,5 +1,0 @@
-use Rattle.he_plan.proofs.Stopped.{underway-new}
-use Rattle.he_plan.proofs.underway.Underway.new.Goals as goal
-
-pub returns-clause-underway : goal.returns-clause-underway
-returns-clause-underway g c = λ race. rw (c.new.ensures.items, c.new-2.ensures.items, c.new-3.ensures) (underway-new race)

@@ -1,0 +1,168 @@
+// A race under way: its attempts, made one after the other.
+
+ghost use Rattle.std.specs.Prelude.{◌≡◌, ℕ, ◌<◌, length, vec_capacity, vec_len, IfNone, IfSome, OnErr, OnOk};
+ghost use Rattle.he_timeline.specs.Seen.{IsLeast};
+ghost use Rattle.he_plan.specs.Attempts.{MayStart};
+ghost use Rattle.he_plan.specs.Planning.{all_failed};
+ghost use Rattle.he_timeline.specs.Race.{Race};
+ghost use Rattle.he_timeline.specs.Timeline.{IsRace};
+ghost use Rattle.he_plan.specs.RaceState.{EndsOne, IsUnderway, MakesNext, counted, not_begun};
+
+use crate::attempts::Attempt;
+use crate::finish::{Fate, fate_of};
+use crate::untried::Untried;
+use crate::starts::next_tick;
+use he_timeline::Timeline;
+use he_addr::Memory;
+use std::alloc::{AllocError, Allocator, Global};
+use std::marker::Model;
+
+/// The attempts that a race has made so far, what becomes of each, and what is left to try. It keeps how many failed,
+/// and the untried addresses in order, so that the next attempt costs no look at those that were made.
+#[derive(Drop)]
+pub struct RaceState<A: Allocator = Global> {
+    attempts: Vec<Attempt, A>,
+    fates: Vec<Fate, A>,
+    failed: usize,
+    latest: u64,
+    queue: Untried<A>,
+}
+
+impl<A: Allocator> Model for RaceState<A> {
+    ghost use Rattle.he_plan.specs.RaceState.{Progress};
+
+    ghost Value = { Progress };
+
+    ghost view = { λ u. record { attempts = u.attempts.items; fates = u.fates.items; failed = u.failed; latest = u.latest; queue = u.queue } };
+}
+
+impl<A: Allocator + Copy> RaceState<A> {
+    /// No attempt was made.
+    pub fn new(alloc: A) -> RaceState<A>
+        ensures value { result ≡ not_begun }
+        ensures underway { (race : Race) → IsUnderway race result }
+    {
+        RaceState {
+            attempts: Vec::new(alloc),
+            fates: Vec::new(alloc),
+            failed: 0,
+            latest: 0,
+            queue: Untried::new(alloc),
+        }
+    }
+
+    /// The attempts by place.
+    pub fn attempts(&self) -> &[Attempt]
+        ensures { result.now ≡ self.now.attempts }
+    {
+        self.attempts.as_slice()
+    }
+
+    /// What becomes of each attempt, by place.
+    pub fn fates(&self) -> &[Fate]
+        ensures { result.now ≡ self.now.fates }
+    {
+        self.fates.as_slice()
+    }
+
+    /// The attempts by place, of a race that makes no more.
+    pub fn into_attempts(self) -> Vec<Attempt, A>
+        ensures { result.items ≡ self.attempts }
+    {
+        let RaceState {
+            attempts,
+            fates: _,
+            failed: _,
+            latest: _,
+            queue: _,
+        } = self;
+        attempts
+    }
+
+    /// The least tick at which the next attempt may start, or none.
+    pub fn next_tick<B: Allocator>(&self, timeline: &Timeline<B>) -> Option<u64>
+        requires { IsUnderway timeline.now self.now }
+        ensures some { IfSome result (IsLeast (MayStart timeline.now self.now.attempts)) }
+        ensures none { IfNone result ((t : ℕ) → ¬ MayStart timeline.now self.now.attempts t) }
+        ensures race { IsRace timeline.now }
+    {
+        next_tick(timeline, &self.attempts, self.all_failed(), &self.queue)
+    }
+
+    /// Makes the next attempt at the tick, the least at which it may start. Where memory is refused none is made.
+    pub fn start<B: Allocator>(
+        &mut self,
+        alloc: A,
+        timeline: &Timeline<B>,
+        tick: u64,
+    ) -> Result<(), Memory>
+        requires race { IsRace timeline.now }
+        requires underway { IsUnderway timeline.now self.old }
+        requires least { IsLeast (MayStart timeline.now self.old.attempts) tick }
+        ensures made { OnOk result (MakesNext timeline.now self.old.attempts self.new.attempts tick) }
+        ensures none { OnErr result ((self.new.attempts ≡ self.old.attempts) × (self.new.fates ≡ self.old.fates)) }
+        ensures underway { IsUnderway timeline.now self.new }
+    {
+        let most = timeline.address_count();
+        make_room(&mut self.attempts, most)?;
+        make_room(&mut self.fates, most)?;
+        self.queue.advance(alloc, timeline, &self.attempts, tick)?;
+        let attempt = Attempt {
+            place: self.attempts.len(),
+            tick,
+            ip: self.queue.take(),
+        };
+        let fate = fate_of(timeline, &attempt);
+        self.attempts.push_reserved(attempt);
+        self.fates.push_reserved(fate);
+        self.count(fate);
+        Ok(())
+    }
+
+    /// Takes note that the attempt has ended: the timeline has one more outcome than before, which is its.
+    pub fn end<B: Allocator>(&mut self, timeline: &Timeline<B>, attempt: Attempt)
+        requires ends { (race : Race) × IsRace race × IsUnderway race self.old
+            × EndsOne race timeline.now self.old.attempts attempt }
+        ensures same { self.new.attempts ≡ self.old.attempts }
+        ensures underway { IsUnderway timeline.now self.new }
+    {
+        let fate = fate_of(timeline, &attempt);
+        self.fates[attempt.place] = fate;
+        self.count(fate);
+    }
+
+    // Counts one more fate.
+    fn count(&mut self, fate: Fate)
+        requires { self.old.failed < length self.old.fates }
+        ensures { self.new ≡ counted self.old fate }
+    {
+        if let Fate::Failed(finish) = fate {
+            self.failed += 1;
+            self.latest = self.latest.max(finish);
+        }
+    }
+
+    // The latest failure, if every attempt failed.
+    fn all_failed(&self) -> Option<u64>
+        requires { (race : Race) × IsUnderway race self.now }
+        ensures { result ≡ all_failed self.now.fates }
+    {
+        if self.failed == self.attempts.len() {
+            Some(self.latest)
+        } else {
+            None
+        }
+    }
+}
+
+// Makes room for one more, and at the first for as many as there may be.
+fn make_room<T, A: Allocator>(made: &mut Vec<T, A>, most: usize) -> Result<(), AllocError>
+    ensures same { made.new.items ≡ made.old.items }
+    ensures room { OnOk result (vec_len made.new < vec_capacity made.new) }
+{
+    if made.is_empty() {
+        made.reserve_exact(most.max(1))
+    } else {
+        made.reserve(1)
+    }
+}

@@ -1,0 +1,124 @@
+// The addresses that a race under way has yet to try.
+
+ghost use Rattle.std.specs.Prelude.{◌≡◌, ◌||◌, ◌<◌, true, false, drop, filter, length, slice_get, Some, OnOk, OnErr};
+ghost use Rattle.he_plan.specs.Attempts.{MayStart, is_untried};
+ghost use Rattle.he_plan.specs.Planning.{IsLater, is_received};
+ghost use Rattle.he_timeline.specs.Race.{reply_of};
+ghost use Rattle.he_plan.specs.RaceState.{IsAtNext, IsQueue, nothing_received};
+
+use crate::attempts::{Attempt, is_tried};
+use crate::listing::interlaced_list;
+use he_timeline::{Timeline, put};
+use he_addr::{Family, Ip, Memory};
+use std::alloc::Allocator;
+use std::marker::Model;
+
+// Which answers were received by the last start, and of their interlaced list, from the place `next` on, the addresses
+// that are untried; and the usable addresses of both answers in order, once a list needed them.
+#[derive(Drop)]
+pub(crate) struct Untried<A: Allocator> {
+    pub(crate) v6: bool,
+    pub(crate) v4: bool,
+    ips: Vec<Ip, A>,
+    next: usize,
+    sorted: Vec<Ip, A>,
+}
+
+impl<A: Allocator> Model for Untried<A> {
+    ghost use Rattle.std.specs.Prelude.{drop};
+    ghost use Rattle.he_plan.specs.RaceState.{UntriedValues};
+
+    ghost Value = { UntriedValues };
+
+    ghost view = { λ q. record { v6 = q.v6; v4 = q.v4; ips = drop q.next q.ips.items; sorted = q.sorted.items } };
+}
+
+impl<A: Allocator + Copy> Untried<A> {
+    pub(crate) fn new(alloc: A) -> Untried<A>
+        ensures { result ≡ nothing_received }
+    {
+        Untried {
+            v6: false,
+            v4: false,
+            ips: Vec::new(alloc),
+            next: 0,
+            sorted: Vec::new(alloc),
+        }
+    }
+
+    // Brings the queue to a start at the tick, at the address that is tried then. What was received stays received, so
+    // the list is made anew at most twice in a race, and its addresses are sorted once.
+    pub(crate) fn advance<B: Allocator>(
+        &mut self,
+        alloc: A,
+        timeline: &Timeline<B>,
+        done: &[Attempt],
+        tick: u64,
+    ) -> Result<(), Memory>
+        requires may_start { MayStart timeline.now done.now tick }
+        requires later { IsLater done.now tick }
+        requires queue { IsQueue timeline.now done.now self.old }
+        ensures next { OnOk result (IsAtNext timeline.now done.now tick self.new) }
+        ensures kept { OnErr result (IsQueue timeline.now done.now self.new) }
+    {
+        let v6 = is_included(timeline, Family::V6, tick, self.v6);
+        let v4 = is_included(timeline, Family::V4, tick, self.v4);
+        if v6 == self.v6 && v4 == self.v4 {
+            return Ok(());
+        }
+        let mut ips = interlaced_list(alloc, timeline, &mut self.sorted, v6, v4)?;
+        keep_untried(done, &mut ips);
+        self.v6 = v6;
+        self.v4 = v4;
+        put(&mut self.ips, ips);
+        self.next = 0;
+        Ok(())
+    }
+}
+
+impl<A: Allocator> Untried<A> {
+    pub(crate) fn is_empty(&self) -> bool
+        ensures some { result ≡ false → 0 < length self.now.ips }
+        ensures none { result ≡ true → length self.now.ips ≡ 0 }
+    {
+        self.next >= self.ips.len()
+    }
+
+    // Takes the first address out of the queue.
+    pub(crate) fn take(&mut self) -> Ip
+        requires { 0 < length self.old.ips }
+        ensures first { slice_get self.old.ips 0 ≡ Some result }
+        ensures rest { self.new ≡ record self.old { ips = drop 1 self.old.ips } }
+    {
+        let ip = self.ips[self.next];
+        self.next += 1;
+        ip
+    }
+}
+
+fn keep_untried<A: Allocator>(done: &[Attempt], ips: &mut Vec<Ip, A>)
+    ensures { ips.new.items ≡ filter (is_untried done.now) ips.old.items }
+{
+    ips.retain(|ip| !is_tried(done, *ip));
+}
+
+// Whether the answer is included in the list for the tick, where it was by the last start or not.
+fn is_included<A: Allocator>(
+    timeline: &Timeline<A>,
+    family: Family,
+    tick: u64,
+    before: bool,
+) -> bool
+    ensures { result ≡ (before || is_received timeline.now tick (reply_of timeline.now family)) }
+{
+    before || is_received(timeline, family, tick)
+}
+
+fn is_received<A: Allocator>(timeline: &Timeline<A>, family: Family, tick: u64) -> bool
+    ensures { result ≡ is_received timeline.now tick (reply_of timeline.now family) }
+{
+    match timeline.answer(family) {
+        Some((answered, _)) => timeline.seen(answered) <= tick,
+        None => false,
+    }
+}

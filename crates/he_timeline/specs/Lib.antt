@@ -1,0 +1,10 @@
+pub mod Ahead
+pub mod Building
+pub mod Changes
+pub mod Equality
+pub mod EqualityLaws
+pub mod Race
+pub mod Ranges
+pub mod Seen
+pub mod Settings
+pub mod Timeline

@@ -1,0 +1,154 @@
+// What the client knows of addresses from earlier (RFC 8305 section 4).
+
+ghost use Rattle.std.specs.Prelude.{◌≡◌, ◌++◌, [], ◌∷◌, true, false, IfOk, OnOk, OnErr};
+ghost use Rattle.std.specs.Cmp.Lexicographic.{pointwise};
+ghost use Rattle.he_addr.specs.Ip.{same_ip};
+ghost use Rattle.he_timeline.specs.Building.{empty_history};
+ghost use Rattle.he_timeline.specs.Equality.{same_history, same_rtt};
+ghost use Rattle.he_timeline.specs.Race.{has_ip, is_told, known_of, rtt_in};
+ghost use Rattle.he_timeline.specs.Timeline.{are_distinct, are_told_once};
+
+use crate::by_address::ByAddress;
+use he_addr::Ip;
+use he_select::Known;
+use indexmap::IndexSet;
+use std::alloc::{AllocError, Allocator};
+use std::hash::{BuildHasherDefault, FoldHasher};
+use std::marker::Model;
+
+// Addresses in the order in which they were given.
+type Addresses<A> = IndexSet<Ip, BuildHasherDefault<FoldHasher>, A>;
+
+// The last round trip times in milliseconds, and the addresses that were used before. Where there are none it takes no
+// memory.
+#[derive(Drop)]
+pub(crate) struct History<A: Allocator> {
+    rtts: ByAddress<u64, A>,
+    used: Addresses<A>,
+}
+
+impl<A: Allocator> Model for History<A> {
+    ghost use Rattle.std.specs.Prelude.{◌≡◌, true};
+    ghost use Rattle.he_timeline.specs.Race.{History};
+
+    ghost Value = { History };
+
+    ghost view = { λ h. record { rtts = h.rtts; used = h.used.keys } };
+}
+
+impl<A: Allocator + Copy> History<A> {
+    #[inline(always)]
+    pub(crate) fn none(alloc: A) -> History<A>
+        ensures { result ≡ empty_history }
+    {
+        History {
+            rtts: ByAddress::none(alloc),
+            used: IndexSet::new(alloc),
+        }
+    }
+
+    pub(crate) fn push_rtt(&mut self, ip: Ip, rtt: u64, most: usize) -> Result<(), AllocError>
+        requires { are_told_once (self.old.rtts ++ (ip, rtt) ∷ []) ≡ true }
+        ensures ok { OnOk result (self.new ≡ record self.old { rtts = self.old.rtts ++ (ip, rtt) ∷ [] }) }
+        ensures err { OnErr result (self.new ≡ self.old) }
+    {
+        self.rtts.make_room(most)?;
+        self.rtts.push(ip, rtt)
+    }
+
+    pub(crate) fn push_used(&mut self, ip: Ip) -> Result<(), AllocError>
+        requires { has_ip ip self.old.used ≡ false }
+        ensures ok { OnOk result (self.new ≡ record self.old { used = self.old.used ++ ip ∷ [] }) }
+        ensures err { OnErr result (self.new ≡ self.old) }
+    {
+        self.used.insert(ip)?;
+        Ok(())
+    }
+}
+
+impl<A: Allocator> History<A> {
+    pub(crate) fn has_rtt(&self, ip: Ip) -> bool
+        ensures { result ≡ is_told ip self.now.rtts }
+    {
+        self.rtts.has(ip)
+    }
+
+    pub(crate) fn rtt(&self, ip: Ip) -> Option<u64>
+        ensures { result ≡ rtt_in self.now.rtts ip }
+    {
+        self.rtts.of(ip)
+    }
+
+    pub(crate) fn is_used(&self, ip: Ip) -> bool
+        ensures { result ≡ has_ip ip self.now.used }
+    {
+        if self.used.is_empty() {
+            return false;
+        }
+        self.used.contains(&ip)
+    }
+
+    // What is known of the address.
+    pub(crate) fn known(&self, ip: Ip) -> Known
+        ensures { result ≡ known_of self.now ip }
+    {
+        Known {
+            ip,
+            rtt: self.rtt(ip),
+            used: self.is_used(ip),
+        }
+    }
+
+    pub(crate) fn rtts(&self) -> &[(Ip, u64)]
+        ensures { result.now ≡ self.now.rtts }
+    {
+        self.rtts.as_slice()
+    }
+
+    pub(crate) fn used_addresses(&self) -> &[Ip]
+        ensures { result.now ≡ self.now.used }
+    {
+        self.used.as_slice()
+    }
+
+    pub(crate) fn copy<B: Allocator + Copy>(&self, alloc: B) -> Result<History<B>, AllocError>
+        requires rtts { are_told_once self.now.rtts ≡ true }
+        requires used { are_distinct self.now.used ≡ true }
+        ensures { IfOk result (λ copy. copy ≡ self.now) }
+    {
+        let rtts = self.rtts.copy(alloc)?;
+        let used = set_of(alloc, self.used.as_slice())?;
+        Ok(History { rtts, used })
+    }
+
+    pub(crate) fn is_same(&self, other: &History<A>) -> bool
+        ensures { result ≡ same_history self.now other.now }
+    {
+        same_rtts(self.rtts.as_slice(), other.rtts.as_slice())
+            && same_ips(self.used.as_slice(), other.used.as_slice())
+    }
+}
+
+// The set of these addresses, in their order.
+fn set_of<A: Allocator + Copy>(alloc: A, ips: &[Ip]) -> Result<Addresses<A>, AllocError>
+    requires { are_distinct ips.now ≡ true }
+    ensures { IfOk result (λ set. set.keys ≡ ips.now) }
+{
+    let mut set = IndexSet::with_capacity(alloc, ips.len())?;
+    for ip in ips {
+        set.insert(*ip)?;
+    }
+    Ok(set)
+}
+
+fn same_rtts(x: &[(Ip, u64)], y: &[(Ip, u64)]) -> bool
+    ensures { result ≡ pointwise same_rtt x.now y.now }
+{
+    x == y
+}
+
+fn same_ips(x: &[Ip], y: &[Ip]) -> bool
+    ensures { result ≡ pointwise same_ip x.now y.now }
+{
+    x == y
+}

@@ -1,0 +1,23 @@
+// What an address does when it is tried.
+
+ghost use Rattle.std.specs.Prelude.{◌≡◌};
+ghost use Rattle.he_timeline.specs.Timeline.{duration_of};
+
+/// What a tried address does: it connects or fails so many ticks after the start, 1 to 3,600,000.
+#[derive(Clone, Copy, Debug, PartialEq, Eq)]
+pub enum Outcome {
+    Ok(u64),
+    Fail(u64),
+}
+
+impl Outcome {
+    /// The ticks from the start of the attempt to its finish.
+    pub fn duration(self) -> u64
+        ensures { result ≡ duration_of self }
+    {
+        match self {
+            Outcome::Ok(duration) => duration,
+            Outcome::Fail(duration) => duration,
+        }
+    }
+}
