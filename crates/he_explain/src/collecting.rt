@@ -6,7 +6,7 @@ ghost use Rattle.he_addr.specs.Ip.{is_usable};
 ghost use Rattle.he_addr.specs.declared.ip.Family.TheVariants as families;
 ghost use Rattle.he_plan.specs.Attempts.{order_at};
 ghost use Rattle.he_plan.specs.Race.{reply_of};
-ghost use Rattle.he_explain.specs.Reasons.{standings_of};
+ghost use Rattle.he_explain.specs.Reasons.{all_attributes_of};
 ghost use Rattle.he_explain.specs.Events.{answer_events, attempt_of, cancelled_by, end_event, event_at, events_of, failed_by, is_seen_by, met_events, over_events, pause_events, start_event, start_events, told_events, wait_events};
 
 use crate::cause::{cause_of, failure_of, has_usable, is_held};
@@ -15,20 +15,20 @@ use crate::interlaced::{Interlaced, bring_to};
 use crate::listing::listed_in;
 use he_addr::{Family, Ip, Memory};
 use he_plan::{Attempt, Line, Mark, Outcome3, Timeline, Transcript};
-use he_select::Standing;
+use he_select::DestinationAttributes;
 use std::alloc::{AllocError, Allocator};
 
 // The two answers, the wait for the AAAA answer, the Resolution Delay's end, and the race's end.
 const OTHER_EVENTS: usize = 5;
 
-/// The events of the race with this transcript, by kind, also those after its end; its standings are given sorted.
+/// The events of the race with this transcript, by kind, also those after its end; its all_attributes are given sorted.
 pub fn collect_events<A: Allocator + Copy, B: Allocator, C: Allocator>(
     alloc: A,
     timeline: &Timeline<B>,
-    sorted: &[Standing],
+    sorted: &[DestinationAttributes],
     transcript: &Transcript<C>,
 ) -> Result<Vec<Event, A>, Memory>
-    requires { sorted.now ≡ standings_of timeline.now }
+    requires { sorted.now ≡ all_attributes_of timeline.now }
     ensures { IfOk result (λ events. events.items ≡ events_of timeline.now transcript.now) }
 {
     let most = most_events(timeline.pauses(), transcript.attempts());
@@ -168,10 +168,10 @@ fn push_told<A: Allocator + Copy, B: Allocator, C: Allocator>(
     alloc: A,
     events: &mut Vec<Event, A>,
     timeline: &Timeline<B>,
-    sorted: &[Standing],
+    sorted: &[DestinationAttributes],
     transcript: &Transcript<C>,
 ) -> Result<(), Memory>
-    requires { sorted.now ≡ standings_of timeline.now }
+    requires { sorted.now ≡ all_attributes_of timeline.now }
     ensures { OnOk result (events.new.items ≡ events.old.items ++ told_events timeline.now transcript.now) }
 {
     push_attempts(alloc, events, timeline, sorted, transcript.attempts())?;
@@ -184,10 +184,10 @@ fn push_attempts<A: Allocator + Copy, B: Allocator>(
     alloc: A,
     events: &mut Vec<Event, A>,
     timeline: &Timeline<B>,
-    sorted: &[Standing],
+    sorted: &[DestinationAttributes],
     lines: &[Line],
 ) -> Result<(), Memory>
-    requires { sorted.now ≡ standings_of timeline.now }
+    requires { sorted.now ≡ all_attributes_of timeline.now }
     ensures { OnOk result (events.new.items ≡ events.old.items ++ (flat_map (λ line. failed_by line.place line.mark) lines.now ++ start_events timeline.now None 0 lines.now)) }
 {
     push_failures(events, lines)?;
@@ -257,10 +257,10 @@ fn push_starts<A: Allocator + Copy, B: Allocator>(
     alloc: A,
     events: &mut Vec<Event, A>,
     timeline: &Timeline<B>,
-    sorted: &[Standing],
+    sorted: &[DestinationAttributes],
     lines: &[Line],
 ) -> Result<(), Memory>
-    requires { sorted.now ≡ standings_of timeline.now }
+    requires { sorted.now ≡ all_attributes_of timeline.now }
     ensures { OnOk result (events.new.items ≡ events.old.items ++ start_events timeline.now None 0 lines.now) }
 {
     let mut list = Interlaced::new(alloc);

@@ -56,7 +56,7 @@ pub use builder::{BuildFault, TimelineBuilder};
 pub use changes::Changes;
 pub use finish::{Fate, winner};
 pub use interlacing::interlace;
-pub use listing::sorted_standings;
+pub use listing::sorted_attributes;
 pub use outcome::Outcome;
 pub use planning::plan;
 pub use settings::{Range, Settings};

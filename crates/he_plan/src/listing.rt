@@ -11,12 +11,12 @@ ghost use Rattle.he_plan.specs.Planning.{interlaced_list, is_of_included, part_o
 ghost use Rattle.he_plan.specs.Race.{known_of, race_input, reply_of, usable_addresses};
 ghost use Rattle.he_plan.specs.Timeline.{IsRace};
 ghost use Rattle.he_plan.specs.Underway.{AreSorted};
-ghost use Rattle.he_select.specs.Standing.{standing_of};
+ghost use Rattle.he_select.specs.Attributes.{attributes_of};
 
 use crate::interlacing::{interlace, members};
 use crate::timeline::{Timeline, are_addresses_in_range};
 use he_addr::{Family, Ip, Memory};
-use he_select::{Known, Standing, order, order_known, order_known_with_standings};
+use he_select::{DestinationAttributes, Known, order, order_known, order_known_with_attributes};
 use std::alloc::{AllocError, Allocator};
 
 // The interlaced list of the included answers. The addresses of both answers are sorted at the first list that needs
@@ -113,14 +113,14 @@ fn sorted_known<A: Allocator + Copy, B: Allocator>(
 
 /// The usable addresses of both answers, whatever their ticks, in the order of RFC 6724 section 6, each with what its
 /// rules look at. `Memory` where an allocation is refused.
-pub fn sorted_standings<A: Allocator + Copy, B: Allocator>(
+pub fn sorted_attributes<A: Allocator + Copy, B: Allocator>(
     alloc: A,
     timeline: &Timeline<B>,
-) -> Result<Vec<Standing, A>, Memory>
-    ensures { IfOk result (λ sorted. sorted.items ≡ map (standing_of (race_input timeline.now)) (order timeline.now (usable_addresses timeline.now))) }
+) -> Result<Vec<DestinationAttributes, A>, Memory>
+    ensures { IfOk result (λ sorted. sorted.items ≡ map (attributes_of (race_input timeline.now)) (order timeline.now (usable_addresses timeline.now))) }
 {
     let known = known_addresses(alloc, timeline)?;
-    order_known_with_standings(alloc, timeline.policy(), timeline.host(), &known)
+    order_known_with_attributes(alloc, timeline.policy(), timeline.host(), &known)
 }
 
 // The usable addresses of both answers, as received, each with what the client knows of it.
