@@ -1,4 +1,4 @@
--- What an address is, and what its calls answer: its number as a mapped one, scope, and whether it can be connected to.
+-- What an address is, and what its calls answer: its number as a mapped one, its scope, whether one can connect to it.
 use Rattle.std.specs.Prelude.{ℕ, ◌+◌, ◌*◌, ◌^◌, ◌<◌, ◌==◌, ◌&&◌, ◌||◌, Bool, true, false, not, if◌then◌else◌, IsTrue}
 use Rattle.he_addr.specs.declared.ip.Family.{Family}
 use Rattle.he_addr.specs.declared.ip.Family.TheVariants as families

@@ -1,5 +1,5 @@
--- The text that is printed for an address, stated without the work of finding it (RFC 5952 section 4), and for a source and
--- a prefix.
+-- The text that is printed for an address, stated without the work of finding it (RFC 5952 section 4), and for a
+-- source and a prefix.
 use Rattle.std.specs.Prelude.{◌≡◌, ◌⊎◌, ℕ, ◌+◌, ◌-◌, ◌*◌, ◌/◌, ◌%◌, ◌^◌, ◌<◌, ◌≤◌, ◌&&◌, Bool, false, List, [], ◌∷◌, ◌++◌, map, take, drop, replicate, decimal, if◌then◌else◌}
 use Rattle.std.specs.Fmt.{digits}
 use Rattle.std.specs.Int.{w32, to_be_bytes}
@@ -52,7 +52,8 @@ IsPrinted (V6 n) text = IsPrintedV6 (groups_of n) text
 abbrev pub IsPrintedSource : Ip → ℕ → List ℕ → Type 0
 IsPrintedSource ip len text = (address : List ℕ) × IsPrinted ip address × (text ≡ address ++ 47 ∷ decimal len)
 
--- the address and the length that are printed for a prefix: in IPv4 form if that is asked for and it is one of IPv4 addresses
+-- the address and the length that are printed for a prefix: in IPv4 form if that is asked for and it is one of IPv4
+-- addresses
 abbrev pub shown_as : Bool → PrefixBits → Ip × ℕ
 shown_as is_dotted prefix = if is_dotted && is_inside_mapped prefix then (V4 (prefix.bits % 2 ^ 32), prefix.len - mapped_len) else (V6 prefix.bits, prefix.len)
 

@@ -1,5 +1,5 @@
--- The grammar of the texts: relations between a whole text and what it spells. Texts are lists of bytes. The grammar of
--- addresses (RFC 4291 section 2.2) is that of the standard library.
+-- The grammar of the texts: relations between a whole text and what it spells. Texts are lists of bytes. The grammar
+-- of addresses (RFC 4291 section 2.2) is that of the standard library.
 use Rattle.std.specs.Prelude.{◌≡◌, ℕ, ◌+◌, ◌<◌, ◌≤◌, ◌==◌, false, List, ◌∷◌, ◌++◌, length, slice_index}
 use Rattle.std.specs.List.{AllByRecursion}
 use Rattle.std.specs.Net.Addr.{ipv4_bits, ipv6_bits}
@@ -29,9 +29,9 @@ abbrev pub ip_of : IpAddr → Ip
 ip_of (addresses.V4 address) = V4 (ipv4_bits address)
 ip_of (addresses.V6 address) = V6 (ipv6_bits address)
 
--- The text spells the address: four decimal numbers below 256 without leading zeros, joined by dots; or eight groups of one
--- to four hexadecimal digits, joined by colons, the last two also as an IPv4 text, with `::` at most once, for one zero
--- group or more (RFC 4291 section 2.2).
+-- The text spells the address: four decimal numbers below 256 without leading zeros, joined by dots; or eight groups
+-- of one to four hexadecimal digits, joined by colons, the last two also as an IPv4 text, with `::` at most once, for
+-- one zero group or more (RFC 4291 section 2.2).
 abbrev pub Spells : List ℕ → Ip → Type 0
 Spells text ip = (address : IpAddr) × IsIpText text address × (ip ≡ ip_of address)
 

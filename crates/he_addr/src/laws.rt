@@ -45,7 +45,8 @@ pub fn tokens()
 /// The program's constants are the numbers of the definitions (`specs/Ranges.antt`). Runs nothing.
 pub fn ranges()
     ensures widths { (V4_BITS ≡ v4_bits) × (V6_BITS ≡ v6_bits) × (MAPPED_LEN ≡ mapped_len) }
-    ensures scopes { (LINK_LOCAL_SCOPE ≡ link_local_scope) × (SITE_LOCAL_SCOPE ≡ site_local_scope) × (GLOBAL_SCOPE ≡ global_scope) }
+    ensures scopes { (LINK_LOCAL_SCOPE ≡ link_local_scope) × (SITE_LOCAL_SCOPE ≡ site_local_scope)
+        × (GLOBAL_SCOPE ≡ global_scope) }
     ensures digits { (NUMBER_DIGITS ≡ number_digits) × (LENGTH_DIGITS ≡ length_digits) }
     ensures texts { (ADDRESS_LEN ≡ address_text_len) × (PREFIX_LEN ≡ prefix_text_len) }
 {}

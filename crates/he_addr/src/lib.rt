@@ -5,11 +5,11 @@
 //! lies in a prefix, and how long a part a source and a destination have in common.
 //!
 //! Texts are bytes. [`read_ip`], [`read_ip_of`], [`read_prefix`], [`read_source`] and [`read_number`] answer a value
-//! exactly where the whole text spells it, and None for every other text; they allocate nothing. Addresses of the usual
-//! forms have quick readers; what those refuse is read by `std::net`.
-//! [`write_ip`], [`write_prefix`], [`write_source`] and [`write_number`] append to a vector by at most one growth, and
-//! leave it as it was where that is refused ([`Memory`]). [`prepend_ip`], [`prepend_number`], [`prepend_bytes`] and
-//! [`prepend_byte`] make a text in a buffer, from its end to its front.
+//! exactly where the whole text spells it, and None for every other text; they allocate nothing. Addresses of the
+//! usual forms have quick readers; what those refuse is read by `std::net`. [`write_ip`], [`write_prefix`],
+//! [`write_source`] and [`write_number`] append to a vector by at most one growth, and leave it as it was where that
+//! is refused ([`Memory`]). [`prepend_ip`], [`prepend_number`], [`prepend_bytes`] and [`prepend_byte`] make a text in
+//! a buffer, from its end to its front.
 //!
 //! Proved, for all texts and values:
 //!

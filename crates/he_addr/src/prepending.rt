@@ -1,5 +1,5 @@
-// Texts made from their end to their front, in a buffer of fixed size: the least digit of a number comes first out of a
-// division, and no length has to be known before. Each call takes where the text in the buffer begins, and answers
+// Texts made from their end to their front, in a buffer of fixed size: the least digit of a number comes first out of
+// a division, and no length has to be known before. Each call takes where the text in the buffer begins, and answers
 // where it begins then; what is in front of it there stays as it was.
 
 ghost use Rattle.std.specs.Prelude.{◌≡◌, ◌+◌, ◌<◌, ◌≤◌, ◌∷◌, [], length, decimal};

@@ -171,9 +171,9 @@ fn prepend_dotted(byte: u8, buffer: &mut [u8], end: usize) -> usize
     prepend_small(byte, buffer, dot)
 }
 
-/// Puts the text of the address, as [`write_ip`](crate::write_ip) appends it (RFC 5952 section 4), in front of the text
-/// that stands in the buffer from `end` on, where there is room for the longest address, and answers where the text
-/// begins then.
+/// Puts the text of the address, as [`write_ip`](crate::write_ip) appends it (RFC 5952 section 4), in front of the
+/// text that stands in the buffer from `end` on, where there is room for the longest address, and answers where the
+/// text begins then.
 pub fn prepend_ip(ip: Ip, buffer: &mut [u8], end: usize) -> usize
     requires { (ADDRESS_LEN ≤ end) × (end ≤ length buffer.old) }
     ensures written { Prepends buffer.old end buffer.new result (printed ip) }

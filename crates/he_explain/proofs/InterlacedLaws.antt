@@ -9,31 +9,31 @@ use Rattle.he_plan.specs.Planning.{interlaced_list, is_of_included, is_received,
 use Rattle.he_timeline.specs.Race.{Race, Reply, addresses_of, race_input, usable_addresses}
 use Rattle.he_timeline.specs.Timeline.{IsRace}
 use Rattle.he_plan.proofs.Listed.{list_kept}
-use Rattle.he_select.specs.declared.standing.Standing.{Standing}
+use Rattle.he_select.specs.declared.attributes.DestinationAttributes.{DestinationAttributes}
 use Rattle.he_select.specs.Preference.{order_of}
 use Rattle.he_select.specs.Selection.{SelectionInput}
-use Rattle.he_select.specs.Standing.{standing_of}
-use Rattle.he_explain.specs.Reasons.{standings_of}
+use Rattle.he_select.specs.Attributes.{attributes_of}
+use Rattle.he_explain.specs.Reasons.{all_attributes_of}
 
-addresses_kept : (input : SelectionInput) (ips : List Ip) → map (λ (standing : Standing). standing.ip) (map (standing_of input) ips) ≡ ips
+addresses_kept : (input : SelectionInput) (ips : List Ip) → map (λ (attributes : DestinationAttributes). attributes.ip) (map (attributes_of input) ips) ≡ ips
 addresses_kept input [] = refl
 addresses_kept input (ip ∷ ips) = ap (λ (rest : List Ip). ip ∷ rest) (addresses_kept input ips)
 
-sorted_addresses_are : (race : Race) (sorted : List Standing) → sorted ≡ standings_of race → map (λ (standing : Standing). standing.ip) sorted ≡ order race (usable_addresses race)
-unfolding standings_of
+sorted_addresses_are : (race : Race) (sorted : List DestinationAttributes) → sorted ≡ all_attributes_of race → map (λ (attributes : DestinationAttributes). attributes.ip) sorted ≡ order race (usable_addresses race)
+unfolding all_attributes_of
 sorted_addresses_are race sorted is =
-    ap (λ (l : List Standing). map (λ (standing : Standing). standing.ip) l) is
+    ap (λ (l : List DestinationAttributes). map (λ (attributes : DestinationAttributes). attributes.ip) l) is
     ∙ addresses_kept (race_input race) (order race (usable_addresses race))
 
 -- the interlaced list of some answers
-list_from : (race : Race) → IsRace race → All InRange (addresses_of race.aaaa) → All InRange (addresses_of race.a) → (v6 v4 : Bool) (sorted : List Standing) → sorted ≡ standings_of race
-    → interlace (filter (is_of_included v6 v4) (map (λ (standing : Standing). standing.ip) sorted)) race.settings.count ≡ interlaced_list race v6 v4
+list_from : (race : Race) → IsRace race → All InRange (addresses_of race.aaaa) → All InRange (addresses_of race.a) → (v6 v4 : Bool) (sorted : List DestinationAttributes) → sorted ≡ all_attributes_of race
+    → interlace (filter (is_of_included v6 v4) (map (λ (attributes : DestinationAttributes). attributes.ip) sorted)) race.settings.count ≡ interlaced_list race v6 v4
 list_from race r six four v6 v4 sorted is =
-    list_kept race r six four v6 v4 (map (λ (standing : Standing). standing.ip) sorted) (sorted_addresses_are race sorted is)
+    list_kept race r six four v6 v4 (map (λ (attributes : DestinationAttributes). attributes.ip) sorted) (sorted_addresses_are race sorted is)
 
 -- as it is made
-pub list_from_with : (race : Race) → IsRace race → All InRange (addresses_of race.aaaa) → All InRange (addresses_of race.a) → (v6 v4 : Bool) (sorted : List Standing) (ips : List Ip) (count : ℕ) → sorted ≡ standings_of race
-    → ips ≡ filter (is_of_included v6 v4) (map (λ (standing : Standing). standing.ip) sorted) → count ≡ race.settings.count → interlace ips count ≡ interlaced_list race v6 v4
+pub list_from_with : (race : Race) → IsRace race → All InRange (addresses_of race.aaaa) → All InRange (addresses_of race.a) → (v6 v4 : Bool) (sorted : List DestinationAttributes) (ips : List Ip) (count : ℕ) → sorted ≡ all_attributes_of race
+    → ips ≡ filter (is_of_included v6 v4) (map (λ (attributes : DestinationAttributes). attributes.ip) sorted) → count ≡ race.settings.count → interlace ips count ≡ interlaced_list race v6 v4
 list_from_with race r six four v6 v4 sorted ips count is of_ips of_count =
     ap (λ (n : ℕ). interlace ips n) of_count ∙ ap (λ (l : List Ip). interlace l race.settings.count) of_ips
     ∙ list_from race r six four v6 v4 sorted is

@@ -7,9 +7,9 @@ use Rattle.he_timeline.specs.Race.{Race, race_input, usable_addresses}
 use Rattle.he_select.specs.declared.deciding.DestinationRule.{DestinationRule}
 use Rattle.he_select.specs.declared.deciding.DestinationRule.TheVariants as rules
 use Rattle.he_select.specs.declared.selection.LabelledSource.{LabelledSource}
-use Rattle.he_select.specs.declared.standing.Standing.{Standing}
+use Rattle.he_select.specs.declared.attributes.DestinationAttributes.{DestinationAttributes}
 use Rattle.he_select.specs.Deciding.{deciding_rule}
-use Rattle.he_select.specs.Standing.{standing_of}
+use Rattle.he_select.specs.Attributes.{attributes_of}
 use Rattle.he_text.specs.Ranges.{line_end}
 
 -- the number and the name of a rule in RFC 6724 section 6; 8a and 8b are those of RFC 8305 section 4
@@ -40,12 +40,12 @@ rtt_text None = codes "unknown"
 rtt_text (Some rtt) = decimal rtt
 
 -- a number of the source that an address has, 0 where it has none
-abbrev pub of_source : (LabelledSource → ℕ) → Standing → ℕ
-of_source number standing = option_map_or number standing.source 0
+abbrev pub of_source : (LabelledSource → ℕ) → DestinationAttributes → ℕ
+of_source number attributes = option_map_or number attributes.source 0
 
 -- the values that a rule compares. Rules 2 and 5 compare those of the later address with those of its source; rules
 -- 1, 3, 7, 8b and 10 compare none
-abbrev pub compared_text : DestinationRule → Standing → Standing → List ℕ
+abbrev pub compared_text : DestinationRule → DestinationAttributes → DestinationAttributes → List ℕ
 compared_text rules.AvoidUnusable earlier later = []
 compared_text rules.MatchingScope earlier later =
     values_text (codes ": scope ") later.scope (codes " but source scope ") (of_source (λ source. source.scope) later)
@@ -61,7 +61,7 @@ compared_text rules.LongestPrefix earlier later = after_text later.common earlie
 compared_text rules.Unchanged earlier later = []
 
 -- , behind PLACE by rule NUMBER, NAME: VALUES
-abbrev pub behind_text : ℕ → DestinationRule → Standing → Standing → List ℕ
+abbrev pub behind_text : ℕ → DestinationRule → DestinationAttributes → DestinationAttributes → List ℕ
 behind_text place rule earlier later =
     (codes ", behind " ++ decimal place) ++ ((codes " by rule " ++ rule_text rule) ++ compared_text rule earlier later)
 
@@ -71,31 +71,31 @@ with_source_text None = codes " without source"
 with_source_text (Some labelled) = codes " source " ++ printed labelled.source.ip
 
 -- order PLACE ADDRESS source SOURCE, or order PLACE ADDRESS without source
-abbrev pub place_text : ℕ → Standing → List ℕ
-place_text place standing = ((codes "order " ++ decimal place) ++ (codes " " ++ printed standing.ip)) ++ with_source_text standing.source
+abbrev pub place_text : ℕ → DestinationAttributes → List ℕ
+place_text place attributes = ((codes "order " ++ decimal place) ++ (codes " " ++ printed attributes.ip)) ++ with_source_text attributes.source
 
 -- which rule decides between two addresses, the earlier one first
 abbrev pub Decision : Type 0
-Decision = Standing → Standing → DestinationRule
+Decision = DestinationAttributes → DestinationAttributes → DestinationRule
 
 -- why the address stands behind the one before it; nothing for the first
-abbrev pub reason_text : Decision → ℕ → Option Standing → Standing → List ℕ
+abbrev pub reason_text : Decision → ℕ → Option DestinationAttributes → DestinationAttributes → List ℕ
 reason_text decide place None later = []
 reason_text decide place (Some earlier) later = behind_text (place - 1) (decide earlier later) earlier later
 
-abbrev pub reason_line : Decision → ℕ → Option Standing → Standing → List ℕ
-reason_line decide place earlier standing = place_text place standing ++ (reason_text decide place earlier standing ++ line_end ∷ [])
+abbrev pub reason_line : Decision → ℕ → Option DestinationAttributes → DestinationAttributes → List ℕ
+reason_line decide place earlier attributes = place_text place attributes ++ (reason_text decide place earlier attributes ++ line_end ∷ [])
 
 -- the lines of addresses, counted from `place`, behind the address before them
-abbrev pub reason_lines : Decision → ℕ → Option Standing → List Standing → List ℕ
+abbrev pub reason_lines : Decision → ℕ → Option DestinationAttributes → List DestinationAttributes → List ℕ
 reason_lines decide place earlier [] = []
 reason_lines decide place earlier (first ∷ more) =
     reason_line decide place earlier first ++ reason_lines decide (place + 1) (Some first) more
 
 -- what the rules look at of the usable addresses of both answers, in sorted order and not interlaced
-unfoldable pub standings_of : Race → List Standing
-standings_of race = map (standing_of (race_input race)) (order race (usable_addresses race))
+unfoldable pub all_attributes_of : Race → List DestinationAttributes
+all_attributes_of race = map (attributes_of (race_input race)) (order race (usable_addresses race))
 
 -- these addresses, each with its source and with what puts it behind the one before
 abbrev pub order_reasons_text : Race → List ℕ
-order_reasons_text race = reason_lines (λ a b. deciding_rule (race_input race) a.ip b.ip) 0 None (standings_of race)
+order_reasons_text race = reason_lines (λ a b. deciding_rule (race_input race) a.ip b.ip) 0 None (all_attributes_of race)

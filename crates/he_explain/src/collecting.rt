@@ -22,14 +22,14 @@ use std::alloc::{AllocError, Allocator};
 // The two answers, the wait for the AAAA answer, the Resolution Delay's end, and the race's end.
 const OTHER_EVENTS: usize = 5;
 
-/// The events of the race with this transcript, by kind, also those after its end; its standings are given sorted.
+/// The events of the race with this transcript, by kind, also those after its end; its all_attributes are given sorted.
 pub fn collect_events<A: Allocator + Copy, B: Allocator, C: Allocator>(
     alloc: A,
     timeline: &Timeline<B>,
-    sorted: &[Standing],
+    sorted: &[DestinationAttributes],
     transcript: &Transcript<C>,
 ) -> Result<Vec<Event, A>, Memory>
-    requires { sorted.now ≡ standings_of timeline.now }
+    requires { sorted.now ≡ all_attributes_of timeline.now }
     ensures { IfOk result (λ events. events.items ≡ events_of timeline.now transcript.now) }
 {
     let most = most_events(timeline.pauses(), transcript.attempts());
@@ -169,10 +169,10 @@ fn push_told<A: Allocator + Copy, B: Allocator, C: Allocator>(
     alloc: A,
     events: &mut Vec<Event, A>,
     timeline: &Timeline<B>,
-    sorted: &[Standing],
+    sorted: &[DestinationAttributes],
     transcript: &Transcript<C>,
 ) -> Result<(), Memory>
-    requires { sorted.now ≡ standings_of timeline.now }
+    requires { sorted.now ≡ all_attributes_of timeline.now }
     ensures { OnOk result (events.new.items ≡ events.old.items ++ told_events timeline.now transcript.now) }
 {
     push_attempts(alloc, events, timeline, sorted, transcript.attempts())?;
@@ -185,10 +185,10 @@ fn push_attempts<A: Allocator + Copy, B: Allocator>(
     alloc: A,
     events: &mut Vec<Event, A>,
     timeline: &Timeline<B>,
-    sorted: &[Standing],
+    sorted: &[DestinationAttributes],
     lines: &[Line],
 ) -> Result<(), Memory>
-    requires { sorted.now ≡ standings_of timeline.now }
+    requires { sorted.now ≡ all_attributes_of timeline.now }
     ensures { OnOk result (events.new.items ≡ events.old.items ++ (flat_map (λ line. failed_by line.place line.mark) lines.now ++ start_events timeline.now None 0 lines.now)) }
 {
     push_failures(events, lines)?;
@@ -258,10 +258,10 @@ fn push_starts<A: Allocator + Copy, B: Allocator>(
     alloc: A,
     events: &mut Vec<Event, A>,
     timeline: &Timeline<B>,
-    sorted: &[Standing],
+    sorted: &[DestinationAttributes],
     lines: &[Line],
 ) -> Result<(), Memory>
-    requires { sorted.now ≡ standings_of timeline.now }
+    requires { sorted.now ≡ all_attributes_of timeline.now }
     ensures { OnOk result (events.new.items ≡ events.old.items ++ start_events timeline.now None 0 lines.now) }
 {
     let mut list = Interlaced::new(alloc);

@@ -5,7 +5,7 @@ ghost use Rattle.std.specs.List.{flat_map};
 ghost use Rattle.he_addr.specs.Printing.{printed};
 ghost use Rattle.he_text.specs.Writing.{AppendsText};
 ghost use Rattle.he_explain.specs.Course.{cause_text, course_text, event_text, held_text, kind_text, listed_text, put_events, start_text, turn_text};
-ghost use Rattle.he_explain.specs.Reasons.{standings_of, values_text};
+ghost use Rattle.he_explain.specs.Reasons.{all_attributes_of, values_text};
 
 use crate::cause::Cause;
 use crate::collecting::{collect_events, end_tick};
@@ -204,11 +204,11 @@ fn write_events<A: Allocator + Copy>(events: &[&Event], out: &mut Vec<u8, A>) ->
 pub(crate) fn write_course_of<A: Allocator + Copy, B: Allocator, C: Allocator>(
     alloc: A,
     timeline: &Timeline<B>,
-    sorted: &[Standing],
+    sorted: &[DestinationAttributes],
     transcript: &Transcript<C>,
     out: &mut Vec<u8, A>,
 ) -> Result<(), Memory>
-    requires { sorted.now ≡ standings_of timeline.now }
+    requires { sorted.now ≡ all_attributes_of timeline.now }
     ensures { AppendsText result out.old.items out.new.items (course_text timeline.now transcript.now) }
 {
     let events = collect_events(alloc, timeline, sorted, transcript)?;
@@ -216,7 +216,7 @@ pub(crate) fn write_course_of<A: Allocator + Copy, B: Allocator, C: Allocator>(
     write_events(&by_tick, out)
 }
 
-#[tactic(auto, unfolding(crate::specs::Reasons::standings_of))]
+#[tactic(auto, unfolding(crate::specs::Reasons::all_attributes_of))]
 fn write_sorted<A: Allocator + Copy, B: Allocator, C: Allocator>(
     alloc: A,
     timeline: &Timeline<B>,
@@ -225,7 +225,7 @@ fn write_sorted<A: Allocator + Copy, B: Allocator, C: Allocator>(
 ) -> Result<(), Memory>
     ensures { AppendsText result out.old.items out.new.items (course_text timeline.now transcript.now) }
 {
-    let sorted = sorted_standings(alloc, timeline)?;
+    let sorted = sorted_attributes(alloc, timeline)?;
     write_course_of(alloc, timeline, &sorted, transcript, out)
 }
 

@@ -3,7 +3,7 @@
 ghost use Rattle.std.specs.Prelude.{◌≡◌, ◌++◌, codes, OnOk, OnErr};
 ghost use Rattle.he_text.specs.Writing.{AppendsText, Grows};
 ghost use Rattle.he_explain.specs.Course.{Explains, course_text, explanation_text};
-ghost use Rattle.he_explain.specs.Reasons.{standings_of};
+ghost use Rattle.he_explain.specs.Reasons.{all_attributes_of};
 
 use crate::course::write_course_of;
 use crate::reasons::write_order_of;
@@ -18,11 +18,11 @@ use std::alloc::Allocator;
 fn write_ended<A: Allocator + Copy, B: Allocator, C: Allocator>(
     alloc: A,
     timeline: &Timeline<B>,
-    sorted: &[Standing],
+    sorted: &[DestinationAttributes],
     transcript: &Transcript<C>,
     out: &mut Vec<u8, A>,
 ) -> Result<(), Memory>
-    requires { sorted.now ≡ standings_of timeline.now }
+    requires { sorted.now ≡ all_attributes_of timeline.now }
     ensures { AppendsText result out.old.items out.new.items (course_text timeline.now transcript.now ++ codes "end\n") }
 {
     write_course_of(alloc, timeline, sorted, transcript, out)?;
@@ -30,7 +30,7 @@ fn write_ended<A: Allocator + Copy, B: Allocator, C: Allocator>(
 }
 
 // The addresses are sorted once: the order is told of them, and the course takes its lists from it.
-#[tactic(auto, unfolding(crate::specs::Reasons::standings_of))]
+#[tactic(auto, unfolding(crate::specs::Reasons::all_attributes_of))]
 fn write_parts<A: Allocator + Copy, B: Allocator, C: Allocator>(
     alloc: A,
     timeline: &Timeline<B>,
@@ -39,7 +39,7 @@ fn write_parts<A: Allocator + Copy, B: Allocator, C: Allocator>(
 ) -> Result<(), Memory>
     ensures { AppendsText result out.old.items out.new.items (explanation_text timeline.now transcript.now) }
 {
-    let sorted = sorted_standings(alloc, timeline)?;
+    let sorted = sorted_attributes(alloc, timeline)?;
     write_order_of(&sorted, out)?;
     write_ended(alloc, timeline, &sorted, transcript, out)
 }

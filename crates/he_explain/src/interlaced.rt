@@ -42,11 +42,11 @@ impl<A: Allocator + Copy> Interlaced<A> {
 pub(crate) fn bring_to<A: Allocator + Copy, B: Allocator>(
     alloc: A,
     timeline: &Timeline<B>,
-    sorted: &[Standing],
+    sorted: &[DestinationAttributes],
     tick: u64,
     list: &mut Interlaced<A>,
 ) -> Result<(), Memory>
-    requires sorted { sorted.now ≡ standings_of timeline.now }
+    requires sorted { sorted.now ≡ all_attributes_of timeline.now }
     requires list { list.old.ips.items ≡ interlaced_list timeline.now list.old.v6 list.old.v4 }
     ensures received { OnOk result (list.new.ips.items ≡ order_at timeline.now tick) }
     ensures list { OnOk result (list.new.ips.items ≡ interlaced_list timeline.now list.new.v6 list.new.v4) }
@@ -81,11 +81,11 @@ fn is_received<A: Allocator>(timeline: &Timeline<A>, family: Family, tick: u64) 
 fn interlaced_list<A: Allocator + Copy, B: Allocator>(
     alloc: A,
     timeline: &Timeline<B>,
-    sorted: &[Standing],
+    sorted: &[DestinationAttributes],
     v6: bool,
     v4: bool,
 ) -> Result<Vec<Ip, A>, Memory>
-    requires { sorted.now ≡ standings_of timeline.now }
+    requires { sorted.now ≡ all_attributes_of timeline.now }
     ensures { IfOk result (λ ips. ips.items ≡ interlaced_list timeline.now v6 v4) }
 {
     are_addresses_in_range(timeline);
@@ -96,15 +96,15 @@ fn interlaced_list<A: Allocator + Copy, B: Allocator>(
 // Of the sorted addresses those of the included answers.
 fn included<A: Allocator>(
     alloc: A,
-    sorted: &[Standing],
+    sorted: &[DestinationAttributes],
     v6: bool,
     v4: bool,
 ) -> Result<Vec<Ip, A>, AllocError>
-    ensures { IfOk result (λ ips. ips.items ≡ filter (is_of_included v6 v4) (map (λ standing. standing.ip) sorted.now)) }
+    ensures { IfOk result (λ ips. ips.items ≡ filter (is_of_included v6 v4) (map (λ attributes. attributes.ip) sorted.now)) }
 {
     sorted
         .iter()
-        .map(|standing| standing.ip)
+        .map(|attributes| attributes.ip)
         .filter(|ip| is_included(v6, v4, *ip))
         .collect(alloc)
 }

@@ -5,7 +5,7 @@ ghost use Rattle.he_addr.specs.Printing.{printed};
 ghost use Rattle.he_timeline.specs.Race.{Race};
 ghost use Rattle.he_select.specs.Standing.{rule_between};
 ghost use Rattle.he_text.specs.Writing.{AppendsText};
-ghost use Rattle.he_explain.specs.Reasons.{after_text, behind_text, compared_text, of_source, order_reasons_text, place_text, reason_line, reason_lines, reason_text, rtt_text, rule_text, standings_of, with_source_text};
+ghost use Rattle.he_explain.specs.Reasons.{after_text, behind_text, compared_text, of_source, order_reasons_text, place_text, reason_line, reason_lines, reason_text, rtt_text, rule_text, all_attributes_of, with_source_text};
 
 use crate::writing::{write_bytes, write_labelled, write_labelled_ip, write_values};
 use he_addr::{Ip, Memory, write_number};
@@ -71,23 +71,23 @@ fn write_rtts<A: Allocator + Copy>(
     write_rtt(b" after ", earlier, out)
 }
 
-fn source_scope(standing: &Standing) -> u8
-    ensures { result ≡ of_source (λ source. source.scope) standing.now }
+fn source_scope(attributes: &DestinationAttributes) -> u8
+    ensures { result ≡ of_source (λ source. source.scope) attributes.now }
 {
-    standing.source.map_or(0, |source| source.scope)
+    attributes.source.map_or(0, |source| source.scope)
 }
 
-fn source_label(standing: &Standing) -> u16
-    ensures { result ≡ of_source (λ source. source.label) standing.now }
+fn source_label(attributes: &DestinationAttributes) -> u16
+    ensures { result ≡ of_source (λ source. source.label) attributes.now }
 {
-    standing.source.map_or(0, |source| source.label)
+    attributes.source.map_or(0, |source| source.label)
 }
 
 // The values that the rule compares, if it compares any.
 fn write_compared<A: Allocator + Copy>(
     rule: DestinationRule,
-    earlier: &Standing,
-    later: &Standing,
+    earlier: &DestinationAttributes,
+    later: &DestinationAttributes,
     out: &mut Vec<u8, A>,
 ) -> Result<(), Memory>
     ensures { AppendsText result out.old.items out.new.items (compared_text rule earlier.now later.now) }
@@ -143,8 +143,8 @@ fn write_name<A: Allocator + Copy>(
 // by rule NUMBER, NAME: VALUES, behind a space
 fn write_rule<A: Allocator + Copy>(
     rule: DestinationRule,
-    earlier: &Standing,
-    later: &Standing,
+    earlier: &DestinationAttributes,
+    later: &DestinationAttributes,
     out: &mut Vec<u8, A>,
 ) -> Result<(), Memory>
     ensures { AppendsText result out.old.items out.new.items ((codes " by rule " ++ rule_text rule) ++ compared_text rule earlier.now later.now) }
@@ -157,8 +157,8 @@ fn write_rule<A: Allocator + Copy>(
 fn write_behind<A: Allocator + Copy>(
     place: u64,
     rule: DestinationRule,
-    earlier: &Standing,
-    later: &Standing,
+    earlier: &DestinationAttributes,
+    later: &DestinationAttributes,
     out: &mut Vec<u8, A>,
 ) -> Result<(), Memory>
     ensures { AppendsText result out.old.items out.new.items (behind_text place rule earlier.now later.now) }
@@ -190,20 +190,20 @@ fn write_placed<A: Allocator + Copy>(place: u64, ip: Ip, out: &mut Vec<u8, A>) -
 
 fn write_place<A: Allocator + Copy>(
     place: u64,
-    standing: &Standing,
+    attributes: &DestinationAttributes,
     out: &mut Vec<u8, A>,
 ) -> Result<(), Memory>
-    ensures { AppendsText result out.old.items out.new.items (place_text place standing.now) }
+    ensures { AppendsText result out.old.items out.new.items (place_text place attributes.now) }
 {
-    write_placed(place, standing.ip, out)?;
-    write_source(standing.source, out)
+    write_placed(place, attributes.ip, out)?;
+    write_source(attributes.source, out)
 }
 
 // Why the address stands behind the one before it, if there is one.
 fn write_reason<A: Allocator + Copy>(
     place: u64,
-    earlier: Option<Standing>,
-    later: &Standing,
+    earlier: Option<DestinationAttributes>,
+    later: &DestinationAttributes,
     out: &mut Vec<u8, A>,
 ) -> Result<(), Memory>
     ensures { AppendsText result out.old.items out.new.items (reason_text rule_between place earlier later.now) }
@@ -220,50 +220,53 @@ fn write_reason<A: Allocator + Copy>(
 // The end of a line: the reason, and the line's end.
 fn write_end<A: Allocator + Copy>(
     place: u64,
-    earlier: Option<Standing>,
-    standing: &Standing,
+    earlier: Option<DestinationAttributes>,
+    attributes: &DestinationAttributes,
     out: &mut Vec<u8, A>,
 ) -> Result<(), Memory>
-    ensures { AppendsText result out.old.items out.new.items (reason_text rule_between place earlier standing.now ++ codes "\n") }
+    ensures { AppendsText result out.old.items out.new.items (reason_text rule_between place earlier attributes.now ++ codes "\n") }
 {
-    write_reason(place, earlier, standing, out)?;
+    write_reason(place, earlier, attributes, out)?;
     write_bytes(b"\n", out)
 }
 
 fn write_line<A: Allocator + Copy>(
     place: u64,
-    earlier: Option<Standing>,
-    standing: &Standing,
+    earlier: Option<DestinationAttributes>,
+    attributes: &DestinationAttributes,
     out: &mut Vec<u8, A>,
 ) -> Result<(), Memory>
-    ensures { AppendsText result out.old.items out.new.items (reason_line rule_between place earlier standing.now) }
+    ensures { AppendsText result out.old.items out.new.items (reason_line rule_between place earlier attributes.now) }
 {
-    write_place(place, standing, out)?;
-    write_end(place, earlier, standing, out)
+    write_place(place, attributes, out)?;
+    write_end(place, earlier, attributes, out)
 }
 
-fn write_lines<A: Allocator + Copy>(sorted: &[Standing], out: &mut Vec<u8, A>) -> Result<(), Memory>
+fn write_lines<A: Allocator + Copy>(
+    sorted: &[DestinationAttributes],
+    out: &mut Vec<u8, A>,
+) -> Result<(), Memory>
     ensures { AppendsText result out.old.items out.new.items (reason_lines rule_between 0 None sorted.now) }
 {
     let mut earlier = None;
-    for (place, standing) in sorted.iter().enumerate() {
-        write_line(place as u64, earlier, standing, out)?;
-        earlier = Some(*standing);
+    for (place, attributes) in sorted.iter().enumerate() {
+        write_line(place as u64, earlier, attributes, out)?;
+        earlier = Some(*attributes);
     }
     Ok(())
 }
 
 // The order of a race's addresses, which are given sorted.
 pub(crate) fn write_order_of<A: Allocator + Copy>(
-    sorted: &[Standing],
+    sorted: &[DestinationAttributes],
     out: &mut Vec<u8, A>,
 ) -> Result<(), Memory>
-    ensures { (race : Race) → sorted.now ≡ standings_of race → AppendsText result out.old.items out.new.items (order_reasons_text race) }
+    ensures { (race : Race) → sorted.now ≡ all_attributes_of race → AppendsText result out.old.items out.new.items (order_reasons_text race) }
 {
     write_lines(sorted, out)
 }
 
-#[tactic(auto, unfolding(crate::specs::Reasons::standings_of))]
+#[tactic(auto, unfolding(crate::specs::Reasons::all_attributes_of))]
 fn write_whole<A: Allocator + Copy, B: Allocator>(
     alloc: A,
     timeline: &Timeline<B>,
@@ -271,7 +274,7 @@ fn write_whole<A: Allocator + Copy, B: Allocator>(
 ) -> Result<(), Memory>
     ensures { AppendsText result out.old.items out.new.items (order_reasons_text timeline.now) }
 {
-    let sorted = sorted_standings(alloc, timeline)?;
+    let sorted = sorted_attributes(alloc, timeline)?;
     write_order_of(&sorted, out)
 }
 

@@ -16,7 +16,7 @@ use Rattle.he_plan.specs.declared.transcript.Outcome3.{Outcome3}
 use Rattle.he_plan.specs.declared.transcript.Outcome3.TheVariants as results
 use Rattle.he_select.specs.declared.deciding.DestinationRule.{DestinationRule}
 use Rattle.he_select.specs.declared.deciding.DestinationRule.TheVariants as rules
-use Rattle.he_select.specs.declared.standing.Standing.{Standing}
+use Rattle.he_select.specs.declared.attributes.DestinationAttributes.{DestinationAttributes}
 use Rattle.he_explain.specs.declared.cause.Cause.{Cause}
 use Rattle.he_explain.specs.declared.cause.Cause.TheVariants as causes
 use Rattle.he_explain.specs.declared.events.Event.{Event}
@@ -26,7 +26,7 @@ use Rattle.he_explain.specs.declared.listing.Listed.{Listed}
 use Rattle.he_explain.specs.declared.listing.Turn.{Turn}
 use Rattle.he_explain.specs.declared.listing.Turn.TheVariants as whose
 use Rattle.he_explain.specs.Course.{course}
-use Rattle.he_explain.specs.Reasons.{Decision, standings_of}
+use Rattle.he_explain.specs.Reasons.{Decision, all_attributes_of}
 use Rattle.he_json.specs.Events.{cause_members, event_json, event_named, family_name, kind_members, listed_members, number_member, turn_name}
 use Rattle.he_json.specs.Explanation.{explanation_json, explanation_object}
 use Rattle.he_json.specs.Json.{address, address_or_null, member, number_or_null, object, truth}
@@ -90,19 +90,19 @@ transcripts_are_lines report =
     let end : IsPrintable (result_json report.result) = ending report.result in
     (transcript_object report, refl, simp (printable, all, end))
 
-place : (n : ℕ) (standing : Standing) → IsPrintable (place_json n standing)
-place n standing = simp printable
+place : (n : ℕ) (attributes : DestinationAttributes) → IsPrintable (place_json n attributes)
+place n attributes = simp printable
 
-places : (n : ℕ) (standings : List Standing) → AllByRecursion IsPrintable (places_json n standings)
+places : (n : ℕ) (all_attributes : List DestinationAttributes) → AllByRecursion IsPrintable (places_json n all_attributes)
 places n [] = tt
-places n (standing ∷ standings) = (place n standing, places (n + 1) standings)
+places n (attributes ∷ all_attributes) = (place n attributes, places (n + 1) all_attributes)
 
 pub orders_are_lines : (race : Race) → IsLine (order_json race)
 orders_are_lines race =
-    let all : IsPrintable (join_with_byte 44 (places_json 0 (standings_of race))) = joined (places_json 0 (standings_of race)) (places 0 (standings_of race)) in
+    let all : IsPrintable (join_with_byte 44 (places_json 0 (all_attributes_of race))) = joined (places_json 0 (all_attributes_of race)) (places 0 (all_attributes_of race)) in
     (order_object race, refl, simp (printable, all))
 
-behind : (n : ℕ) (rule : DestinationRule) (earlier later : Standing) → IsPrintable (object (place_members n later ++ reason_members rule earlier later))
+behind : (n : ℕ) (rule : DestinationRule) (earlier later : DestinationAttributes) → IsPrintable (object (place_members n later ++ reason_members rule earlier later))
 behind n rules.AvoidUnusable earlier later = simp printable
 behind n rules.MatchingScope earlier later = simp printable
 behind n rules.AvoidDeprecated earlier later = simp printable
@@ -115,13 +115,13 @@ behind n rules.UsedBefore earlier later = simp printable
 behind n rules.LongestPrefix earlier later = simp printable
 behind n rules.Unchanged earlier later = simp printable
 
-reasoned : (decide : Decision) (n : ℕ) (earlier : Option Standing) (later : Standing) → IsPrintable (reasoned_json decide n earlier later)
+reasoned : (decide : Decision) (n : ℕ) (earlier : Option DestinationAttributes) (later : DestinationAttributes) → IsPrintable (reasoned_json decide n earlier later)
 reasoned decide n None later = place n later
 reasoned decide n (Some earlier) later = behind n (decide earlier later) earlier later
 
-reasons : (decide : Decision) (n : ℕ) (earlier : Option Standing) (standings : List Standing) → AllByRecursion IsPrintable (reasoned_places decide n earlier standings)
+reasons : (decide : Decision) (n : ℕ) (earlier : Option DestinationAttributes) (all_attributes : List DestinationAttributes) → AllByRecursion IsPrintable (reasoned_places decide n earlier all_attributes)
 reasons decide n earlier [] = tt
-reasons decide n earlier (standing ∷ standings) = (reasoned decide n earlier standing, reasons decide (n + 1) (Some standing) standings)
+reasons decide n earlier (attributes ∷ all_attributes) = (reasoned decide n earlier attributes, reasons decide (n + 1) (Some attributes) all_attributes)
 
 started : (tick n : ℕ) (ip : Ip) (cause : Cause) (held : Bool) (listed : Listed)
     → IsPrintable (object (number_member (codes "tick") tick ∷ event_named (codes "attempt") ∷ number_member (codes "attempt") n ∷ member (codes "address") (address ip) ∷ (cause_members cause ++ listed_members held listed)))
@@ -151,6 +151,6 @@ events event = at_tick event.tick event.kind
 
 pub explanations_are_lines : (race : Race) (report : Report) → IsLine (explanation_json race report)
 explanations_are_lines race report =
-    let order : IsPrintable (join_with_byte 44 (order_reasons race)) = joined (order_reasons race) (reasons _ 0 None (standings_of race)) in
+    let order : IsPrintable (join_with_byte 44 (order_reasons race)) = joined (order_reasons race) (reasons _ 0 None (all_attributes_of race)) in
     let told : IsPrintable (join_with_byte 44 (map event_json (course race report))) = joined (map event_json (course race report)) (mapped event_json events (course race report)) in
     (explanation_object race report, refl, simp (printable, order, told))

@@ -3,9 +3,9 @@ use Rattle.std.specs.Prelude.{ℕ, ◌+◌, ◌++◌, List, [], ◌∷◌, decim
 use Rattle.he_timeline.specs.Race.{Race, race_input}
 use Rattle.he_select.specs.declared.deciding.DestinationRule.{DestinationRule}
 use Rattle.he_select.specs.declared.deciding.DestinationRule.TheVariants as rules
-use Rattle.he_select.specs.declared.standing.Standing.{Standing}
+use Rattle.he_select.specs.declared.attributes.DestinationAttributes.{DestinationAttributes}
 use Rattle.he_select.specs.Deciding.{deciding_rule}
-use Rattle.he_explain.specs.Reasons.{Decision, of_source, standings_of}
+use Rattle.he_explain.specs.Reasons.{Decision, of_source, all_attributes_of}
 use Rattle.he_json.specs.Json.{member, number_or_null, object, quoted}
 use Rattle.he_json.specs.Orders.{place_members}
 
@@ -46,7 +46,7 @@ abbrev pub unlike_members : ℕ → ℕ → List (List ℕ)
 unlike_members own source = member (codes "own") (decimal own) ∷ member (codes "of_source") (decimal source) ∷ []
 
 -- the values that a rule compares: rules 1, 3, 7, 8b and 10 compare none. An unknown round trip time is null
-abbrev pub compared_members : DestinationRule → Standing → Standing → List (List ℕ)
+abbrev pub compared_members : DestinationRule → DestinationAttributes → DestinationAttributes → List (List ℕ)
 compared_members rules.MatchingScope earlier later = unlike_members later.scope (of_source (λ source. source.scope) later)
 compared_members rules.MatchingLabel earlier later = unlike_members later.label (of_source (λ source. source.label) later)
 compared_members rules.HigherPrecedence earlier later = after_members (decimal later.precedence) (decimal earlier.precedence)
@@ -59,23 +59,23 @@ abbrev pub rule_members : DestinationRule → List (List ℕ)
 rule_members rule = member (codes "rule") (quoted (number_of rule)) ∷ member (codes "why") (quoted (name_of rule)) ∷ []
 
 -- the rule that puts the later of two addresses behind the earlier one, and the values that it compares
-abbrev pub reason_members : DestinationRule → Standing → Standing → List (List ℕ)
+abbrev pub reason_members : DestinationRule → DestinationAttributes → DestinationAttributes → List (List ℕ)
 reason_members rule earlier later = rule_members rule ++ compared_members rule earlier later
 
 -- why the address stands behind the one before it; nothing for the first
-abbrev pub behind_members : Decision → Option Standing → Standing → List (List ℕ)
+abbrev pub behind_members : Decision → Option DestinationAttributes → DestinationAttributes → List (List ℕ)
 behind_members decide None later = []
 behind_members decide (Some earlier) later = reason_members (decide earlier later) earlier later
 
-abbrev pub reasoned_json : Decision → ℕ → Option Standing → Standing → List ℕ
-reasoned_json decide place earlier standing = object (place_members place standing ++ behind_members decide earlier standing)
+abbrev pub reasoned_json : Decision → ℕ → Option DestinationAttributes → DestinationAttributes → List ℕ
+reasoned_json decide place earlier attributes = object (place_members place attributes ++ behind_members decide earlier attributes)
 
 -- the places of these addresses, counted from `place`, behind the address before them
-abbrev pub reasoned_places : Decision → ℕ → Option Standing → List Standing → List (List ℕ)
+abbrev pub reasoned_places : Decision → ℕ → Option DestinationAttributes → List DestinationAttributes → List (List ℕ)
 reasoned_places decide place earlier [] = []
 reasoned_places decide place earlier (first ∷ more) =
     reasoned_json decide place earlier first ∷ reasoned_places decide (place + 1) (Some first) more
 
 -- those of a race
 abbrev pub order_reasons : Race → List (List ℕ)
-order_reasons race = reasoned_places (λ a b. deciding_rule (race_input race) a.ip b.ip) 0 None (standings_of race)
+order_reasons race = reasoned_places (λ a b. deciding_rule (race_input race) a.ip b.ip) 0 None (all_attributes_of race)

@@ -1,7 +1,7 @@
 // The events of a race as JSON.
 
 ghost use Rattle.std.specs.Prelude.{◌≡◌, ◌++◌, ◌∷◌, [], codes, map, OnOk};
-ghost use Rattle.he_explain.specs.Reasons.{standings_of};
+ghost use Rattle.he_explain.specs.Reasons.{all_attributes_of};
 ghost use Rattle.he_json.specs.Events.{answered_members, attempt_members, cause_members, delay_members, event_json, family_name, kind_members, listed_members, start_members, turn_name, words_member};
 ghost use Rattle.he_json.specs.Explanation.{course_json};
 ghost use Rattle.he_json.specs.Json.{array};
@@ -220,11 +220,11 @@ fn write_array<A: Allocator + Copy>(events: &[&Event], text: &mut Vec<u8, A>) ->
 pub(crate) fn write_course<A: Allocator + Copy, B: Allocator, C: Allocator>(
     alloc: A,
     timeline: &Timeline<B>,
-    sorted: &[Standing],
+    sorted: &[DestinationAttributes],
     transcript: &Transcript<C>,
     text: &mut Vec<u8, A>,
 ) -> Result<(), Memory>
-    requires { sorted.now ≡ standings_of timeline.now }
+    requires { sorted.now ≡ all_attributes_of timeline.now }
     ensures { OnOk result (text.new.items ≡ text.old.items ++ course_json timeline.now transcript.now) }
 {
     let events = collect_events(alloc, timeline, sorted, transcript)?;

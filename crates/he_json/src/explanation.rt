@@ -13,7 +13,7 @@ use he_timeline::Timeline;
 use std::alloc::Allocator;
 
 // The addresses are sorted once: the order is told of them, and the course takes its lists from it.
-#[tactic(auto, unfolding(he_explain::specs::Reasons::standings_of))]
+#[tactic(auto, unfolding(he_explain::specs::Reasons::all_attributes_of))]
 fn write_explained<A: Allocator + Copy, B: Allocator, C: Allocator>(
     alloc: A,
     timeline: &Timeline<B>,
@@ -22,7 +22,7 @@ fn write_explained<A: Allocator + Copy, B: Allocator, C: Allocator>(
 ) -> Result<(), Memory>
     ensures { OnOk result (text.new.items ≡ text.old.items ++ explanation_json timeline.now transcript.now) }
 {
-    let sorted = sorted_standings(alloc, timeline)?;
+    let sorted = sorted_attributes(alloc, timeline)?;
     write_words(b"{\"order\":[", text)?;
     write_reasons(&sorted, text)?;
     write_words(b"],\"events\":", text)?;

@@ -14,17 +14,17 @@ use std::alloc::Allocator;
 
 pub(crate) fn write_place_members<A: Allocator + Copy>(
     place: u64,
-    standing: &Standing,
+    attributes: &DestinationAttributes,
     text: &mut Vec<u8, A>,
 ) -> Result<(), Memory>
-    ensures { OnOk result (text.new.items ≡ text.old.items ++ parted [] (place_members place standing.now)) }
+    ensures { OnOk result (text.new.items ≡ text.old.items ++ parted [] (place_members place attributes.now)) }
 {
     write_members(
         b"",
         &[
             Member(b"place", Value::Number(place)),
-            Member(b"address", Value::Address(standing.ip)),
-            Member(b"source", Value::AddressOrNull(standing.sourced().source)),
+            Member(b"address", Value::Address(attributes.ip)),
+            Member(b"source", Value::AddressOrNull(attributes.sourced().source)),
         ],
         text,
     )
@@ -32,27 +32,27 @@ pub(crate) fn write_place_members<A: Allocator + Copy>(
 
 fn write_place<A: Allocator + Copy>(
     place: u64,
-    standing: &Standing,
+    attributes: &DestinationAttributes,
     text: &mut Vec<u8, A>,
 ) -> Result<(), Memory>
-    ensures { OnOk result (text.new.items ≡ text.old.items ++ place_json place standing.now) }
+    ensures { OnOk result (text.new.items ≡ text.old.items ++ place_json place attributes.now) }
 {
     write_words(b"{", text)?;
-    write_place_members(place, standing, text)?;
+    write_place_members(place, attributes, text)?;
     write_words(b"}", text)
 }
 
 // The places, with a comma between each two.
 fn write_places<A: Allocator + Copy>(
-    sorted: &[Standing],
+    sorted: &[DestinationAttributes],
     text: &mut Vec<u8, A>,
 ) -> Result<(), Memory>
     ensures { OnOk result (text.new.items ≡ text.old.items ++ parted [] (places_json 0 sorted.now)) }
 {
     let mut gap: &[u8] = b"";
-    for (place, standing) in sorted.iter().enumerate() {
+    for (place, attributes) in sorted.iter().enumerate() {
         write_words(gap, text)?;
-        write_place(place as u64, standing, text)?;
+        write_place(place as u64, attributes, text)?;
         gap = b",";
     }
     Ok(())
@@ -60,7 +60,7 @@ fn write_places<A: Allocator + Copy>(
 
 // The order of a race's addresses, which are given sorted.
 fn write_order<A: Allocator + Copy>(
-    sorted: &[Standing],
+    sorted: &[DestinationAttributes],
     text: &mut Vec<u8, A>,
 ) -> Result<(), Memory>
     ensures { OnOk result (text.new.items ≡ text.old.items ++ (sorted_object sorted.now ++ codes "\n")) }
@@ -71,14 +71,14 @@ fn write_order<A: Allocator + Copy>(
 }
 
 // The order in a text of its own, so that nothing is appended of one that memory does not suffice for.
-#[tactic(auto, unfolding(he_explain::specs::Reasons::standings_of))]
+#[tactic(auto, unfolding(he_explain::specs::Reasons::all_attributes_of))]
 fn order_text<A: Allocator + Copy, B: Allocator>(
     alloc: A,
     timeline: &Timeline<B>,
 ) -> Result<Vec<u8, A>, Memory>
     ensures { IfOk result (λ text. IsOrderJson text.items timeline.now) }
 {
-    let sorted = sorted_standings(alloc, timeline)?;
+    let sorted = sorted_attributes(alloc, timeline)?;
     let mut text = Vec::new(alloc);
     write_order(&sorted, &mut text)?;
     Ok(text)

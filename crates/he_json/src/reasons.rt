@@ -1,7 +1,7 @@
 // The order of a race's addresses as JSON, each with what puts it behind the one before.
 
 ghost use Rattle.std.specs.Prelude.{◌≡◌, ◌++◌, ◌∷◌, [], codes, decimal, None, OnOk};
-ghost use Rattle.he_select.specs.Standing.{rule_between};
+ghost use Rattle.he_select.specs.Attributes.{rule_between};
 ghost use Rattle.he_explain.specs.Reasons.{of_source};
 ghost use Rattle.he_json.specs.Json.{member, number_or_null};
 ghost use Rattle.he_json.specs.Members.{parted};
@@ -11,7 +11,7 @@ ghost use Rattle.he_json.specs.Reasons.{after_members, behind_members, compared_
 use crate::members::{Member, Value, write_members, write_words};
 use crate::orders::write_place_members;
 use he_addr::Memory;
-use he_select::{DestinationRule, Standing};
+use he_select::{DestinationAttributes, DestinationRule};
 use std::alloc::Allocator;
 
 // The rule's number in RFC 6724 section 6; 8a and 8b are those of RFC 8305 section 4.
@@ -93,23 +93,23 @@ fn write_unlike<A: Allocator + Copy>(
     write_values(Some(own), b"of_source", Some(source), text)
 }
 
-fn source_scope(standing: &Standing) -> u8
-    ensures { result ≡ of_source (λ source. source.scope) standing.now }
+fn source_scope(attributes: &DestinationAttributes) -> u8
+    ensures { result ≡ of_source (λ source. source.scope) attributes.now }
 {
-    standing.source.map_or(0, |source| source.scope)
+    attributes.source.map_or(0, |source| source.scope)
 }
 
-fn source_label(standing: &Standing) -> u16
-    ensures { result ≡ of_source (λ source. source.label) standing.now }
+fn source_label(attributes: &DestinationAttributes) -> u16
+    ensures { result ≡ of_source (λ source. source.label) attributes.now }
 {
-    standing.source.map_or(0, |source| source.label)
+    attributes.source.map_or(0, |source| source.label)
 }
 
 // The values that the rule compares, if it compares any.
 fn write_compared<A: Allocator + Copy>(
     rule: DestinationRule,
-    earlier: &Standing,
-    later: &Standing,
+    earlier: &DestinationAttributes,
+    later: &DestinationAttributes,
     text: &mut Vec<u8, A>,
 ) -> Result<(), Memory>
     ensures { OnOk result (text.new.items ≡ text.old.items ++ parted (codes ",") (compared_members rule earlier.now later.now)) }
@@ -163,8 +163,8 @@ fn write_rule<A: Allocator + Copy>(
 // The rule that puts the later of two addresses behind the earlier one, and what it compares.
 fn write_reason<A: Allocator + Copy>(
     rule: DestinationRule,
-    earlier: &Standing,
-    later: &Standing,
+    earlier: &DestinationAttributes,
+    later: &DestinationAttributes,
     text: &mut Vec<u8, A>,
 ) -> Result<(), Memory>
     ensures { OnOk result (text.new.items ≡ text.old.items ++ parted (codes ",") (reason_members rule earlier.now later.now)) }
@@ -175,8 +175,8 @@ fn write_reason<A: Allocator + Copy>(
 
 // Why the address stands behind the one before it, if there is one.
 fn write_behind<A: Allocator + Copy>(
-    earlier: Option<Standing>,
-    later: &Standing,
+    earlier: Option<DestinationAttributes>,
+    later: &DestinationAttributes,
     text: &mut Vec<u8, A>,
 ) -> Result<(), Memory>
     ensures { OnOk result (text.new.items ≡ text.old.items ++ parted (codes ",") (behind_members rule_between earlier later.now)) }
@@ -192,32 +192,32 @@ fn write_behind<A: Allocator + Copy>(
 
 fn write_reasoned<A: Allocator + Copy>(
     place: u64,
-    earlier: Option<Standing>,
-    standing: &Standing,
+    earlier: Option<DestinationAttributes>,
+    attributes: &DestinationAttributes,
     text: &mut Vec<u8, A>,
 ) -> Result<(), Memory>
-    ensures { OnOk result (text.new.items ≡ text.old.items ++ reasoned_json rule_between place earlier standing.now) }
+    ensures { OnOk result (text.new.items ≡ text.old.items ++ reasoned_json rule_between place earlier attributes.now) }
 {
     write_words(b"{", text)?;
-    write_place_members(place, standing, text)?;
-    write_behind(earlier, standing, text)?;
+    write_place_members(place, attributes, text)?;
+    write_behind(earlier, attributes, text)?;
     write_words(b"}", text)
 }
 
 // The addresses, which are given sorted, with a comma between each two.
 pub(crate) fn write_reasons<A: Allocator + Copy>(
-    sorted: &[Standing],
+    sorted: &[DestinationAttributes],
     text: &mut Vec<u8, A>,
 ) -> Result<(), Memory>
     ensures { OnOk result (text.new.items ≡ text.old.items ++ parted [] (reasoned_places rule_between 0 None sorted.now)) }
 {
     let mut gap: &[u8] = b"";
     let mut earlier = None;
-    for (place, standing) in sorted.iter().enumerate() {
+    for (place, attributes) in sorted.iter().enumerate() {
         write_words(gap, text)?;
-        write_reasoned(place as u64, earlier, standing, text)?;
+        write_reasoned(place as u64, earlier, attributes, text)?;
         gap = b",";
-        earlier = Some(*standing);
+        earlier = Some(*attributes);
     }
     Ok(())
 }

@@ -17,7 +17,7 @@ use crate::interlacing::{interlace, members};
 use he_timeline::Timeline;
 use he_timeline::timeline::{are_addresses_in_range};
 use he_addr::{Family, Ip, Memory};
-use he_select::{Known, Standing, order, order_known, order_known_with_standings};
+use he_select::{DestinationAttributes, Known, order, order_known, order_known_with_attributes};
 use std::alloc::{AllocError, Allocator};
 
 // The interlaced list of the included answers. The addresses of both answers are sorted at the first list that needs
@@ -115,7 +115,7 @@ fn sorted_known<A: Allocator + Copy, B: Allocator>(
 
 /// The usable addresses of both answers, whatever their ticks, in the order of RFC 6724 section 6, each with what its
 /// rules look at. `Memory` where an allocation is refused.
-pub fn sorted_standings<A: Allocator + Copy, B: Allocator>(
+pub fn sorted_attributes<A: Allocator + Copy, B: Allocator>(
     alloc: A,
     timeline: &Timeline<B>,
 ) -> Result<Vec<Standing, A>, Memory>
@@ -123,7 +123,7 @@ pub fn sorted_standings<A: Allocator + Copy, B: Allocator>(
         (usable_addresses timeline.now))) }
 {
     let known = known_addresses(alloc, timeline)?;
-    order_known_with_standings(alloc, timeline.policy(), timeline.host(), &known)
+    order_known_with_attributes(alloc, timeline.policy(), timeline.host(), &known)
 }
 
 // The usable addresses of both answers, as received, each with what the client knows of it.

@@ -76,21 +76,21 @@ fn is_ordered<'h>(
         return false;
     }
     let timeline = builder.finish();
-    let standings = sorted_standings(heap, &timeline);
+    let all_attributes = sorted_attributes(heap, &timeline);
     drop(timeline);
-    match standings {
-        Ok(standings) => are_of(&standings, wanted),
+    match all_attributes {
+        Ok(all_attributes) => are_of(&all_attributes, wanted),
         Err(_) => false,
     }
 }
 
-fn are_of(standings: &[Standing], wanted: &[Ip]) -> bool {
-    for (place, standing) in standings.iter().enumerate() {
-        if wanted.get(place) != Some(&standing.ip) {
+fn are_of(all_attributes: &[DestinationAttributes], wanted: &[Ip]) -> bool {
+    for (place, attributes) in all_attributes.iter().enumerate() {
+        if wanted.get(place) != Some(&attributes.ip) {
             return false;
         }
     }
-    standings.len() == wanted.len()
+    all_attributes.len() == wanted.len()
 }
 
 #[test]

@@ -22,7 +22,7 @@ use Rattle.he_select.specs.declared.known.Known.{Known}
 use Rattle.he_select.specs.Selection.{known_of}
 use Rattle.he_select.proofs.Alike.{Alike, order_of_alike}
 use Rattle.he_select.proofs.Counting.{Each}
-use Rattle.he_select.proofs.Told.{known_in}
+use Rattle.he_select.proofs.KnownLists.{known_in}
 
 -- the address stands in the list
 abbrev Stands : List Ip → Ip → Type 0

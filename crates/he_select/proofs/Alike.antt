@@ -12,10 +12,10 @@ use Rattle.he_select.specs.LabelledRules.{labelled_of}
 use Rattle.he_select.specs.Preference.{IsOrder, Member, avoids_deprecated_source, avoids_unreachable, destination_rules, leaves_unchanged, member_at, members_from, order_of, prefers, prefers_higher_precedence, prefers_longest_match, prefers_matching_label, prefers_matching_scope, prefers_native_transport, prefers_smaller_scope}
 use Rattle.he_select.specs.Rules.{first_of}
 use Rattle.he_select.specs.Selection.{SelectionInput, candidates, known_input, known_rtt, known_used, nothing_known, route_of, rtt_or_unknown, selection_input, source_of, source_rules}
-use Rattle.he_select.specs.Standing.{standing_of}
+use Rattle.he_select.specs.Attributes.{attributes_of}
 use Rattle.he_select.proofs.Arranged.{count-same}
 use Rattle.he_select.proofs.Counting.{Each, each_at}
-use Rattle.he_select.proofs.Told.{nothing_told, standing_knowing, untold_rtt, untold_used}
+use Rattle.he_select.proofs.KnownLists.{nothing_told, attributes_knowing, untold_rtt, untold_used}
 
 find-each : {X : Type 0} (p q : X → Bool) (xs : List X) → Each (λ x. p x ≡ q x) xs → find p xs ≡ find q xs
 find-each p q [] each = refl
@@ -47,13 +47,13 @@ module _ (rows : List Row) (host : HostLists) (known other : List Known) where
       ∙ ap (λ p. is_lt (first (known_rtt other a.ip) (known_rtt other b.ip) p (known_used known b.ip))) by_a.1
       ∙ ap (λ q. is_lt (first (known_rtt other a.ip) (known_rtt other b.ip) (known_used other a.ip) q)) by_b.1
 
-  pub standing_alike : (ip : Ip) → Alike ip → standing_of this ip ≡ standing_of that ip
+  pub attributes_alike : (ip : Ip) → Alike ip → attributes_of this ip ≡ attributes_of that ip
   unfolding source_of candidates source_rules
-  standing_alike ip alike = standing_knowing rows (route_of this ip) (option_map (labelled_of rows) (source_of this ip)) known other ip alike.0 alike.1
+  attributes_alike ip alike = attributes_knowing rows (route_of this ip) (option_map (labelled_of rows) (source_of this ip)) known other ip alike.0 alike.1
 
-  pub standings_alike : (ips : List Ip) → Each Alike ips → map (standing_of this) ips ≡ map (standing_of that) ips
-  standings_alike [] each = refl
-  standings_alike (ip ∷ ips) each = ap (λ s. s ∷ map (standing_of this) ips) (standing_alike ip each.0) ∙ ap (λ l. standing_of that ip ∷ l) (standings_alike ips each.1)
+  pub all_attributes_alike : (ips : List Ip) → Each Alike ips → map (attributes_of this) ips ≡ map (attributes_of that) ips
+  all_attributes_alike [] each = refl
+  all_attributes_alike (ip ∷ ips) each = ap (λ s. s ∷ map (attributes_of this) ips) (attributes_alike ip each.0) ∙ ap (λ l. attributes_of that ip ∷ l) (all_attributes_alike ips each.1)
 
   members_alike : (place : ℕ) (ips : List Ip) → Each Alike ips → Each (λ (m : Member). Alike m.ip) (members_from place ips)
   members_alike place [] each = tt

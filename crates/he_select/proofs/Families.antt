@@ -1,5 +1,5 @@
--- In an admitted table the precedence parts the families: a usable IPv4 address has a row inside ::ffff:0:0/96, a usable
--- IPv6 address one outside it.
+-- In an admitted table the precedence parts the families: a usable IPv4 address has a row inside ::ffff:0:0/96, a
+-- usable IPv6 address one outside it.
 use Rattle.std.proofs.Common.{◌≡◌, ℕ, ◌+◌, ◌-◌, ◌*◌, ◌/◌, ◌^◌, ◌<◌, ◌≤◌, Bool, true, false, not, List, [], ◌∷◌, ◌⊎◌, refl, sym, ◌∙◌, ap, subst, arith, inl, inr, IsTrue}
 use Rattle.std.specs.Prelude.{Option, Some, None, find, filter, is_none, option_map, nat_eq, ◌&&◌}
 use Rattle.std.specs.Bool.{beq}

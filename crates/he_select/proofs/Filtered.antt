@@ -1,4 +1,5 @@
--- The order of a filtered list is the filter of the order: both are what an insertion by keys without their places makes.
+-- The order of a filtered list is the filter of the order: both are what an insertion by keys without their places
+-- makes.
 use Rattle.std.proofs.Common.{◌≡◌, ℕ, ◌+◌, ◌<◌, Bool, true, false, not, cond, List, [], ◌∷◌, map, refl, sym, ◌∙◌, ap, inl, inr, arith}
 use Rattle.std.specs.Prelude.{filter}
 use Rattle.std.specs.declared.cmp.Ordering.{Ordering}

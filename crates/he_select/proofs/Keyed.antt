@@ -22,7 +22,7 @@ use Rattle.he_select.specs.Rules.{first_of}
 use Rattle.he_select.specs.Selection.{SelectionInput, known_rtt, known_used, route_of, rtt_or_unknown, source_of}
 use Rattle.he_select.specs.Tables.{label_of, precedence_of}
 use Rattle.he_select.proofs.Orders.{step, then_equal, tied_numbers, yes_as_less}
-use Rattle.he_select.proofs.Standings.{avoided, closer, matching, native, reached}
+use Rattle.he_select.proofs.DecidedRules.{avoided, closer, matching, native, reached}
 
 pub keys_total : IsTotalOrder key_cmp
 unfolding key_cmp

@@ -5,12 +5,14 @@ pub mod Arranged
 pub mod Causes
 pub mod Chosen
 pub mod Counting
+pub mod DecidedRules
 pub mod Equality
 pub mod Families
 pub mod Filtered
 pub mod Hosted
 pub mod Inserted
 pub mod Keyed
+pub mod KnownLists
 pub mod LawsOfOrder
 pub mod Least
 pub mod Listing
@@ -21,7 +23,5 @@ pub mod Picked
 pub mod Repeats
 pub mod Sources
 pub mod Standards
-pub mod Standings
 pub mod Stepping
-pub mod Told
 pub mod Walks

@@ -4,13 +4,13 @@ use Rattle.std.specs.declared.cmp.Ordering.{Ordering}
 use Rattle.std.specs.Ordering.{nat_cmp, bool_cmp, ordering_then}
 use Rattle.he_addr.specs.declared.ip.Ip.{Ip}
 use Rattle.he_select.specs.declared.ranking.Key.{Key}
-use Rattle.he_select.specs.declared.standing.Standing.{Standing}
+use Rattle.he_select.specs.declared.attributes.DestinationAttributes.{DestinationAttributes}
 use Rattle.he_select.specs.Preference.{Member}
 use Rattle.he_select.specs.Selection.{SelectionInput, rtt_or_unknown}
-use Rattle.he_select.specs.Standing.{has_deprecated, has_other_label, has_other_scope, standing_of}
+use Rattle.he_select.specs.Attributes.{has_deprecated, has_other_label, has_other_scope, attributes_of}
 
 -- the destination rules as numbers; 0 in those about the source, where there is none
-abbrev pub key_of : Standing → ℕ → Key
+abbrev pub key_of : DestinationAttributes → ℕ → Key
 key_of s place = record {
   unreachable = is_none s.source;
   other_scope = has_other_scope s;
@@ -26,10 +26,10 @@ key_of s place = record {
 }
 
 unfoldable pub destination_key : SelectionInput → Member → Key
-destination_key input m = key_of (standing_of input m.ip) m.place
+destination_key input m = key_of (attributes_of input m.ip) m.place
 
 -- the keys of a list, counted from `place`
-abbrev pub keys_of : ℕ → List Standing → List Key
+abbrev pub keys_of : ℕ → List DestinationAttributes → List Key
 keys_of place [] = []
 keys_of place (s ∷ more) = key_of s place ∷ keys_of (place + 1) more
 

@@ -1,5 +1,5 @@
--- Why rows are no policy table, and lists no host: the first check that fails, the earlier ones passed, and the least place
--- at which it fails.
+-- Why rows are no policy table, and lists no host: the first check that fails, the earlier ones passed, and the least
+-- place at which it fails.
 use Rattle.std.specs.Prelude.{List, All}
 use Rattle.he_select.specs.declared.host.HostFault.{HostFault}
 use Rattle.he_select.specs.declared.host.HostFault.TheVariants as hosts

@@ -36,7 +36,8 @@ AddressesDiffer host = AllPairs (λ a b. a.ip ≢ b.ip) host.sources
 abbrev pub RoutesDiffer : HostLists → Type 0
 RoutesDiffer host = AllPairs (λ a b. a.prefix ≢ b.prefix) host.routes
 
--- lists are a host's: at most 64 sources and 64 routes, addresses and prefixes pairwise different, and each member sound
+-- lists are a host's: at most 64 sources and 64 routes, addresses and prefixes pairwise different, and each member
+-- sound
 pub record IsHost (host : HostLists) : Type 0 where
   pub size : HasHostSize host
   pub different_sources : AddressesDiffer host

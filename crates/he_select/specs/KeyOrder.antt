@@ -1,5 +1,5 @@
--- Mirrors the code: the order of keys, `key_cmp` of `DestinationKeys`, in the parts of the standard library; and that it
--- is a total one.
+-- Mirrors the code: the order of keys, `key_cmp` of `DestinationKeys`, in the parts of the standard library; and that
+-- it is a total one.
 use Rattle.std.specs.declared.cmp.Ordering.{Ordering}
 use Rattle.std.specs.Cmp.{IsTotalOrder, bool_cmp_total, nat_cmp_total, on_total, back_total, then_total}
 use Rattle.std.specs.Ordering.{nat_cmp, bool_cmp, on, flip_args, then_cmp}

@@ -1,5 +1,5 @@
--- Mirrors the code: the source rules by what it keeps of a destination and of a source. A law in proofs/ ties them to those
--- of `Selection`.
+-- Mirrors the code: the source rules by what it keeps of a destination and of a source. A law in proofs/ ties them to
+-- those of `Selection`.
 use Rattle.std.specs.Prelude.{ℕ, ◌==◌, ◌&&◌, ◌||◌, Bool, not, List, [], ◌∷◌}
 use Rattle.std.specs.Bool.{beq}
 use Rattle.std.specs.Ordering.{is_lt}

@@ -21,15 +21,15 @@ use Rattle.he_select.specs.Hosts.{HostLists, IsHost}
 use Rattle.he_select.specs.Ranges.{least_interface, most_routes, most_rows, most_sources}
 use Rattle.he_select.specs.TableFaults.{table_fault}
 
--- of members of which P holds none is before itself, what is before one that is before a third is before the third, and
--- of two at different places one is before the other
+-- of members of which P holds none is before itself, what is before one that is before a third is before the third,
+-- and of two at different places one is before the other
 pub record IsStrictTotalOrderOn (P : Member → Type 0) (before : Member → Member → Bool) : Type 0 where
   pub irreflexive : (a : Member) → P a → IsFalse (before a a)
   pub transitive : (a b c : Member) → P a → P b → P c → IsTrue (before a b) → IsTrue (before b c) → IsTrue (before a c)
   pub total : (a b : Member) → P a → P b → a.place ≢ b.place → IsTrue (before a b) ⊎ IsTrue (before b a)
 
--- under an admitted table the preference between usable addresses is the lexicographic comparison of keys, one number for
--- each rule
+-- under an admitted table the preference between usable addresses is the lexicographic comparison of keys, one number
+-- for each rule
 abbrev pub PreferenceIsByKeys : Type 0
 PreferenceIsByKeys =
     (input : SelectionInput) → IsAdmitted input.rows → (a b : Member) → IsUsable a.ip → IsUsable b.ip
@@ -62,7 +62,8 @@ ReachableWhereCandidates = (input : SelectionInput) (ip : Ip) → IsTrue (is_rea
 abbrev pub EveryAddressHasRow : Type 0
 EveryAddressHasRow = (rows : List Row) → IsAdmitted rows → (ip : Ip) → InRange ip → IsSome (row_of rows ip)
 
--- a list with one more member has the first repeat of the list, or else one at its end, where the member stands in the list
+-- a list with one more member has the first repeat of the list, or else one at its end, where the member stands in the
+-- list
 abbrev pub RepeatsByOneMore : {X : Type 0} → (X → X → Bool) → Type 0
 RepeatsByOneMore {X} same =
     (xs : List X) (x : X) → first_repeat same (xs ++ x ∷ []) ≡ option_or (first_repeat same xs) (cause_if (list_any (same x) xs) (length xs))

@@ -1,3 +1,4 @@
+pub mod Attributes
 pub mod Deciding
 pub mod DestinationKeys
 pub mod Equality
@@ -7,6 +8,7 @@ pub mod Hosts
 pub mod KeyOrder
 pub mod LabelledRules
 pub mod Laws
+pub mod LookUps
 pub mod Places
 pub mod Preference
 pub mod Ranges
@@ -14,7 +16,6 @@ pub mod Refusals
 pub mod Rules
 pub mod Selection
 pub mod Standard
-pub mod Standing
 pub mod TableFaults
 pub mod Tables
 pub mod Walking

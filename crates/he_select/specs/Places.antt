@@ -26,8 +26,8 @@ pub record IsLeast (test : ℕ → Bool) (n : ℕ) : Type 0 where
   pub holds : IsTrue (test n)
   pub least : (m : ℕ) → m < n → IsFalse (test m)
 
--- the test holds of the members at the places i and j, j after i; of all such pairs this one has the least i, and of those
--- with this i the least j
+-- the test holds of the members at the places i and j, j after i; of all such pairs this one has the least i, and of
+-- those with this i the least j
 pub record IsFirstPair {X : Type 0} (test : X → X → Bool) (xs : List X) (i j : ℕ) : Type 0 where
   pub later : i < j
   pub holds : IsTrue (both_at test xs i j)

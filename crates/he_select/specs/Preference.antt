@@ -115,7 +115,8 @@ destination_rules input =
 abbrev pub prefers : SelectionInput → Member → Member → Bool
 prefers input a b = is_lt (first_of (destination_rules input) a b)
 
--- the result has the members of the list, and each stands at the place that equals the number of members preferred to it
+-- the result has the members of the list, and each stands at the place that equals the number of members preferred to
+-- it
 pub record IsOrder (input : SelectionInput) (list result : List Ip) : Type 0 where
   pub members : IsPermutation list result
   pub places : (n : ℕ) (ip : Ip) → slice_get list n ≡ Some ip → slice_get result (count_by (λ other. prefers input other (record { ip = ip; place = n })) (members_from 0 list)) ≡ Some ip
@@ -124,7 +125,7 @@ pub record IsOrder (input : SelectionInput) (list result : List Ip) : Type 0 whe
 abbrev pub member_at : SelectionInput → List Member → ℕ → Option Member
 member_at input members n = find (λ member. count_by (λ other. prefers input other member) members == n) members
 
--- the addresses in the order in which they are to be tried: at each place the one to which as many are preferred as there
--- are places before it
+-- the addresses in the order in which they are to be tried: at each place the one to which as many are preferred as
+-- there are places before it
 unfoldable pub order_of : SelectionInput → List Ip → List Ip
 order_of input ips = map (λ member. member.ip) (filter_map (member_at input (members_from 0 ips)) (range_with_len 0 (length ips)))

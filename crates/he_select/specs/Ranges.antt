@@ -1,4 +1,5 @@
--- How much a policy table and a host hold, and from where interfaces are numbered. A law ties the code's limits to these.
+-- How much a policy table and a host hold, and from where interfaces are numbered. A law ties the code's limits to
+-- these.
 use Rattle.std.specs.Prelude.{ℕ}
 
 abbrev pub most_rows : ℕ

@@ -68,9 +68,9 @@ route_of input ip = longest_route input.routes ip
 abbrev pub link_scope : ℕ
 link_scope = 2
 
--- a source that may be used over this route: one of the destination's family on any interface, since all interfaces count
--- as one site (RFC 6724 section 4 recommends those of the outgoing interface); for a destination of link scope only one on
--- the route's interface, which counts as the link
+-- a source that may be used over this route: one of the destination's family on any interface, since all interfaces
+-- count as one site (RFC 6724 section 4 recommends those of the outgoing interface); for a destination of link scope
+-- only one on the route's interface, which counts as the link
 abbrev pub is_candidate : Route → Ip → Source → Bool
 is_candidate route ip source =
     beq (is_v6 source.ip) (is_v6 ip) && (not (scope_of ip == link_scope) || source.interface == route.interface)
@@ -83,8 +83,8 @@ candidates input ip = option_map_or (λ route. filter (is_candidate route ip) in
 abbrev pub prefers_same_address : Ip → Rule Source
 prefers_same_address ip = yes_first (λ source. same_ip source.ip ip)
 
--- Rule 2: prefer appropriate scope. Of two scopes the smaller is preferred, unless it is smaller than the destination's;
--- then the larger
+-- Rule 2: prefer appropriate scope. Of two scopes the smaller is preferred, unless it is smaller than the
+-- destination's; then the larger
 abbrev pub by_appropriate_scope : ℕ → Rule ℕ
 by_appropriate_scope scope a b =
     cond (nat_lt a b) (cond (nat_lt a scope) Greater Less) (cond (nat_lt b a) (cond (nat_lt b scope) Less Greater) Equal)
@@ -133,8 +133,8 @@ source_rules input ip =
 abbrev pub is_better : SelectionInput → Ip → Source → Source → Bool
 is_better input ip a b = is_lt (first_of (source_rules input ip) a b)
 
--- Source(D): the candidate than which no candidate is better, of several the one that was given first; none where there is
--- no candidate
+-- Source(D): the candidate than which no candidate is better, of several the one that was given first; none where
+-- there is no candidate
 unfoldable pub source_of : SelectionInput → Ip → Option Source
 source_of input ip = best_by (is_better input ip) (candidates input ip)
 

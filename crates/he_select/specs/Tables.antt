@@ -56,13 +56,13 @@ HasPrefix rows prefix = Any (λ row. row.prefix ≡ prefix) rows
 abbrev pub PrecedencesApart : Row → Row → Type 0
 PrecedencesApart a b = IsTrue (is_inside_mapped a.prefix) → IsFalse (is_inside_mapped b.prefix) → a.precedence ≢ b.precedence
 
--- where a precedence stood both inside and outside ::ffff:0:0/96, rules 6, 9 and 10 could prefer three addresses of two
--- families in a circle
+-- where a precedence stood both inside and outside ::ffff:0:0/96, rules 6, 9 and 10 could prefer three addresses of
+-- two families in a circle
 abbrev pub PrecedencesDiffer : List Row → Type 0
 PrecedencesDiffer rows = All (λ a. All (PrecedencesApart a) rows) rows
 
--- rows are a policy table: 1 to 64, their prefixes pairwise different, ::/0 and ::ffff:0:0/96 among them, and no precedence
--- both inside and outside ::ffff:0:0/96
+-- rows are a policy table: 1 to 64, their prefixes pairwise different, ::/0 and ::ffff:0:0/96 among them, and no
+-- precedence both inside and outside ::ffff:0:0/96
 pub record IsAdmitted (rows : List Row) : Type 0 where
   pub size : HasTableSize rows
   pub different : PrefixesDiffer rows

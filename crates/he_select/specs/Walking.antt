@@ -1,4 +1,5 @@
--- Mirrors the code: what the private loops keep, the best so far of the members that fit. Laws in proofs/ tie it to `best_by`.
+-- Mirrors the code: what the private loops keep, the best so far of the members that fit. Laws in proofs/ tie it to
+-- `best_by`.
 use Rattle.std.specs.Prelude.{Bool, cond, List, [], ◌∷◌, Option, None, Some}
 
 abbrev pub keep_better : {X : Type 0} → (X → X → Bool) → Option X → X → Option X

@@ -4,10 +4,11 @@ ghost use Rattle.std.specs.Prelude.{◌≡◌};
 ghost use Rattle.he_addr.specs.declared.ip.Ip.{Ip};
 ghost use Rattle.he_select.specs.Deciding.{deciding_rule};
 ghost use Rattle.he_select.specs.Selection.{SelectionInput};
-ghost use Rattle.he_select.specs.Standing.{has_deprecated, has_other_label, has_other_scope, late_rule_between, rule_between, standing_of};
+ghost use Rattle.he_select.specs.Attributes.{attributes_of, late_rule_between, rule_between};
+ghost use Rattle.he_select.specs.Attributes.{has_deprecated, has_other_label, has_other_scope};
 
+use crate::attributes::DestinationAttributes;
 use crate::known::rtt_or_unknown;
-use crate::standing::Standing;
 
 /// A rule of destination address selection (RFC 6724 section 6, with rules 8a and 8b of RFC 8305 section 4), but for
 /// rule 4, which is left out: there are no home addresses here.
@@ -39,15 +40,23 @@ pub enum DestinationRule {
 
 impl DestinationRule {
     /// The first rule that tells the two destinations apart, in the order in which the rules stand.
-    pub fn between(earlier: &Standing, later: &Standing) -> DestinationRule
+    pub fn between(
+        earlier: &DestinationAttributes,
+        later: &DestinationAttributes,
+    ) -> DestinationRule
         ensures rule { result ≡ rule_between earlier.now later.now }
-        ensures deciding { (input : SelectionInput) (a b : Ip) → earlier.now ≡ standing_of input a → later.now ≡ standing_of input b → result ≡ deciding_rule input a b }
+        ensures deciding { (input : SelectionInput) (a b : Ip)
+            → earlier.now ≡ attributes_of input a → later.now ≡ attributes_of input b
+            → result ≡ deciding_rule input a b }
     {
         DestinationRule::first_apart(earlier, later)
     }
 
-    #[tactic(auto, unfolding(crate::specs::Standing::late_rule_between))]
-    fn first_apart(earlier: &Standing, later: &Standing) -> DestinationRule
+    #[tactic(auto, unfolding(crate::specs::Attributes::late_rule_between))]
+    fn first_apart(
+        earlier: &DestinationAttributes,
+        later: &DestinationAttributes,
+    ) -> DestinationRule
         ensures { result ≡ rule_between earlier.now later.now }
     {
         if earlier.source.is_none() != later.source.is_none() {
@@ -66,8 +75,11 @@ impl DestinationRule {
     }
 
     // The rules from 6 on.
-    #[tactic(auto, unfolding(crate::specs::Standing::late_rule_between))]
-    fn late_between(earlier: &Standing, later: &Standing) -> DestinationRule
+    #[tactic(auto, unfolding(crate::specs::Attributes::late_rule_between))]
+    fn late_between(
+        earlier: &DestinationAttributes,
+        later: &DestinationAttributes,
+    ) -> DestinationRule
         ensures { result ≡ late_rule_between earlier.now later.now }
     {
         if earlier.precedence != later.precedence {

@@ -1,18 +1,14 @@
 // A host's sources and routes.
 
-ghost use Rattle.std.specs.Prelude.{◌≡◌, [], not, option_map, IsTrue, IfOk, IfErr, IsOk, IsOkUnless};
+ghost use Rattle.std.specs.Prelude.{◌≡◌, not, IfOk, IfErr, IsOk, IsOkUnless};
 ghost use Rattle.he_addr.specs.Prefix.{width_of};
-ghost use Rattle.std.specs.List.{list_all, list_any, position_from};
+ghost use Rattle.std.specs.List.{list_any, position_from};
 ghost use Rattle.he_select.specs.Equality.{equal_hosts};
 ghost use Rattle.he_select.specs.HostFaults.{is_sound_source, is_sound_route, host_fault, host_of};
 ghost use Rattle.he_select.specs.Hosts.{same_source, same_route, IsHost};
-ghost use Rattle.he_select.specs.Selection.{source_of, selection_input};
 
 use crate::distinct::{Distinct, first_repeated, stands_in};
 use crate::limits::{NO_INTERFACE, ROUTES, SOURCES};
-use crate::lookup::{find_label, find_route};
-use crate::policy::{Policy, Row};
-use crate::selection::{Destination, best_source};
 use he_addr::prefix::{V4_BITS, V6_BITS};
 use he_addr::{Family, Ip, Memory, Prefix};
 use std::alloc::{Allocator, Global};
@@ -196,13 +192,16 @@ impl<A: Allocator> PartialEq for Host<A> {
     ghost use Rattle.he_select.specs.contracts.host.SourcePartialEq.TheImpl.Laws as of_sources;
     ghost use Rattle.he_select.specs.contracts.host.RoutePartialEq.TheImpl.Laws as of_routes;
 
-    ghost eq = { λ a b. pointwise ⟦<Source as PartialEq>⟧.eq a.sources b.sources && pointwise ⟦<Route as PartialEq>⟧.eq a.routes b.routes };
+    ghost eq = { λ a b. pointwise ⟦<Source as PartialEq>⟧.eq a.sources b.sources
+        && pointwise ⟦<Route as PartialEq>⟧.eq a.routes b.routes };
 
-    ghost laws = { and_per (on_per (λ (h : HostLists). h.sources) (lists_per of_sources.laws-law)) (on_per (λ (h : HostLists). h.routes) (lists_per of_routes.laws-law)) };
+    ghost laws = { and_per (on_per (λ (h : HostLists). h.sources) (lists_per of_sources.laws-law))
+        (on_per (λ (h : HostLists). h.routes) (lists_per of_routes.laws-law)) };
 
     /// Whether both hosts have the same sources and the same routes, each list in its order.
     fn eq(&self, other: &Host<A>) -> bool
-        ensures value { result ≡ (pointwise ⟦<Source as PartialEq>⟧.eq self.now.sources other.now.sources && pointwise ⟦<Route as PartialEq>⟧.eq self.now.routes other.now.routes) }
+        ensures value { result ≡ (pointwise ⟦<Source as PartialEq>⟧.eq self.now.sources other.now.sources
+            && pointwise ⟦<Route as PartialEq>⟧.eq self.now.routes other.now.routes) }
         ensures lists { IsTrue result ↔ (self.now ≡ other.now) }
     {
         self.has_lists_of(other)
@@ -216,7 +215,8 @@ impl<A: Allocator> Eq for Host<A> {
     ghost use Rattle.he_select.specs.contracts.host.SourceEq.TheImpl.Laws as of_sources;
     ghost use Rattle.he_select.specs.contracts.host.RouteEq.TheImpl.Laws as of_routes;
 
-    ghost laws = { and_equiv (on_equiv (λ (h : HostLists). h.sources) (lists_equiv of_sources.laws-law)) (on_equiv (λ (h : HostLists). h.routes) (lists_equiv of_routes.laws-law)) };
+    ghost laws = { and_equiv (on_equiv (λ (h : HostLists). h.sources) (lists_equiv of_sources.laws-law))
+        (on_equiv (λ (h : HostLists). h.routes) (lists_equiv of_routes.laws-law)) };
 }
 
 impl<A: Allocator + Copy> Host<A> {
@@ -276,15 +276,6 @@ impl<A: Allocator> Host<A> {
         self.routes.as_slice()
     }
 
-    /// The source that the host uses for a destination (RFC 6724 section 5): of the candidates the best by the source
-    /// rules; `None` where the destination has no route or no candidate.
-    #[tactic(auto, using(crate::proofs::Hosted::all_sound))]
-    pub fn source<B: Allocator>(&self, policy: &Policy<B>, ip: Ip) -> Option<Ip>
-        ensures { result ≡ option_map (λ source. source.ip) (source_of (selection_input policy.now self.now) ip) }
-    {
-        source_ip(policy.rows(), self.sources(), self.routes(), ip)
-    }
-
     /// The same host with memory of this allocator.
     pub fn copy<B: Allocator + Copy>(&self, alloc: B) -> Result<Host<B>, Memory>
         ensures { IfOk result (λ host. host ≡ self.now) }
@@ -293,13 +284,4 @@ impl<A: Allocator> Host<A> {
         let routes = Vec::from_slice(alloc, &self.routes)?;
         Ok(Host { sources, routes })
     }
-}
-
-fn source_ip(rows: &[Row], sources: &[Source], routes: &[Route], ip: Ip) -> Option<Ip>
-    requires { IsTrue (list_all is_sound_source sources.now) }
-    ensures { result ≡ option_map (λ source. source.ip) (source_of (record { rows = rows.now; sources = sources.now; routes = routes.now; known = [] }) ip) }
-{
-    let route = find_route(routes, ip)?;
-    let destination = Destination::new(ip, find_label(rows, ip), &route);
-    best_source(rows, sources, &destination).map(|best| best.source.ip)
 }

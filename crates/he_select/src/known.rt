@@ -3,7 +3,7 @@
 ghost use Rattle.std.specs.Prelude.{◌≡◌};
 ghost use Rattle.std.specs.List.{list_any};
 ghost use Rattle.he_select.specs.Selection.{known_of, nothing_known, rtt_or_unknown};
-ghost use Rattle.he_select.specs.Standing.{tells, told_of};
+ghost use Rattle.he_select.specs.Attributes.{tells, told_of};
 
 use he_addr::Ip;
 

@@ -3,8 +3,8 @@
 //!
 //! A [`Policy`] is an admitted policy table, a [`Host`] a list of sources and one of routes. [`order`] sorts
 //! destinations, [`order_known`] by what is [`Known`] of them as well (RFC 8305 section 4),
-//! [`order_known_with_standings`] tells all that the rules look at, and [`DestinationRule::between`] which of them puts
-//! one before another; [`Host::source`] finds the source of one destination.
+//! [`order_known_with_attributes`] tells all that the rules look at, and [`DestinationRule::between`] which of them
+//! puts one before another; [`Host::source`] finds the source of one destination.
 //!
 //! Proved, for every input: the standard table is that of RFC 6724 section 2.1; rows are a table, and lists a host's,
 //! exactly where the search for what is wrong finds nothing, and what it finds is the first cause in its order, at the
@@ -15,14 +15,15 @@
 //! its source is the candidate than which none is better by the rules of section 5; each address that `order` answers
 //! stands at the place that equals the number of addresses preferred to it by the rules of section 6, and so does each
 //! that `order_known` answers, by rules 8a and 8b too, the lower known round trip time and the address used before;
-//! `order_known_with_standings` answers the same list, and the rule between two is the first that decides. Under an
-//! admitted table this preference is a comparison of keys, one number for each rule, and so a strict total order, usable
-//! addresses have exactly one such list, and the order of some of them is that of all without the others ([`laws`]).
-//! Each rule stands in `specs/` as a definition under its name in the RFC.
+//! `order_known_with_attributes` answers the same list, and the rule between two is the first that decides. Under an
+//! admitted table this preference is a comparison of keys, one number for each rule, and so a strict total order,
+//! usable addresses have exactly one such list, and the order of some of them is that of all without the others
+//! ([`laws`]). Each rule stands in `specs/` as a definition under its name in the RFC.
 //!
 //! Only tested, in he_select_tests: that memory suffices where it is there. The texts of the faults are in no clause.
 #![tactic(auto)]
 
+pub mod attributes;
 pub mod deciding;
 pub(crate) mod distinct;
 pub mod host;
@@ -34,12 +35,12 @@ pub mod policy;
 pub(crate) mod ranking;
 pub mod selection;
 pub mod sorting;
-pub mod standing;
+pub(crate) mod standard;
 
+pub use attributes::{DestinationAttributes, Sourced};
 pub use deciding::DestinationRule;
 pub use host::{Host, HostFault, Route, Source};
 pub use known::Known;
 pub use policy::{Policy, PolicyFault, Row};
 pub use selection::LabelledSource;
-pub use sorting::{Sourced, order, order_known, order_known_with_standings};
-pub use standing::Standing;
+pub use sorting::{order, order_known, order_known_with_attributes};

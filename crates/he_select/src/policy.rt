@@ -4,14 +4,18 @@ ghost use Rattle.std.specs.Prelude.{◌≡◌, ℕ, ◌+◌, ◌≤◌, drop, le
 ghost use Rattle.std.specs.List.{list_any, position_from};
 ghost use Rattle.he_select.specs.Equality.{equal_tables};
 ghost use Rattle.he_select.specs.TableFaults.{has_row, shared_from, table_fault, table_of};
-ghost use Rattle.he_select.specs.Tables.{precedence_of, label_of, same_row, shares_precedence, IsAdmitted};
+ghost use Rattle.he_select.specs.Tables.{same_row, shares_precedence, IsAdmitted};
 ghost use Rattle.he_addr.specs.Prefix.{IsPrefix};
+ghost use Rattle.he_select.specs.LookUps.{rows_of};
 ghost use Rattle.he_select.specs.Standard.{standard_rows};
 
 use crate::distinct::{Distinct, first_repeated, stands_in};
 use crate::limits::ROWS;
-use crate::lookup::{find_label, find_row};
-use he_addr::{Ip, Memory, Prefix};
+use crate::standard::{
+    ANY, Class, IPV4, IPV4_COMPATIBLE, LOOPBACK, SITE_LOCAL, SIX_BONE, SIX_TO_FOUR, TEREDO,
+    UNIQUE_LOCAL,
+};
+use he_addr::{Memory, Prefix};
 use std::alloc::{Allocator, Global};
 use std::marker::Model;
 use thiserror::Error;
@@ -134,28 +138,41 @@ fn standard_table() -> [Row; 9]
     ensures { result ≡ standard_rows }
 {
     [
-        standard_row(1, 128, 50, 0),
-        standard_row(0, 0, 40, 1),
-        standard_row(0xffff << 32, 96, 35, 4),
-        standard_row(0x2002 << 112, 16, 30, 2),
-        standard_row(0x2001 << 112, 32, 5, 5),
-        standard_row(0xfc00 << 112, 7, 3, 13),
-        standard_row(0, 96, 1, 3),
-        standard_row(0xfec0 << 112, 10, 1, 11),
-        standard_row(0x3ffe << 112, 16, 1, 12),
+        standard_row(1, 128, LOOPBACK),
+        standard_row(0, 0, ANY),
+        standard_row(0xffff << 32, 96, IPV4),
+        standard_row(0x2002 << 112, 16, SIX_TO_FOUR),
+        standard_row(0x2001 << 112, 32, TEREDO),
+        standard_row(0xfc00 << 112, 7, UNIQUE_LOCAL),
+        standard_row(0, 96, IPV4_COMPATIBLE),
+        standard_row(0xfec0 << 112, 10, SITE_LOCAL),
+        standard_row(0x3ffe << 112, 16, SIX_BONE),
     ]
 }
 
-fn standard_row(bits: u128, len: u8, precedence: u16, label: u16) -> Row
+fn standard_row(bits: u128, len: u8, class: Class) -> Row
     requires { IsPrefix bits len }
-    ensures { result ≡ record { prefix = record { bits = bits; len = len }; precedence = precedence; label = label } }
+    ensures { result ≡ record {
+      prefix = record { bits = bits; len = len };
+      precedence = class.precedence;
+      label = class.label;
+    } }
 {
     let prefix = Prefix::new(bits, len);
     Row {
         prefix,
-        precedence,
-        label,
+        precedence: class.precedence,
+        label: class.label,
     }
+}
+
+/// The rows of a policy table, as an address is looked up in them.
+#[derive(Clone, Copy)]
+pub(crate) enum Table<'a> {
+    /// Those of the standard table, by the address's first bits.
+    Standard,
+    /// Those of another one, each in turn.
+    Listed(&'a [Row]),
 }
 
 /// A policy table: 1 to [`ROWS`] rows, no prefix twice, with `::/0` and `::ffff:0:0/96`, and no precedence both
@@ -163,6 +180,7 @@ fn standard_row(bits: u128, len: u8, precedence: u16, label: u16) -> Row
 #[derive(Drop)]
 pub struct Policy<A: Allocator = Global> {
     rows: Vec<Row, A>,
+    is_standard: bool,
 }
 
 impl<A: Allocator> Model for Policy<A> {
@@ -171,11 +189,13 @@ impl<A: Allocator> Model for Policy<A> {
 
     ghost Value = { List Row };
 
+    ghost use Rattle.std.specs.Prelude.{◌≡◌, IsTrue};
+    ghost use Rattle.he_select.specs.Standard.{standard_rows};
     ghost use Rattle.he_select.specs.Tables.{IsAdmitted};
 
     ghost view = { λ p. p.rows.items };
 
-    ghost invariant = { λ p. IsAdmitted p.rows.items };
+    ghost invariant = { λ p. IsAdmitted p.rows.items × (IsTrue p.is_standard → p.rows.items ≡ standard_rows) };
 }
 
 impl<A: Allocator> PartialEq for Policy<A> {
@@ -209,7 +229,10 @@ impl<A: Allocator + Copy> Policy<A> {
         ensures { IfOk result (λ policy. policy ≡ standard_rows) }
     {
         let rows = Vec::from_array(alloc, standard_table())?;
-        Ok(Policy { rows })
+        Ok(Policy {
+            rows,
+            is_standard: true,
+        })
     }
 
     /// The table of these rows.
@@ -226,7 +249,10 @@ impl<A: Allocator + Copy> Policy<A> {
             return Err(fault);
         }
         let rows = Vec::from_slice(alloc, rows).map_err(|_| PolicyFault::Memory)?;
-        Ok(Policy { rows })
+        Ok(Policy {
+            rows,
+            is_standard: false,
+        })
     }
 }
 
@@ -242,7 +268,10 @@ impl<A: Allocator> Policy<A> {
         if let Some(fault) = PolicyFault::find(&rows) {
             return Err(fault);
         }
-        Ok(Policy { rows })
+        Ok(Policy {
+            rows,
+            is_standard: false,
+        })
     }
 
     fn has_rows_of(&self, other: &Policy<A>) -> bool
@@ -259,19 +288,16 @@ impl<A: Allocator> Policy<A> {
         self.rows.as_slice()
     }
 
-    /// The precedence of an address, that of the containing row with the longest prefix (RFC 6724 section 2.1).
-    #[tactic(auto, unfolding(crate::specs::Tables::precedence_of))]
-    pub fn precedence(&self, ip: Ip) -> u16
-        ensures { result ≡ precedence_of self.now ip }
+    /// The rows, as addresses are looked up in them.
+    pub(crate) fn table(&self) -> Table<'_>
+        ensures rows { rows_of result ≡ self.now }
+        ensures admitted { IsAdmitted self.now }
     {
-        find_row(&self.rows, ip).map_or(0, |row| row.precedence)
-    }
-
-    /// The label of an address, that of the containing row with the longest prefix (RFC 6724 section 2.1).
-    pub fn label(&self, ip: Ip) -> u16
-        ensures { result ≡ label_of self.now ip }
-    {
-        find_label(&self.rows, ip)
+        if self.is_standard {
+            Table::Standard
+        } else {
+            Table::Listed(&self.rows)
+        }
     }
 
     /// The same table with memory of this allocator.
@@ -279,6 +305,9 @@ impl<A: Allocator> Policy<A> {
         ensures { IfOk result (λ policy. policy ≡ self.now) }
     {
         let rows = Vec::from_slice(alloc, &self.rows)?;
-        Ok(Policy { rows })
+        Ok(Policy {
+            rows,
+            is_standard: self.is_standard,
+        })
     }
 }

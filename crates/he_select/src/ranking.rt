@@ -6,10 +6,9 @@ ghost use Rattle.std.specs.Ordering.{as_partial_cmp, eq_by_cmp};
 ghost use Rattle.std.proofs.Common.{refl};
 ghost use Rattle.he_select.specs.DestinationKeys.{key_of};
 ghost use Rattle.he_select.specs.KeyOrder.{key_order, key_order_total, late_key_cmp};
-ghost use Rattle.he_select.specs.Standing.{has_deprecated, has_other_label, has_other_scope};
 
+use crate::attributes::DestinationAttributes;
 use crate::known::rtt_or_unknown;
-use crate::standing::Standing;
 use std::cmp::{Ordering, Reverse};
 
 /// A number for each rule, in the rules' order; the preferred destination has the least key.
@@ -111,7 +110,7 @@ impl Key {
     }
 }
 
-impl Standing {
+impl DestinationAttributes {
     /// The key of the destination that stands at this place of the list.
     pub(crate) fn key(&self, place: usize) -> Key
         ensures { result ≡ key_of self.now place }
@@ -141,28 +140,5 @@ impl Standing {
             // Rule 10: otherwise, leave the order unchanged.
             place,
         }
-    }
-
-    /// Whether its source has another scope.
-    pub(crate) fn has_other_scope(&self) -> bool
-        ensures { result ≡ has_other_scope self.now }
-    {
-        self.source
-            .map_or(false, |source| source.scope != self.scope)
-    }
-
-    /// Whether its source is deprecated.
-    pub(crate) fn has_deprecated(&self) -> bool
-        ensures { result ≡ has_deprecated self.now }
-    {
-        self.source.map_or(false, |source| source.source.deprecated)
-    }
-
-    /// Whether its source has another label.
-    pub(crate) fn has_other_label(&self) -> bool
-        ensures { result ≡ has_other_label self.now }
-    {
-        self.source
-            .map_or(false, |source| source.label != self.label)
     }
 }

@@ -1,20 +1,22 @@
 // The source that the host uses for a destination (RFC 6724 section 5).
 
-ghost use Rattle.std.specs.Prelude.{◌≡◌, None, map, option_map, IsTrue, IfSome};
+ghost use Rattle.std.specs.Prelude.{◌≡◌, [], None, map, option_map, IsTrue, IfSome};
 ghost use Rattle.std.specs.List.{list_all};
 ghost use Rattle.std.specs.Ordering.{is_lt};
 ghost use Rattle.he_addr.specs.Prefix.{common_of};
 ghost use Rattle.he_select.specs.HostFaults.{is_sound_source};
 ghost use Rattle.he_select.specs.LabelledRules.{admits, destination_of, is_better_labelled, labelled_of, late_rules};
 ghost use Rattle.he_select.specs.Rules.{first_of};
-ghost use Rattle.he_select.specs.Selection.{by_appropriate_scope};
+ghost use Rattle.he_select.specs.Selection.{by_appropriate_scope, selection_input, source_of};
+ghost use Rattle.he_select.specs.LookUps.{rows_of};
 ghost use Rattle.he_select.specs.Walking.{keep_fitting, walk_fitting};
 
-use crate::host::{Route, Source};
-use crate::lookup::find_label;
-use crate::policy::Row;
+use crate::host::{Host, Route, Source};
+use crate::lookup::find_route;
+use crate::policy::{Policy, Table};
 use he_addr::ip::LINK_LOCAL_SCOPE;
 use he_addr::{Ip, common_len};
+use std::alloc::Allocator;
 
 /// What the source rules look at of a destination.
 #[derive(Clone, Copy)]
@@ -36,13 +38,13 @@ pub struct LabelledSource {
 }
 
 impl LabelledSource {
-    pub(crate) fn new(rows: &[Row], source: &Source) -> LabelledSource
-        ensures { result ≡ labelled_of rows.now source.now }
+    pub(crate) fn new(table: Table<'_>, source: &Source) -> LabelledSource
+        ensures { result ≡ labelled_of (rows_of table.entry) source.now }
     {
         LabelledSource {
             source: *source,
             scope: source.ip.scope(),
-            label: find_label(rows, source.ip),
+            label: table.label(source.ip),
         }
     }
 }
@@ -81,7 +83,9 @@ impl Destination {
     ) -> Option<&'a LabelledSource>
         requires sound { IsTrue (is_sound_source labelled.now.source) }
         requires best { IfSome best (λ kept. IsTrue (is_sound_source kept.now.source)) }
-        ensures kept { option_map (λ kept. kept.now) result ≡ keep_fitting (admits self.now) (is_better_labelled self.now) (option_map (λ kept. kept.now) best.entry) labelled.now }
+        ensures kept { option_map (λ kept. kept.now) result
+            ≡ keep_fitting (admits self.now) (is_better_labelled self.now)
+            (option_map (λ kept. kept.now) best.entry) labelled.now }
         ensures sound { IfSome result (λ kept. IsTrue (is_sound_source kept.now.source)) }
     {
         if !self.admits(labelled) {
@@ -191,16 +195,42 @@ impl Destination {
 
 /// The best of the sources that may be used for the destination, each with the label that the table gives it.
 pub(crate) fn best_source(
-    rows: &[Row],
+    table: Table<'_>,
     sources: &[Source],
     destination: &Destination,
 ) -> Option<LabelledSource>
     requires { IsTrue (list_all is_sound_source sources.now) }
-    ensures { result ≡ walk_fitting (admits destination.now) (is_better_labelled destination.now) None (map (labelled_of rows.now) sources.now) }
+    ensures { result ≡ walk_fitting (admits destination.now) (is_better_labelled destination.now) None
+        (map (labelled_of (rows_of table.entry)) sources.now) }
 {
     let mut best = None;
     for source in sources {
-        best = destination.keep_copy(best, LabelledSource::new(rows, source));
+        best = destination.keep_copy(best, LabelledSource::new(table, source));
     }
     best
+}
+
+impl<A: Allocator> Host<A> {
+    /// The source that the host uses for a destination (RFC 6724 section 5): of the candidates the best by the source
+    /// rules; `None` where the destination has no route or no candidate.
+    #[tactic(auto, using(crate::proofs::Hosted::all_sound))]
+    pub fn source<B: Allocator>(&self, policy: &Policy<B>, ip: Ip) -> Option<Ip>
+        ensures { result ≡ option_map (λ source. source.ip) (source_of (selection_input policy.now self.now) ip) }
+    {
+        source_ip(policy.table(), self.sources(), self.routes(), ip)
+    }
+}
+
+fn source_ip(table: Table<'_>, sources: &[Source], routes: &[Route], ip: Ip) -> Option<Ip>
+    requires { IsTrue (list_all is_sound_source sources.now) }
+    ensures { result ≡ option_map (λ source. source.ip) (source_of (record {
+      rows = rows_of table.entry;
+      sources = sources.now;
+      routes = routes.now;
+      known = [];
+    }) ip) }
+{
+    let route = find_route(routes, ip)?;
+    let destination = Destination::new(ip, table.label(ip), &route);
+    best_source(table, sources, &destination).map(|best| best.source.ip)
 }

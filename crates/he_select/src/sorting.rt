@@ -8,26 +8,18 @@ ghost use Rattle.he_select.specs.HostFaults.{is_sound_source};
 ghost use Rattle.he_select.specs.LabelledRules.{labelled_of};
 ghost use Rattle.he_select.specs.Preference.{IsOrder, order_of};
 ghost use Rattle.he_select.specs.Selection.{known_input, selection_input};
-ghost use Rattle.he_select.specs.Standing.{standing_from, standing_of};
+ghost use Rattle.he_select.specs.LookUps.{given, rows_of};
+ghost use Rattle.he_select.specs.Attributes.{attributes_from, attributes_of};
 ghost use Rattle.he_select.specs.Tables.{IsAdmitted};
 
+use crate::attributes::DestinationAttributes;
 use crate::host::{Host, Route, Source};
 use crate::known::{Known, told};
-use crate::policy::{Policy, Row};
+use crate::policy::{Policy, Table};
 use crate::ranking::Key;
 use crate::selection::LabelledSource;
-use crate::standing::Standing;
 use he_addr::{Ip, Memory};
 use std::alloc::{AllocError, Allocator};
-
-/// A destination, and the address of the source that the host uses for it; none where the host does not reach it.
-#[derive(Clone, Copy, Debug, PartialEq, Eq)]
-pub struct Sourced {
-    /// The destination.
-    pub ip: Ip,
-    /// What [`Host::source`] answers for it.
-    pub source: Option<Ip>,
-}
 
 /// The addresses in the order in which they are to be tried (RFC 6724 section 6): each stands at the place that
 /// equals the number of addresses preferred to it. Each address is usable. Nothing is known of them.
@@ -39,11 +31,12 @@ pub fn order<A: Allocator + Copy, P: Allocator, H: Allocator>(
 ) -> Result<Vec<Ip, A>, Memory>
     requires { IsTrue (list_all is_usable addresses.now) }
     ensures order { IfOk result (λ sorted. IsOrder (selection_input policy.now host.now) addresses.now sorted.items) }
-    ensures value { IfOk result (λ sorted. sorted.items ≡ order_of (selection_input policy.now host.now) addresses.now) }
+    ensures value { IfOk result (λ sorted.
+        sorted.items ≡ order_of (selection_input policy.now host.now) addresses.now) }
 {
     let sorted = sort_addresses(
         alloc,
-        policy.rows(),
+        policy.table(),
         host.sources(),
         host.routes(),
         &[],
@@ -52,8 +45,8 @@ pub fn order<A: Allocator + Copy, P: Allocator, H: Allocator>(
     Ok(sorted)
 }
 
-/// The addresses in the order in which they are to be tried by what is known of them as well (RFC 8305 section 4). Each
-/// address is usable. Where one stands more than once, what is told of it first counts.
+/// The addresses in the order in which they are to be tried by what is known of them as well (RFC 8305 section 4).
+/// Each address is usable. Where one stands more than once, what is told of it first counts.
 pub fn order_known<A: Allocator + Copy, P: Allocator, H: Allocator>(
     alloc: A,
     policy: &Policy<P>,
@@ -61,13 +54,15 @@ pub fn order_known<A: Allocator + Copy, P: Allocator, H: Allocator>(
     known: &[Known],
 ) -> Result<Vec<Ip, A>, Memory>
     requires { IsTrue (list_all (λ one. is_usable one.ip) known.now) }
-    ensures order { IfOk result (λ sorted. IsOrder (known_input policy.now host.now known.now) (map (λ one. one.ip) known.now) sorted.items) }
-    ensures value { IfOk result (λ sorted. sorted.items ≡ order_of (known_input policy.now host.now known.now) (map (λ one. one.ip) known.now)) }
+    ensures order { IfOk result (λ sorted.
+        IsOrder (known_input policy.now host.now known.now) (map (λ one. one.ip) known.now) sorted.items) }
+    ensures value { IfOk result (λ sorted.
+        sorted.items ≡ order_of (known_input policy.now host.now known.now) (map (λ one. one.ip) known.now)) }
 {
     let addresses = known_addresses(alloc, known)?;
     let sorted = sort_addresses(
         alloc,
-        policy.rows(),
+        policy.table(),
         host.sources(),
         host.routes(),
         known,
@@ -77,20 +72,24 @@ pub fn order_known<A: Allocator + Copy, P: Allocator, H: Allocator>(
 }
 
 /// The addresses in the order of [`order_known`], each with what the rules look at of it. Each address is usable.
-pub fn order_known_with_standings<A: Allocator + Copy, P: Allocator, H: Allocator>(
+pub fn order_known_with_attributes<A: Allocator + Copy, P: Allocator, H: Allocator>(
     alloc: A,
     policy: &Policy<P>,
     host: &Host<H>,
     known: &[Known],
-) -> Result<Vec<Standing, A>, Memory>
+) -> Result<Vec<DestinationAttributes, A>, Memory>
     requires { IsTrue (list_all (λ one. is_usable one.ip) known.now) }
-    ensures order { IfOk result (λ _. IsOrder (known_input policy.now host.now known.now) (map (λ one. one.ip) known.now) (order_of (known_input policy.now host.now known.now) (map (λ one. one.ip) known.now))) }
-    ensures value { IfOk result (λ sorted. sorted.items ≡ map (standing_of (known_input policy.now host.now known.now)) (order_of (known_input policy.now host.now known.now) (map (λ one. one.ip) known.now))) }
+    ensures order { IfOk result (λ _.
+        IsOrder (known_input policy.now host.now known.now) (map (λ one. one.ip) known.now)
+        (order_of (known_input policy.now host.now known.now) (map (λ one. one.ip) known.now))) }
+    ensures value { IfOk result (λ sorted.
+        sorted.items ≡ map (attributes_of (known_input policy.now host.now known.now))
+        (order_of (known_input policy.now host.now known.now) (map (λ one. one.ip) known.now))) }
 {
     let addresses = known_addresses(alloc, known)?;
-    let sorted = sort_standings(
+    let sorted = sort_attributes(
         alloc,
-        policy.rows(),
+        policy.table(),
         host.sources(),
         host.routes(),
         known,
@@ -108,99 +107,109 @@ fn known_addresses<A: Allocator>(alloc: A, known: &[Known]) -> Result<Vec<Ip, A>
 /// The addresses in order.
 fn sort_addresses<A: Allocator + Copy>(
     alloc: A,
-    rows: &[Row],
+    table: Table<'_>,
     sources: &[Source],
     routes: &[Route],
     known: &[Known],
     addresses: &[Ip],
 ) -> Result<Vec<Ip, A>, AllocError>
-    requires admitted { IsAdmitted rows.now }
+    requires admitted { IsAdmitted (rows_of table) }
     requires sound { IsTrue (list_all is_sound_source sources.now) }
     requires usable { IsTrue (list_all is_usable addresses.now) }
-    ensures order { IfOk result (λ _. IsOrder (record { rows = rows.now; sources = sources.now; routes = routes.now; known = known.now }) addresses.now (order_of (record { rows = rows.now; sources = sources.now; routes = routes.now; known = known.now }) addresses.now)) }
-    ensures value { IfOk result (λ sorted. sorted.items ≡ order_of (record { rows = rows.now; sources = sources.now; routes = routes.now; known = known.now }) addresses.now) }
+    ensures order { IfOk result (λ _. IsOrder (given table.entry sources.now routes.now known.now) addresses.now
+        (order_of (given table.entry sources.now routes.now known.now) addresses.now)) }
+    ensures value { IfOk result (λ sorted.
+        sorted.items ≡ order_of (given table.entry sources.now routes.now known.now) addresses.now) }
 {
-    let standings = standings_of(alloc, rows, sources, routes, known, addresses)?;
-    let keys = sorted_keys(alloc, &standings)?;
+    let all_attributes = all_attributes_of(alloc, table, sources, routes, known, addresses)?;
+    let keys = sorted_keys(alloc, &all_attributes)?;
     pick(alloc, addresses, &keys)
 }
 
 /// What the rules look at of the addresses, in the addresses' order.
-fn sort_standings<A: Allocator + Copy>(
+fn sort_attributes<A: Allocator + Copy>(
     alloc: A,
-    rows: &[Row],
+    table: Table<'_>,
     sources: &[Source],
     routes: &[Route],
     known: &[Known],
     addresses: &[Ip],
-) -> Result<Vec<Standing, A>, AllocError>
-    requires admitted { IsAdmitted rows.now }
+) -> Result<Vec<DestinationAttributes, A>, AllocError>
+    requires admitted { IsAdmitted (rows_of table) }
     requires sound { IsTrue (list_all is_sound_source sources.now) }
     requires usable { IsTrue (list_all is_usable addresses.now) }
-    ensures order { IfOk result (λ _. IsOrder (record { rows = rows.now; sources = sources.now; routes = routes.now; known = known.now }) addresses.now (order_of (record { rows = rows.now; sources = sources.now; routes = routes.now; known = known.now }) addresses.now)) }
-    ensures value { IfOk result (λ sorted. sorted.items ≡ map (standing_of (record { rows = rows.now; sources = sources.now; routes = routes.now; known = known.now })) (order_of (record { rows = rows.now; sources = sources.now; routes = routes.now; known = known.now }) addresses.now)) }
+    ensures order { IfOk result (λ _. IsOrder (given table.entry sources.now routes.now known.now) addresses.now
+        (order_of (given table.entry sources.now routes.now known.now) addresses.now)) }
+    ensures value { IfOk result (λ sorted. sorted.items
+        ≡ map (attributes_of (given table.entry sources.now routes.now known.now))
+        (order_of (given table.entry sources.now routes.now known.now) addresses.now)) }
 {
-    let standings = standings_of(alloc, rows, sources, routes, known, addresses)?;
-    let keys = sorted_keys(alloc, &standings)?;
-    pick(alloc, &standings, &keys)
+    let all_attributes = all_attributes_of(alloc, table, sources, routes, known, addresses)?;
+    let keys = sorted_keys(alloc, &all_attributes)?;
+    pick(alloc, &all_attributes, &keys)
 }
 
 /// What the rules look at, computed once for each source and for each address.
-fn standings_of<A: Allocator + Copy>(
+fn all_attributes_of<A: Allocator + Copy>(
     alloc: A,
-    rows: &[Row],
+    table: Table<'_>,
     sources: &[Source],
     routes: &[Route],
     known: &[Known],
     addresses: &[Ip],
-) -> Result<Vec<Standing, A>, AllocError>
+) -> Result<Vec<DestinationAttributes, A>, AllocError>
     requires { IsTrue (list_all is_sound_source sources.now) }
-    ensures standings { IfOk result (λ standings. standings.items ≡ map (standing_of (record { rows = rows.now; sources = sources.now; routes = routes.now; known = known.now })) addresses.now) }
+    ensures all_attributes { IfOk result (λ all_attributes. all_attributes.items
+        ≡ map (attributes_of (given table.entry sources.now routes.now known.now)) addresses.now) }
     ensures range { OnOk result (All InRange addresses.now) }
 {
-    let labelled = label_sources(alloc, rows, sources)?;
-    standings_by(alloc, rows, routes, &labelled, told(known), addresses)
+    let labelled = label_sources(alloc, table, sources)?;
+    all_attributes_by(alloc, table, routes, &labelled, told(known), addresses)
 }
 
 fn label_sources<A: Allocator + Copy>(
     alloc: A,
-    rows: &[Row],
+    table: Table<'_>,
     sources: &[Source],
 ) -> Result<Vec<LabelledSource, A>, AllocError>
-    ensures { IfOk result (λ labelled. labelled.items ≡ map (labelled_of rows.now) sources.now) }
+    ensures { IfOk result (λ labelled. labelled.items ≡ map (labelled_of (rows_of table.entry)) sources.now) }
 {
     sources
         .iter()
-        .map(|source| LabelledSource::new(rows, source))
+        .map(|source| LabelledSource::new(table, source))
         .collect(alloc)
 }
 
 /// What the rules look at of each destination, by the labels of the sources and what is told of them.
-fn standings_by<A: Allocator + Copy>(
+fn all_attributes_by<A: Allocator + Copy>(
     alloc: A,
-    rows: &[Row],
+    table: Table<'_>,
     routes: &[Route],
     sources: &[LabelledSource],
     told: &[Known],
     addresses: &[Ip],
-) -> Result<Vec<Standing, A>, AllocError>
+) -> Result<Vec<DestinationAttributes, A>, AllocError>
     requires { IsTrue (list_all (λ labelled. is_sound_source labelled.source) sources.now) }
-    ensures standings { IfOk result (λ standings. standings.items ≡ map (standing_from rows.now routes.now sources.now told.now) addresses.now) }
+    ensures all_attributes { IfOk result (λ all_attributes. all_attributes.items
+        ≡ map (attributes_from (rows_of table.entry) routes.now sources.now told.now) addresses.now) }
     ensures range { OnOk result (All InRange addresses.now) }
 {
-    let mut standings = Vec::with_capacity(alloc, addresses.len())?;
+    let mut all_attributes = Vec::with_capacity(alloc, addresses.len())?;
     for ip in addresses {
-        standings.push(Standing::new(rows, routes, sources, told, *ip))?;
+        all_attributes.push(DestinationAttributes::new(table, routes, sources, told, *ip))?;
     }
-    Ok(standings)
+    Ok(all_attributes)
 }
 
-fn keys_of<A: Allocator + Copy>(alloc: A, standings: &[Standing]) -> Result<Vec<Key, A>, AllocError>
-    ensures { IfOk result (λ keys. keys.items ≡ keys_of 0 standings.now) }
+fn keys_of<A: Allocator + Copy>(
+    alloc: A,
+    all_attributes: &[DestinationAttributes],
+) -> Result<Vec<Key, A>, AllocError>
+    ensures { IfOk result (λ keys. keys.items ≡ keys_of 0 all_attributes.now) }
 {
-    let mut keys = Vec::with_capacity(alloc, standings.len())?;
-    for (place, standing) in standings.iter().enumerate() {
-        keys.push(standing.key(place))?;
+    let mut keys = Vec::with_capacity(alloc, all_attributes.len())?;
+    for (place, attributes) in all_attributes.iter().enumerate() {
+        keys.push(attributes.key(place))?;
     }
     Ok(keys)
 }
@@ -208,12 +217,12 @@ fn keys_of<A: Allocator + Copy>(alloc: A, standings: &[Standing]) -> Result<Vec<
 /// What is sorted is keys alone, small as they are: each names the place of its destination.
 fn sorted_keys<A: Allocator + Copy>(
     alloc: A,
-    standings: &[Standing],
+    all_attributes: &[DestinationAttributes],
 ) -> Result<Vec<Key, A>, AllocError>
-    ensures permutation { IfOk result (λ keys. IsPermutation (keys_of 0 standings.now) keys.items) }
+    ensures permutation { IfOk result (λ keys. IsPermutation (keys_of 0 all_attributes.now) keys.items) }
     ensures sorted { IfOk result (λ keys. IsSorted key_cmp keys.items) }
 {
-    let mut keys = keys_of(alloc, standings)?;
+    let mut keys = keys_of(alloc, all_attributes)?;
     sort(&mut keys);
     Ok(keys)
 }

@@ -7,7 +7,7 @@ ghost use Rattle.he_addr.specs.Ip.{is_usable};
 use crate::hosts::{route, source};
 use he_addr::Ip;
 use he_select::{
-    DestinationRule, Host, Known, Policy, Source, order_known, order_known_with_standings,
+    DestinationRule, Host, Known, Policy, Source, order_known, order_known_with_attributes,
 };
 use refusing::Refusing;
 
@@ -116,7 +116,7 @@ fn first_rule<'h>(
     if !all_usable(known) {
         return None;
     }
-    let sorted = order_known_with_standings(heap, policy, host, known).ok()?;
+    let sorted = order_known_with_attributes(heap, policy, host, known).ok()?;
     let earlier = sorted.first()?;
     let later = sorted.get(1)?;
     Some(DestinationRule::between(earlier, later))

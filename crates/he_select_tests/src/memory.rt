@@ -7,7 +7,7 @@ ghost use Rattle.he_addr.specs.Ip.{is_usable};
 use crate::hosts::{V4, V6, route, source};
 use crate::known::all_usable as all_known_usable;
 use he_addr::Ip;
-use he_select::{Host, Known, Policy, Route, Source, order, order_known_with_standings};
+use he_select::{Host, Known, Policy, Route, Source, order, order_known_with_attributes};
 use refusing::{MOST_RUNS, Refusing};
 use std::mem::drop;
 
@@ -61,7 +61,7 @@ fn is_sorted<'h>(
 
 // The same with what the rules look at: precedence and label of the standard table, and the source. That of the
 // address that is none of the host's own is the one on the interface of its route.
-fn is_sorted_with_standings<'h>(
+fn is_sorted_with_attributes<'h>(
     heap: &'h Refusing,
     policy: &Policy<&'h Refusing>,
     host: &Host<&'h Refusing>,
@@ -70,16 +70,16 @@ fn is_sorted_with_standings<'h>(
     if !all_known_usable(&given) {
         return Some(false);
     }
-    let sorted = order_known_with_standings(heap, policy, host, &given).ok()?;
+    let sorted = order_known_with_attributes(heap, policy, host, &given).ok()?;
     let mut is_right = sorted.len() == given.len();
-    for (standing, (ip, precedence, label, from)) in sorted
+    for (attributes, (ip, precedence, label, from)) in sorted
         .iter()
         .zip([(V6, 40, 1, V6), (FAR, 40, 1, V6), (V4, 35, 4, V4)])
     {
-        is_right &= standing.ip == ip
-            && standing.precedence == precedence
-            && standing.label == label
-            && standing.source.map_or(false, |source| {
+        is_right &= attributes.ip == ip
+            && attributes.precedence == precedence
+            && attributes.label == label
+            && attributes.source.map_or(false, |source| {
                 source.label == label && source.source.ip == from
             });
     }
@@ -94,7 +94,7 @@ fn is_host_well<'h>(
     Some(
         is_host_copied(heap, host)?
             && is_sorted(heap, policy, host)?
-            && is_sorted_with_standings(heap, policy, host)?,
+            && is_sorted_with_attributes(heap, policy, host)?,
     )
 }
 

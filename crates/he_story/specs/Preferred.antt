@@ -11,10 +11,10 @@ use Rattle.he_select.specs.declared.deciding.DestinationRule.{DestinationRule}
 use Rattle.he_select.specs.declared.deciding.DestinationRule.TheVariants as rules
 use Rattle.he_select.specs.declared.host.Route.{Route}
 use Rattle.he_select.specs.declared.selection.LabelledSource.{LabelledSource}
-use Rattle.he_select.specs.declared.standing.Standing.{Standing}
+use Rattle.he_select.specs.declared.attributes.DestinationAttributes.{DestinationAttributes}
 use Rattle.he_select.specs.Deciding.{deciding_rule}
 use Rattle.he_select.specs.Selection.{serves}
-use Rattle.he_explain.specs.Reasons.{Decision, of_source, standings_of}
+use Rattle.he_explain.specs.Reasons.{Decision, of_source, all_attributes_of}
 use Rattle.he_story.specs.Parts.{right_aligned}
 
 -- what an address stands for, by its prefix: 64:ff9b::/96 (RFC 6052), 2002::/16 (RFC 3056), 2001::/32 (RFC 4380)
@@ -49,7 +49,7 @@ rtts_text None (Some earlier) =
 rtts_text later None = []
 
 -- what puts the later of two addresses behind the earlier one, and the rule
-abbrev pub reason_text : DestinationRule → Standing → Standing → List ℕ
+abbrev pub reason_text : DestinationRule → DestinationAttributes → DestinationAttributes → List ℕ
 reason_text rules.AvoidUnusable earlier later = codes "; the one before is reachable (RFC 6724 rule 1)"
 reason_text rules.MatchingScope earlier later =
     unlike_text (codes "; scope ") later.scope (of_source (λ source. source.scope) later) (codes " (RFC 6724 rule 2)")
@@ -66,7 +66,7 @@ reason_text rules.LongestPrefix earlier later =
     values_text (codes "; bits in common with its source ") later.common earlier.common (codes " (RFC 6724 rule 9)")
 reason_text rules.Unchanged earlier later = codes "; listed later in its answer (RFC 6724 rule 10)"
 
-abbrev pub behind_text : Decision → Option Standing → Standing → List ℕ
+abbrev pub behind_text : Decision → Option DestinationAttributes → DestinationAttributes → List ℕ
 behind_text decide None later = []
 behind_text decide (Some earlier) later = reason_text (decide earlier later) earlier later
 
@@ -75,26 +75,26 @@ abbrev pub is_routed : List Route → Ip → Bool
 is_routed routes ip = list_any (serves ip) routes
 
 -- NUMBER. ADDRESS (KIND) from SOURCE; REASON
-abbrev pub address_line : List Route → Decision → ℕ → ℕ → Option Standing → Standing → List ℕ
-address_line routes decide width number earlier standing =
-    (right_aligned width number ++ concat (codes ". " ∷ printed standing.ip ∷ kind_text standing.ip ∷ []))
-    ++ (reached_text (is_routed routes standing.ip) standing.source ++ (behind_text decide earlier standing ++ codes "\n"))
+abbrev pub address_line : List Route → Decision → ℕ → ℕ → Option DestinationAttributes → DestinationAttributes → List ℕ
+address_line routes decide width number earlier attributes =
+    (right_aligned width number ++ concat (codes ". " ∷ printed attributes.ip ∷ kind_text attributes.ip ∷ []))
+    ++ (reached_text (is_routed routes attributes.ip) attributes.source ++ (behind_text decide earlier attributes ++ codes "\n"))
 
 -- the lines of addresses, from this number on, behind the address before them
-abbrev pub address_lines : List Route → Decision → ℕ → ℕ → Option Standing → List Standing → List ℕ
+abbrev pub address_lines : List Route → Decision → ℕ → ℕ → Option DestinationAttributes → List DestinationAttributes → List ℕ
 address_lines routes decide width number earlier [] = []
 address_lines routes decide width number earlier (first ∷ more) =
     address_line routes decide width number earlier first ++ address_lines routes decide width (number + 1) (Some first) more
 
 -- what stands above them
-abbrev pub title_text : List Standing → List ℕ
+abbrev pub title_text : List DestinationAttributes → List ℕ
 title_text [] = codes "no address to try\n"
 title_text (first ∷ more) = codes "preferred, once every answer is known:\n"
 
 -- they are counted from 1, and stand two columns in
-abbrev pub listed_text : List Route → Decision → List Standing → List ℕ
+abbrev pub listed_text : List Route → Decision → List DestinationAttributes → List ℕ
 listed_text routes decide sorted =
     title_text sorted ++ address_lines routes decide (length (decimal (length sorted)) + 2) 1 None sorted
 
 abbrev pub preferred_text : Race → List ℕ
-preferred_text race = listed_text race.host.routes (λ a b. deciding_rule (race_input race) a.ip b.ip) (standings_of race)
+preferred_text race = listed_text race.host.routes (λ a b. deciding_rule (race_input race) a.ip b.ip) (all_attributes_of race)

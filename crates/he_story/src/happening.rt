@@ -6,7 +6,7 @@ ghost use Rattle.he_addr.specs.Ip.{family_of};
 ghost use Rattle.he_addr.specs.Printing.{printed};
 ghost use Rattle.he_timeline.specs.Race.{reply_of};
 ghost use Rattle.he_explain.specs.Events.{is_seen_by};
-ghost use Rattle.he_explain.specs.Reasons.{standings_of};
+ghost use Rattle.he_explain.specs.Reasons.{all_attributes_of};
 ghost use Rattle.he_story.specs.Happening.{answer_of, answered_text, became_text, cause_text, event_line, events_text, happening_text, held_text, kind_text, listed_text, other_of, other_text, start_text, still_missing, taken, tick_width, turn_text};
 
 use crate::parts::{
@@ -319,11 +319,11 @@ fn tick_width<A: Allocator>(transcript: &Transcript<A>) -> usize
 fn write_course<A: Allocator + Copy, B: Allocator, C: Allocator>(
     alloc: A,
     timeline: &Timeline<B>,
-    sorted: &[Standing],
+    sorted: &[DestinationAttributes],
     transcript: &Transcript<C>,
     text: &mut Vec<u8, A>,
 ) -> Result<(), Memory>
-    requires { sorted.now ≡ standings_of timeline.now }
+    requires { sorted.now ≡ all_attributes_of timeline.now }
     ensures { OnOk result (text.new.items ≡ text.old.items ++ events_text timeline.now transcript.now) }
 {
     let width = tick_width(transcript);
@@ -335,11 +335,11 @@ fn write_course<A: Allocator + Copy, B: Allocator, C: Allocator>(
 pub(crate) fn write_happening<A: Allocator + Copy, B: Allocator, C: Allocator>(
     alloc: A,
     timeline: &Timeline<B>,
-    sorted: &[Standing],
+    sorted: &[DestinationAttributes],
     transcript: &Transcript<C>,
     text: &mut Vec<u8, A>,
 ) -> Result<(), Memory>
-    requires { sorted.now ≡ standings_of timeline.now }
+    requires { sorted.now ≡ all_attributes_of timeline.now }
     ensures { OnOk result (text.new.items ≡ text.old.items ++ happening_text timeline.now transcript.now) }
 {
     write_words(b"what happened:\n", text)?;

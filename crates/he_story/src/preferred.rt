@@ -2,8 +2,8 @@
 
 ghost use Rattle.std.specs.Prelude.{◌≡◌, ◌++◌, ◌+◌, decimal, length, None, OnOk};
 ghost use Rattle.he_select.specs.Selection.{serves};
-ghost use Rattle.he_select.specs.Standing.{rule_between};
-ghost use Rattle.he_explain.specs.Reasons.{of_source, standings_of};
+ghost use Rattle.he_select.specs.Attributes.{rule_between};
+ghost use Rattle.he_explain.specs.Reasons.{of_source, all_attributes_of};
 ghost use Rattle.he_story.specs.Preferred.{address_line, address_lines, behind_text, is_routed, kind_text, listed_text, preferred_text, reached_text, reason_text, rtts_text, title_text, unlike_text, values_text};
 
 use crate::parts::{Part, width_of, write_aligned, write_parts, write_words};
@@ -131,23 +131,23 @@ fn write_rtts<A: Allocator + Copy>(
     }
 }
 
-fn source_scope(standing: &Standing) -> u8
-    ensures { result ≡ of_source (λ source. source.scope) standing.now }
+fn source_scope(attributes: &DestinationAttributes) -> u8
+    ensures { result ≡ of_source (λ source. source.scope) attributes.now }
 {
-    standing.source.map_or(0, |source| source.scope)
+    attributes.source.map_or(0, |source| source.scope)
 }
 
-fn source_label(standing: &Standing) -> u16
-    ensures { result ≡ of_source (λ source. source.label) standing.now }
+fn source_label(attributes: &DestinationAttributes) -> u16
+    ensures { result ≡ of_source (λ source. source.label) attributes.now }
 {
-    standing.source.map_or(0, |source| source.label)
+    attributes.source.map_or(0, |source| source.label)
 }
 
 // What puts the later of two addresses behind the earlier one, and the rule.
 fn write_reason<A: Allocator + Copy>(
     rule: DestinationRule,
-    earlier: &Standing,
-    later: &Standing,
+    earlier: &DestinationAttributes,
+    later: &DestinationAttributes,
     text: &mut Vec<u8, A>,
 ) -> Result<(), Memory>
     ensures { OnOk result (text.new.items ≡ text.old.items ++ reason_text rule earlier.now later.now) }
@@ -196,8 +196,8 @@ fn write_reason<A: Allocator + Copy>(
 
 // Why the address stands behind the one before it, if there is one.
 fn write_behind<A: Allocator + Copy>(
-    earlier: Option<Standing>,
-    later: &Standing,
+    earlier: Option<DestinationAttributes>,
+    later: &DestinationAttributes,
     text: &mut Vec<u8, A>,
 ) -> Result<(), Memory>
     ensures { OnOk result (text.new.items ≡ text.old.items ++ behind_text rule_between earlier later.now) }
@@ -216,42 +216,42 @@ fn write_address<A: Allocator + Copy>(
     routes: &[Route],
     width: usize,
     number: u64,
-    earlier: Option<Standing>,
-    standing: &Standing,
+    earlier: Option<DestinationAttributes>,
+    attributes: &DestinationAttributes,
     text: &mut Vec<u8, A>,
 ) -> Result<(), Memory>
-    ensures { OnOk result (text.new.items ≡ text.old.items ++ address_line routes.now rule_between width number earlier standing.now) }
+    ensures { OnOk result (text.new.items ≡ text.old.items ++ address_line routes.now rule_between width number earlier attributes.now) }
 {
-    let ip = standing.ip;
+    let ip = attributes.ip;
     let kind = kind_text(ip);
     write_aligned(width, number, text)?;
     write_parts(
         &[Part::Words(b". "), Part::Address(ip), Part::Words(kind)],
         text,
     )?;
-    write_reached(routes, ip, standing.source, text)?;
-    write_behind(earlier, standing, text)?;
+    write_reached(routes, ip, attributes.source, text)?;
+    write_behind(earlier, attributes, text)?;
     write_words(b"\n", text)
 }
 
 fn write_addresses<A: Allocator + Copy>(
     routes: &[Route],
-    sorted: &[Standing],
+    sorted: &[DestinationAttributes],
     text: &mut Vec<u8, A>,
 ) -> Result<(), Memory>
     ensures { OnOk result (text.new.items ≡ text.old.items ++ address_lines routes.now rule_between (length (decimal (length sorted.now)) + 2) 1 None sorted.now) }
 {
     let width = width_of(sorted.len() as u64) + 2;
     let mut earlier = None;
-    for (place, standing) in sorted.iter().enumerate() {
-        write_address(routes, width, place as u64 + 1, earlier, standing, text)?;
-        earlier = Some(*standing);
+    for (place, attributes) in sorted.iter().enumerate() {
+        write_address(routes, width, place as u64 + 1, earlier, attributes, text)?;
+        earlier = Some(*attributes);
     }
     Ok(())
 }
 
 // What stands above the addresses.
-fn title_text(sorted: &[Standing]) -> &'static [u8]
+fn title_text(sorted: &[DestinationAttributes]) -> &'static [u8]
     ensures { result.now ≡ title_text sorted.now }
 {
     if sorted.is_empty() {
@@ -263,7 +263,7 @@ fn title_text(sorted: &[Standing]) -> &'static [u8]
 
 fn write_listed<A: Allocator + Copy>(
     routes: &[Route],
-    sorted: &[Standing],
+    sorted: &[DestinationAttributes],
     text: &mut Vec<u8, A>,
 ) -> Result<(), Memory>
     ensures { OnOk result (text.new.items ≡ text.old.items ++ listed_text routes.now rule_between sorted.now) }
@@ -275,10 +275,10 @@ fn write_listed<A: Allocator + Copy>(
 // The order of a race's addresses, which are given sorted.
 pub(crate) fn write_preferred<A: Allocator + Copy, B: Allocator>(
     timeline: &Timeline<B>,
-    sorted: &[Standing],
+    sorted: &[DestinationAttributes],
     text: &mut Vec<u8, A>,
 ) -> Result<(), Memory>
-    requires { sorted.now ≡ standings_of timeline.now }
+    requires { sorted.now ≡ all_attributes_of timeline.now }
     ensures { OnOk result (text.new.items ≡ text.old.items ++ preferred_text timeline.now) }
 {
     write_listed(timeline.host().routes(), sorted, text)

@@ -5,9 +5,9 @@ use Rattle.he_addr.specs.Printing.{printed, source_text, prefix_text}
 use Rattle.he_addr.specs.declared.ip.Ip.{Ip}
 use Rattle.he_plan.specs.declared.transcript.Mark.{Mark}
 use Rattle.he_plan.specs.declared.transcript.Mark.TheVariants as marks
-use Rattle.he_select.specs.declared.sorting.Sourced.{Sourced}
-use Rattle.he_select.specs.declared.standing.Standing.{Standing}
-use Rattle.he_select.specs.Standing.{sourced_from}
+use Rattle.he_select.specs.declared.attributes.Sourced.{Sourced}
+use Rattle.he_select.specs.declared.attributes.DestinationAttributes.{DestinationAttributes}
+use Rattle.he_select.specs.Attributes.{sourced_from}
 use Rattle.he_text.specs.Written.{written_line}
 use Rattle.he_text.specs.declared.writing.Token.{Token}
 use Rattle.he_text.specs.declared.writing.Token.TheVariants as tokens
@@ -54,12 +54,12 @@ abbrev pub sourced_line : ℕ → Sourced → List ℕ
 sourced_line place sourced = written_line (decimal place ∷ printed sourced.ip ∷ codes "from" ∷ source_ip_text sourced.source ∷ [])
 
 -- and the lines of the places, counted from `place`
-abbrev pub standing_line : ℕ → Standing → List ℕ
-standing_line place standing = sourced_line place (sourced_from standing)
+abbrev pub attributes_line : ℕ → DestinationAttributes → List ℕ
+attributes_line place attributes = sourced_line place (sourced_from attributes)
 
-abbrev pub standing_lines : ℕ → List Standing → List ℕ
-standing_lines place [] = []
-standing_lines place (first ∷ more) = standing_line place first ++ standing_lines (place + 1) more
+abbrev pub attributes_lines : ℕ → List DestinationAttributes → List ℕ
+attributes_lines place [] = []
+attributes_lines place (first ∷ more) = attributes_line place first ++ attributes_lines (place + 1) more
 
 -- what was there is kept in front
 abbrev pub Grows : List ℕ → List ℕ → Type 0

@@ -3,7 +3,7 @@
 ghost use Rattle.std.specs.Prelude.{◌≡◌, ◌+◌, ◌≤◌, ◌++◌, length, Some, OnOk, OnErr};
 ghost use Rattle.he_addr.specs.Prepending.{Prepends};
 ghost use Rattle.he_text.specs.Orders.{order_text};
-ghost use Rattle.he_text.specs.Writing.{AppendsText, origin_text, sourced_line, standing_lines};
+ghost use Rattle.he_text.specs.Writing.{AppendsText, origin_text, sourced_line, attributes_lines};
 
 use crate::parts::{LINE_END, TOKEN_END};
 use crate::writing::{LINE_ROOM, write_bytes, write_line};
@@ -65,13 +65,13 @@ fn write_place<A: Allocator + Copy>(
 }
 
 fn write_places<A: Allocator + Copy>(
-    sorted: &[Standing],
+    sorted: &[DestinationAttributes],
     out: &mut Vec<u8, A>,
 ) -> Result<(), Memory>
-    ensures { AppendsText result out.old.items out.new.items (standing_lines 0 sorted.now) }
+    ensures { AppendsText result out.old.items out.new.items (attributes_lines 0 sorted.now) }
 {
-    for (place, standing) in sorted.iter().enumerate() {
-        write_place(place, standing.sourced(), out)?;
+    for (place, attributes) in sorted.iter().enumerate() {
+        write_place(place, attributes.sourced(), out)?;
     }
     Ok(())
 }
@@ -83,7 +83,7 @@ fn write_whole<A: Allocator + Copy, B: Allocator>(
 ) -> Result<(), Memory>
     ensures { AppendsText result out.old.items out.new.items (order_text timeline.now) }
 {
-    let sorted = sorted_standings(alloc, timeline)?;
+    let sorted = sorted_attributes(alloc, timeline)?;
     write_places(&sorted, out)?;
     write_line(b"end", &[], out)
 }

@@ -7,6 +7,6 @@ use Rattle.he_explain.proofs.reasons.write_place.Goals as goal
 pub returns : goal.returns
 returns g c =
     writes_then c.args.out.now.items c.write_placed.new.out.items c.write_source.new.out.items
-    ((codes "order " ++ decimal c.args.place) ++ (codes " " ++ printed c.args.standing.now.ip))
-    (with_source_text c.args.standing.now.source)
+    ((codes "order " ++ decimal c.args.place) ++ (codes " " ++ printed c.args.attributes.now.ip))
+    (with_source_text c.args.attributes.now.source)
     c.write_source.result c.in_ok-write_placed.ensures c.write_source.ensures

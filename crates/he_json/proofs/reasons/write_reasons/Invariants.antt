@@ -1,6 +1,6 @@
 use Rattle.std.proofs.Common.{◌≡◌, ◌++◌, [], drop}
 use Rattle.std.specs.Prelude.{None}
-use Rattle.he_select.specs.Standing.{rule_between}
+use Rattle.he_select.specs.Attributes.{rule_between}
 use Rattle.he_json.specs.Members.{parted}
 use Rattle.he_json.specs.Reasons.{reasoned_places}
 use Rattle.he_json.proofs.reasons.write_reasons.Given as goal

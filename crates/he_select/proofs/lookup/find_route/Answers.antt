@@ -1,7 +1,7 @@
 use Rattle.std.proofs.Common.{◌∙◌, ℕ, ap}
 use Rattle.std.specs.Prelude.{Bool, None}
 use Rattle.he_addr.specs.Ip.{mapped_of}
-use Rattle.he_select.specs.Standing.{serves_number}
+use Rattle.he_select.specs.Attributes.{serves_number}
 use Rattle.he_select.specs.Selection.{is_longer_route}
 use Rattle.he_select.specs.Walking.{walk_fitting}
 use Rattle.he_select.proofs.LookUps.{route_walked}

@@ -1,6 +1,6 @@
 use Rattle.std.proofs.Common.{◌≡◌, drop, option_map}
 use Rattle.std.specs.Prelude.{None}
-use Rattle.he_select.specs.Standing.{serves_number}
+use Rattle.he_select.specs.Attributes.{serves_number}
 use Rattle.he_select.specs.Selection.{is_longer_route}
 use Rattle.he_select.specs.Walking.{walk_fitting}
 use Rattle.he_select.proofs.lookup.longest_serving.Given as goal

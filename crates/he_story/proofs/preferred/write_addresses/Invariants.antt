@@ -1,6 +1,6 @@
 use Rattle.std.proofs.Common.{◌≡◌, ◌++◌, ◌+◌, drop}
 use Rattle.std.specs.Prelude.{None}
-use Rattle.he_select.specs.Standing.{rule_between}
+use Rattle.he_select.specs.Attributes.{rule_between}
 use Rattle.he_story.specs.Preferred.{address_lines}
 use Rattle.he_story.proofs.preferred.write_addresses.Given as goal
 

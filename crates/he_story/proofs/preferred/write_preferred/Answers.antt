@@ -1,7 +1,7 @@
 use Rattle.std.proofs.Common.{◌≡◌, ℕ, ◌++◌, List, ◌∙◌, ap, subst}
 use Rattle.std.specs.Prelude.{OnOk}
 use Rattle.he_select.specs.declared.host.Route.{Route}
-use Rattle.he_select.specs.Standing.{rule_between}
+use Rattle.he_select.specs.Attributes.{rule_between}
 use Rattle.he_story.specs.Preferred.{listed_text}
 use Rattle.he_story.proofs.OrderLaws.{race_listed}
 use Rattle.he_story.proofs.preferred.write_preferred.Goals as goal

@@ -1,6 +1,6 @@
 use Rattle.std.proofs.Common.{rules, take, ◌++◌, ◌∙◌, ap}
-use Rattle.he_select.specs.declared.sorting.Sourced.{Sourced}
-use Rattle.he_text.specs.Writing.{Grows, sourced_line, standing_lines}
+use Rattle.he_select.specs.declared.attributes.Sourced.{Sourced}
+use Rattle.he_text.specs.Writing.{Grows, sourced_line, attributes_lines}
 use Rattle.he_text.proofs.OrderTexts.{place_written}
 use Rattle.he_text.proofs.WritingLaws.{grows_after}
 use Rattle.he_text.proofs.orders.write_places.Goals as goal
@@ -8,7 +8,7 @@ use Rattle.he_text.proofs.orders.write_places.Goals as goal
 pub returns-in_err-write_place : goal.returns-in_err-write_place
 returns-in_err-write_place g c =
     let kept : Grows c.args.out.now.items c.write_place.new.out.items =
-    grows_after c.args.out.now.items (standing_lines 0 (take c.loop-place.place c.args.sorted.now)) c.loop-place.out.items c.write_place.new.out.items c.loop-place.invariant c.in_err-write_place.ensures in
+    grows_after c.args.out.now.items (attributes_lines 0 (take c.loop-place.place c.args.sorted.now)) c.loop-place.out.items c.write_place.new.out.items c.loop-place.invariant c.in_err-write_place.ensures in
     search rules
 
 pub loop-place-preserved : goal.loop-place-preserved

@@ -6,15 +6,16 @@ use Rattle.he_select.specs.declared.known.Known.{Known}
 use Rattle.he_select.specs.HostFaults.{is_sound_source}
 use Rattle.he_select.specs.Preference.{IsOrder, order_of}
 use Rattle.he_select.specs.Selection.{SelectionInput, known_input}
-use Rattle.he_select.specs.Standing.{standing_of}
+use Rattle.he_select.specs.Attributes.{attributes_of}
 use Rattle.he_select.specs.Tables.{IsAdmitted}
+use Rattle.he_select.specs.LookUps.{rows_of}
 use Rattle.he_select.proofs.Hosted.{all_sound, given_is}
-use Rattle.he_select.proofs.Told.{usable_ips}
-use Rattle.he_select.proofs.sorting.order_known_with_standings.Goals as goal
+use Rattle.he_select.proofs.KnownLists.{usable_ips}
+use Rattle.he_select.proofs.sorting.order_known_with_attributes.Goals as goal
 
-pub sort_standings-requires : goal.sort_standings-requires
-sort_standings-requires g c = record {
-  admitted = subst IsAdmitted (sym c.rows.ensures.rows) c.rows.ensures.admitted;
+pub sort_attributes-requires : goal.sort_attributes-requires
+sort_attributes-requires g c = record {
+  admitted = subst IsAdmitted (sym c.table.ensures.rows) c.table.ensures.admitted;
   sound = ap (list_all is_sound_source) c.sources.ensures.sources ∙ all_sound c.args.host.now c.sources.ensures.host;
   usable = ap (list_all is_usable) (c.deref.ensures.value ∙ c.in_ok-addresses.ensures) ∙ usable_ips c.args.known.now ∙ c.requires;
 }
@@ -24,10 +25,10 @@ returns g c =
     let known : List Known = c.args.known.now in
     let ips : List Ip = map (λ (one : Known). one.ip) known in
     let listed : c.deref.result.now ≡ ips = c.deref.ensures.value ∙ c.in_ok-addresses.ensures in
-    let given : SelectionInput = record { rows = c.rows.result.now; sources = c.sources.result.now; routes = c.routes.result.now; known = known } in
+    let given : SelectionInput = record { rows = rows_of c.table.result; sources = c.sources.result.now; routes = c.routes.result.now; known = known } in
     let same : given ≡ known_input c.args.policy.now c.args.host.now known =
-    given_is c.args.policy.now c.rows.result.now c.args.host.now c.sources.result.now c.routes.result.now known c.rows.ensures.rows c.sources.ensures.sources c.routes.ensures.routes in
+    given_is c.args.policy.now (rows_of c.table.result) c.args.host.now c.sources.result.now c.routes.result.now known c.table.ensures.rows c.sources.ensures.sources c.routes.ensures.routes in
     record {
       order = subst (λ (input : SelectionInput). IsOrder input ips (order_of input ips)) same (subst (λ (l : List Ip). IsOrder given l (order_of given l)) listed c.in_ok-sorted.ensures.order);
-      value = subst (λ (input : SelectionInput). c.in_ok-sorted.sorted.items ≡ map (standing_of input) (order_of input ips)) same (c.in_ok-sorted.ensures.value ∙ ap (λ (l : List Ip). map (standing_of given) (order_of given l)) listed);
+      value = subst (λ (input : SelectionInput). c.in_ok-sorted.sorted.items ≡ map (attributes_of input) (order_of input ips)) same (c.in_ok-sorted.ensures.value ∙ ap (λ (l : List Ip). map (attributes_of given) (order_of given l)) listed);
     }

@@ -1,4 +1,5 @@
--- What is known of addresses: a list that tells nothing is as good as none, and each address is found in a list of all.
+-- What is known of addresses: a list that tells nothing is as good as none, and each address is found in a list of
+-- all.
 use Rattle.std.proofs.Common.{◌≡◌, ℕ, ◌||◌, ◌&&◌, Bool, true, false, List, [], ◌∷◌, map, refl, sym, ◌∙◌, ap, inl, inr, slice_get, zero, suc}
 use Rattle.std.specs.Prelude.{Option, None, Some, is_some}
 use Rattle.std.specs.List.{list_all, list_any}
@@ -9,9 +10,9 @@ use Rattle.he_select.specs.declared.host.Route.{Route}
 use Rattle.he_select.specs.declared.known.Known.{Known}
 use Rattle.he_select.specs.declared.policy.Row.{Row}
 use Rattle.he_select.specs.declared.selection.LabelledSource.{LabelledSource}
-use Rattle.he_select.specs.declared.standing.Standing.{Standing}
+use Rattle.he_select.specs.declared.attributes.DestinationAttributes.{DestinationAttributes}
 use Rattle.he_select.specs.Selection.{known_of, known_rtt, known_used, nothing_known}
-use Rattle.he_select.specs.Standing.{standing_with, tells, told_of}
+use Rattle.he_select.specs.Attributes.{attributes_with, tells, told_of}
 use Rattle.he_select.proofs.Equality.{ip_from, ip_self}
 
 or_left : (a b : Bool) → (a || b) ≡ false → a ≡ false
@@ -58,16 +59,16 @@ told_used known ip =
     ]
 
 -- what is known, where all else is at hand
-pub standing_knowing : (rows : List Row) (route : Option Route) (source : Option LabelledSource) (known other : List Known) (ip : Ip)
-    → known_rtt known ip ≡ known_rtt other ip → known_used known ip ≡ known_used other ip → standing_with rows route source known ip ≡ standing_with rows route source other ip
-standing_knowing rows route source known other ip by_rtt by_used =
-    let bare : Standing = standing_with rows route source [] ip in
-    let made : Option ℕ → Bool → Standing = λ rtt used. record { ip = ip; source = source; scope = bare.scope; label = bare.label; precedence = bare.precedence; tunnel = bare.tunnel; common = bare.common; rtt = rtt; used = used } in
+pub attributes_knowing : (rows : List Row) (route : Option Route) (source : Option LabelledSource) (known other : List Known) (ip : Ip)
+    → known_rtt known ip ≡ known_rtt other ip → known_used known ip ≡ known_used other ip → attributes_with rows route source known ip ≡ attributes_with rows route source other ip
+attributes_knowing rows route source known other ip by_rtt by_used =
+    let bare : DestinationAttributes = attributes_with rows route source [] ip in
+    let made : Option ℕ → Bool → DestinationAttributes = λ rtt used. record { ip = ip; source = source; scope = bare.scope; label = bare.label; precedence = bare.precedence; tunnel = bare.tunnel; common = bare.common; rtt = rtt; used = used } in
     ap (λ rtt. made rtt (known_used known ip)) by_rtt ∙ ap (made (known_rtt other ip)) by_used
 
-pub standing_told : (rows : List Row) (route : Option Route) (source : Option LabelledSource) (known : List Known) (ip : Ip)
-    → standing_with rows route source (told_of known) ip ≡ standing_with rows route source known ip
-standing_told rows route source known ip = standing_knowing rows route source (told_of known) known ip (told_rtt known ip) (told_used known ip)
+pub attributes_told : (rows : List Row) (route : Option Route) (source : Option LabelledSource) (known : List Known) (ip : Ip)
+    → attributes_with rows route source (told_of known) ip ≡ attributes_with rows route source known ip
+attributes_told rows route source known ip = attributes_knowing rows route source (told_of known) known ip (told_rtt known ip) (told_used known ip)
 
 -- addresses of which nothing is known
 pub nothing_told : (ips : List Ip) → list_any tells (map nothing_known ips) ≡ false

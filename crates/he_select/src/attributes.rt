@@ -7,19 +7,21 @@ ghost use Rattle.he_addr.specs.Ip.{InRange};
 ghost use Rattle.he_addr.specs.Prefix.{common_of};
 ghost use Rattle.he_select.specs.HostFaults.{is_sound_source};
 ghost use Rattle.he_select.specs.Selection.{known_rtt, known_used};
-ghost use Rattle.he_select.specs.Standing.{sourced_from, standing_from};
+ghost use Rattle.he_select.specs.Attributes.{attributes_from, sourced_from};
+ghost use Rattle.he_select.specs.Attributes.{has_deprecated, has_other_label, has_other_scope};
+ghost use Rattle.he_select.specs.LookUps.{rows_of};
 
 use crate::host::Route;
 use crate::known::{Known, find_known};
-use crate::lookup::{find_route, find_row};
-use crate::policy::Row;
+use crate::lookup::find_route;
+use crate::policy::Table;
 use crate::selection::{Destination, LabelledSource};
-use crate::sorting::Sourced;
+use crate::standard::Class;
 use he_addr::{Ip, common_len};
 
 /// What the rules look at of a destination.
 #[derive(Clone, Copy, Debug, PartialEq, Eq)]
-pub struct Standing {
+pub struct DestinationAttributes {
     /// The destination.
     pub ip: Ip,
     /// The source that the host uses for it; none where the host does not reach it.
@@ -37,24 +39,30 @@ pub struct Standing {
     pub used: bool,
 }
 
-impl Standing {
+/// A destination, and the address of the source that the host uses for it; none where the host does not reach it.
+#[derive(Clone, Copy, Debug, PartialEq, Eq)]
+pub struct Sourced {
+    /// The destination.
+    pub ip: Ip,
+    /// What [`Host::source`] answers for it.
+    pub source: Option<Ip>,
+}
+
+impl DestinationAttributes {
     /// What the rules look at of the destination, with the source that is chosen of these.
-    #[tactic(auto, unfolding(crate::specs::Standing::chosen_over, crate::specs::Tables::precedence_of, crate::specs::Tables::label_of))]
+    #[tactic(auto, unfolding(crate::specs::Attributes::chosen_over, crate::specs::Tables::precedence_of, crate::specs::Tables::label_of))]
     pub(crate) fn new(
-        rows: &[Row],
+        table: Table<'_>,
         routes: &[Route],
         sources: &[LabelledSource],
         known: &[Known],
         ip: Ip,
-    ) -> Standing
+    ) -> DestinationAttributes
         requires { IsTrue (list_all (λ labelled. is_sound_source labelled.source) sources.now) }
-        ensures standing { result ≡ standing_from rows.now routes.now sources.now known.now ip }
+        ensures attributes { result ≡ attributes_from (rows_of table.entry) routes.now sources.now known.now ip }
         ensures range { InRange ip }
     {
-        let (precedence, label) = match find_row(rows, ip) {
-            Some(row) => (row.precedence, row.label),
-            None => (0, 0),
-        };
+        let Class { precedence, label } = table.class(ip);
         let (tunnel, source) = match find_route(routes, ip) {
             Some(route) => (
                 route.tunnel,
@@ -63,7 +71,7 @@ impl Standing {
             None => (false, None),
         };
         let (rtt, used) = history(known, ip);
-        Standing {
+        DestinationAttributes {
             ip,
             source,
             scope: ip.scope(),
@@ -74,6 +82,29 @@ impl Standing {
             rtt,
             used,
         }
+    }
+
+    /// Whether its source has another scope.
+    pub(crate) fn has_other_scope(&self) -> bool
+        ensures { result ≡ has_other_scope self.now }
+    {
+        self.source
+            .map_or(false, |source| source.scope != self.scope)
+    }
+
+    /// Whether its source is deprecated.
+    pub(crate) fn has_deprecated(&self) -> bool
+        ensures { result ≡ has_deprecated self.now }
+    {
+        self.source.map_or(false, |source| source.source.deprecated)
+    }
+
+    /// Whether its source has another label.
+    pub(crate) fn has_other_label(&self) -> bool
+        ensures { result ≡ has_other_label self.now }
+    {
+        self.source
+            .map_or(false, |source| source.label != self.label)
     }
 
     /// The destination and the address of its source.

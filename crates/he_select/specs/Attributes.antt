@@ -1,5 +1,5 @@
--- What the rules look at of an address: `standing_of`. The rest mirrors the code: what it computes of an address, and the
--- rule that it finds between two.
+-- What the rules look at of an address: `attributes_of`. The rest mirrors the code: what it computes of an address,
+-- and the rule that it finds between two.
 use Rattle.std.specs.Prelude.{ℕ, ◌==◌, ◌&&◌, ◌||◌, Bool, false, not, cond, List, [], ◌∷◌, None, Option, is_none, is_some, option_and_then, option_map}
 use Rattle.std.specs.Bool.{beq}
 use Rattle.std.specs.List.{list_any}
@@ -15,8 +15,8 @@ use Rattle.he_select.specs.declared.host.Route.{Route}
 use Rattle.he_select.specs.declared.known.Known.{Known}
 use Rattle.he_select.specs.declared.policy.Row.{Row}
 use Rattle.he_select.specs.declared.selection.LabelledSource.{LabelledSource}
-use Rattle.he_select.specs.declared.sorting.Sourced.{Sourced}
-use Rattle.he_select.specs.declared.standing.Standing.{Standing}
+use Rattle.he_select.specs.declared.attributes.Sourced.{Sourced}
+use Rattle.he_select.specs.declared.attributes.DestinationAttributes.{DestinationAttributes}
 use Rattle.he_select.specs.Deciding.{first_deciding, late_rules_in_order, rules_in_order}
 use Rattle.he_select.specs.LabelledRules.{admits, destination_of, is_better_labelled, labelled_of}
 use Rattle.he_select.specs.Rules.{Rule, higher_first, lower_first, yes_first}
@@ -25,8 +25,8 @@ use Rattle.he_select.specs.Tables.{label_of, precedence_of}
 use Rattle.he_select.specs.Walking.{walk_fitting}
 
 -- what the rules look at of an address that has this route and this source, with what is known
-abbrev pub standing_with : List Row → Option Route → Option LabelledSource → List Known → Ip → Standing
-standing_with rows route source known ip = record {
+abbrev pub attributes_with : List Row → Option Route → Option LabelledSource → List Known → Ip → DestinationAttributes
+attributes_with rows route source known ip = record {
   ip = ip;
   source = source;
   scope = scope_of ip;
@@ -39,8 +39,8 @@ standing_with rows route source known ip = record {
 }
 
 -- what they look at of an address
-abbrev pub standing_of : SelectionInput → Ip → Standing
-standing_of input ip = standing_with input.rows (route_of input ip) (option_map (labelled_of input.rows) (source_of input ip)) input.known ip
+abbrev pub attributes_of : SelectionInput → Ip → DestinationAttributes
+attributes_of input ip = attributes_with input.rows (route_of input ip) (option_map (labelled_of input.rows) (source_of input ip)) input.known ip
 
 -- a route serves the address with this mapped number, of this family
 abbrev pub serves_number : ℕ → Bool → Route → Bool
@@ -51,9 +51,9 @@ unfoldable pub chosen_over : Option Route → List LabelledSource → Ip → ℕ
 chosen_over route labelled ip label =
     option_and_then (λ route. walk_fitting (admits (destination_of ip label route)) (is_better_labelled (destination_of ip label route)) None labelled) route
 
-abbrev pub standing_from : List Row → List Route → List LabelledSource → List Known → Ip → Standing
-standing_from rows routes labelled known ip =
-    standing_with rows (longest_route routes ip) (chosen_over (longest_route routes ip) labelled ip (label_of rows ip)) known ip
+abbrev pub attributes_from : List Row → List Route → List LabelledSource → List Known → Ip → DestinationAttributes
+attributes_from rows routes labelled known ip =
+    attributes_with rows (longest_route routes ip) (chosen_over (longest_route routes ip) labelled ip (label_of rows ip)) known ip
 
 abbrev pub tells : Known → Bool
 tells one = is_some one.rtt || one.used
@@ -62,25 +62,25 @@ tells one = is_some one.rtt || one.used
 abbrev pub told_of : List Known → List Known
 told_of known = cond (list_any tells known) known []
 
-abbrev pub sourced_from : Standing → Sourced
+abbrev pub sourced_from : DestinationAttributes → Sourced
 sourced_from s = record { ip = s.ip; source = option_map (λ labelled. labelled.source.ip) s.source }
 
-abbrev pub has_other_scope : Standing → Bool
+abbrev pub has_other_scope : DestinationAttributes → Bool
 has_other_scope s = option_map_or (λ labelled. not (labelled.scope == s.scope)) s.source false
 
-abbrev pub has_deprecated : Standing → Bool
+abbrev pub has_deprecated : DestinationAttributes → Bool
 has_deprecated s = option_map_or (λ labelled. labelled.source.deprecated) s.source false
 
-abbrev pub has_other_label : Standing → Bool
+abbrev pub has_other_label : DestinationAttributes → Bool
 has_other_label s = option_map_or (λ labelled. not (labelled.label == s.label)) s.source false
 
 -- prefers the one of which the test doesn't hold
-abbrev pub no_first : (Standing → Bool) → Rule Standing
+abbrev pub no_first : (DestinationAttributes → Bool) → Rule DestinationAttributes
 no_first is a b = bool_cmp (is a) (is b)
 
 -- the rules from 6 on, but for the last
-abbrev pub late_standing_rules : List (Rule Standing)
-late_standing_rules =
+abbrev pub late_attribute_rules : List (Rule DestinationAttributes)
+late_attribute_rules =
     higher_first (λ s. s.precedence)
     ∷ no_first (λ s. s.tunnel)
     ∷ lower_first (λ s. s.scope)
@@ -89,11 +89,11 @@ late_standing_rules =
     ∷ (λ a b. cond (beq (is_v6 a.ip) (is_v6 b.ip)) (nat_cmp b.common a.common) Equal)
     ∷ []
 
-abbrev pub standing_rules : List (Rule Standing)
-standing_rules = no_first (λ s. is_none s.source) ∷ no_first has_other_scope ∷ no_first has_deprecated ∷ no_first has_other_label ∷ late_standing_rules
+abbrev pub attribute_rules : List (Rule DestinationAttributes)
+attribute_rules = no_first (λ s. is_none s.source) ∷ no_first has_other_scope ∷ no_first has_deprecated ∷ no_first has_other_label ∷ late_attribute_rules
 
-unfoldable pub late_rule_between : Standing → Standing → DestinationRule
-late_rule_between a b = first_deciding late_standing_rules late_rules_in_order a b
+unfoldable pub late_rule_between : DestinationAttributes → DestinationAttributes → DestinationRule
+late_rule_between a b = first_deciding late_attribute_rules late_rules_in_order a b
 
-abbrev pub rule_between : Standing → Standing → DestinationRule
-rule_between a b = first_deciding standing_rules rules_in_order a b
+abbrev pub rule_between : DestinationAttributes → DestinationAttributes → DestinationRule
+rule_between a b = first_deciding attribute_rules rules_in_order a b

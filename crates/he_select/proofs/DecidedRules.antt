@@ -1,4 +1,4 @@
--- The destination rules look at the standings of two addresses: rule by rule, and the one that decides.
+-- The destination rules look at the all_attributes of two addresses: rule by rule, and the one that decides.
 use Rattle.std.proofs.Common.{◌≡◌, ℕ, Bool, true, false, not, cond, refl, ◌∙◌, ap}
 use Rattle.std.specs.Prelude.{Option, None, Some, is_none, is_some, option_map, ◌==◌, ◌&&◌}
 use Rattle.std.specs.Bool.{beq}
@@ -18,7 +18,7 @@ use Rattle.he_select.specs.Deciding.{deciding_rule}
 use Rattle.he_select.specs.LabelledRules.{labelled_of}
 use Rattle.he_select.specs.Preference.{destination_rules}
 use Rattle.he_select.specs.Selection.{SelectionInput, known_rtt, known_used, route_of, rtt_or_unknown, source_of}
-use Rattle.he_select.specs.Standing.{rule_between, standing_of}
+use Rattle.he_select.specs.Attributes.{rule_between, attributes_of}
 use Rattle.he_select.specs.Tables.{label_of, precedence_of}
 use Rattle.he_select.proofs.Orders.{no_as_less, yes_as_less}
 
@@ -71,7 +71,7 @@ decided name {o} {p} {x} {y} e more = ap (λ t. cond (is_eq t) x name) e ∙ lat
     later Equal h = h refl
     later Greater h = refl
 
-pub deciding_is : (input : SelectionInput) (a b : Ip) → deciding_rule input a b ≡ rule_between (standing_of input a) (standing_of input b)
+pub deciding_is : (input : SelectionInput) (a b : Ip) → deciding_rule input a b ≡ rule_between (attributes_of input a) (attributes_of input b)
 unfolding deciding_rule destination_rules
 deciding_is input a b =
     let x : Option Source = source_of input a in

@@ -1,0 +1,26 @@
+-- Mirrors the code: the rows in which it looks an address up, what it keeps of the row, and what it gives to the rules.
+use Rattle.std.specs.Prelude.{List, Option}
+use Rattle.std.specs.Option.{option_map_or}
+use Rattle.he_select.specs.declared.host.Route.{Route}
+use Rattle.he_select.specs.declared.host.Source.{Source}
+use Rattle.he_select.specs.declared.known.Known.{Known}
+use Rattle.he_select.specs.declared.policy.Row.{Row}
+use Rattle.he_select.specs.declared.policy.Table.{Table}
+use Rattle.he_select.specs.declared.policy.Table.TheVariants.{Standard, Listed}
+use Rattle.he_select.specs.declared.standard.Class.{Class}
+use Rattle.he_select.specs.Selection.{SelectionInput}
+use Rattle.he_select.specs.Standard.{standard_rows}
+
+abbrev pub rows_of : Table → List Row
+rows_of Standard = standard_rows
+rows_of (Listed rows) = rows.now
+
+-- the precedence and the label of a row; 0 and 0 without one
+abbrev pub class_of : Option Row → Class
+class_of row = record {
+  precedence = option_map_or (λ row. row.precedence) row 0;
+  label = option_map_or (λ row. row.label) row 0;
+}
+
+abbrev pub given : Table → List Source → List Route → List Known → SelectionInput
+given table sources routes known = record { rows = rows_of table; sources = sources; routes = routes; known = known }
