@@ -6,7 +6,7 @@ ghost use Rattle.he_addr.specs.Ip.{is_usable};
 ghost use Rattle.he_addr.specs.declared.ip.Family.TheVariants as families;
 ghost use Rattle.he_plan.specs.Attempts.{order_at};
 ghost use Rattle.he_timeline.specs.Race.{reply_of};
-ghost use Rattle.he_explain.specs.Reasons.{standings_of};
+ghost use Rattle.he_explain.specs.Reasons.{all_attributes_of};
 ghost use Rattle.he_explain.specs.Events.{answer_events, attempt_of, cancelled_by, end_event, event_at, events_of, failed_by, is_seen_by, met_events, over_events, pause_events, start_event, start_events, told_events, wait_events};
 
 use crate::cause::{cause_of, failure_of, has_usable, is_held};
@@ -16,7 +16,7 @@ use crate::listing::listed_in;
 use he_addr::{Family, Ip, Memory};
 use he_plan::{Attempt, Line, Mark, Outcome3, Transcript};
 use he_timeline::Timeline;
-use he_select::Standing;
+use he_select::DestinationAttributes;
 use std::alloc::{AllocError, Allocator};
 
 // The two answers, the wait for the AAAA answer, the Resolution Delay's end, and the race's end.

@@ -13,9 +13,9 @@ use crate::events::{Event, EventKind, Start};
 use crate::listing::{Listed, Turn};
 use crate::writing::{write_bytes, write_labelled, write_labelled_ip, write_values};
 use he_addr::{Family, Ip, Memory, write_number};
-use he_plan::{Transcript, sorted_standings};
+use he_plan::{Transcript, sorted_attributes};
 use he_timeline::Timeline;
-use he_select::Standing;
+use he_select::DestinationAttributes;
 use std::alloc::{AllocError, Allocator};
 
 /// The events up to the end by tick, those of one tick in the order of the list. What is sorted is references: an

@@ -9,9 +9,9 @@ use crate::course::write_course_of;
 use crate::reasons::write_order_of;
 use crate::writing::write_bytes;
 use he_addr::Memory;
-use he_plan::{Transcript, sorted_standings, transcript_of};
+use he_plan::{Transcript, sorted_attributes, transcript_of};
 use he_timeline::Timeline;
-use he_select::Standing;
+use he_select::DestinationAttributes;
 use std::alloc::Allocator;
 
 // The course, and `end`.

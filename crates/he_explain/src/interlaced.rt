@@ -5,13 +5,13 @@ ghost use Rattle.std.specs.Prelude.{◌≡◌, false, filter, map, [], IfOk, OnO
 ghost use Rattle.he_plan.specs.Attempts.{order_at};
 ghost use Rattle.he_plan.specs.Planning.{interlaced_list, is_of_included, is_received};
 ghost use Rattle.he_timeline.specs.Race.{reply_of};
-ghost use Rattle.he_explain.specs.Reasons.{standings_of};
+ghost use Rattle.he_explain.specs.Reasons.{all_attributes_of};
 
 use he_addr::{Family, Ip, Memory};
 use he_timeline::timeline::are_addresses_in_range;
 use he_plan::interlace;
 use he_timeline::Timeline;
-use he_select::Standing;
+use he_select::DestinationAttributes;
 use std::alloc::{AllocError, Allocator};
 
 // The interlaced list of what is received, and which answers it is made of.

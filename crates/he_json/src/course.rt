@@ -14,7 +14,7 @@ use he_explain::{
 };
 use he_plan::Transcript;
 use he_timeline::Timeline;
-use he_select::Standing;
+use he_select::DestinationAttributes;
 use std::alloc::Allocator;
 
 fn family_name(family: Family) -> &'static [u8]

@@ -8,7 +8,7 @@ use crate::course::write_course;
 use crate::members::write_words;
 use crate::reasons::write_reasons;
 use he_addr::Memory;
-use he_plan::{Transcript, sorted_standings, transcript_of};
+use he_plan::{Transcript, sorted_attributes, transcript_of};
 use he_timeline::Timeline;
 use std::alloc::Allocator;
 

@@ -7,9 +7,9 @@ ghost use Rattle.he_json.specs.Orders.{IsOrderJson, place_json, place_members, p
 
 use crate::members::{Member, Value, write_members, write_words};
 use he_addr::Memory;
-use he_plan::sorted_standings;
+use he_plan::sorted_attributes;
 use he_timeline::Timeline;
-use he_select::Standing;
+use he_select::DestinationAttributes;
 use std::alloc::Allocator;
 
 pub(crate) fn write_place_members<A: Allocator + Copy>(

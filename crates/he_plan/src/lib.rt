@@ -47,7 +47,7 @@ pub use finish::{Fate, fate_of, winner};
 pub use he_timeline::{BuildFault, Changes, Outcome, Range, Settings, Timeline, TimelineBuilder};
 pub use he_timeline::limits;
 pub use interlacing::interlace;
-pub use listing::sorted_standings;
+pub use listing::sorted_attributes;
 pub use planning::plan;
 pub use transcript::{
     Line, Mark, Outcome3, Transcript, transcript_at_stop, transcript_of, transcript_of_fates,

@@ -11,7 +11,7 @@ ghost use Rattle.he_plan.specs.Planning.{interlaced_list, is_of_included, part_o
 ghost use Rattle.he_timeline.specs.Race.{known_of, race_input, reply_of, usable_addresses};
 ghost use Rattle.he_timeline.specs.Timeline.{IsRace};
 ghost use Rattle.he_plan.specs.RaceState.{AreSorted};
-ghost use Rattle.he_select.specs.Standing.{standing_of};
+ghost use Rattle.he_select.specs.Attributes.{attributes_of};
 
 use crate::interlacing::{interlace, members};
 use he_timeline::Timeline;
@@ -118,8 +118,8 @@ fn sorted_known<A: Allocator + Copy, B: Allocator>(
 pub fn sorted_attributes<A: Allocator + Copy, B: Allocator>(
     alloc: A,
     timeline: &Timeline<B>,
-) -> Result<Vec<Standing, A>, Memory>
-    ensures { IfOk result (λ sorted. sorted.items ≡ map (standing_of (race_input timeline.now)) (order timeline.now
+) -> Result<Vec<DestinationAttributes, A>, Memory>
+    ensures { IfOk result (λ sorted. sorted.items ≡ map (attributes_of (race_input timeline.now)) (order timeline.now
         (usable_addresses timeline.now))) }
 {
     let known = known_addresses(alloc, timeline)?;

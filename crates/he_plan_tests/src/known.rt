@@ -2,9 +2,9 @@
 
 use crate::hosts::{HostKind, builder};
 use he_addr::{Family, Ip, Prefix};
-use he_plan::{Line, Mark, Outcome3, sorted_standings, transcript_of};
+use he_plan::{Line, Mark, Outcome3, sorted_attributes, transcript_of};
 use he_timeline::{BuildFault, Outcome, Settings, Timeline, TimelineBuilder};
-use he_select::{Host, Policy, Route, Source, Standing};
+use he_select::{Host, Policy, Route, Source, DestinationAttributes};
 use refusing::Refusing;
 use std::mem::drop;
 

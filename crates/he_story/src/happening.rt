@@ -18,7 +18,7 @@ use he_explain::{
 };
 use he_plan::{Line, Transcript};
 use he_timeline::Timeline;
-use he_select::Standing;
+use he_select::DestinationAttributes;
 use std::alloc::Allocator;
 
 // Why an attempt starts now.

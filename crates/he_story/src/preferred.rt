@@ -9,7 +9,7 @@ ghost use Rattle.he_story.specs.Preferred.{address_line, address_lines, behind_t
 use crate::parts::{Part, width_of, write_aligned, write_parts, write_words};
 use he_addr::{Family, Ip, Memory};
 use he_timeline::Timeline;
-use he_select::{DestinationRule, LabelledSource, Route, Standing};
+use he_select::{DestinationRule, LabelledSource, Route, DestinationAttributes};
 use std::alloc::Allocator;
 
 // What the address stands for, by its prefix.

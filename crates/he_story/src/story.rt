@@ -10,7 +10,7 @@ use crate::happening::write_happening;
 use crate::heading::write_heading;
 use crate::preferred::write_preferred;
 use he_addr::Memory;
-use he_plan::{Transcript, sorted_standings, transcript_of};
+use he_plan::{Transcript, sorted_attributes, transcript_of};
 use he_timeline::Timeline;
 use std::alloc::Allocator;
 

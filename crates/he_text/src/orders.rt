@@ -8,9 +8,9 @@ ghost use Rattle.he_text.specs.Writing.{AppendsText, origin_text, sourced_line, 
 use crate::parts::{LINE_END, TOKEN_END};
 use crate::writing::{LINE_ROOM, write_bytes, write_line};
 use he_addr::{Ip, Memory, prepend_byte, prepend_bytes, prepend_ip, prepend_number};
-use he_plan::sorted_standings;
+use he_plan::sorted_attributes;
 use he_timeline::Timeline;
-use he_select::{Sourced, Standing};
+use he_select::{Sourced, DestinationAttributes};
 use std::alloc::Allocator;
 
 // The most bytes of what tells the source in a line: ` from `, an address and the line's end.
