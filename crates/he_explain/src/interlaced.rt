@@ -10,7 +10,7 @@ ghost use Rattle.he_explain.specs.Reasons.{all_attributes_of};
 use he_addr::{Family, Ip, Memory};
 use he_timeline::timeline::are_addresses_in_range;
 use he_plan::interlace;
-use he_timeline::Timeline;
+use he_timeline::{Timeline, put};
 use he_select::DestinationAttributes;
 use std::alloc::{AllocError, Allocator};
 
@@ -59,13 +59,6 @@ pub(crate) fn bring_to<A: Allocator + Copy, B: Allocator>(
     let ips = interlaced_list(alloc, timeline, sorted, v6, v4)?;
     put(list, Interlaced { v6, v4, ips });
     Ok(())
-}
-
-// A proof looks at the value alone that stands there now, and not at how the one before was let go.
-fn put<T: Drop>(place: &mut T, value: T)
-    ensures { place.new ≡ value }
-{
-    *place = value;
 }
 
 fn is_received<A: Allocator>(timeline: &Timeline<A>, family: Family, tick: u64) -> bool

@@ -23,7 +23,7 @@ use Rattle.he_race.specs.Heard.{Hears, HearsFrom, HearsOf, IsSilent, StaysSilent
 use Rattle.he_race.specs.Kept.{InTurn, taken, taken_of}
 use Rattle.he_race.specs.Recording.{EndedBy}
 use Rattle.he_race.specs.Resolving.{KeepsAnswer, KeepsGiven}
-use Rattle.he_race.proofs.Later.{attempts-before, starts-before}
+use Rattle.he_plan.proofs.Later.{attempts-before, starts-before}
 use Rattle.he_race.proofs.Recorded.{all_before}
 
 module _ (race : Race) (reply : Reply) (xs : List Attempt) (t : InTurn race reply.tick xs false) where

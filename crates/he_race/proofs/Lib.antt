@@ -9,7 +9,6 @@ pub mod Failing
 pub mod Finished
 pub mod Heard
 pub mod Held
-pub mod Later
 pub mod Listening
 pub mod Onward
 pub mod Races

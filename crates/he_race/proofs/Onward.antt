@@ -65,8 +65,8 @@ more_told : (race : Race) (xs : List Attempt) (x : Attempt) (told : List (Ip × 
 more_told race xs x told h =
     All-weaker (IsAsScripted race xs) (IsAsScripted race (xs ++ x ∷ [])) (λ p k. record { x = k.x; made = contains_more xs x k.x k.made; at = k.at; outcome = k.outcome; is = k.is; ends = k.ends }) told h
 
--- an attempt that is the next one in the record is the next one in the script, where those before it have failed by each tick
--- up to its start in both or in neither
+-- an attempt that is the next one in the record is the next one in the script, where those before it have failed by
+-- each tick up to its start in both or in neither
 next_script : (race end : Race) → IsRace race → IsRace end → AreAlike race end → ((t : ℕ) → IsFree race t → IsFree end t) → (xs : List Attempt) (x : Attempt) → ((t : ℕ) → t ≤ x.tick → list_all (has_failed end t) xs ≡ list_all (has_failed race t) xs) → IsFree race x.tick → IsNext end xs x → IsNext race xs x
 next_script race end rr re alike free xs x same clear is = record {
   place = is.place;
@@ -312,8 +312,8 @@ module _ {C : Type 0} (connector : ConnectorOf C (Unit {0}) ScriptedTrial) (race
         by_outcome None h = tt
         by_outcome (Some outcome) h = let k : at < o.attempt.tick + duration_of outcome = h in let up : o.attempt.tick + duration_of outcome ≤ seen race (o.attempt.tick + duration_of outcome) = seen_from race ss.valid (o.attempt.tick + duration_of outcome) in omega arith
 
-    -- after the polls of a turn each attempt has failed by a tick, up to the turn's, in the record and in the script or in
-    -- neither
+    -- after the polls of a turn each attempt has failed by a tick, up to the turn's, in the record and in the script
+    -- or in neither
     same_failed : (x : Attempt) → new.recorder.underway.attempts ≡ to.attempts ++ x ∷ [] → (t : ℕ) → t ≤ at → list_all (has_failed new.recorder.recorded t) made ≡ list_all (has_failed race t) made
     same_failed x more t by = all-same (has_failed new.recorder.recorded t) (has_failed race t) made (λ k d lt. one (get_or made k d) (contains-at made k d lt))
       where

@@ -1,5 +1,5 @@
--- The attempts that are unfinished have no outcome, and are at different addresses, while they are polled and where one
--- more begins.
+-- The attempts that are unfinished have no outcome, and are at different addresses, while they are polled and where
+-- one more begins.
 use Rattle.std.proofs.Common.{◌≡◌, ℕ, zero, suc, ◌-◌, ◌<◌, ◌&&◌, ◌||◌, ◌++◌, Bool, true, false, not, List, [], ◌∷◌, if◌then◌else◌, length, take, drop, get_or, Some, Result, Ok, Err, is_ok, nat_lt, refl, sym, ◌∙◌, ap, subst, arith, inl, inr}
 use Rattle.std.specs.List.{All, list_all, list_any, remove, slice_get, slice_set}
 use Rattle.std.proofs.lemmas.List.Elements.{All-head, All-tail}

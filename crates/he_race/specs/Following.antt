@@ -1,5 +1,5 @@
--- Mirrors the code: what holds in the loop of `race_one`, which runs a race by a script over a ticker that jumps from tick
--- to tick: its record so far is the script's, and nothing is passed over.
+-- Mirrors the code: what holds in the loop of `race_one`, which runs a race by a script over a ticker that jumps from
+-- tick to tick: its record so far is the script's, and nothing is passed over.
 use Rattle.std.specs.Prelude.{ℕ, ◌≡◌, ◌+◌, ◌<◌, ◌≤◌, ◌||◌, Bool, List, [], Option, Some, Result, Ok, Err, IfSome, IsTrue}
 use Rattle.std.specs.List.{All, Contains, list_all, list_any}
 use Rattle.he_addr.specs.Ip.{InRange, same_ip}

@@ -1,5 +1,5 @@
--- Mirrors the code: what holds of a race that is being run between two turns and in one: of what is recorded of it, of the
--- attempts that were made, and of those that are unfinished. Each poll keeps it.
+-- Mirrors the code: what holds of a race that is being run between two turns and in one: of what is recorded of it, of
+-- the attempts that were made, and of those that are unfinished. Each poll keeps it.
 use Rattle.std.specs.Prelude.{ℕ, ◌≡◌, ◌+◌, ◌<◌, ◌≤◌, ◌&&◌, ◌⊎◌, length, not, Bool, true, false, IsTrue, List, [], ◌∷◌, Option, Some, None, if◌then◌else◌, IfSome}
 use Rattle.std.specs.List.{All, Contains, list_any, list_all}
 use Rattle.he_addr.specs.declared.ip.Ip.{Ip}

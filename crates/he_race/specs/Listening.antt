@@ -1,6 +1,6 @@
 -- Where a race that is pending has registered: in the context of its own poll, for all that its attempts and its
--- source wait for. A poll that takes no turn polls neither, and its ticker wakes the task for the next turn. The public
--- contracts of `RaceFuture` and `ResolvingRace` cite it.
+-- source wait for. A poll that takes no turn polls neither, and its ticker wakes the task for the next turn. The
+-- public contracts of `RaceFuture` and `ResolvingRace` cite it.
 use Rattle.std.specs.Prelude.{ℕ, ◌≡◌, ◌⊎◌, List, Option, Some, IfNone, IfSome}
 use Rattle.std.specs.List.{All}
 use Rattle.futures.specs.Task.{Covers}

@@ -21,8 +21,8 @@ abbrev pub fault_of : TickFault → RaceFault
 fault_of clocks.Memory = faults.Memory
 fault_of clocks.Lost = faults.Clock
 
--- what a poll of the race itself may do at a tick: the connector and the race before, the connector after it, and what it
--- comes to
+-- what a poll of the race itself may do at a tick: the connector and the race before, the connector after it, and what
+-- it comes to
 abbrev pub StepOf : Type 0 → Type 0 → Type 0 → Type 1
 StepOf C Conn Run = C → Live C Conn Run → ℕ → C → AfterPoll C Conn Run → Type 0
 

@@ -1,5 +1,5 @@
--- What a turn of a race is whose answers come while it runs, and what the race gives: the public contracts of `ResolvingRace`
--- cite it.
+-- What a turn of a race is whose answers come while it runs, and what the race gives: the public contracts of
+-- `ResolvingRace` cite it.
 use Rattle.std.specs.Prelude.{ℕ, ◌≡◌, ◌+◌, ◌⊎◌, ⊤, min, nat_le, is_some, MatchBool, List, Option, Some, None, option_map, Result}
 use Rattle.he_timeline.specs.Race.{Race, Reply}
 use Rattle.he_plan.specs.Transcript.{IsTranscript}
@@ -33,8 +33,8 @@ module _ {S C Conn Run : Type 0} (hears : Tells S) (connector : ConnectorOf C Co
   HeardTurn s c live now s' c' step =
       EndsUnheard s (begun c live now) now s' c' step ⊎ HearsAndTurns s (begun c live now) live.unfinished.items now s' c' step
 
-  -- a poll takes a turn where none was at the tick or later; else nothing changes, the source isn't polled, and the tick
-  -- after the last turn is asked for
+  -- a poll takes a turn where none was at the tick or later; else nothing changes, the source isn't polled, and the
+  -- tick after the last turn is asked for
   abbrev pub HeardFrom : Option ℕ → S → C → Live C Conn Run → ℕ → S → C → AfterPoll C Conn Run → Type 0
   HeardFrom None s c live now s' c' step = HeardTurn s c live now s' c' step
   HeardFrom (Some turn) s c live now s' c' step =

@@ -1,4 +1,5 @@
--- What a turn of a race that is being run does, and what the race ends with: the public contracts of `RaceFuture` cite it.
+-- What a turn of a race that is being run does, and what the race ends with: the public contracts of `RaceFuture` cite
+-- it.
 use Rattle.std.specs.Prelude.{ℕ, ◌≡◌, ◌+◌, ◌-◌, ◌<◌, ◌==◌, ◌&&◌, ◌||◌, ◌⊎◌, ◌++◌, length, min, nat_le, Bool, true, false, MatchBool, List, [], ◌∷◌, Option, Some, None, is_some, option_map, Result, Ok, Err}
 use Rattle.futures.specs.declared.task.Poll.{Poll}
 use Rattle.futures.specs.declared.task.Poll.TheVariants.{Ready, Pending}
@@ -37,8 +38,8 @@ pub record Replays {Conn : Type 0} (race : Race) (raced : Raced Conn) : Type 0 w
   pub transcript : IsTranscript raced.recorded raced.transcript
   pub winner : is_some raced.winner ≡ is_won raced.transcript.result
 
--- what a race that is being run may give, with what is recorded so far: an end of which this is said, or a fault; where
--- nothing is left of it, that it is over, and only then
+-- what a race that is being run may give, with what is recorded so far: an end of which this is said, or a fault;
+-- where nothing is left of it, that it is over, and only then
 abbrev pub GivesBy : {Conn : Type 0} → (Race → Raced Conn → Type 0) → Option Race → Result (Raced Conn) RaceFault → Type 0
 GivesBy said (Some race) (Ok raced) = said race raced
 GivesBy said (Some race) (Err faults.Over) = ⊥

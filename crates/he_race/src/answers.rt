@@ -25,8 +25,8 @@ pub trait AnswerSource: Drop {
     // What a poll for a family at a tick may tell, and the state that it leaves.
     ghost hears: { Self → Family → ℕ → Option (List Ip) → Self → Type 0 };
 
-    /// Polls for the family's addresses at the tick `now`, at most `MAX_POLL_TICK`. It answers them, of which there may
-    /// be none; for a family that it has answered it isn't polled again. Of what it answers the race takes the
+    /// Polls for the family's addresses at the tick `now`, at most `MAX_POLL_TICK`. It answers them, of which there
+    /// may be none; for a family that it has answered it isn't polled again. Of what it answers the race takes the
     /// addresses of the family, each once, and the first `MAX_ADDRESSES` of them.
     fn poll_answer(&mut self, family: Family, now: u64, cx: &mut Context<'_>) -> Poll<Vec<Ip>>
         requires in_time { now ≤ MAX_POLL_TICK }

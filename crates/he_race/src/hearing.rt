@@ -16,8 +16,8 @@ use crate::answers::AnswerSource;
 use crate::recorder::{Recorder, only_memory};
 use futures::task::{Context, Poll};
 use he_addr::{Family, Ip, Memory};
-use he_timeline::limits::MAX_ADDRESSES;
 use he_plan::{Attempt, RaceState};
+use he_timeline::limits::MAX_ADDRESSES;
 use he_timeline::{Timeline, TimelineBuilder};
 use std::alloc::Global;
 
@@ -33,7 +33,8 @@ impl Recorder {
         requires underway { IsUnderway self.old.recorded self.old.underway }
         requires in_time { now ≤ MAX_LIMIT }
         ensures heard { OnOk result (Hears S.hears source.old self.old.recorded now source.new self.new.recorded) }
-        ensures waits { OnOk result (SourceListens S.AnswerSource cx.new source.old self.old.recorded now source.new self.new.recorded) }
+        ensures waits { OnOk result (SourceListens S.AnswerSource cx.new source.old self.old.recorded now source.new
+            self.new.recorded) }
         ensures attempts { OnOk result (self.new.underway.attempts ≡ self.old.underway.attempts) }
         ensures turn { OnOk result (InTurn self.new.recorded now self.new.underway.attempts false) }
         ensures underway { OnOk result (IsUnderway self.new.recorded self.new.underway) }
@@ -54,8 +55,10 @@ impl Recorder {
         requires turn { InTurn self.old.recorded now self.old.underway.attempts false }
         requires underway { IsUnderway self.old.recorded self.old.underway }
         requires in_time { now ≤ MAX_LIMIT }
-        ensures heard { OnOk result (HearsOf S.hears source.old self.old.recorded family now source.new self.new.recorded) }
-        ensures waits { OnOk result (IfNone (reply_of self.new.recorded family) (ListensFor S.AnswerSource cx.new source.new family)) }
+        ensures heard { OnOk result (HearsOf S.hears source.old self.old.recorded family now source.new
+            self.new.recorded) }
+        ensures waits { OnOk result (IfNone (reply_of self.new.recorded family)
+            (ListensFor S.AnswerSource cx.new source.new family)) }
         ensures attempts { OnOk result (self.new.underway.attempts ≡ self.old.underway.attempts) }
         ensures turn { OnOk result (InTurn self.new.recorded now self.new.underway.attempts false) }
         ensures underway { OnOk result (IsUnderway self.new.recorded self.new.underway) }
@@ -76,7 +79,8 @@ impl Recorder {
         requires underway { IsUnderway self.old.recorded self.old.underway }
         requires first { reply_of self.old.recorded family ≡ None }
         requires in_time { now ≤ MAX_LIMIT }
-        ensures recorded { OnOk result (self.new.recorded ≡ with_answer self.old.recorded family (record { tick = now; addresses = cleaned family told.now })) }
+        ensures recorded { OnOk result (self.new.recorded ≡ with_answer self.old.recorded family
+            (record { tick = now; addresses = cleaned family told.now })) }
         ensures attempts { OnOk result (self.new.underway.attempts ≡ self.old.underway.attempts) }
         ensures turn { OnOk result (InTurn self.new.recorded now self.new.underway.attempts false) }
         ensures underway { OnOk result (IsUnderway self.new.recorded self.new.underway) }
@@ -104,7 +108,8 @@ fn add_answer(
     requires few { length addresses.now ≤ MAX_ADDRESSES }
     requires own { are_of family addresses.now ≡ true }
     requires distinct { are_distinct addresses.now ≡ true }
-    ensures recorded { OnOk result (recorded.new ≡ with_answer recorded.old family (record { tick = tick; addresses = addresses.now })) }
+    ensures recorded { OnOk result (recorded.new ≡ with_answer recorded.old family
+        (record { tick = tick; addresses = addresses.now })) }
     ensures valid { OnOk result (IsRace recorded.new) }
 {
     only_memory(recorded.answer(family, tick, addresses))

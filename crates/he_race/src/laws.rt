@@ -9,10 +9,15 @@ ghost use Rattle.he_timeline.specs.Building.{with_answer};
 ghost use Rattle.he_timeline.specs.Race.{Race, Reply, reply_of};
 ghost use Rattle.he_timeline.specs.Timeline.{IsRace};
 
-/// One more answer changes nothing before its tick: neither which ticks an attempt may start at, nor from which list it
-/// takes its address, nor the attempts that were made.
+/// One more answer changes nothing before its tick: neither which ticks an attempt may start at, nor from which list
+/// it takes its address, nor the attempts that were made.
 pub fn one_more_answer_above()
-    ensures starts { (race : Race) (family : Family) (reply : Reply) → IsRace race → reply_of race family ≡ None → (done : List Attempt) (t : ℕ) → t < reply.tick → MayStart race done t ↔ MayStart (with_answer race family reply) done t }
-    ensures order { (race : Race) (family : Family) (reply : Reply) → IsRace race → reply_of race family ≡ None → (t : ℕ) → t < reply.tick → order_at race t ≡ order_at (with_answer race family reply) t }
-    ensures attempts { (race : Race) (family : Family) (reply : Reply) → IsRace race → reply_of race family ≡ None → (attempts : List Attempt) → IsTrue (list_all (λ x. nat_lt x.tick reply.tick) attempts) → AreNextInTurn race attempts → AreNextInTurn (with_answer race family reply) attempts }
+    ensures starts { (race : Race) (family : Family) (reply : Reply) → IsRace race → reply_of race family ≡ None
+        → (done : List Attempt) (t : ℕ) → t < reply.tick → MayStart race done t
+        ↔ MayStart (with_answer race family reply) done t }
+    ensures order { (race : Race) (family : Family) (reply : Reply) → IsRace race → reply_of race family ≡ None
+        → (t : ℕ) → t < reply.tick → order_at race t ≡ order_at (with_answer race family reply) t }
+    ensures attempts { (race : Race) (family : Family) (reply : Reply) → IsRace race → reply_of race family ≡ None
+        → (attempts : List Attempt) → IsTrue (list_all (λ x. nat_lt x.tick reply.tick) attempts)
+        → AreNextInTurn race attempts → AreNextInTurn (with_answer race family reply) attempts }
 {}

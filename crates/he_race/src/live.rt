@@ -82,7 +82,8 @@ impl<C: Connector> Live<C> {
         cx: &mut Context<'_>,
     ) -> Result<AfterPoll<C>, Memory>
         requires { IsLive C.Connector C.Run.Trial self }
-        ensures polled { IfOk result (HeardAt S.hears C.Connector C.Run.Trial source.old connector.old self now source.new connector.new) }
+        ensures polled { IfOk result (HeardAt S.hears C.Connector C.Run.Trial source.old connector.old self now
+            source.new connector.new) }
         ensures in_time { IfOk result AsksInTime }
         ensures waits { IfOk result (TurnListensAfter C.Connector C.Run.Trial cx.new self) }
         ensures source_waits { IfOk result (TurnHearsAfter S.AnswerSource cx.new source.old self source.new) }
@@ -107,9 +108,11 @@ impl<C: Connector> Live<C> {
         requires live { IsLive C.Connector C.Run.Trial self }
         requires later { first_after self.recorder.turn ≤ now }
         requires in_time { now ≤ self.recorder.recorded.settings.limit + 1 }
-        ensures turned { IfOk result (HeardTurn S.hears C.Connector C.Run.Trial source.old connector.old self now source.new connector.new) }
+        ensures turned { IfOk result (HeardTurn S.hears C.Connector C.Run.Trial source.old connector.old self now
+            source.new connector.new) }
         ensures waits { IfOk result (AllListenAfter C.Connector C.Run.Trial cx.new) }
-        ensures source_waits { IfOk result (HeardListensAfter S.AnswerSource cx.new source.old (slept self.recorder.recorded self.recorder.due now) now source.new) }
+        ensures source_waits { IfOk result (HeardListensAfter S.AnswerSource cx.new source.old
+            (slept self.recorder.recorded self.recorder.due now) now source.new) }
         ensures kept { Keeps cx.old cx.new }
     {
         let limit = self.recorder.limit();
@@ -138,12 +141,16 @@ impl<C: Connector> Live<C> {
     ) -> Result<AfterPoll<C>, Memory>
         requires turn { InTurn self.recorder.recorded now self.recorder.underway.attempts false }
         requires underway { IsUnderway self.recorder.recorded self.recorder.underway }
-        requires unfinished { All (IsUnfinished C.Connector C.Run.Trial self.recorder.underway.attempts) self.unfinished.items }
+        requires unfinished { All (IsUnfinished C.Connector C.Run.Trial self.recorder.underway.attempts)
+            self.unfinished.items }
         requires untold { are_untold self.recorder.recorded.outcomes self.unfinished.items ≡ true }
         requires early { now ≤ self.recorder.recorded.settings.limit }
-        ensures turned { IfOk result (HearsAndTurns S.hears C.Connector C.Run.Trial source.old (unpolled connector.old self.recorder.recorded self.recorder.underway.attempts) self.unfinished.items now source.new connector.new) }
+        ensures turned { IfOk result (HearsAndTurns S.hears C.Connector C.Run.Trial source.old
+            (unpolled connector.old self.recorder.recorded self.recorder.underway.attempts) self.unfinished.items now
+            source.new connector.new) }
         ensures waits { IfOk result (AllListenAfter C.Connector C.Run.Trial cx.new) }
-        ensures source_waits { IfOk result (HeardListensAfter S.AnswerSource cx.new source.old self.recorder.recorded now source.new) }
+        ensures source_waits { IfOk result (HeardListensAfter S.AnswerSource cx.new source.old self.recorder.recorded
+            now source.new) }
         ensures kept { Keeps cx.old cx.new }
     {
         match self.recorder.hear(now, source, cx) {
@@ -164,10 +171,13 @@ impl<C: Connector> Live<C> {
     ) -> Result<AfterPoll<C>, Memory>
         requires turn { InTurn self.recorder.recorded now self.recorder.underway.attempts false }
         requires underway { IsUnderway self.recorder.recorded self.recorder.underway }
-        requires unfinished { All (IsUnfinished C.Connector C.Run.Trial self.recorder.underway.attempts) self.unfinished.items }
+        requires unfinished { All (IsUnfinished C.Connector C.Run.Trial self.recorder.underway.attempts)
+            self.unfinished.items }
         requires untold { are_untold self.recorder.recorded.outcomes self.unfinished.items ≡ true }
         requires early { now ≤ self.recorder.recorded.settings.limit }
-        ensures turned { IfOk result (TurnsFrom C.Connector C.Run.Trial (unpolled connector.old self.recorder.recorded self.recorder.underway.attempts) self.unfinished.items now connector.new) }
+        ensures turned { IfOk result (TurnsFrom C.Connector C.Run.Trial
+            (unpolled connector.old self.recorder.recorded self.recorder.underway.attempts) self.unfinished.items now
+            connector.new) }
         ensures waits { IfOk result (AllListenAfter C.Connector C.Run.Trial cx.new) }
         ensures kept { Keeps cx.old cx.new }
     {
@@ -196,14 +206,26 @@ impl<C: Connector> Live<C> {
     ) -> Result<Option<C::Conn>, Memory>
         requires turn { InTurn self.old.recorder.recorded now self.old.recorder.underway.attempts false }
         requires underway { IsUnderway self.old.recorder.recorded self.old.recorder.underway }
-        requires unfinished { All (IsUnfinished C.Connector C.Run.Trial self.old.recorder.underway.attempts) self.old.unfinished.items }
+        requires unfinished { All (IsUnfinished C.Connector C.Run.Trial self.old.recorder.underway.attempts)
+            self.old.unfinished.items }
         requires untold { are_untold self.old.recorder.recorded.outcomes self.old.unfinished.items ≡ true }
         requires in_time { now ≤ MAX_LIMIT }
-        ensures turn { IfOk result (λ won. InTurn self.new.recorder.recorded now self.new.recorder.underway.attempts (is_some won)) }
-        ensures unfinished { OnOk result (All (IsUnfinished C.Connector C.Run.Trial self.new.recorder.underway.attempts) self.new.unfinished.items) }
-        ensures untold { OnOk result (are_untold self.new.recorder.recorded.outcomes self.new.unfinished.items ≡ true) }
+        ensures turn { IfOk result (λ won. InTurn self.new.recorder.recorded now self.new.recorder.underway.attempts
+            (is_some won)) }
+        ensures unfinished { OnOk result (All (IsUnfinished C.Connector C.Run.Trial
+            self.new.recorder.underway.attempts) self.new.unfinished.items) }
+        ensures untold { OnOk result (are_untold self.new.recorder.recorded.outcomes self.new.unfinished.items
+            ≡ true) }
         ensures recorder { OnOk result (Polled self.old.recorder self.new.recorder) }
-        ensures each { IfOk result (λ won. ArePolled C.Connector C.Run.Trial now (unpolled connector.old self.old.recorder.recorded self.old.recorder.underway.attempts) self.old.unfinished.items (record { connector = connector.new; recorded = self.new.recorder.recorded; attempts = self.new.recorder.underway.attempts; pending = self.new.unfinished.items; first = won })) }
+        ensures each { IfOk result (λ won. ArePolled C.Connector C.Run.Trial now
+            (unpolled connector.old self.old.recorder.recorded self.old.recorder.underway.attempts)
+            self.old.unfinished.items (record {
+              connector = connector.new;
+              recorded = self.new.recorder.recorded;
+              attempts = self.new.recorder.underway.attempts;
+              pending = self.new.unfinished.items;
+              first = won;
+            })) }
         ensures waits { OnOk result (AllListen C.Connector C.Run.Trial cx.new self.new.unfinished.items) }
         ensures kept { Keeps cx.old cx.new }
     {
@@ -229,15 +251,21 @@ impl<C: Connector> Live<C> {
         requires below { i < vec_len self.old.unfinished }
         requires turn { (won : Bool) × InTurn self.old.recorder.recorded now self.old.recorder.underway.attempts won }
         requires underway { IsUnderway self.old.recorder.recorded self.old.recorder.underway }
-        requires unfinished { All (IsUnfinished C.Connector C.Run.Trial self.old.recorder.underway.attempts) self.old.unfinished.items }
+        requires unfinished { All (IsUnfinished C.Connector C.Run.Trial self.old.recorder.underway.attempts)
+            self.old.unfinished.items }
         requires untold { are_untold self.old.recorder.recorded.outcomes self.old.unfinished.items ≡ true }
         requires in_time { now ≤ MAX_LIMIT }
         ensures recorder { IfOk result (λ answer. Answers self.old.recorder now answer self.new.recorder) }
-        ensures unfinished { OnOk result (All (IsUnfinished C.Connector C.Run.Trial self.old.recorder.underway.attempts) self.new.unfinished.items) }
-        ensures untold { OnOk result (are_untold self.new.recorder.recorded.outcomes self.new.unfinished.items ≡ true) }
-        ensures step { IfOk result (λ answer. PollsAt C.Connector C.Run.Trial connector.old self.old i now answer connector.new self.new) }
-        ensures left { IfOk result (λ answer. vec_len self.new.unfinished + (if is_some answer then 1 else 0) ≡ vec_len self.old.unfinished) }
-        ensures waits { IfOk result (λ answer. IfNone answer (IfSome (slice_get self.new.unfinished.items i) (λ o. Listens C.Connector C.Run.Trial cx.new o.future))) }
+        ensures unfinished { OnOk result (All (IsUnfinished C.Connector C.Run.Trial
+            self.old.recorder.underway.attempts) self.new.unfinished.items) }
+        ensures untold { OnOk result (are_untold self.new.recorder.recorded.outcomes self.new.unfinished.items
+            ≡ true) }
+        ensures step { IfOk result (λ answer. PollsAt C.Connector C.Run.Trial connector.old self.old i now answer
+            connector.new self.new) }
+        ensures left { IfOk result (λ answer. vec_len self.new.unfinished + (if is_some answer then 1 else 0)
+            ≡ vec_len self.old.unfinished) }
+        ensures waits { IfOk result (λ answer. IfNone answer (IfSome (slice_get self.new.unfinished.items i)
+            (λ o. Listens C.Connector C.Run.Trial cx.new o.future))) }
         ensures kept { Keeps cx.old cx.new }
     {
         let attempt = self.unfinished[i].attempt;
@@ -258,7 +286,8 @@ impl<C: Connector> Live<C> {
     // Whether the race ends at the tick: it is won, at its limit, or exhausted, since nothing is left to wait for or
     // to try.
     fn is_over(&self, now: u64, is_won: bool) -> bool
-        ensures { result ≡ is_over self.now.recorder.recorded self.now.recorder.underway.attempts now self.now.unfinished.items is_won }
+        ensures { result ≡ is_over self.now.recorder.recorded self.now.recorder.underway.attempts now
+            self.now.unfinished.items is_won }
     {
         is_won
             || now >= self.recorder.limit()
@@ -274,7 +303,8 @@ impl<C: Connector> Live<C> {
     ) -> Result<AfterPoll<C>, Memory>
         requires in_turn { InTurn self.recorder.recorded now self.recorder.underway.attempts false }
         requires underway { IsUnderway self.recorder.recorded self.recorder.underway }
-        requires unfinished { All (IsUnfinished C.Connector C.Run.Trial self.recorder.underway.attempts) self.unfinished.items }
+        requires unfinished { All (IsUnfinished C.Connector C.Run.Trial self.recorder.underway.attempts)
+            self.unfinished.items }
         requires untold { are_untold self.recorder.recorded.outcomes self.unfinished.items ≡ true }
         requires early { now < self.recorder.recorded.settings.limit }
         ensures on { IfOk result (GoesOn C.Connector C.Run.Trial connector.old self now connector.new) }
@@ -381,7 +411,8 @@ fn with_made<C: Connector>(
     requires unfinished { All (IsUnfinished C.Connector C.Run.Trial attempts.now) unfinished.items }
     requires in_time { All (λ x. x.tick ≤ MAX_POLL_TICK) attempts.now }
     ensures unfinished { IfOk result (λ all. All (IsUnfinished C.Connector C.Run.Trial attempts.now) all.items) }
-    ensures starts { IfOk result (λ all. BeginsFrom C.Connector C.Run.Trial connector.old attempts.now made unfinished.items connector.new all.items) }
+    ensures starts { IfOk result (λ all. BeginsFrom C.Connector C.Run.Trial connector.old attempts.now made
+        unfinished.items connector.new all.items) }
     ensures kept { Keeps cx.old cx.new }
 {
     if made >= attempts.len() {

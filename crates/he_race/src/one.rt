@@ -20,9 +20,9 @@ use crate::wheel::WheelTicker;
 use futures::Future;
 use futures::task::{Doorbell, Poll, Solo};
 use he_addr::Memory;
-use he_timeline::timeline::are_addresses_in_range;
 use he_plan::Transcript;
 use he_timeline::Timeline;
+use he_timeline::timeline::are_addresses_in_range;
 use std::alloc::{Allocator, Global};
 use std::mem::drop;
 
@@ -104,7 +104,8 @@ fn advance<C: Connector<Conn = (), Run = ScriptedTrial>, A: Allocator>(
     requires { (turns : ℕ) × IsUnderWay C.Connector turns race.old }
     ensures given { IfSome result (GivesScripts race.old.ticker.race) }
     ensures script { IfNone result (race.new.ticker.race ≡ race.old.ticker.race) }
-    ensures further { IfNone result ((turns : ℕ) → IsUnderWay C.Connector turns race.old → IsUnderWay C.Connector (turns + 1) race.new) }
+    ensures further { IfNone result ((turns : ℕ) → IsUnderWay C.Connector turns race.old
+        → IsUnderWay C.Connector (turns + 1) race.new) }
 {
     match poll_once(solo, race) {
         Poll::Ready(given) => Some(given),

@@ -20,7 +20,7 @@ use crate::ticker::Ticker;
 use futures::Future;
 use futures::task::{Context, Poll};
 use he_addr::Memory;
-use he_timeline::Timeline;
+use he_timeline::{Timeline, put};
 use std::alloc::{Allocator, Global};
 use std::mem::drop;
 
@@ -34,8 +34,9 @@ pub struct RaceFuture<C: Connector, T: Ticker> {
 }
 
 impl<C: Connector, T: Ticker> RaceFuture<C, T> {
-    /// The race of this timeline's settings, policy, host, answers and history, before its first turn. It looks at nothing
-    /// else of the timeline: what attempts do, and when the client sleeps, is the connector's and the ticker's.
+    /// The race of this timeline's settings, policy, host, answers and history, before its first turn. It looks at
+    /// nothing else of the timeline: what attempts do, and when the client sleeps, is the connector's and the
+    /// ticker's.
     pub fn new<A: Allocator>(
         alloc: Global,
         timeline: &Timeline<A>,
@@ -45,7 +46,8 @@ impl<C: Connector, T: Ticker> RaceFuture<C, T> {
         ensures connector { IfOk result (λ race. race.connector ≡ connector) }
         ensures ticker { IfOk result (λ race. race.ticker ≡ ticker) }
         ensures live { IfOk result (λ race. IsSomeAnd race.live (IsLive C.Connector C.Run.Trial)) }
-        ensures recorded { IfOk result (λ race. IsSomeAnd race.live (λ live. live.recorder.recorded ≡ unrecorded timeline.now)) }
+        ensures recorded { IfOk result (λ race. IsSomeAnd race.live (λ live. live.recorder.recorded
+            ≡ unrecorded timeline.now)) }
         ensures first { IfOk result (λ race. IsSomeAnd race.live (IsNew timeline.now)) }
     {
         let live = Live::new(alloc, timeline)?;
@@ -59,7 +61,8 @@ impl<C: Connector, T: Ticker> RaceFuture<C, T> {
     /// The ticker.
     pub fn ticker_mut(&mut self) -> &mut T
         ensures value { result.now ≡ self.old.ticker }
-        ensures* writes_back { sem 𝓛 (Lends (the_row C.row T.row C.Conn.row C.Run.row) T.row self.entry result (λ w. record self.old { ticker = w })) }
+        ensures* writes_back { sem 𝓛 (Lends (the_row C.row T.row C.Conn.row C.Run.row) T.row self.entry result
+            (λ w. record self.old { ticker = w })) }
     {
         &mut self.ticker
     }
@@ -74,12 +77,14 @@ impl<C: Connector, T: Ticker> RaceFuture<C, T> {
         cx: &mut Context<'_>,
     ) -> Poll<Result<Raced<C::Conn>, RaceFault>>
         requires { IfSome self.old.live (IsLive C.Connector C.Run.Trial) }
-        ensures turn { RacePollsBy (λ c live now c' step. HeardAt S.hears C.Connector C.Run.Trial source.old c live now source.new c' step) T.Ticker self.old result self.new }
+        ensures turn { RacePollsBy (λ c live now c' step. HeardAt S.hears C.Connector C.Run.Trial source.old c live now
+            source.new c' step) T.Ticker self.old result self.new }
         ensures still { self.old.live ≡ None → source.new ≡ source.old }
         ensures over { IfReady result (λ _. self.new.live ≡ None) }
         ensures registered { OnPending result (IsArmed cx.new) }
         ensures waits { OnPending result (RaceListens C.Connector C.Run.Trial cx.new self.old.live self.new.live) }
-        ensures source_waits { OnPending result (RaceHears S.AnswerSource cx.new source.old self.old.live source.new self.new.live) }
+        ensures source_waits { OnPending result (RaceHears S.AnswerSource cx.new source.old self.old.live source.new
+            self.new.live) }
         ensures kept { Keeps cx.old cx.new }
     {
         let Some(live) = self.live.take() else {
@@ -91,7 +96,7 @@ impl<C: Connector, T: Ticker> RaceFuture<C, T> {
             Ok(AfterPoll::Ended(raced)) => Poll::Ready(Ok(raced)),
             Ok(AfterPoll::Waits(live, tick)) => match self.ticker.wake_at(tick, cx) {
                 Ok(()) => {
-                    put(&mut self.live, live);
+                    put(&mut self.live, Some(live));
                     Poll::Pending
                 }
                 Err(fault) => {
@@ -136,12 +141,4 @@ fn fault_of(fault: TickFault) -> RaceFault
         TickFault::Memory => RaceFault::Memory,
         TickFault::Lost => RaceFault::Clock,
     }
-}
-
-// Puts the value into its place. What was there is dropped. Generic, so that no caller's proof looks into what is
-// dropped.
-fn put<T: Drop>(place: &mut Option<T>, value: T)
-    ensures { place.new ≡ Some value }
-{
-    *place = Some(value);
 }

@@ -18,7 +18,7 @@ ghost use Rattle.he_race.specs.Kept.{Begins, InTurn, IsRecorder, IsEnded, MakesO
 ghost use Rattle.he_race.specs.Recording.{ended_by, is_won, slept};
 
 use he_addr::{Family, Ip, Memory};
-use he_plan::{Attempt, Transcript, RaceState, transcript_at_stop, winner};
+use he_plan::{Attempt, RaceState, Transcript, transcript_at_stop, winner};
 use he_timeline::{BuildFault, Outcome, Timeline, TimelineBuilder};
 use std::alloc::{Allocator, Global};
 use std::mem::drop;
@@ -67,7 +67,10 @@ impl Recorder {
         requires recorder { IsRecorder self.old }
         requires later { first_after self.old.turn ≤ now }
         requires in_time { now ≤ self.old.recorded.settings.limit + 1 }
-        ensures recorded { OnOk result (self.new ≡ record self.old { recorded = slept self.old.recorded self.old.due now }) }
+        ensures recorded { OnOk result (self.new ≡ record self.old {
+          recorded = slept self.old.recorded self.old.due
+              now;
+        }) }
         ensures begins { OnOk result (Begins self.new.recorded now self.new.underway.attempts) }
         ensures underway { OnOk result (IsUnderway self.new.recorded self.new.underway) }
     {
@@ -84,7 +87,8 @@ impl Recorder {
         requires unfinished { has_outcome attempt.ip self.old.recorded.outcomes ≡ false }
         requires underway { IsUnderway self.old.recorded self.old.underway }
         requires in_time { now ≤ MAX_LIMIT }
-        ensures recorded { OnOk result (self.new.recorded ≡ with_outcome self.old.recorded attempt.ip (ended_by is_won (now - attempt.tick))) }
+        ensures recorded { OnOk result (self.new.recorded ≡ with_outcome self.old.recorded attempt.ip (ended_by is_won
+            (now - attempt.tick))) }
         ensures attempts { OnOk result (self.new.underway.attempts ≡ self.old.underway.attempts) }
         ensures valid { OnOk result (IsRace self.new.recorded) }
         ensures underway { OnOk result (IsUnderway self.new.recorded self.new.underway) }
@@ -97,7 +101,8 @@ impl Recorder {
 
     // Whether both answers have come by the tick, and each of their usable addresses was tried.
     pub(crate) fn is_tried_out(&self, now: u64) -> bool
-        ensures { result ≡ (is_tried_out_by now self.now.underway.attempts self.now.recorded.aaaa && is_tried_out_by now self.now.underway.attempts self.now.recorded.a) }
+        ensures { result ≡ (is_tried_out_by now self.now.underway.attempts self.now.recorded.aaaa
+            && is_tried_out_by now self.now.underway.attempts self.now.recorded.a) }
     {
         let race = self.recorded.timeline();
         let attempts = self.underway.attempts();
@@ -113,7 +118,8 @@ impl Recorder {
         ensures recorder { OnOk result (IsRecorder self.new) }
         ensures recorded { OnOk result (self.new.recorded ≡ self.old.recorded) }
         ensures turn { OnOk result (self.new.turn ≡ Some now) }
-        ensures made { OnOk result (MakesOne self.old.recorded self.old.underway.attempts self.new.underway.attempts now) }
+        ensures made { OnOk result (MakesOne self.old.recorded self.old.underway.attempts self.new.underway.attempts
+            now) }
     {
         start_due(
             self.alloc,
@@ -145,7 +151,8 @@ impl Recorder {
         requires ended { (won : Bool) × IsEnded self.now.recorded self.now.underway.attempts won }
         requires underway { IsUnderway self.now.recorded self.now.underway }
         ensures transcript { IfOk result (IsTranscript self.now.recorded) }
-        ensures ending { IfOk result (λ t. (won : Bool) → IsEnded self.now.recorded self.now.underway.attempts won → is_won t.result ≡ won) }
+        ensures ending { IfOk result (λ t. (won : Bool) → IsEnded self.now.recorded self.now.underway.attempts won
+            → is_won t.result ≡ won) }
     {
         let fates = self.underway.fates();
         transcript_at_stop(
@@ -267,7 +274,8 @@ fn is_taken(turn: Option<u64>, tick: u64) -> bool
 }
 
 fn is_tried_out_by(now: u64, attempts: &[Attempt], answer: Option<(u64, &[Ip])>) -> bool
-    ensures { result ≡ is_tried_out_by now attempts.now (option_map (λ p. record { tick = p.0; addresses = p.1.now }) answer.entry) }
+    ensures { result ≡ is_tried_out_by now attempts.now (option_map
+        (λ p. record { tick = p.0; addresses = p.1.now }) answer.entry) }
 {
     match answer {
         Some((tick, ips)) => tick <= now && are_tried(attempts, ips),

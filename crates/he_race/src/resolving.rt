@@ -24,8 +24,8 @@ use he_addr::Memory;
 use he_timeline::Timeline;
 use std::alloc::{Allocator, Global};
 
-/// A race whose answers come while it runs (RFC 8305 section 3): each turn polls its source for each family that has no
-/// answer yet, and what the source tells counts as come at the turn's tick. In all else it is a [`RaceFuture`].
+/// A race whose answers come while it runs (RFC 8305 section 3): each turn polls its source for each family that has
+/// no answer yet, and what the source tells counts as come at the turn's tick. In all else it is a [`RaceFuture`].
 #[derive(Drop)]
 pub struct ResolvingRace<C: Connector, S: AnswerSource, T: Ticker> {
     source: S,
@@ -46,7 +46,8 @@ impl<C: Connector, S: AnswerSource, T: Ticker> ResolvingRace<C, S, T> {
         ensures connector { IfOk result (λ new. new.race.connector ≡ connector) }
         ensures ticker { IfOk result (λ new. new.race.ticker ≡ ticker) }
         ensures live { IfOk result (λ new. IsSomeAnd new.race.live (IsLive C.Connector C.Run.Trial)) }
-        ensures recorded { IfOk result (λ new. IsSomeAnd new.race.live (λ live. live.recorder.recorded ≡ unrecorded timeline.now)) }
+        ensures recorded { IfOk result (λ new. IsSomeAnd new.race.live (λ live. live.recorder.recorded
+            ≡ unrecorded timeline.now)) }
         ensures first { IfOk result (λ new. IsSomeAnd new.race.live (IsNew timeline.now)) }
     {
         let race = RaceFuture::new(alloc, timeline, connector, ticker)?;
@@ -56,7 +57,8 @@ impl<C: Connector, S: AnswerSource, T: Ticker> ResolvingRace<C, S, T> {
     /// The ticker.
     pub fn ticker_mut(&mut self) -> &mut T
         ensures value { result.now ≡ self.old.race.ticker }
-        ensures* writes_back { sem 𝓛 (Lends (the_row C.row S.row T.row C.Conn.row C.Run.row) T.row self.entry result (λ w. record self.old { race = record self.old.race { ticker = w } })) }
+        ensures* writes_back { sem 𝓛 (Lends (the_row C.row S.row T.row C.Conn.row C.Run.row) T.row self.entry result
+            (λ w. record self.old { race = record self.old.race { ticker = w } })) }
     {
         self.race.ticker_mut()
     }
@@ -80,10 +82,13 @@ impl<C: Connector, S: AnswerSource, T: Ticker> Future for ResolvingRace<C, S, T>
         ensures registered { OnPending result (Covers cx.new (λ _. ⊥)) }
         ensures kept { Keeps cx.old cx.new }
         ensures over { IfReady result (λ _. self.new.race.live ≡ None) }
-        ensures turn { RacePollsBy (λ c live now c' step. HeardAt S.hears C.Connector C.Run.Trial self.old.source c live now self.new.source c' step) T.Ticker self.old.race result self.new.race }
+        ensures turn { RacePollsBy (λ c live now c' step. HeardAt S.hears C.Connector C.Run.Trial self.old.source c
+            live now self.new.source c' step) T.Ticker self.old.race result self.new.race }
         ensures still { self.old.race.live ≡ None → self.new.source ≡ self.old.source }
-        ensures waits { OnPending result (RaceListens C.Connector C.Run.Trial cx.new self.old.race.live self.new.race.live) }
-        ensures source_waits { OnPending result (RaceHears S.AnswerSource cx.new self.old.source self.old.race.live self.new.source self.new.race.live) }
+        ensures waits { OnPending result (RaceListens C.Connector C.Run.Trial cx.new self.old.race.live
+            self.new.race.live) }
+        ensures source_waits { OnPending result (RaceHears S.AnswerSource cx.new self.old.source self.old.race.live
+            self.new.source self.new.race.live) }
     {
         self.race.poll_hearing(&mut self.source, cx)
     }

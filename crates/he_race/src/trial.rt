@@ -16,9 +16,9 @@ use futures::task::{Context, Poll};
 ///
 /// A poll that is pending owes one of three: it has registered in `cx` at each source that it waits for (`needs`), so
 /// that the task is polled again once something happened; or `due` names a tick before which every poll is pending;
-/// or `due` is None, and every later poll is pending. In the first case it has registered or yielded in `cx` even where
-/// it states no source: with no `needs` it owes no more than that. A trial is dropped where its attempt is, answered or
-/// not: its `Drop` closes what it opened.
+/// or `due` is None, and every later poll is pending. In the first case it has registered or yielded in `cx` even
+/// where it states no source: with no `needs` it owes no more than that. A trial is dropped where its attempt is,
+/// answered or not: its `Drop` closes what it opened.
 pub trait Trial: Drop {
     /// The connection.
     type Conn: Drop;
@@ -45,7 +45,8 @@ pub trait Trial: Drop {
         requires in_time { now ≤ MAX_POLL_TICK }
         ensures step { polls self.old now result self.new }
         ensures again { OnPending result (can_poll self.new) }
-        ensures waits { OnPending result (Covers cx.new (needs self.new) ⊎ WaitsForTick polls self.new (due_tick self.new)) }
+        ensures waits { OnPending result (Covers cx.new (needs self.new)
+            ⊎ WaitsForTick polls self.new (due_tick self.new)) }
         ensures kept { Keeps cx.old cx.new };
 
     /// The tick before which nothing changes, where the trial knows it.

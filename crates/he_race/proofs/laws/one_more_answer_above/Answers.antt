@@ -1,4 +1,4 @@
-use Rattle.he_race.proofs.Later.{attempts-before, order-before, starts-before}
+use Rattle.he_plan.proofs.Later.{attempts-before, order-before, starts-before}
 use Rattle.he_race.proofs.laws.one_more_answer_above.Goals as goal
 
 pub returns-clause-starts : goal.returns-clause-starts

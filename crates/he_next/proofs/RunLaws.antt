@@ -28,8 +28,8 @@ use Rattle.he_plan.proofs.Growing.{pause-below}
 use Rattle.he_plan.proofs.InTurn.{in_turn-follow, in_turn-more, in_turn-none}
 use Rattle.he_plan.proofs.Lawful.{attempts-prefix}
 use Rattle.he_plan.proofs.Stopping.{none_before}
-use Rattle.he_race.proofs.Later.{attempts-before}
-use Rattle.he_next_laws.specs.Runs.{AreBelow, IsOver, IsWritten, Runs, Sleeps, State, attempt_of, with_started}
+use Rattle.he_plan.proofs.Later.{attempts-before}
+use Rattle.he_next.specs.Runs.{AreBelow, IsOver, IsWritten, Runs, Sleeps, State, attempt_of, with_started}
 use Rattle.he_next.proofs.StepLaws.{lt_past, not_late}
 use Rattle.he_next.specs.Steps.{action_of, before_tick, due_action, end_action, end_tick}
 
@@ -150,7 +150,8 @@ last_of_five true true false d false h = cc
 last_of_five true true true false false h = cc
 last_of_five true true true true false h = cc
 
--- what starts before the limit, and, where the race is exhausted, before the last failure, starts before the race's end
+-- what starts before the limit, and, where the race is exhausted, before the last failure, starts before the race's
+-- end
 before_end : (race : Race) (attempts : List Attempt) (told : List Fate) (aaaa a : Reply) (tick : ℕ) → tick < race.settings.limit
     → (list_all is_failed told ≡ true → tick < greatest (failures told)) → tick < end_tick (without_winner race attempts told (Some aaaa) (Some a))
 before_end race attempts told aaaa a tick early last = by_test (is_exhausted race attempts told aaaa a) refl

@@ -1,5 +1,5 @@
-use Rattle.he_next_laws.proofs.RunLaws.{replayed_end, runs_in_turn}
-use Rattle.he_next_laws.proofs.runs_are_replayed.Goals as goal
+use Rattle.he_next.proofs.RunLaws.{replayed_end, runs_in_turn}
+use Rattle.he_next.proofs.laws.runs_are_replayed.Goals as goal
 
 pub returns-clause-in_turn : goal.returns-clause-in_turn
 returns-clause-in_turn c first earlier state r runs = (runs_in_turn first earlier state r runs).1
