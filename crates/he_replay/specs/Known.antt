@@ -10,8 +10,8 @@ use Rattle.he_replay.specs.Output.{IsOutput, TextRelation}
 abbrev pub Stands : TextRelation → List ℕ → List ℕ → TextFault → Type 0
 Stands IsText input text fault = (more : List ℕ) (is_broken : Bool) → IsOutput IsText (input ++ more) is_broken text (Some (Text fault))
 
--- the input broke off behind the last line of a policy table or of the settings, of which it is the fault: one more line of
--- the group may mend it
+-- the input broke off behind the last line of a policy table or of the settings, of which it is the fault: one more
+-- line of the group may mend it
 pub record IsGroupBroken (input : List ℕ) (is_broken : Bool) (fault : TextFault) : Type 0 where
   pub broken : is_broken ≡ true
   pub before : List ℕ

@@ -62,8 +62,8 @@ IsTextWith content changes number line text race = IsTextOf content number line 
 abbrev pub TextRelation : Type 1
 TextRelation = ℕ → ℕ → List ℕ → Race → Type 0
 
--- the bytes are, one after the other, a timeline text of each of the races, of which the first has this number and begins
--- at this line; and the text is, one after the other, a text of each, by its number and its line
+-- the bytes are, one after the other, a timeline text of each of the races, of which the first has this number and
+-- begins at this line; and the text is, one after the other, a text of each, by its number and its line
 abbrev pub AreTold : TextRelation → ℕ → ℕ → List Race → List ℕ → List ℕ → Type 0
 AreTold IsText number line [] bytes text = (bytes ≡ []) × (text ≡ [])
 AreTold IsText number line (race ∷ races) bytes text =

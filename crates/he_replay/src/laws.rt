@@ -16,7 +16,10 @@ use he_text::laws::{faults_stand, one_race_first};
 
 /// An input, and whether it broke off, have one output and one fault.
 pub fn one_output()
-    ensures { (content : Content) (changes : ChangeValues) (input : List ℕ) (is_broken : Bool) (text other : List ℕ) (fault other_fault : Option InputFault) → IsOutput (IsTextWith content changes) input is_broken text fault → IsOutput (IsTextWith content changes) input is_broken other other_fault → (text ≡ other) × (fault ≡ other_fault) }
+    ensures { (content : Content) (changes : ChangeValues) (input : List ℕ) (is_broken : Bool) (text other : List ℕ)
+        (fault other_fault : Option InputFault) → IsOutput (IsTextWith content changes) input is_broken text fault
+        → IsOutput (IsTextWith content changes) input is_broken other other_fault → (text ≡ other)
+        × (fault ≡ other_fault) }
 {
     one_input();
     one_transcript();
@@ -26,7 +29,9 @@ pub fn one_output()
 /// A fault of the text is known in one of three ways: the input ended; or each longer input has this output and this
 /// fault too; or the input broke off in a policy table or the settings, of which it is the fault.
 pub fn faults_are_known()
-    ensures { (content : Content) (changes : ChangeValues) (input : List ℕ) (is_broken : Bool) (text : List ℕ) (fault : TextFault) → IsOutput (IsTextWith content changes) input is_broken text (Some (Text fault)) → IsKnown (IsTextWith content changes) input is_broken text fault }
+    ensures { (content : Content) (changes : ChangeValues) (input : List ℕ) (is_broken : Bool) (text : List ℕ)
+        (fault : TextFault) → IsOutput (IsTextWith content changes) input is_broken text (Some (Text fault))
+        → IsKnown (IsTextWith content changes) input is_broken text fault }
 {
     faults_stand();
 }

@@ -12,9 +12,15 @@ pub const MOST_PIECES: usize = 1_024;
 /// The fewest pieces for each worker that `replay` takes: fewer are not worth a thread.
 pub const PIECES_OF_A_WORKER: usize = 2;
 
-/// The room for the first read, in bytes. A read that fills its room is followed by one with four times as much: a
-/// short input takes little memory, and a long one is read in few steps.
-pub const FIRST_ROOM: usize = 262_144;
+/// The bytes that end a race: its last line, with the line end before it.
+pub const RACE_END: &[u8] = b"\nend\n";
+
+/// The room for the first read, in bytes, where one worker tells all races. A read that fills its room is followed by
+/// one with four times as much: a short input takes little memory, and a long one is read in few steps.
+pub const FIRST_ROOM: usize = 65_536;
+
+/// The room for the first read, in bytes, where several workers share the races.
+pub const SHARED_ROOM: usize = 262_144;
 
 /// The most room for a read, in bytes: more takes memory, and no less time.
 pub const MOST_ROOM: usize = 1_048_576;

@@ -9,10 +9,9 @@ ghost use Rattle.he_text.specs.Walks.{IsWithin};
 ghost use Rattle.he_replay.specs.Pieces.{ArePieces, IsAnywhere, IsPiece, MayTake};
 ghost use Rattle.he_replay.specs.Rounds.{HasTold, IsAsked, TellsOn};
 
-use crate::limits::{LEAST_WORKERS, MOST_PIECES, MOST_RACES, MOST_WORKERS, PIECE_BYTES};
+use crate::limits::{LEAST_WORKERS, MOST_PIECES, MOST_RACES, MOST_WORKERS, PIECE_BYTES, RACE_END};
 use crate::race_texts::Asked;
 use crate::rounds::{Part, tell_races};
-use crate::streaming::RACE_END;
 use he_board::{Board, Pass};
 use he_text::{Ending, Walk};
 use memchr::memmem;
@@ -107,11 +106,13 @@ fn run_halves<R: Threads + Sync, A: Allocator + Copy + Send + Sync>(
     thread::join(
         rt,
         move || -> Result<Vec<Piece<A>, A>, AllocError>
-            requires { IsSync R.row × IsSend A.row × IsSync A.row × Frees A.Allocator A.dealloc_token × MayTake board.now p count near }
+            requires { IsSync R.row × IsSend A.row × IsSync A.row × Frees A.Allocator A.dealloc_token
+                × MayTake board.now p count near }
             ensures { IfOk result (λ pieces. ArePieces (IsAsked asked.entry.now) bytes.entry.now pieces.items) }
         { run_workers(rt, alloc, bytes, board, p, count, near, asked) },
         move || -> Result<Vec<Piece<A>, A>, AllocError>
-            requires { IsSync R.row × IsSend A.row × IsSync A.row × Frees A.Allocator A.dealloc_token × MayTake board.now q count far }
+            requires { IsSync R.row × IsSend A.row × IsSync A.row × Frees A.Allocator A.dealloc_token
+                × MayTake board.now q count far }
             ensures { IfOk result (λ pieces. ArePieces (IsAsked asked.entry.now) bytes.entry.now pieces.items) }
         { run_workers(rt, alloc, bytes, board, q, count, far, asked) },
     )

@@ -11,9 +11,9 @@ use he_explain::write_explanation;
 use he_json::{write_explanation_json, write_order_json, write_transcript_json};
 use he_page::write_section;
 use he_plan::{Transcript, transcript_of};
-use he_timeline::{Changes, Timeline};
 use he_story::write_story;
 use he_text::{write_order, write_transcript};
+use he_timeline::{Changes, Timeline};
 use std::alloc::{AllocError, Allocator};
 
 /// What is written of a race.
@@ -69,7 +69,17 @@ pub struct Asked {
 impl Asked {
     /// This, of each race as it stands.
     pub fn of(content: Content) -> Asked
-        ensures { result ≡ record { content = content; changes = record { resolution = None; attempt = None; count = None; limit = None; floor = None } } }
+        ensures { result ≡ record {
+          content = content;
+          changes = record {
+            resolution = None;
+            attempt = None;
+            count =
+                None;
+            limit = None;
+            floor = None;
+          };
+        } }
     {
         Asked {
             content,
@@ -87,7 +97,8 @@ impl Asked {
         line: u64,
         text: &mut Vec<u8, T>,
     ) -> Result<(), AllocError>
-        ensures { OnOk result (WritesText (λ told. IsAsked self.now number line told race) text.old.items text.new.items) }
+        ensures { OnOk result (WritesText (λ told. IsAsked self.now number line told race) text.old.items
+            text.new.items) }
     {
         let timeline = race.with_changes(self.changes);
         append(self.content, alloc, &timeline, number, line, text)
@@ -102,7 +113,8 @@ fn append<A: Allocator + Copy, T: Allocator + Copy>(
     line: u64,
     text: &mut Vec<u8, T>,
 ) -> Result<(), AllocError>
-    ensures { OnOk result (WritesText (λ told. IsTextOf content number line told timeline.now) text.old.items text.new.items) }
+    ensures { OnOk result (WritesText (λ told. IsTextOf content number line told timeline.now) text.old.items
+        text.new.items) }
 {
     match content {
         Content::Transcript => append_transcript(alloc, timeline, text),
@@ -139,7 +151,8 @@ fn append_own<A: Allocator + Copy, T: Allocator + Copy>(
     line: u64,
     text: &mut Vec<u8, T>,
 ) -> Result<(), AllocError>
-    ensures { OnOk result (WritesText (λ told. IsTextOf content number line told timeline.now) text.old.items text.new.items) }
+    ensures { OnOk result (WritesText (λ told. IsTextOf content number line told timeline.now) text.old.items
+        text.new.items) }
 {
     let mut own = Vec::with_capacity(alloc, TEXT_ROOM)?;
     write(content, alloc, timeline, number, line, &mut own).map_err(|_| AllocError)?;
@@ -154,7 +167,8 @@ fn write<A: Allocator + Copy>(
     line: u64,
     text: &mut Vec<u8, A>,
 ) -> Result<(), Memory>
-    ensures { OnOk result (WritesText (λ told. IsTextOf content number line told timeline.now) text.old.items text.new.items) }
+    ensures { OnOk result (WritesText (λ told. IsTextOf content number line told timeline.now) text.old.items
+        text.new.items) }
 {
     match content {
         Content::Transcript => write_transcript(&transcript_of(alloc, timeline)?, text),

@@ -86,7 +86,8 @@ pub(crate) fn put_round<A: Allocator + Copy, O: OutputStream>(
 ) -> Result<(), StreamFault>
     requires within { held.old.filled ≤ vec_len held.old.bytes }
     requires lines { held.old.walk.lines + held.old.filled ≤ 2 ^ 54 }
-    requires begun { HasTold (IsAsked asked.now) (take held.old.filled held.old.bytes.items) held.old.walk.races held.old.walk.lines text.old.items part.begun }
+    requires begun { HasTold (IsAsked asked.now) (take held.old.filled held.old.bytes.items) held.old.walk.races
+        held.old.walk.lines text.old.items part.begun }
     ensures within { OnOk result (held.new.filled ≤ vec_len held.new.bytes) }
     ensures room { OnOk result (held.new.room ≡ held.old.room) }
     ensures size { OnOk result (held.new.walk.lines + held.new.filled ≤ held.old.walk.lines + held.old.filled) }

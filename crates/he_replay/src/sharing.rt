@@ -29,7 +29,8 @@ pub(crate) fn begin_shared<R: Threads + Sync, A: Allocator + Copy + Send + Sync>
     requires within { held.now.filled + count ≤ vec_len held.now.bytes }
     requires front { (held.now.walk.end ≡ 0) × (held.now.walk.races ≤ most_races) }
     requires lines { held.now.walk.lines + held.now.filled + count ≤ 2 ^ 54 }
-    ensures { IfOk result (HasTold (IsAsked asked.now) (take (held.now.filled + count) held.now.bytes.items) held.now.walk.races held.now.walk.lines text.new.items) }
+    ensures { IfOk result (HasTold (IsAsked asked.now) (take
+        (held.now.filled + count) held.now.bytes.items) held.now.walk.races held.now.walk.lines text.new.items) }
 {
     text.clear();
     let bytes = &held.bytes[..held.filled + count];

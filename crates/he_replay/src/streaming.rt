@@ -11,7 +11,9 @@ ghost use Rattle.he_replay.specs.Pieces.{IsAnywhere};
 ghost use Rattle.he_replay.specs.Rounds.{HasTold, IsAsked, PutsRound};
 ghost use Rattle.he_replay.specs.Stream.{Streams};
 
-use crate::limits::{FIRST_ROOM, LEAST_WORKERS, MOST_ROOM, MOST_WORKERS, TRIED_BYTES};
+use crate::limits::{
+    FIRST_ROOM, LEAST_WORKERS, MOST_ROOM, MOST_WORKERS, RACE_END, SHARED_ROOM, TRIED_BYTES,
+};
 use crate::race_texts::Asked;
 use crate::rounds::{Held, Part, put_round};
 use crate::sharing::begin_shared;
@@ -21,9 +23,6 @@ use he_text::{Ending, StreamFault, Walk};
 use memchr::memmem::rfind;
 use std::alloc::Allocator;
 use std::thread::Threads;
-
-// The bytes that end a race: its last line, with the line end before it.
-pub(crate) const RACE_END: &[u8] = b"\nend\n";
 
 // Takes an input to its end and puts what is asked for of its races into the output, as they come. So many workers
 // share the races that a step of the input completes, where they are worth it.
@@ -49,7 +48,7 @@ pub(crate) fn stream_races<
         (PutsRoundsPart O.contents O.puts O.flushes output.old output.new)
         (PutsInRounds O.contents O.puts O.flushes output.old output.new) result }
 {
-    let mut held = Held::new(alloc, FIRST_ROOM);
+    let mut held = Held::new(alloc, first_room(workers));
     let mut text = Vec::new(alloc);
     for _steps in 0..MOST_READS {
         match take_piece(input, &mut held.bytes, held.filled, held.room)? {
@@ -64,6 +63,18 @@ pub(crate) fn stream_races<
         }
     }
     end_held(alloc, &mut held, true, asked, &mut text, output)
+}
+
+// The room for the first step: several workers share what one step gives.
+fn first_room(workers: u16) -> usize
+    ensures some { 0 < result }
+    ensures few { result ≤ READ_SIZE }
+{
+    if workers == LEAST_WORKERS {
+        FIRST_ROOM
+    } else {
+        SHARED_ROOM
+    }
 }
 
 // The room for the step behind one that took so many bytes: four times as much where its room was filled, since much
@@ -94,10 +105,12 @@ fn tell_held<A: Allocator + Copy, O: OutputStream>(
     requires within { held.old.filled + count ≤ vec_len held.old.bytes }
     requires front { (held.old.walk.end ≡ 0) × (held.old.walk.races ≤ most_races) }
     requires lines { held.old.walk.lines + held.old.filled + count ≤ 2 ^ 54 }
-    requires begun { HasTold (IsAsked asked.now) (take (held.old.filled + count) held.old.bytes.items) held.old.walk.races held.old.walk.lines text.old.items begun }
+    requires begun { HasTold (IsAsked asked.now) (take (held.old.filled + count) held.old.bytes.items)
+        held.old.walk.races held.old.walk.lines text.old.items begun }
     ensures within { OnOk result (held.new.filled ≤ vec_len held.new.bytes) }
     ensures room { OnOk result (held.new.room ≡ held.old.room) }
-    ensures size { OnOk result (held.new.walk.lines + held.new.filled ≤ held.old.walk.lines + held.old.filled + count) }
+    ensures size { OnOk result (held.new.walk.lines + held.new.filled
+        ≤ held.old.walk.lines + held.old.filled + count) }
     ensures told { PutsRound (IsAsked asked.now) O.contents O.puts O.flushes endings.Open
         (take (held.old.filled + count) held.old.bytes.items) held.old.walk
         (take held.new.filled held.new.bytes.items) held.new.walk output.old output.new result }
