@@ -21,13 +21,13 @@ fn all_usable(addresses: &[Ip]) -> bool
 // refused.
 fn is_policy_copied<'h>(heap: &'h Refusing, policy: &Policy<&'h Refusing>) -> Option<bool> {
     let copy = policy.copy(heap).ok()?;
-    let is_same = copy == *policy && copy.rows() == policy.rows();
+    let is_same = copy == *policy && copy.rows().as_slice() == policy.rows().as_slice();
     drop(copy);
     Some(is_same)
 }
 
 fn is_policy_made<'h>(heap: &'h Refusing, policy: &Policy<&'h Refusing>) -> Option<bool> {
-    let again = Policy::from_rows(heap, policy.rows()).ok()?;
+    let again = Policy::from_rows(heap, policy.rows().as_slice()).ok()?;
     let is_same = again == *policy;
     drop(again);
     Some(is_same)

@@ -84,7 +84,7 @@ fn rtts_range(rtts: &[(Ip, u64)])
 pub(crate) fn timeline_range<A: Allocator + Copy>(timeline: &Timeline<A>)
     ensures { RaceInRange timeline.now }
 {
-    rows_range(timeline.policy().rows());
+    rows_range(timeline.policy().rows().as_slice());
     sources_range(timeline.host().sources());
     routes_range(timeline.host().routes());
     answer_range(timeline, Family::V6);

@@ -177,7 +177,7 @@ fn write_selection<A: Allocator + Copy, B: Allocator>(
 ) -> Result<(), Memory>
     ensures { AppendsText result out.old.items out.new.items (selection_text timeline.now) }
 {
-    write_rows(timeline.policy().rows(), out)?;
+    write_rows(timeline.policy().rows().as_slice(), out)?;
     write_host(timeline.host(), out)
 }
 

@@ -14,5 +14,5 @@ returns g c =
     (flat_map row_text c.args.timeline.now.policy)
     (host_text c.args.timeline.now.host)
     c.write_host.result
-    (c.in_ok-write_rows.ensures ∙ ap (λ (rows : List Row). c.args.out.now.items ++ flat_map row_text rows) (c.rows.ensures.rows ∙ c.policy.ensures.value))
+    (c.in_ok-write_rows.ensures ∙ ap (λ (rows : List Row). c.args.out.now.items ++ flat_map row_text rows) (c.as_slice.ensures ∙ c.rows.ensures.rows ∙ c.policy.ensures.value))
     (subst P c.host.ensures.value c.write_host.ensures)
