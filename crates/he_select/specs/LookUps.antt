@@ -5,6 +5,8 @@ use Rattle.he_select.specs.declared.host.Route.{Route}
 use Rattle.he_select.specs.declared.host.Source.{Source}
 use Rattle.he_select.specs.declared.known.Known.{Known}
 use Rattle.he_select.specs.declared.policy.Row.{Row}
+use Rattle.he_select.specs.declared.policy.Rows.{Rows}
+use Rattle.he_select.specs.declared.policy.Rows.TheVariants as rows
 use Rattle.he_select.specs.declared.policy.Table.{Table}
 use Rattle.he_select.specs.declared.policy.Table.TheVariants.{Standard, Listed}
 use Rattle.he_select.specs.declared.standard.Class.{Class}
@@ -14,6 +16,10 @@ use Rattle.he_select.specs.Standard.{standard_rows}
 abbrev pub rows_of : Table → List Row
 rows_of Standard = standard_rows
 rows_of (Listed rows) = rows.now
+
+abbrev pub rows_in : Rows → List Row
+rows_in (rows.Standard some) = some
+rows_in (rows.Listed some) = some.now
 
 -- the precedence and the label of a row; 0 and 0 without one
 abbrev pub class_of : Option Row → Class

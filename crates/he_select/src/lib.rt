@@ -41,6 +41,6 @@ pub use attributes::{DestinationAttributes, Sourced};
 pub use deciding::DestinationRule;
 pub use host::{Host, HostFault, Route, Source};
 pub use known::Known;
-pub use policy::{Policy, PolicyFault, Row};
+pub use policy::{Policy, PolicyFault, Row, Rows};
 pub use selection::LabelledSource;
 pub use sorting::{order, order_known, order_known_with_attributes};

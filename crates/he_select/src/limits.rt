@@ -3,6 +3,9 @@
 /// The most rows of a policy table.
 pub const ROWS: usize = 64;
 
+/// The rows of the standard policy table.
+pub const STANDARD_ROWS: usize = 9;
+
 /// The most sources of a host.
 pub const SOURCES: usize = 64;
 

@@ -6,11 +6,11 @@ ghost use Rattle.he_select.specs.Equality.{equal_tables};
 ghost use Rattle.he_select.specs.TableFaults.{has_row, shared_from, table_fault, table_of};
 ghost use Rattle.he_select.specs.Tables.{same_row, shares_precedence, IsAdmitted};
 ghost use Rattle.he_addr.specs.Prefix.{IsPrefix};
-ghost use Rattle.he_select.specs.LookUps.{rows_of};
+ghost use Rattle.he_select.specs.LookUps.{rows_in, rows_of};
 ghost use Rattle.he_select.specs.Standard.{standard_rows};
 
 use crate::distinct::{Distinct, first_repeated, stands_in};
-use crate::limits::ROWS;
+use crate::limits::{ROWS, STANDARD_ROWS};
 use crate::standard::{
     ANY, Class, IPV4, IPV4_COMPATIBLE, LOOPBACK, SITE_LOCAL, SIX_BONE, SIX_TO_FOUR, TEREDO,
     UNIQUE_LOCAL,
@@ -134,7 +134,7 @@ fn sharing_row(row: &Row, rows: &[Row], from: usize) -> Option<usize>
 }
 
 /// The rows of the standard table (RFC 6724 section 2.1).
-fn standard_table() -> [Row; 9]
+fn standard_table() -> [Row; STANDARD_ROWS]
     ensures { result ≡ standard_rows }
 {
     [
@@ -166,6 +166,27 @@ fn standard_row(bits: u128, len: u8, class: Class) -> Row
     }
 }
 
+/// The rows of a policy table, in the order in which they were given.
+#[derive(Drop)]
+pub enum Rows<'a> {
+    /// Those of the standard table, which no [`Policy`] holds.
+    Standard([Row; STANDARD_ROWS]),
+    /// Those that a [`Policy`] holds.
+    Listed(&'a [Row]),
+}
+
+impl<'a> Rows<'a> {
+    /// The rows as a slice.
+    pub fn as_slice(&self) -> &[Row]
+        ensures { result.now ≡ rows_in self.now }
+    {
+        match self {
+            Rows::Standard(rows) => rows,
+            Rows::Listed(rows) => rows,
+        }
+    }
+}
+
 /// The rows of a policy table, as an address is looked up in them.
 #[derive(Clone, Copy)]
 pub(crate) enum Table<'a> {
@@ -179,8 +200,8 @@ pub(crate) enum Table<'a> {
 /// inside and outside `::ffff:0:0/96`. Contracts see it as its rows.
 #[derive(Drop)]
 pub struct Policy<A: Allocator = Global> {
-    rows: Vec<Row, A>,
-    is_standard: bool,
+    /// None where the table is the standard one, whose rows need no memory.
+    listed: Option<Vec<Row, A>>,
 }
 
 impl<A: Allocator> Model for Policy<A> {
@@ -189,13 +210,13 @@ impl<A: Allocator> Model for Policy<A> {
 
     ghost Value = { List Row };
 
-    ghost use Rattle.std.specs.Prelude.{◌≡◌, IsTrue};
+    ghost use Rattle.std.specs.Option.{option_map_or};
     ghost use Rattle.he_select.specs.Standard.{standard_rows};
     ghost use Rattle.he_select.specs.Tables.{IsAdmitted};
 
-    ghost view = { λ p. p.rows.items };
+    ghost view = { λ p. option_map_or (λ rows. rows.items) p.listed standard_rows };
 
-    ghost invariant = { λ p. IsAdmitted p.rows.items × (IsTrue p.is_standard → p.rows.items ≡ standard_rows) };
+    ghost invariant = { λ p. IsAdmitted (option_map_or (λ rows. rows.items) p.listed standard_rows) };
 }
 
 impl<A: Allocator> PartialEq for Policy<A> {
@@ -224,15 +245,12 @@ impl<A: Allocator> Eq for Policy<A> {
 }
 
 impl<A: Allocator + Copy> Policy<A> {
-    /// The standard table (RFC 6724 section 2.1).
-    pub fn standard(alloc: A) -> Result<Policy<A>, Memory>
-        ensures { IfOk result (λ policy. policy ≡ standard_rows) }
+    /// The standard table (RFC 6724 section 2.1). It takes no memory, so there is always one.
+    pub fn standard(_alloc: A) -> Result<Policy<A>, Memory>
+        ensures table { IfOk result (λ policy. policy ≡ standard_rows) }
+        ensures made { IsOk result }
     {
-        let rows = Vec::from_array(alloc, standard_table())?;
-        Ok(Policy {
-            rows,
-            is_standard: true,
-        })
+        Ok(Policy { listed: None })
     }
 
     /// The table of these rows.
@@ -249,10 +267,7 @@ impl<A: Allocator + Copy> Policy<A> {
             return Err(fault);
         }
         let rows = Vec::from_slice(alloc, rows).map_err(|_| PolicyFault::Memory)?;
-        Ok(Policy {
-            rows,
-            is_standard: false,
-        })
+        Ok(Policy { listed: Some(rows) })
     }
 }
 
@@ -268,24 +283,24 @@ impl<A: Allocator> Policy<A> {
         if let Some(fault) = PolicyFault::find(&rows) {
             return Err(fault);
         }
-        Ok(Policy {
-            rows,
-            is_standard: false,
-        })
+        Ok(Policy { listed: Some(rows) })
     }
 
     fn has_rows_of(&self, other: &Policy<A>) -> bool
         ensures { result ≡ equal_tables self.now other.now }
     {
-        self.rows == other.rows
+        self.rows().as_slice() == other.rows().as_slice()
     }
 
     /// The rows, in the order in which they were given.
-    pub fn rows(&self) -> &[Row]
-        ensures rows { result.now ≡ self.now }
+    pub fn rows(&self) -> Rows<'_>
+        ensures rows { rows_in result ≡ self.now }
         ensures admitted { IsAdmitted self.now }
     {
-        self.rows.as_slice()
+        match &self.listed {
+            Some(rows) => Rows::Listed(rows),
+            None => Rows::Standard(standard_table()),
+        }
     }
 
     /// The rows, as addresses are looked up in them.
@@ -293,10 +308,9 @@ impl<A: Allocator> Policy<A> {
         ensures rows { rows_of result ≡ self.now }
         ensures admitted { IsAdmitted self.now }
     {
-        if self.is_standard {
-            Table::Standard
-        } else {
-            Table::Listed(&self.rows)
+        match &self.listed {
+            Some(rows) => Table::Listed(rows),
+            None => Table::Standard,
         }
     }
 
@@ -304,10 +318,10 @@ impl<A: Allocator> Policy<A> {
     pub fn copy<B: Allocator + Copy>(&self, alloc: B) -> Result<Policy<B>, Memory>
         ensures { IfOk result (λ policy. policy ≡ self.now) }
     {
-        let rows = Vec::from_slice(alloc, &self.rows)?;
-        Ok(Policy {
-            rows,
-            is_standard: self.is_standard,
-        })
+        let listed = match &self.listed {
+            Some(rows) => Some(Vec::from_slice(alloc, rows)?),
+            None => None,
+        };
+        Ok(Policy { listed })
     }
 }

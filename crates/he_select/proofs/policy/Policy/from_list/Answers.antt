@@ -8,4 +8,4 @@ pub invariant_of-result : goal.invariant_of-result
 invariant_of-result g c =
     let none : c.find.result ≡ None = c.in_default.is in
     let found = c.find.ensures ∙ ap table_fault c.deref.ensures.value in
-    (admitted_by c.args.rows.items c.find.result found none, λ e. cc)
+    admitted_by c.args.rows.items c.find.result found none

@@ -8,4 +8,4 @@ pub invariant_of-result : goal.invariant_of-result
 invariant_of-result g c =
     let items : c.in_ok-rows.rows.items ≡ c.args.rows.now = search rules in
     let none : c.find.result ≡ None = c.in_default.is in
-    (subst IsAdmitted (sym items) (admitted_by c.args.rows.now c.find.result c.find.ensures none), λ e. cc)
+    subst IsAdmitted (sym items) (admitted_by c.args.rows.now c.find.result c.find.ensures none)
