@@ -64,10 +64,10 @@ To keep the record in a file of its own, and to replay it:
 With -v standard error has a line for each attempt that failed, with the system's
 words, once the race has ended:
 
-  he: attempt 0 at 127.0.0.1 failed: connection refused
+  he: attempt 0 at 127.0.0.1 failed: refused
 
 An attempt that this host itself could not begin (no descriptor, no memory, no
-permission, no sockets of the address's family) is told as
+buffers, no sockets of the address's family) is told as
 
   he: attempt 0 at 127.0.0.1 could not begin: too many open files
 

@@ -16,7 +16,7 @@ use crate::summing::run_summary;
 use crate::tasks::run_texts;
 use clap::Error;
 use clap::error::ErrorKind;
-use he_connect::{Asked, ConnectFault, Ended, Lines, connect};
+use he_connect::{Asked, ConnectFault, DEFAULT_WAIT, Ended, Lines, connect};
 use he_host::machine::write_machine;
 use he_live::{FailedAttempt, LiveFault, Told, first_local, live, write_failures};
 use he_plan::Outcome3;
@@ -281,6 +281,7 @@ where
         explains: options.explains,
         tells_steps: options.tells_steps,
         only_tries: options.only_tries,
+        wait: DEFAULT_WAIT,
     };
     report_connection(
         connect(rt, alloc, &asked, input, output, faults),

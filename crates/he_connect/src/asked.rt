@@ -41,4 +41,7 @@ pub struct Asked<'a> {
     pub tells_steps: bool,
     /// Whether the connection is closed once it is made.
     pub only_tries: bool,
+    /// How long standard input is waited for once the remote has ended its way, in milliseconds: the command line's
+    /// `--wait`. [`DEFAULT_WAIT`](he_relay::DEFAULT_WAIT) where it is not given.
+    pub wait: u32,
 }

@@ -6,7 +6,7 @@ ghost use Rattle.he_connect.specs.Connects.{Connects, IsBefore, Ran};
 use crate::asked::Asked;
 use crate::fault::ConnectFault;
 use crate::racing::{Run, run_race};
-use he_relay::relay;
+use he_relay::{over_socket, relay_standard};
 use he_resolver::SystemResolver;
 use he_stream::{InputStream, OutputStream};
 use std::alloc::{AllocGlobal, Global};
@@ -32,7 +32,7 @@ pub enum Ended {
 
 /// Makes the connection, as RFC 8305 says, and puts what the input gives into it, and what it gives into the output.
 ///
-/// The input is to be standard input (`he_relay::relay`). The record is written to its file before anything is
+/// The input is to be standard input (`he_relay::relay_standard`). The record is written to its file before anything is
 /// relayed, also where nothing connected. What is told of the race goes to `faults`, and what cannot be written there
 /// is passed over.
 ///
@@ -62,14 +62,14 @@ where
     if let Some(path) = asked.record {
         write_record(rt, path, ran.text.as_slice())?;
     }
-    end_with(rt, alloc, asked.only_tries, ran, input, output)
+    end_with(rt, alloc, asked, ran, input, output)
 }
 
 // What comes behind a race: its connection is relayed where there is one, or let go where it was only tried.
 fn end_with<R, I, O>(
     rt: &R,
     alloc: Global,
-    only_tries: bool,
+    asked: &Asked<'_>,
     run: Run,
     input: &mut I,
     output: &mut O,
@@ -87,9 +87,10 @@ where
             Some(fault) => Err(ConnectFault::Name(fault)),
             None => Ok(Ended::NoConnection),
         },
-        Some(_) if only_tries => Ok(Ended::Connected),
+        Some(_) if asked.only_tries => Ok(Ended::Connected),
         Some(stream) => {
-            relay(rt, alloc, input, output, &stream)?;
+            let mut connection = over_socket(&stream, asked.wait);
+            relay_standard(rt, alloc, input, output, &mut connection)?;
             Ok(Ended::Relayed)
         }
     }

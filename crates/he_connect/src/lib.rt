@@ -36,3 +36,4 @@ mod tried;
 pub use asked::{Asked, Families, Lines};
 pub use connecting::{Ended, connect};
 pub use fault::ConnectFault;
+pub use he_relay::DEFAULT_WAIT;

@@ -41,7 +41,7 @@ impl<'f, F: Write> Watcher for Telling<'f, F> {
     }
 }
 
-// The line, as `he: 12 ms: attempt 0 at 2001:db8::1 failed: connection refused`.
+// The line, as `he: 12 ms: attempt 0 at 2001:db8::1 failed: refused`.
 fn write_step(step: Step, out: &mut Vec<u8>) -> Result<(), Memory> {
     out.extend_from_slice(b"he: ")?;
     write_number(step.tick, out)?;

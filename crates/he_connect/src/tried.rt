@@ -71,7 +71,7 @@ fn write_attempt(attempt: Line, steps: &Steps, out: &mut Vec<u8>) -> Result<(), 
     out.push(b' ')?;
     let (words, end): (&[u8], u64) = match attempt.mark {
         Mark::Failed(end) => {
-            write_short_reason(steps.reason_of(attempt.place), out)?;
+            write_reason(steps.reason_of(attempt.place), out)?;
             (b" after ", end)
         }
         Mark::Won(end) => (b"connected after ", end),
@@ -80,18 +80,6 @@ fn write_attempt(attempt: Line, steps: &Steps, out: &mut Vec<u8>) -> Result<(), 
     out.extend_from_slice(words)?;
     write_number(end.saturating_sub(attempt.tick), out)?;
     out.extend_from_slice(b" ms")?;
-    Ok(())
-}
-
-// The reason without the word for what failed, which the line has.
-fn write_short_reason(reason: Reason, out: &mut Vec<u8>) -> Result<(), Memory> {
-    let words: &[u8] = match reason {
-        Reason::Refused => b"refused",
-        Reason::Reset => b"reset",
-        Reason::Aborted => b"aborted",
-        _ => return write_reason(reason, out),
-    };
-    out.extend_from_slice(words)?;
     Ok(())
 }
 

@@ -11,14 +11,15 @@ use Rattle.he_plan.specs.declared.transcript.Mark.{Mark}
 use Rattle.he_plan.specs.declared.transcript.Mark.TheVariants as marks
 use Rattle.he_live.specs.declared.failures.FailedAttempt.{FailedAttempt}
 use Rattle.he_live.specs.declared.reason.Reason.{Reason}
-use Rattle.he_live.specs.declared.reason.Reason.TheVariants.{Refused, Reset, Aborted, TimedOut, NoRoute, NetworkUnreachable, NetworkDown, AddressNotAvailable, NoFamily, TooManyFiles, TooManyFilesInSystem, OutOfMemory, NoBuffers, NotPermitted, Other}
+use Rattle.he_live.specs.declared.reason.Reason.TheVariants.{Refused, Reset, Aborted, TimedOut, HostUnreachable, NetworkUnreachable, NetworkDown, AddressNotAvailable, NoFamily, TooManyFiles, TooManyFilesInSystem, OutOfMemory, NoBuffers, Prohibited, Other}
 
 -- the errors of Linux that have words of their own, by their numbers on x86-64 and aarch64
 abbrev pub numbered : List (ℕ × Reason)
 numbered =
-    (1, NotPermitted) ∷ (12, OutOfMemory) ∷ (13, NotPermitted) ∷ (23, TooManyFilesInSystem) ∷ (24, TooManyFiles)
+    (1, Prohibited) ∷ (12, OutOfMemory) ∷ (13, Prohibited) ∷ (23, TooManyFilesInSystem) ∷ (24, TooManyFiles)
     ∷ (97, NoFamily) ∷ (99, AddressNotAvailable) ∷ (100, NetworkDown) ∷ (101, NetworkUnreachable) ∷ (103, Aborted)
-    ∷ (104, Reset) ∷ (105, NoBuffers) ∷ (110, TimedOut) ∷ (111, Refused) ∷ (113, NoRoute) ∷ []
+    ∷ (104, Reset) ∷ (105, NoBuffers) ∷ (110, TimedOut) ∷ (111, Refused) ∷ (112, HostUnreachable)
+    ∷ (113, HostUnreachable) ∷ []
 
 abbrev pub reason_in : List (ℕ × Reason) → ℕ → Reason
 reason_in [] number = Other number
@@ -39,22 +40,22 @@ reason_of_numbered None kind = reason_without_number kind
 abbrev pub reason_of : Error → Reason
 reason_of error = reason_of_numbered (raw_os_error error) (error_kind error)
 
--- the host could make no socket: that says nothing of the address
+-- this host could make no socket, for want of descriptors, memory, buffers or the address family: that says nothing of
+-- the address. What a router or a route forbids is no such error: connect(2) gives EACCES and EPERM for both
 abbrev pub is_local : Reason → Bool
 is_local NoFamily = true
 is_local TooManyFiles = true
 is_local TooManyFilesInSystem = true
 is_local OutOfMemory = true
 is_local NoBuffers = true
-is_local NotPermitted = true
 is_local reason = false
 
 abbrev pub words_of : Reason → List ℕ
-words_of Refused = codes "connection refused"
-words_of Reset = codes "connection reset"
-words_of Aborted = codes "connection aborted"
+words_of Refused = codes "refused"
+words_of Reset = codes "reset"
+words_of Aborted = codes "aborted"
 words_of TimedOut = codes "timed out"
-words_of NoRoute = codes "no route to host"
+words_of HostUnreachable = codes "unreachable"
 words_of NetworkUnreachable = codes "network unreachable"
 words_of NetworkDown = codes "network down"
 words_of AddressNotAvailable = codes "address not available"
@@ -63,7 +64,7 @@ words_of TooManyFiles = codes "too many open files"
 words_of TooManyFilesInSystem = codes "too many open files in system"
 words_of OutOfMemory = codes "out of memory"
 words_of NoBuffers = codes "no buffer space"
-words_of NotPermitted = codes "permission denied"
+words_of Prohibited = codes "prohibited"
 words_of (Other number) = codes "system error "
 
 abbrev pub reason_text : Reason → List ℕ

@@ -62,7 +62,7 @@ pub fn first_local(failed: &[FailedAttempt]) -> Option<FailedAttempt>
     None
 }
 
-/// Appends a line for each failed attempt, as `he: attempt 3 at 198.51.100.7 failed: connection refused`, or `could
+/// Appends a line for each failed attempt, as `he: attempt 3 at 198.51.100.7 failed: refused`, or `could
 /// not begin: too many open files` where this host itself could not begin it.
 ///
 /// # Errors

@@ -1,4 +1,4 @@
-//! Why attempts of a live race failed, in the system's words.
+//! Why attempts of a live race failed, as the system tells it.
 ghost use Rattle.std.specs.Prelude.{◌≡◌};
 ghost use Rattle.he_live.specs.Reasons.{is_local, reason_of, reason_of_number, words_of};
 
@@ -11,8 +11,8 @@ pub enum Reason {
     Reset,
     Aborted,
     TimedOut,
-    /// No route to the host.
-    NoRoute,
+    /// The host cannot be reached: nothing on the way to it, or in its own network, takes the packets.
+    HostUnreachable,
     NetworkUnreachable,
     NetworkDown,
     /// The host has no address or no port for the connection.
@@ -25,7 +25,8 @@ pub enum Reason {
     TooManyFilesInSystem,
     OutOfMemory,
     NoBuffers,
-    NotPermitted,
+    /// A filter or a route forbids it, of a router on the way or of this host: the system's errors for both are the same.
+    Prohibited,
     /// Another one, by the system's number; 0 where it has none.
     Other(u32),
 }
@@ -47,7 +48,7 @@ impl Reason {
         ensures { result ≡ reason_of_number number }
     {
         match number {
-            1 | 13 => Reason::NotPermitted,
+            1 | 13 => Reason::Prohibited,
             12 => Reason::OutOfMemory,
             23 => Reason::TooManyFilesInSystem,
             24 => Reason::TooManyFiles,
@@ -60,13 +61,13 @@ impl Reason {
             105 => Reason::NoBuffers,
             110 => Reason::TimedOut,
             111 => Reason::Refused,
-            113 => Reason::NoRoute,
+            112 | 113 => Reason::HostUnreachable,
             _ => Reason::Other(number),
         }
     }
 
-    /// Whether the host could make no socket, which says nothing of the address: no descriptor, no memory, no
-    /// permission, or no sockets of the family.
+    /// Whether this host could make no socket, which says nothing of the address: no descriptor, no memory, no
+    /// buffers, or no sockets of the family.
     pub fn is_local(self) -> bool
         ensures { result ≡ is_local self }
     {
@@ -77,7 +78,6 @@ impl Reason {
                 | Reason::TooManyFilesInSystem
                 | Reason::OutOfMemory
                 | Reason::NoBuffers
-                | Reason::NotPermitted
         )
     }
 
@@ -86,11 +86,11 @@ impl Reason {
         ensures { result.now ≡ words_of self }
     {
         match self {
-            Reason::Refused => b"connection refused",
-            Reason::Reset => b"connection reset",
-            Reason::Aborted => b"connection aborted",
+            Reason::Refused => b"refused",
+            Reason::Reset => b"reset",
+            Reason::Aborted => b"aborted",
             Reason::TimedOut => b"timed out",
-            Reason::NoRoute => b"no route to host",
+            Reason::HostUnreachable => b"unreachable",
             Reason::NetworkUnreachable => b"network unreachable",
             Reason::NetworkDown => b"network down",
             Reason::AddressNotAvailable => b"address not available",
@@ -99,7 +99,7 @@ impl Reason {
             Reason::TooManyFilesInSystem => b"too many open files in system",
             Reason::OutOfMemory => b"out of memory",
             Reason::NoBuffers => b"no buffer space",
-            Reason::NotPermitted => b"permission denied",
+            Reason::Prohibited => b"prohibited",
             Reason::Other(_) => b"system error ",
         }
     }

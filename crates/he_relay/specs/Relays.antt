@@ -1,29 +1,60 @@
--- What a relay put into its output.
-use Rattle.std.specs.Prelude.{ℕ, List, Result, Ok, Err}
+-- What a relay took and put, both ways, and which end it tells.
+use Rattle.std.specs.Prelude.{ℕ, ⊤, ◌≡◌, ◌⊎◌, List, Bool, true, false, Result, Ok, Err}
+use Rattle.he_relay.specs.declared.fault.Breakage.{Breakage}
 use Rattle.he_relay.specs.declared.fault.PumpFault.{PumpFault}
 use Rattle.he_relay.specs.declared.fault.PumpFault.TheVariants as pumps
 use Rattle.he_relay.specs.declared.fault.RelayFault.{RelayFault}
 use Rattle.he_relay.specs.declared.fault.RelayFault.TheVariants as faults
+use Rattle.he_relay.specs.declared.fault.Traffic.{Traffic}
+use Rattle.he_relay.specs.declared.fault.Unsent.{Unsent}
+use Rattle.he_relay.specs.declared.relaying.Ends.{Ends}
+use Rattle.he_relay.specs.Pumps.{Pumps}
 
--- how a relay ends, of which each way ended so: the way to the output counts first
-abbrev pub ended : Result (Unit {0}) PumpFault → Result (Unit {0}) PumpFault → Result (Unit {0}) RelayFault
-ended (Err pumps.Output) sent = Err faults.Output
-ended (Err pumps.Input) sent = Err faults.Received
-ended (Ok done) (Err pumps.Output) = Err faults.Sent
-ended (Ok done) (Err pumps.Input) = Err faults.Input
-ended (Ok done) (Ok sent) = Ok done
+-- each way is a pump that ended as is told of it; where an allocation was refused, nothing was taken and nothing put
+abbrev pub RelaysBoth : {E : Type 0} → (Result (Unit {0}) PumpFault → Type 0) → (Result (Unit {0}) PumpFault → Type 0) → Type 0 → Result Ends E → Type 0
+RelaysBoth Sends Receives Kept (Ok ends) = Sends ends.sent × Receives ends.received
+RelaysBoth Sends Receives Kept (Err refused) = Kept
 
--- of some bytes all were put into the output in rounds, or a first part until that failed
-abbrev pub Receives : (List ℕ → Type 0) → (List ℕ → Type 0) → Result (Unit {0}) PumpFault → Type 0
-Receives Put PutPart (Ok done) = (bytes : List ℕ) × Put bytes
-Receives Put PutPart (Err pumps.Input) = (bytes : List ℕ) × Put bytes
-Receives Put PutPart (Err pumps.Output) = (bytes : List ℕ) × PutPart bytes
+-- the connection broke, and how it did and how many bytes went over it is told
+abbrev pub IsBroken : Result (Unit {0}) RelayFault → Type 0
+IsBroken result = (how : Breakage) × (traffic : Traffic) × (result ≡ Err (faults.Broken how traffic))
 
--- Kept: nothing was put
+-- the connection did not take all of the input, since it broke or the remote had closed it
+abbrev pub IsNotSent : Result (Unit {0}) RelayFault → Type 0
+IsNotSent result = IsBroken result ⊎ ((unsent : Unsent) × (result ≡ Err (faults.Unsent unsent)))
+
+-- the end that is told of two ways, of which the one to the connection and the one from it ended so: what failed is
+-- told, of the way to the output first. That the input was cut is a fault, but at a terminal
+abbrev pub IsEnd : Bool → Result (Unit {0}) PumpFault → Result (Unit {0}) PumpFault → Result (Unit {0}) RelayFault → Type 0
+IsEnd is_terminal sent (Err pumps.Output) result = result ≡ Err faults.Output
+IsEnd is_terminal sent (Err pumps.Input) result = IsBroken result
+IsEnd is_terminal sent (Err pumps.Cut) result = IsBroken result
+IsEnd is_terminal (Err pumps.Output) (Ok done) result = IsNotSent result
+IsEnd is_terminal (Err pumps.Input) (Ok done) result = result ≡ Err faults.Input
+IsEnd false (Err pumps.Cut) (Ok done) result = result ≡ Err faults.Unread
+IsEnd true (Err pumps.Cut) (Ok done) result = result ≡ Ok tt
+IsEnd is_terminal (Ok sent) (Ok done) result = result ≡ Ok tt
+
+-- some bytes were taken, or put: of a socket no contract can say which
+abbrev pub Some : List ℕ → Type 0
+Some bytes = ⊤
+
+abbrev pub SomeGiven : List ℕ → Bool → Type 0
+SomeGiven bytes is_broken = ⊤
+
+-- what was taken from the input, what was put into the output, and that the end that is told is that of both ways
+abbrev pub RelaysStandard : (List ℕ → Bool → Type 0) → (List ℕ → Type 0) → (List ℕ → Type 0) → (List ℕ → Type 0) → Type 0 → Bool → Result (Unit {0}) RelayFault → Type 0
+RelaysStandard Gives GivesSoFar Put PutPart Kept is_terminal result =
+    ((result ≡ Err faults.Memory) × Kept)
+    ⊎ ((sent : Result (Unit {0}) PumpFault) × (received : Result (Unit {0}) PumpFault)
+    × Pumps Gives GivesSoFar Some Some sent × Pumps SomeGiven Some Put PutPart received × IsEnd is_terminal sent received result)
+
+-- what was put into the output, by the end that is told. Kept: nothing was put
 abbrev pub Relays : (List ℕ → Type 0) → (List ℕ → Type 0) → Type 0 → Result (Unit {0}) RelayFault → Type 0
 Relays Put PutPart Kept (Ok done) = (bytes : List ℕ) × Put bytes
 Relays Put PutPart Kept (Err faults.Input) = (bytes : List ℕ) × Put bytes
-Relays Put PutPart Kept (Err faults.Sent) = (bytes : List ℕ) × Put bytes
-Relays Put PutPart Kept (Err faults.Received) = (bytes : List ℕ) × Put bytes
+Relays Put PutPart Kept (Err (faults.Unsent unsent)) = (bytes : List ℕ) × Put bytes
+Relays Put PutPart Kept (Err faults.Unread) = (bytes : List ℕ) × Put bytes
+Relays Put PutPart Kept (Err (faults.Broken how traffic)) = (bytes : List ℕ) × Put bytes
 Relays Put PutPart Kept (Err faults.Output) = (bytes : List ℕ) × PutPart bytes
 Relays Put PutPart Kept (Err faults.Memory) = Kept

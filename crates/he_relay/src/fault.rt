@@ -6,6 +6,8 @@ ghost use Rattle.he_relay.specs.declared.fault.RelayFault.TheVariants as relay_f
 
 use he_stream::WriteFault;
 use std::alloc::AllocError;
+use std::fmt;
+use std::fmt::{Display, Formatter, Write};
 use thiserror::Error;
 
 /// Why a pump stopped before its input's end.
@@ -17,6 +19,9 @@ pub enum PumpFault {
     /// A write or a flush of the output failed, or a write took no byte.
     #[error("cannot write the output")]
     Output,
+    /// Its watch wanted no further step of the input.
+    #[error("the input was not read to its end")]
+    Cut,
 }
 
 impl From<WriteFault> for PumpFault {
@@ -24,6 +29,51 @@ impl From<WriteFault> for PumpFault {
 
     fn from(_fault: WriteFault) -> PumpFault {
         PumpFault::Output
+    }
+}
+
+/// How a connection broke off.
+#[derive(Clone, Copy, Debug, PartialEq, Eq, Error)]
+pub enum Breakage {
+    /// The remote reset it.
+    #[error("the remote reset the connection")]
+    Reset,
+    /// The remote answered no more.
+    #[error("the connection timed out")]
+    TimedOut,
+    /// Any other way.
+    #[error("the connection broke off")]
+    Other,
+}
+
+/// How many bytes went over a connection.
+#[derive(Clone, Copy, Debug, PartialEq, Eq)]
+pub struct Traffic {
+    /// That this host's system took to send.
+    pub sent: u64,
+    /// That came.
+    pub received: u64,
+}
+
+impl Display for Traffic {
+    fn fmt<W: Write>(&self, f: &mut Formatter<W>) -> fmt::Result {
+        let noun = if self.sent == 1 { "byte" } else { "bytes" };
+        write!(f, "{} {noun} sent, {} received", self.sent, self.received)
+    }
+}
+
+/// Bytes that were not sent, as `6 bytes more were not sent`.
+#[derive(Clone, Copy, Debug, PartialEq, Eq)]
+pub struct Unsent(pub u64);
+
+impl Display for Unsent {
+    fn fmt<W: Write>(&self, f: &mut Formatter<W>) -> fmt::Result {
+        let words = if self.0 == 1 {
+            "byte more was"
+        } else {
+            "bytes more were"
+        };
+        write!(f, "{} {words} not sent", self.0)
     }
 }
 
@@ -36,12 +86,15 @@ pub enum RelayFault {
     /// A write or a flush of the output failed, or a write took no byte.
     #[error("cannot write the output")]
     Output,
-    /// The connection broke before it took all that the input gave.
-    #[error("the connection did not take all of the input")]
-    Sent,
     /// The connection broke before the remote ended it.
-    #[error("the connection broke off")]
-    Received,
+    #[error("{0}: {1}")]
+    Broken(Breakage, Traffic),
+    /// The remote closed the connection before it took all that the input gave.
+    #[error("the remote has closed, and {0}")]
+    Unsent(Unsent),
+    /// The remote ended its way, and the input gave nothing for as long as it was waited for.
+    #[error("the remote has closed, and standard input was not read to its end")]
+    Unread,
     /// An allocation was refused.
     #[error("out of memory")]
     Memory,

@@ -5,20 +5,24 @@ ghost use Rattle.he_stream.specs.Output.{PutsInRounds, PutsRoundsPart};
 ghost use Rattle.he_relay.specs.Pumps.{Pumps};
 
 use crate::fault::PumpFault;
+use crate::watch::Watch;
 use he_stream::limits::MOST_READS;
 use he_stream::{InputStream, OutputStream, Taken, write_whole};
 
 /// Takes what the input gives, a piece of at most the room's length at a time, and puts each piece into the output,
-/// flushed, before the next one is taken; until the input ends. It waits as long as the input and the output do.
+/// flushed, before the next one is taken; until the input ends or the watch wants no more. It waits as long as the
+/// input, the output and the watch do.
 ///
 /// # Errors
 ///
 /// - `Input` where a step of the input failed, or 4,294,967,296 steps did not reach its end. What was taken before is
 ///   put.
 /// - `Output` where a write or a flush failed, or a write took no byte. Of what was taken a first part is put.
-pub fn pump<I: InputStream, O: OutputStream>(
+/// - `Cut` where the watch wanted no further step of the input, which had not ended. What was taken before is put.
+pub fn pump<I: InputStream, O: OutputStream, W: Watch>(
     input: &mut I,
     output: &mut O,
+    watch: &mut W,
     room: &mut [u8],
 ) -> Result<(), PumpFault>
     requires { 0 < length room.old }
@@ -28,6 +32,9 @@ pub fn pump<I: InputStream, O: OutputStream>(
         (PutsRoundsPart O.contents O.puts O.flushes output.old output.new) result }
 {
     for _steps in 0..MOST_READS {
+        if !watch.wants_more() {
+            return Err(PumpFault::Cut);
+        }
         match input.take(room) {
             Taken::Bytes(count) => write_whole(output, &room[..count])?,
             Taken::Interrupted => {}

@@ -1,95 +1,117 @@
-//! Standard input and an output over a connection.
+//! An input and an output over a connection.
 ghost use Rattle.std.specs.Prelude.{◌≡◌, ◌<◌, length};
+ghost use Rattle.he_stream.specs.Input.{Gives, GivesSoFar};
 ghost use Rattle.he_stream.specs.Output.{PutsInRounds, PutsRoundsPart};
-ghost use Rattle.he_relay.specs.Relays.{Receives, Relays, ended};
+ghost use Rattle.he_relay.specs.Pumps.{Pumps};
+ghost use Rattle.he_relay.specs.Relays.{RelaysBoth};
 
-use crate::fault::{PumpFault, RelayFault};
+use crate::fault::PumpFault;
 use crate::pumping::pump;
-use crate::until::UntilEnd;
-use he_stream::{FromReader, InputStream, OutputStream, ToWriter};
-use std::alloc::Global;
-use std::net::{Shutdown, TcpStream};
+use crate::watch::Watch;
+use he_stream::{InputStream, OutputStream};
+use std::alloc::{AllocError, Global};
 use std::thread::{Threads, join_mut};
 
 // The most bytes that are taken at once each way.
 const ROOM: usize = 131_072;
 
-/// Puts what the input gives into the connection, and what the connection gives into the output, both at once, until
-/// the remote has ended and the input with it.
-///
-/// The input is to be standard input: whether it can be read without waiting is asked of descriptor 0. Where it ends,
-/// the connection is shut down for sending alone. Where the remote has ended, the input is read on for as long as it
-/// gives something at least every [`PATIENCE`](crate::until::PATIENCE) milliseconds, so that a remote that ends its
-/// way first still gets what is there. The connection has to be one that waits, and is shut down both ways where the
-/// output fails.
+/// A connection in its halves, each with what watches its way.
+#[derive(Drop)]
+pub struct Connection<S, V, F, W> {
+    /// What it is sent.
+    pub sending: S,
+    /// What watches the way to it.
+    pub sends: V,
+    /// What it gives.
+    pub receiving: F,
+    /// What watches the way from it.
+    pub receives: W,
+}
+
+/// How both ways of a relay ended.
+#[derive(Clone, Copy, Debug, PartialEq, Eq)]
+pub struct Ends {
+    /// The way from the input to the connection.
+    pub sent: Result<(), PumpFault>,
+    /// The way from the connection to the output.
+    pub received: Result<(), PumpFault>,
+}
+
+/// Puts what the input gives into the connection, and what the connection gives into the output, both at once in two
+/// threads, until both ways have ended. Each is a [`pump`], whose watch is told its end at once.
 ///
 /// # Errors
 ///
-/// The first of these that came to pass: `Output` where a write or a flush of the output failed, `Received` where the
-/// connection broke, `Sent` where it did not take all that the input gave, `Input` where a read of the input failed,
-/// `Memory` before anything was taken.
-pub fn relay<R: Threads, I: InputStream, O: OutputStream + Send>(
+/// `AllocError` where an allocation was refused, before anything was taken.
+pub fn relay<R, I, O, S, V, F, W>(
     rt: &R,
     alloc: Global,
     input: &mut I,
     output: &mut O,
-    stream: &TcpStream,
-) -> Result<(), RelayFault>
-    ensures { Relays (PutsInRounds O.contents O.puts O.flushes output.old output.new)
-        (PutsRoundsPart O.contents O.puts O.flushes output.old output.new) (output.new ≡ output.old) result }
+    connection: &mut Connection<S, V, F, W>,
+) -> Result<Ends, AllocError>
+where
+    R: Threads,
+    I: InputStream,
+    O: OutputStream + Send,
+    S: OutputStream,
+    V: Watch,
+    F: InputStream + Send,
+    W: Watch + Send,
+    ensures { RelaysBoth
+        (Pumps (Gives I.remaining I.takes input.old input.new) (GivesSoFar I.remaining I.takes input.old input.new)
+        (PutsInRounds S.contents S.puts S.flushes connection.old.sending connection.new.sending)
+        (PutsRoundsPart S.contents S.puts S.flushes connection.old.sending connection.new.sending))
+        (Pumps (Gives F.remaining F.takes connection.old.receiving connection.new.receiving)
+        (GivesSoFar F.remaining F.takes connection.old.receiving connection.new.receiving)
+        (PutsInRounds O.contents O.puts O.flushes output.old output.new)
+        (PutsRoundsPart O.contents O.puts O.flushes output.old output.new))
+        ((input.new ≡ input.old) × (output.new ≡ output.old) × (connection.new ≡ connection.old)) result }
 {
     let mut there = vec![in alloc; 0u8; ROOM]?;
     let mut back = vec![in alloc; 0u8; ROOM]?;
     let there_room = there.as_mut_slice();
     let back_room = back.as_mut_slice();
+    let Connection {
+        sending,
+        sends,
+        receiving,
+        receives,
+    } = connection;
     let (received, sent) = join_mut(
         rt,
         &mut || -> Result<(), PumpFault>
             requires { 0 < length back_room.now }
-            ensures { Receives (PutsInRounds O.contents O.puts O.flushes output.entry.now output.exit.now)
+            ensures { Pumps (Gives F.remaining F.takes receiving.entry.now receiving.exit.now)
+                (GivesSoFar F.remaining F.takes receiving.entry.now receiving.exit.now)
+                (PutsInRounds O.contents O.puts O.flushes output.entry.now output.exit.now)
                 (PutsRoundsPart O.contents O.puts O.flushes output.entry.now output.exit.now) result }
-        { receive(stream, output, back_room) },
-        &mut || send(input, stream, there_room),
+        { run_way(receiving, output, receives, back_room) },
+        &mut || -> Result<(), PumpFault>
+            requires { 0 < length there_room.now }
+            ensures { Pumps (Gives I.remaining I.takes input.entry.now input.exit.now)
+                (GivesSoFar I.remaining I.takes input.entry.now input.exit.now)
+                (PutsInRounds S.contents S.puts S.flushes sending.entry.now sending.exit.now)
+                (PutsRoundsPart S.contents S.puts S.flushes sending.entry.now sending.exit.now) result }
+        { run_way(input, sending, sends, there_room) },
     );
-    end_of(received, sent)
+    Ok(Ends { sent, received })
 }
 
-// How the relay ended: the output's way counts first.
-fn end_of(received: Result<(), PumpFault>, sent: Result<(), PumpFault>) -> Result<(), RelayFault>
-    ensures { result ≡ ended received sent }
-{
-    match (received, sent) {
-        (Err(PumpFault::Output), _) => Err(RelayFault::Output),
-        (Err(PumpFault::Input), _) => Err(RelayFault::Received),
-        (Ok(()), Err(PumpFault::Output)) => Err(RelayFault::Sent),
-        (Ok(()), Err(PumpFault::Input)) => Err(RelayFault::Input),
-        (Ok(()), Ok(())) => Ok(()),
-    }
-}
-
-// What the connection gives, put into the output.
-fn receive<O: OutputStream>(
-    stream: &TcpStream,
+// Pumps one way, and tells its watch the end.
+fn run_way<I: InputStream, O: OutputStream, W: Watch>(
+    input: &mut I,
     output: &mut O,
+    watch: &mut W,
     room: &mut [u8],
 ) -> Result<(), PumpFault>
     requires { 0 < length room.old }
-    ensures { Receives (PutsInRounds O.contents O.puts O.flushes output.old output.new)
+    ensures { Pumps (Gives I.remaining I.takes input.old input.new)
+        (GivesSoFar I.remaining I.takes input.old input.new)
+        (PutsInRounds O.contents O.puts O.flushes output.old output.new)
         (PutsRoundsPart O.contents O.puts O.flushes output.old output.new) result }
 {
-    let end = pump(&mut FromReader::new(stream), output, room);
-    if end.is_err() {
-        let _ = stream.shutdown(Shutdown::Both);
-    }
+    let end = pump(input, output, watch, room);
+    watch.end(end);
     end
-}
-
-// What the input gives, put into the connection, which is then shut down for sending.
-fn send<I: InputStream>(input: &mut I, stream: &TcpStream, room: &mut [u8]) -> Result<(), PumpFault>
-    requires { 0 < length room.old }
-{
-    let mut from = UntilEnd::new(input, stream);
-    let end = pump(&mut from, &mut ToWriter::new(stream), room);
-    let _ = stream.shutdown(Shutdown::Write);
-    if from.is_cut() { Ok(()) } else { end }
 }

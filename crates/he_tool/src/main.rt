@@ -8,6 +8,7 @@
 use he_command::{
     Lender, columns_of, read_words, report, report_not_text, run_line, takes_text, tell_waiting,
 };
+use he_relay::Waiting;
 use he_stream::{FromReader, ToWriter};
 use he_text::StreamFault;
 use std::io::IsTerminal;
@@ -66,8 +67,8 @@ where
         lender,
         rt.alloc(),
         line,
-        &mut FromReader::new(rt.stdin()),
-        &mut ToWriter::new(rt.stdout()),
+        &mut FromReader::new(Waiting::input(rt.stdin())),
+        &mut ToWriter::new(Waiting::output(rt.stdout())),
         &mut rt.stderr(),
     )
 }
