@@ -1,6 +1,6 @@
 // Making a timeline.
 
-ghost use Rattle.std.specs.Prelude.{◌≡◌, ◌⊎◌, true, [], IfOk, IfErr};
+ghost use Rattle.std.specs.Prelude.{◌≡◌, true, IfOk, IfErr, IfSome};
 ghost use Rattle.he_timeline.specs.Building.{IsRefused, empty_race, unrecorded, add_answer, add_outcome, add_pause, add_rtt, add_used, last_end, Becomes};
 ghost use Rattle.he_timeline.specs.Race.{has_ip, is_in_answer};
 ghost use Rattle.he_timeline.specs.Timeline.{are_of, are_distinct, is_duration, IsRace};
@@ -56,14 +56,14 @@ pub struct TimelineBuilder<A: Allocator = Global> {
 }
 
 impl<A: Allocator> Model for TimelineBuilder<A> {
-    ghost use Rattle.std.specs.Prelude.{◌≡◌, ◌⊎◌, []};
+    ghost use Rattle.std.specs.Prelude.{◌≡◌, IfSome};
     ghost use Rattle.he_timeline.specs.Race.{Race, addresses_of};
 
     ghost Value = { Race };
 
     ghost view = { λ b. b.timeline };
 
-    ghost invariant = { λ b. ((b.six ≡ []) ⊎ (b.six ≡ addresses_of b.timeline.aaaa)) × ((b.four ≡ []) ⊎ (b.four ≡ addresses_of b.timeline.a)) };
+    ghost invariant = { λ b. IfSome b.six (λ ips. ips ≡ addresses_of b.timeline.aaaa) × IfSome b.four (λ ips. ips ≡ addresses_of b.timeline.a) };
 }
 
 impl<A: Allocator + Copy> TimelineBuilder<A> {
@@ -76,8 +76,8 @@ impl<A: Allocator + Copy> TimelineBuilder<A> {
         TimelineBuilder {
             alloc,
             timeline: Timeline::empty(alloc, settings, policy, host),
-            six: AddressSet::none(alloc),
-            four: AddressSet::none(alloc),
+            six: AddressSet::none(),
+            four: AddressSet::none(),
         }
     }
 
@@ -94,8 +94,8 @@ impl<A: Allocator + Copy> TimelineBuilder<A> {
         Ok(TimelineBuilder {
             alloc,
             timeline,
-            six: AddressSet::none(alloc),
-            four: AddressSet::none(alloc),
+            six: AddressSet::none(),
+            four: AddressSet::none(),
         })
     }
 
@@ -287,7 +287,7 @@ fn distinct_answer<A: Allocator + Copy>(
     addresses: &[Ip],
 ) -> Result<(Answer<A>, AddressSet<A>), BuildFault>
     ensures answer { IfOk result (λ made. made.0 ≡ record { tick = tick; addresses = addresses.now }) }
-    ensures set { IfOk result (λ made. (made.1 ≡ []) ⊎ (made.1 ≡ addresses.now)) }
+    ensures set { IfOk result (λ made. IfSome made.1 (λ ips. ips ≡ addresses.now)) }
     ensures distinct { IfOk result (λ _. are_distinct addresses.now ≡ true) }
     ensures fault { IfErr result (IsRefused addresses.now) }
 {
@@ -309,7 +309,7 @@ fn distinct_set<A: Allocator + Copy>(
     alloc: A,
     addresses: &[Ip],
 ) -> Result<AddressSet<A>, BuildFault>
-    ensures ok { IfOk result (λ set. (set ≡ []) ⊎ (set ≡ addresses.now)) }
+    ensures ok { IfOk result (λ set. IfSome set (λ ips. ips ≡ addresses.now)) }
     ensures distinct { IfOk result (λ _. are_distinct addresses.now ≡ true) }
     ensures fault { IfErr result (IsRefused addresses.now) }
 {

@@ -1,34 +1,34 @@
 // What is told of a race's addresses, each of which it is found by.
 
-ghost use Rattle.std.specs.Prelude.{◌≡◌, ◌⊎◌, ◌++◌, [], ◌∷◌, true, find, option_copied, IfOk, OnOk, OnErr};
+ghost use Rattle.std.specs.Prelude.{◌≡◌, ◌++◌, [], ◌∷◌, true, find, option_copied, IfOk, IfSome, OnOk, OnErr};
 ghost use Rattle.std.specs.Map.{keys_of};
 ghost use Rattle.he_addr.specs.Ip.{same_ip};
 ghost use Rattle.he_timeline.specs.Race.{is_told, told_of};
 ghost use Rattle.he_timeline.specs.Timeline.{are_told_once};
 
+use crate::addresses::Hashed;
 use crate::assigning::put;
 use he_addr::Ip;
 use indexmap::IndexSet;
 use std::alloc::{AllocError, Allocator};
-use std::hash::{BuildHasherDefault, FoldHasher};
 use std::marker::Model;
 
 // To look through so many addresses takes less than to hash an address and to keep an index of them.
 const FEW: usize = 8;
 
 // Addresses by their place among those of which something is told.
-type Places<A> = IndexSet<Ip, BuildHasherDefault<FoldHasher>, A>;
+type Places<A> = Box<Hashed<A>, A>;
 
 // What is told of addresses, in the order in which it was given, of no address twice.
 #[derive(Drop)]
 pub(crate) struct ByAddress<V: Copy, A: Allocator> {
     told: Vec<(Ip, V), A>,
     // the addresses of `told` in its order, or none while they are few: then they are looked for one by one
-    places: Places<A>,
+    places: Option<Places<A>>,
 }
 
 impl<V: Copy, A: Allocator> Model for ByAddress<V, A> {
-    ghost use Rattle.std.specs.Prelude.{List, ◌≡◌, ◌⊎◌, []};
+    ghost use Rattle.std.specs.Prelude.{List, ◌≡◌, IfSome};
     ghost use Rattle.std.specs.Map.{keys_of};
     ghost use Rattle.he_addr.specs.declared.ip.Ip.{Ip};
 
@@ -36,7 +36,7 @@ impl<V: Copy, A: Allocator> Model for ByAddress<V, A> {
 
     ghost view = { λ t. t.told.items };
 
-    ghost invariant = { λ t. (t.places.keys ≡ []) ⊎ (t.places.keys ≡ keys_of t.told.items) };
+    ghost invariant = { λ t. IfSome t.places (λ places. places.value.keys ≡ keys_of t.told.items) };
 }
 
 impl<V: Copy, A: Allocator + Copy> ByAddress<V, A> {
@@ -46,7 +46,7 @@ impl<V: Copy, A: Allocator + Copy> ByAddress<V, A> {
     {
         ByAddress {
             told: Vec::new(alloc),
-            places: IndexSet::new(alloc),
+            places: None,
         }
     }
 
@@ -66,16 +66,12 @@ impl<V: Copy, A: Allocator + Copy> ByAddress<V, A> {
         ensures ok { OnOk result (self.new ≡ self.old ++ (ip, value) ∷ []) }
         ensures err { OnErr result (self.new ≡ self.old) }
     {
-        if self.told.len() < FEW && self.places.is_empty() {
-            self.told.push((ip, value))?;
-            return Ok(());
+        if self.told.len() >= FEW {
+            make_places(&mut self.places, &self.told)?;
         }
-        let room = self.told.capacity();
-        make_places(&mut self.places, &self.told, room)?;
-        self.told.push((ip, value))?;
-        if let Err(refused) = self.places.insert(ip) {
-            self.told.pop();
-            return Err(refused.into());
+        match &mut self.places {
+            None => self.told.push((ip, value))?,
+            Some(places) => push_placed(&mut self.told, places, ip, value)?,
         }
         Ok(())
     }
@@ -85,20 +81,19 @@ impl<V: Copy, A: Allocator> ByAddress<V, A> {
     pub(crate) fn has(&self, ip: Ip) -> bool
         ensures { result ≡ is_told ip self.now }
     {
-        if self.places.is_empty() {
-            is_told(&self.told, ip)
-        } else {
-            self.places.contains(&ip)
+        match &self.places {
+            None => is_told(&self.told, ip),
+            Some(places) => places.contains(&ip),
         }
     }
 
     pub(crate) fn of(&self, ip: Ip) -> Option<V>
         ensures { result ≡ told_of self.now ip }
     {
-        if self.places.is_empty() {
+        let Some(places) = &self.places else {
             return told_of_few(&self.told, ip);
-        }
-        match self.places.get_index_of(&ip) {
+        };
+        match places.get_index_of(&ip) {
             Some(place) => Some(self.told[place].1),
             None => None,
         }
@@ -109,10 +104,9 @@ impl<V: Copy, A: Allocator> ByAddress<V, A> {
         ensures { IfOk result (λ copy. copy ≡ self.now) }
     {
         let told = Vec::from_slice(alloc, &self.told)?;
-        let places = if self.places.is_empty() {
-            IndexSet::new(alloc)
-        } else {
-            places_of(alloc, &told, told.len())?
+        let places = match &self.places {
+            None => None,
+            Some(_) => Some(places_of(alloc, &told, told.len())?),
         };
         Ok(ByAddress { told, places })
     }
@@ -145,20 +139,39 @@ fn find_told<V: Copy>(told: &[(Ip, V)], ip: Ip) -> Option<&(Ip, V)>
     told.iter().find(|one| one.0 == ip)
 }
 
-// Makes the places of the addresses, with room for so many, if there are none yet.
+// Makes the places of the addresses, with room for as many as can be told, if there are none yet.
 fn make_places<V: Copy, A: Allocator + Copy>(
-    places: &mut Places<A>,
-    told: &[(Ip, V)],
-    room: usize,
+    places: &mut Option<Places<A>>,
+    told: &Vec<(Ip, V), A>,
 ) -> Result<(), AllocError>
-    requires places { (places.old.keys ≡ []) ⊎ (places.old.keys ≡ keys_of told.now) }
-    requires once { are_told_once told.now ≡ true }
-    ensures ok { OnOk result (places.new.keys ≡ keys_of told.now) }
-    ensures err { OnErr result (places.new.keys ≡ places.old.keys) }
+    requires places { IfSome places.old (λ places. places.value.keys ≡ keys_of told.now.items) }
+    requires once { are_told_once told.now.items ≡ true }
+    ensures { IfSome places.new (λ places. places.value.keys ≡ keys_of told.now.items) }
 {
-    if places.is_empty() {
-        let made = places_of(*places.allocator(), told, room)?;
-        put(places, made);
+    if places.is_none() {
+        let made = places_of(*told.allocator(), told, told.capacity())?;
+        put(places, Some(made));
+    }
+    Ok(())
+}
+
+// One more, where addresses have places.
+fn push_placed<V: Copy, A: Allocator>(
+    told: &mut Vec<(Ip, V), A>,
+    places: &mut Places<A>,
+    ip: Ip,
+    value: V,
+) -> Result<(), AllocError>
+    requires places { places.old.value.keys ≡ keys_of told.old.items }
+    requires once { are_told_once (told.old.items ++ (ip, value) ∷ []) ≡ true }
+    ensures ok { OnOk result (told.new.items ≡ told.old.items ++ (ip, value) ∷ []) }
+    ensures err { OnErr result (told.new.items ≡ told.old.items) }
+    ensures places { places.new.value.keys ≡ keys_of told.new.items }
+{
+    told.push((ip, value))?;
+    if let Err(refused) = places.insert(ip) {
+        told.pop();
+        return Err(refused.into());
     }
     Ok(())
 }
@@ -170,11 +183,11 @@ fn places_of<V: Copy, A: Allocator + Copy>(
     room: usize,
 ) -> Result<Places<A>, AllocError>
     requires { are_told_once told.now ≡ true }
-    ensures { IfOk result (λ places. places.keys ≡ keys_of told.now) }
+    ensures { IfOk result (λ places. places.value.keys ≡ keys_of told.now) }
 {
     let mut places = IndexSet::with_capacity(alloc, room)?;
     for one in told {
         places.insert(one.0)?;
     }
-    Ok(places)
+    Ok(Box::new(alloc, places)?)
 }

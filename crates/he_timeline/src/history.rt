@@ -8,32 +8,34 @@ ghost use Rattle.he_timeline.specs.Equality.{same_history, same_rtt};
 ghost use Rattle.he_timeline.specs.Race.{has_ip, is_told, known_of, rtt_in};
 ghost use Rattle.he_timeline.specs.Timeline.{are_distinct, are_told_once};
 
+use crate::addresses::Hashed;
+use crate::assigning::put;
 use crate::by_address::ByAddress;
 use he_addr::Ip;
 use he_select::Known;
 use indexmap::IndexSet;
 use std::alloc::{AllocError, Allocator};
-use std::hash::{BuildHasherDefault, FoldHasher};
 use std::marker::Model;
 
 // Addresses in the order in which they were given.
-type Addresses<A> = IndexSet<Ip, BuildHasherDefault<FoldHasher>, A>;
+type Addresses<A> = Box<Hashed<A>, A>;
 
 // The last round trip times in milliseconds, and the addresses that were used before. Where there are none it takes no
 // memory.
 #[derive(Drop)]
 pub(crate) struct History<A: Allocator> {
     rtts: ByAddress<u64, A>,
-    used: Addresses<A>,
+    used: Option<Addresses<A>>,
 }
 
 impl<A: Allocator> Model for History<A> {
-    ghost use Rattle.std.specs.Prelude.{◌≡◌, true};
+    ghost use Rattle.std.specs.Prelude.{◌≡◌, [], true};
+    ghost use Rattle.std.specs.Option.{option_map_or};
     ghost use Rattle.he_timeline.specs.Race.{History};
 
     ghost Value = { History };
 
-    ghost view = { λ h. record { rtts = h.rtts; used = h.used.keys } };
+    ghost view = { λ h. record { rtts = h.rtts; used = option_map_or (λ used. used.value.keys) h.used [] } };
 }
 
 impl<A: Allocator + Copy> History<A> {
@@ -43,7 +45,7 @@ impl<A: Allocator + Copy> History<A> {
     {
         History {
             rtts: ByAddress::none(alloc),
-            used: IndexSet::new(alloc),
+            used: None,
         }
     }
 
@@ -56,12 +58,20 @@ impl<A: Allocator + Copy> History<A> {
         self.rtts.push(ip, rtt)
     }
 
-    pub(crate) fn push_used(&mut self, ip: Ip) -> Result<(), AllocError>
+    pub(crate) fn push_used(&mut self, alloc: A, ip: Ip) -> Result<(), AllocError>
         requires { has_ip ip self.old.used ≡ false }
         ensures ok { OnOk result (self.new ≡ record self.old { used = self.old.used ++ ip ∷ [] }) }
         ensures err { OnErr result (self.new ≡ self.old) }
     {
-        self.used.insert(ip)?;
+        match &mut self.used {
+            Some(used) => {
+                used.insert(ip)?;
+            }
+            None => {
+                let first = set_of(alloc, &[ip])?;
+                put(&mut self.used, Some(first));
+            }
+        }
         Ok(())
     }
 }
@@ -82,10 +92,10 @@ impl<A: Allocator> History<A> {
     pub(crate) fn is_used(&self, ip: Ip) -> bool
         ensures { result ≡ has_ip ip self.now.used }
     {
-        if self.used.is_empty() {
-            return false;
+        match &self.used {
+            Some(used) => used.contains(&ip),
+            None => false,
         }
-        self.used.contains(&ip)
     }
 
     // What is known of the address.
@@ -108,7 +118,10 @@ impl<A: Allocator> History<A> {
     pub(crate) fn used_addresses(&self) -> &[Ip]
         ensures { result.now ≡ self.now.used }
     {
-        self.used.as_slice()
+        match &self.used {
+            Some(used) => used.as_slice(),
+            None => &[],
+        }
     }
 
     pub(crate) fn copy<B: Allocator + Copy>(&self, alloc: B) -> Result<History<B>, AllocError>
@@ -117,7 +130,10 @@ impl<A: Allocator> History<A> {
         ensures { IfOk result (λ copy. copy ≡ self.now) }
     {
         let rtts = self.rtts.copy(alloc)?;
-        let used = set_of(alloc, self.used.as_slice())?;
+        let used = match &self.used {
+            Some(used) => Some(set_of(alloc, used.as_slice())?),
+            None => None,
+        };
         Ok(History { rtts, used })
     }
 
@@ -125,20 +141,20 @@ impl<A: Allocator> History<A> {
         ensures { result ≡ same_history self.now other.now }
     {
         same_rtts(self.rtts.as_slice(), other.rtts.as_slice())
-            && same_ips(self.used.as_slice(), other.used.as_slice())
+            && same_ips(self.used_addresses(), other.used_addresses())
     }
 }
 
 // The set of these addresses, in their order.
 fn set_of<A: Allocator + Copy>(alloc: A, ips: &[Ip]) -> Result<Addresses<A>, AllocError>
     requires { are_distinct ips.now ≡ true }
-    ensures { IfOk result (λ set. set.keys ≡ ips.now) }
+    ensures { IfOk result (λ set. set.value.keys ≡ ips.now) }
 {
     let mut set = IndexSet::with_capacity(alloc, ips.len())?;
     for ip in ips {
         set.insert(*ip)?;
     }
-    Ok(set)
+    Ok(Box::new(alloc, set)?)
 }
 
 fn same_rtts(x: &[(Ip, u64)], y: &[(Ip, u64)]) -> bool

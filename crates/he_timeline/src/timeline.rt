@@ -1,6 +1,6 @@
 // A race's whole input: settings, policy, host, answers, history, outcomes and pauses.
 
-ghost use Rattle.std.specs.Prelude.{false, All, ◌≡◌, ◌≤◌, drop, length, option_map, max, IfOk, IfSome, IsTrue, OnOk, OnErr};
+ghost use Rattle.std.specs.Prelude.{false, All, ◌≡◌, ◌+◌, ◌≤◌, drop, length, option_map, max, IfOk, IfSome, IsTrue, OnOk, OnErr};
 ghost use Rattle.std.specs.Cmp.Lexicographic.{pointwise};
 ghost use Rattle.std.specs.List.{list_all};
 ghost use Rattle.he_addr.specs.Ip.{same_ip, InRange};
@@ -114,7 +114,7 @@ impl<A: Allocator + Copy> Timeline<A> {
         ensures ok { OnOk result (self.new ≡ with_used self.old ip) }
         ensures err { OnErr result (self.new ≡ self.old) }
     {
-        self.history.push_used(ip)
+        self.history.push_used(*self.pauses.allocator(), ip)
     }
 
     pub(crate) fn push_outcome(&mut self, ip: Ip, outcome: Outcome) -> Result<(), AllocError>
@@ -139,8 +139,10 @@ impl<A: Allocator + Copy> Timeline<A> {
 
 impl<A: Allocator> Timeline<A> {
     /// How many addresses the answers have: no race has more attempts or outcomes.
-    pub fn address_count(&self) -> usize {
-        answered_count(&self.aaaa).saturating_add(answered_count(&self.a))
+    pub fn address_count(&self) -> usize
+        ensures { result ≡ length (addresses_of self.now.aaaa) + length (addresses_of self.now.a) }
+    {
+        answered_count(&self.aaaa) + answered_count(&self.a)
     }
 
     /// The addresses of the family's answer as written, none where it has no answer.
@@ -354,7 +356,9 @@ impl<A: Allocator> Timeline<A> {
     }
 }
 
-fn answered_count<A: Allocator>(answer: &Option<Answer<A>>) -> usize {
+fn answered_count<A: Allocator>(answer: &Option<Answer<A>>) -> usize
+    ensures { result ≡ length (addresses_of answer.now) }
+{
     match answer {
         Some(answer) => answer.addresses.as_slice().len(),
         None => 0,

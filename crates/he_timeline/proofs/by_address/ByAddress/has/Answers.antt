@@ -1,12 +1,15 @@
-use Rattle.std.proofs.Common.{◌∙◌, ap}
+use Rattle.std.proofs.Common.{◌≡◌, IfSome, ◌∙◌, ap, subst}
+use Rattle.std.specs.Map.{keys_of}
 use Rattle.he_addr.specs.contracts.ip.IpPartialEq.TheImpl.{eq-value}
 use Rattle.he_timeline.specs.Race.{is_told}
 use Rattle.he_timeline.proofs.ByAddress.{same_as}
-use Rattle.he_timeline.proofs.Placed.{are_some, key_there}
+use Rattle.he_timeline.proofs.Placed.{key_there}
 use Rattle.he_timeline.proofs.by_address.ByAddress.has.Goals as goal
 
-pub returns-else-is_empty : goal.returns-else-is_empty
-returns-else-is_empty g c =
+pub returns-in-Some : goal.returns-in-Some
+returns-in-Some g c =
     let told = c.self.inside in
-    let is = are_some told.places.keys told.told.items c.self.invariant c.is_empty.result c.if-is_empty.false c.is_empty.ensures.1 in
-    c.contains.ensures ∙ key_there eq-value.it same_as c.args.ip told.places.keys told.told.items is ∙ ap (is_told c.args.ip) c.self.view_is
+    let is : c.in-Some.places.value.keys ≡ keys_of told.told.items = subst (λ o. IfSome o (λ p. p.value.keys ≡ keys_of told.told.items)) c.in-Some.is c.self.invariant in
+    c.contains.ensures
+    ∙ key_there eq-value.it same_as c.args.ip c.deref-in-Some.result.now.keys told.told.items (ap (λ s. s.keys) c.deref-in-Some.ensures ∙ is)
+    ∙ ap (is_told c.args.ip) c.self.view_is
