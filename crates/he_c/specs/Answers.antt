@@ -4,10 +4,10 @@ use Rattle.he_c.specs.declared.answer.Told.{Told}
 use Rattle.he_c.specs.declared.codes.TheConstants.{DONE, FAULT, NO_ROOM, HEADER, WORD, NUMBER, ADDRESS, PREFIX, REPEATED, RANGE, TOO_MANY, UNFINISHED, NO_DEFAULT_ROW, NO_MAPPED_ROW, SHARED_PRECEDENCE, OTHER_POLICY, MEMORY}
 use Rattle.he_select.specs.declared.policy.PolicyFault.{PolicyFault}
 use Rattle.he_select.specs.declared.policy.PolicyFault.TheVariants as policies
-use Rattle.he_text.specs.declared.fault.TextKind.{TextKind}
-use Rattle.he_text.specs.declared.fault.TextKind.TheVariants as kinds
-use Rattle.he_text.specs.declared.inputs.InputFault.{InputFault}
-use Rattle.he_text.specs.declared.inputs.InputFault.TheVariants.{Text, Read}
+use Rattle.he_words.specs.declared.fault.TextKind.{TextKind}
+use Rattle.he_words.specs.declared.fault.TextKind.TheVariants as kinds
+use Rattle.he_inputs.specs.declared.input_fault.InputFault.{InputFault}
+use Rattle.he_inputs.specs.declared.input_fault.InputFault.TheVariants.{Text, Read}
 
 -- the number of why rows are no policy table; no text has one of the other causes as a fault of this kind
 abbrev pub policy_code : PolicyFault → ℕ

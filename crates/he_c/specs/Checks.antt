@@ -4,8 +4,8 @@ use Rattle.he_check.specs.Checked.{IsRight}
 use Rattle.he_check.specs.Stream.{report_text}
 use Rattle.he_check.specs.declared.input.Checked.{Checked}
 use Rattle.he_timeline.specs.Race.{Race}
-use Rattle.he_text.specs.declared.inputs.InputFault.{InputFault}
-use Rattle.he_text.specs.Inputs.{HasRaces}
+use Rattle.he_inputs.specs.declared.input_fault.InputFault.{InputFault}
+use Rattle.he_inputs.specs.Inputs.{HasRaces}
 use Rattle.he_c.specs.Answers.{Leaves}
 use Rattle.he_c.specs.declared.answer.Told.{Told}
 

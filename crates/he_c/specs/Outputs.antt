@@ -3,10 +3,10 @@ use Rattle.std.specs.Prelude.{ℕ, ◌≡◌, false, List, Option}
 use Rattle.he_explain.specs.Course.{IsExplanation}
 use Rattle.he_timeline.specs.Race.{Race}
 use Rattle.he_plan.specs.Transcript.{IsTranscript, Report}
-use Rattle.he_text.specs.declared.inputs.InputFault.{InputFault}
-use Rattle.he_text.specs.Inputs.{AreTexts, HasRaces}
-use Rattle.he_text.specs.Orders.{order_text}
-use Rattle.he_text.specs.Written.{transcript_text}
+use Rattle.he_inputs.specs.declared.input_fault.InputFault.{InputFault}
+use Rattle.he_inputs.specs.Inputs.{AreTexts, HasRaces}
+use Rattle.he_write.specs.Orders.{order_text}
+use Rattle.he_write.specs.Written.{transcript_text}
 use Rattle.he_c.specs.Answers.{Leaves}
 use Rattle.he_c.specs.declared.answer.Told.{Told}
 use Rattle.he_c.specs.declared.telling.Content.{Content}

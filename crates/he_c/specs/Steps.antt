@@ -10,7 +10,7 @@ use Rattle.he_next.specs.declared.step.Pause.{Pause}
 use Rattle.he_next.specs.declared.step.Step.{Step}
 use Rattle.he_next.specs.Faults.{IsNextFault}
 use Rattle.he_next.specs.Steps.{IsStep}
-use Rattle.he_text.specs.declared.inputs.InputFault.{InputFault}
+use Rattle.he_inputs.specs.declared.input_fault.InputFault.{InputFault}
 use Rattle.he_c.specs.Answers.{fault_kind, fault_line, nothing_told}
 use Rattle.he_c.specs.declared.answer.Told.{Told}
 use Rattle.he_c.specs.declared.codes.TheConstants.{START, WAIT, WON, EXHAUSTED, LIMIT}

@@ -5,7 +5,7 @@ ghost use Rattle.he_c.specs.Answers.{Leaves, answer_by, nothing_told, told_of};
 ghost use Rattle.he_c.specs.declared.codes.TheConstants.{NO_MEMORY};
 
 use crate::codes::{DONE, FAULT, NO_ROOM, fault_kind, fault_line};
-use he_text::InputFault;
+use he_inputs::InputFault;
 
 /// What is told of a call, besides its answer: `struct he_told` of `he.h`.
 #[repr(C)]

@@ -7,7 +7,8 @@ ghost use Rattle.he_c.specs.Checks.{IsCheckOf};
 use crate::telling::Output;
 use he_addr::{Memory, write_number};
 use he_check::{Checked, check_input, explain_fault};
-use he_text::{InputFault, StreamFault, TextFault};
+use he_inputs::{InputFault, StreamFault};
+use he_words::TextFault;
 use std::alloc::Global;
 
 // How many races and lines the input has, or what is said of its first fault.

@@ -3,8 +3,9 @@
 ghost use Rattle.std.specs.Prelude.{◌≡◌};
 ghost use Rattle.he_c.specs.Answers.{fault_kind, fault_line, kind_code, policy_code};
 
+use he_inputs::InputFault;
 use he_select::PolicyFault;
-use he_text::{InputFault, TextKind};
+use he_words::TextKind;
 
 /// All was done.
 pub const DONE: u32 = 0;

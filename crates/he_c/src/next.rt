@@ -10,8 +10,8 @@ ghost use Rattle.he_c.specs.declared.codes.TheConstants.{DONE, FAULT, NOT_ONE, N
 use crate::answer::{NOTHING, Told};
 use crate::codes::{DONE, FAULT, NO_MEMORY, NOT_ONE, fault_kind, fault_line};
 use crate::step::{NO_STEP, StepNumbers, numbers_of};
+use he_inputs::InputFault;
 use he_next::{NextFault, next_step};
-use he_text::InputFault;
 use std::alloc::Global;
 
 /// Tells what is due at the tick in the race of the record so far, of which so many attempts were started.

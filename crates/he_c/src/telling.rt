@@ -2,15 +2,16 @@
 
 ghost use Rattle.std.specs.Prelude.{◌≡◌, ◌++◌, IfOk, OnOk};
 ghost use Rattle.he_explain.specs.Course.{IsExplanation};
-ghost use Rattle.he_text.specs.Written.{transcript_text};
+ghost use Rattle.he_write.specs.Written.{transcript_text};
 ghost use Rattle.he_c.specs.Outputs.{IsOrderText, IsOutput, IsTextOf, IsTranscriptText};
 ghost use Rattle.he_c.specs.Telling.{WritesRace};
 
 use he_addr::Memory;
 use he_explain::write_explanation;
+use he_inputs::{Ending, InputFault, RaceReader, RaceReaderFault};
 use he_plan::{Transcript, transcript_of};
 use he_timeline::Timeline;
-use he_text::{Ending, InputFault, Walk, WalkFault, write_order, write_transcript};
+use he_write::{write_order, write_transcript};
 use std::alloc::Global;
 
 // What is written of a race.
@@ -33,18 +34,18 @@ pub(crate) fn output_of(alloc: Global, input: &[u8], content: Content) -> Result
     ensures { IfOk result (λ output. IsOutput (IsTextOf content) input.now output.text.items output.fault) }
 {
     let mut text = Vec::new(alloc);
-    let mut walk = Walk::START;
+    let mut reader = RaceReader::START;
     loop {
-        match walk.next(alloc, input, Ending::Whole) {
+        match reader.next(alloc, input, Ending::Whole) {
             Ok(Some(race)) => content.write(alloc, &race, &mut text)?,
             Ok(None) => return Ok(Output { text, fault: None }),
-            Err(WalkFault::Input(fault)) => {
+            Err(RaceReaderFault::Input(fault)) => {
                 return Ok(Output {
                     text,
                     fault: Some(fault),
                 });
             }
-            Err(WalkFault::Memory) => return Err(Memory),
+            Err(RaceReaderFault::Memory) => return Err(Memory),
         }
     }
 }

@@ -1,19 +1,19 @@
--- One race more of an input that is checked, its warnings, and how its walk ends.
+-- One race more of an input that is checked, its warnings, and how its reading ends.
 use Rattle.std.proofs.Common.{ℕ, ◌≡◌, ◌+◌, ◌-◌, ◌≤◌, ◌==◌, List, [], ◌∷◌, ◌++◌, length, map, take, Bool, Option, Some, sym, subst, refl, ◌∙◌, ap, append_assoc, arith}
 use Rattle.std.specs.List.{slice_range}
 use Rattle.std.proofs.lemmas.List.{append-nil, take_all}
 use Rattle.std.proofs.Math.Seq.{take-add}
 use Rattle.he_timeline.specs.Race.{Race}
-use Rattle.he_text.specs.Inputs.{line_count}
-use Rattle.he_text.specs.Text.{IsRaceText}
-use Rattle.he_text.specs.Walks.{IsNextOf, IsWalkFault, IsWithin, PassesRace, ending_of}
-use Rattle.he_text.specs.declared.inputs.InputFault.TheVariants as inputs
-use Rattle.he_text.specs.declared.walks.Walk.{Walk}
-use Rattle.he_text.specs.declared.walks.WalkFault.{WalkFault}
-use Rattle.he_text.specs.declared.walks.WalkFault.TheVariants as walks
-use Rattle.he_text.proofs.WalkLaws.{ends_whole, has_fault, has_none, line_count-append, none_behind, passes_on}
+use Rattle.he_inputs.specs.Inputs.{line_count}
+use Rattle.he_reading.specs.Text.{IsRaceText}
+use Rattle.he_inputs.specs.RaceReading.{IsNextOf, IsReaderFault, IsWithin, PassesRace, ending_of}
+use Rattle.he_inputs.specs.declared.input_fault.InputFault.TheVariants as inputs
+use Rattle.he_inputs.specs.declared.race_reader.RaceReader.{RaceReader}
+use Rattle.he_inputs.specs.declared.race_reader.RaceReaderFault.{RaceReaderFault}
+use Rattle.he_inputs.specs.declared.race_reader.RaceReaderFault.TheVariants as readers
+use Rattle.he_inputs.proofs.RaceReadingLaws.{ends_whole, has_fault, has_none, line_count-append, none_behind, passes_on}
 use Rattle.he_check.specs.Checked.{IsRight, IsWrong}
-use Rattle.he_text.specs.StreamFaults.{fault_of_walk}
+use Rattle.he_inputs.specs.StreamFaults.{fault_of_reader}
 use Rattle.he_check.specs.Slips.{AreWarned, HasWarnings, slip_if, warning_at, warnings_of}
 use Rattle.he_check.specs.Steps.{HasCounted}
 use Rattle.he_check.specs.declared.slips.Slip.TheVariants.{NoRace}
@@ -51,7 +51,7 @@ take_to input from end le =
     let sum : end ≡ from + (end - from) = omega arith in
     ap (λ (n : ℕ). take n input) sum ∙ take-add from (end - from) input
 
-pub one_more : (input : List ℕ) (old new : Walk) (warnings more : List Warning) (line : ℕ) (race : Race) → HasCounted input old warnings → line ≡ old.lines + 1
+pub one_more : (input : List ℕ) (old new : RaceReader) (warnings more : List Warning) (line : ℕ) (race : Race) → HasCounted input old warnings → line ≡ old.lines + 1
     → IsWithin input new → PassesRace input old new race → more ≡ warnings ++ warnings_of line race → HasCounted input new more
 one_more input old new warnings more line race before at within passes longer =
     let races = before.races ++ race ∷ [] in
@@ -67,21 +67,21 @@ one_more input old new warnings more line race before at within passes longer =
       warned = subst (λ (w : List Warning). AreWarned 0 races (take new.end input) w) (sym longer) warned;
     }
 
-pub fault_wrong : (input : List ℕ) (is_broken : Bool) (walk : Walk) (warnings : List Warning) (fault : WalkFault) → HasCounted input walk warnings → IsWalkFault input (ending_of is_broken) walk fault
-    → IsWrong input is_broken (fault_of_walk fault)
-fault_wrong input is_broken walk warnings (walks.Input (inputs.Text fault)) before is = (before.races, has_fault input is_broken before.races walk (inputs.Text fault) before.passed before.within.few is)
-fault_wrong input is_broken walk warnings (walks.Input inputs.Read) before is = (before.races, has_fault input is_broken before.races walk inputs.Read before.passed before.within.few is)
-fault_wrong input is_broken walk warnings walks.Memory before is = tt
+pub fault_wrong : (input : List ℕ) (is_broken : Bool) (reader : RaceReader) (warnings : List Warning) (fault : RaceReaderFault) → HasCounted input reader warnings → IsReaderFault input (ending_of is_broken) reader fault
+    → IsWrong input is_broken (fault_of_reader fault)
+fault_wrong input is_broken reader warnings (readers.Input (inputs.Text fault)) before is = (before.races, has_fault input is_broken before.races reader (inputs.Text fault) before.passed before.within.few is)
+fault_wrong input is_broken reader warnings (readers.Input inputs.Read) before is = (before.races, has_fault input is_broken before.races reader inputs.Read before.passed before.within.few is)
+fault_wrong input is_broken reader warnings readers.Memory before is = tt
 
 -- no race follows: all of the input is passed
-passed_all : (input : List ℕ) (is_broken : Bool) (old new : Walk) (warnings : List Warning) (found : Option Race) → HasCounted input old warnings
+passed_all : (input : List ℕ) (is_broken : Bool) (old new : RaceReader) (warnings : List Warning) (found : Option Race) → HasCounted input old warnings
     → IsNextOf input (ending_of is_broken) old new found → ((race : Race) → found ≡ Some race → ⊥) → take old.end input ≡ input
 passed_all input is_broken old new warnings found before next none =
     let ends = none_behind input is_broken old new found next none in
     let end = ends_whole input old.end is_broken before.within.place ends.1 in
     take_all old.end input (omega (arith, end))
 
-pub end_right : (input : List ℕ) (is_broken : Bool) (old new : Walk) (warnings : List Warning) (found : Option Race) → HasCounted input old warnings
+pub end_right : (input : List ℕ) (is_broken : Bool) (old new : RaceReader) (warnings : List Warning) (found : Option Race) → HasCounted input old warnings
     → IsNextOf input (ending_of is_broken) old new found → ((race : Race) → found ≡ Some race → ⊥)
     → IsRight input is_broken (record { races = new.races; lines = new.lines })
 end_right input is_broken old new warnings found before next none =
@@ -92,18 +92,18 @@ end_right input is_broken old new warnings found before next none =
     let lines : old.lines ≡ line_count (take old.end input) = omega arith in (
       before.races,
       has_none input is_broken before.races old before.passed before.within.few ends.1,
-      ap (λ (w : Walk). w.races) ends.0 ∙ (let same : old.races ≡ length before.races = omega arith in same),
-      ap (λ (w : Walk). w.lines) ends.0 ∙ lines ∙ ap line_count whole,
+      ap (λ (w : RaceReader). w.races) ends.0 ∙ (let same : old.races ≡ length before.races = omega arith in same),
+      ap (λ (w : RaceReader). w.lines) ends.0 ∙ lines ∙ ap line_count whole,
     )
 
-pub end_warned : (input : List ℕ) (is_broken : Bool) (old new : Walk) (warnings more : List Warning) (found : Option Race) → HasCounted input old warnings
+pub end_warned : (input : List ℕ) (is_broken : Bool) (old new : RaceReader) (warnings more : List Warning) (found : Option Race) → HasCounted input old warnings
     → IsNextOf input (ending_of is_broken) old new found → ((race : Race) → found ≡ Some race → ⊥)
     → more ≡ warnings ++ map (warning_at 1) (slip_if (new.races == 0) NoRace) → HasWarnings input more
 end_warned input is_broken old new warnings more found before next none longer =
     let ends = none_behind input is_broken old new found next none in
     let counted = before.passed.counted in
     let Warned : List ℕ → Type 0 = λ text. AreWarned 0 before.races text warnings in
-    let races : new.races ≡ length before.races = ap (λ (w : Walk). w.races) ends.0 ∙ (let same : old.races ≡ length before.races = omega arith in same) in (
+    let races : new.races ≡ length before.races = ap (λ (w : RaceReader). w.races) ends.0 ∙ (let same : old.races ≡ length before.races = omega arith in same) in (
       before.races,
       warnings,
       subst Warned (passed_all input is_broken old new warnings found before next none) before.warned,

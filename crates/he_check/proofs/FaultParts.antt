@@ -1,24 +1,24 @@
 -- The faults of an input, part by part, and what is said of them.
 use Rattle.std.proofs.Common.{ℕ, ◌≡◌, ◌⊎◌, ◌↔◌, ◌+◌, ◌≤◌, Bool, true, false, List, [], ◌∷◌, ◌++◌, length, take, drop, Option, Some, None, Err, refl, sym, subst, subst₂, ◌∙◌, ap, append_assoc, append-nil, take-append-drop, arith, codes, decimal, inl, inr}
 use Rattle.he_timeline.specs.Race.{Race}
-use Rattle.he_text.specs.FaultSearch.{fault_of}
-use Rattle.he_text.specs.FirstFault.{IsFirstFaultOf}
-use Rattle.he_text.specs.Inputs.{HasRaces, IsFaultBehind, fault_behind, line_count}
-use Rattle.he_text.specs.Walks.{EndsAt, HasPassed, IsWalkFault, IsWithin, MayFollow, ending_of}
-use Rattle.he_text.specs.declared.fault.TextFault.{TextFault}
-use Rattle.he_text.specs.declared.fault.TextKind.{TextKind}
-use Rattle.he_text.specs.declared.fault.TextKind.TheVariants as kinds
-use Rattle.he_text.specs.declared.inputs.InputFault.{InputFault}
-use Rattle.he_text.specs.declared.inputs.InputFault.TheVariants.{Text, Read}
-use Rattle.he_text.specs.declared.walks.Walk.{Walk}
-use Rattle.he_text.specs.declared.walks.WalkFault.TheVariants as walks
+use Rattle.he_reading.specs.FaultSearch.{fault_of}
+use Rattle.he_inputs.specs.FirstFault.{IsFirstFaultOf}
+use Rattle.he_inputs.specs.Inputs.{HasRaces, IsFaultBehind, fault_behind, line_count}
+use Rattle.he_inputs.specs.RaceReading.{EndsAt, HasPassed, IsReaderFault, IsWithin, MayFollow, ending_of}
+use Rattle.he_words.specs.declared.fault.TextFault.{TextFault}
+use Rattle.he_words.specs.declared.fault.TextKind.{TextKind}
+use Rattle.he_words.specs.declared.fault.TextKind.TheVariants as kinds
+use Rattle.he_inputs.specs.declared.input_fault.InputFault.{InputFault}
+use Rattle.he_inputs.specs.declared.input_fault.InputFault.TheVariants.{Text, Read}
+use Rattle.he_inputs.specs.declared.race_reader.RaceReader.{RaceReader}
+use Rattle.he_inputs.specs.declared.race_reader.RaceReaderFault.TheVariants as readers
 use Rattle.he_check.specs.AllFaults.{AreFaults, AreFaultsBehind, AreSaid, IsLastRace, IsNextRace, behind, fault_text, read_text, told_at_end}
 use Rattle.he_check.specs.Clauses.{hint_of}
 use Rattle.he_check.specs.Sentences.{clause_text}
 use Rattle.he_check.specs.Checked.{IsWrong}
 use Rattle.he_check.specs.Stream.{Explains, TellsAll}
-use Rattle.he_text.specs.declared.stream_fault.StreamFault.{StreamFault}
-use Rattle.he_text.specs.declared.stream_fault.StreamFault.TheVariants as checks
+use Rattle.he_inputs.specs.declared.stream_fault.StreamFault.{StreamFault}
+use Rattle.he_inputs.specs.declared.stream_fault.StreamFault.TheVariants as checks
 use Rattle.he_check.specs.Steps.{AreLeft, EndsText, HasTold, IsFirst, IsNextPart, IsSaid, SaysFaults, SaysOf, StandsBehind, fault_over}
 use Rattle.he_check.specs.declared.parts.Part.{Part}
 use Rattle.he_check.proofs.WholeLines.{whole_races}
@@ -89,18 +89,18 @@ nothing_follows : (is_broken : Bool) → MayFollow (ending_of is_broken) [] is_b
 nothing_follows true = (refl, refl)
 nothing_follows false = (refl, refl)
 
--- the walk stopped before the first fault of the part
-pub first_found : FirstFaults → (is_broken : Bool) (part faulty : Part) (races : List Race) (walk : Walk) (fault : InputFault)
-    → HasPassed part.text.now 0 part.lines races walk → IsWithin part.text.now walk → IsWalkFault part.text.now (ending_of is_broken) walk (walks.Input fault)
-    → faulty.text.now ≡ drop walk.end part.text.now → faulty.lines ≡ walk.lines → IsFirst is_broken part faulty fault × EndsText part.text.now part.lines faulty
-first_found first is_broken part faulty races walk fault passed within is rest lines =
+-- the reader stopped before the first fault of the part
+pub first_found : FirstFaults → (is_broken : Bool) (part faulty : Part) (races : List Race) (reader : RaceReader) (fault : InputFault)
+    → HasPassed part.text.now 0 part.lines races reader → IsWithin part.text.now reader → IsReaderFault part.text.now (ending_of is_broken) reader (readers.Input fault)
+    → faulty.text.now ≡ drop reader.end part.text.now → faulty.lines ≡ reader.lines → IsFirst is_broken part faulty fault × EndsText part.text.now part.lines faulty
+first_found first is_broken part faulty races reader fault passed within is rest lines =
     let text = part.text.now in
-    let front = take walk.end text in
-    let left = drop walk.end text in
-    let count : walk.races ≡ length races = let counted = passed.counted in omega arith in
-    let lined : walk.lines ≡ part.lines + line_count front = passed.lined in
-    let Rest : List ℕ → Type 0 = λ r. IsFaultBehind is_broken walk.races walk.lines r (Some fault) in
-    let Count : ℕ → Type 0 = λ n. IsFaultBehind is_broken n walk.lines left (Some fault) in
+    let front = take reader.end text in
+    let left = drop reader.end text in
+    let count : reader.races ≡ length races = let counted = passed.counted in omega arith in
+    let lined : reader.lines ≡ part.lines + line_count front = passed.lined in
+    let Rest : List ℕ → Type 0 = λ r. IsFaultBehind is_broken reader.races reader.lines r (Some fault) in
+    let Count : ℕ → Type 0 = λ n. IsFaultBehind is_broken n reader.lines left (Some fault) in
     let Lines : ℕ → Type 0 = λ n. IsFaultBehind is_broken (length races) n left (Some fault) in
     let here = subst Rest (append-nil left) (is [] is_broken (nothing_follows is_broken)) in
     let over = is_over first is_broken (length races) part.lines (line_count front) left fault (subst Lines lined (subst Count count here)) in
@@ -114,7 +114,7 @@ first_found first is_broken part faulty races walk fault passed within is rest l
         has = record {
           before = front;
           rest = left;
-          parts = sym (take-append-drop walk.end text);
+          parts = sym (take-append-drop reader.end text);
           whole = passed.whole;
           few = omega arith;
           fault_is = over.is;
@@ -126,7 +126,7 @@ first_found first is_broken part faulty races walk fault passed within is rest l
       },
       record {
         before = front;
-        split = sym (take-append-drop walk.end text) ∙ ap (λ (r : List ℕ). front ++ r) (sym rest);
+        split = sym (take-append-drop reader.end text) ∙ ap (λ (r : List ℕ). front ++ r) (sym rest);
         whole = whole_races races front passed.whole;
         counted = sym same;
         room = omega arith;
@@ -134,13 +134,13 @@ first_found first is_broken part faulty races walk fault passed within is rest l
     )
 
 -- a part without a fault
-pub none_found : (is_broken : Bool) (part : Part) (races : List Race) (walk : Walk) → HasPassed part.text.now 0 part.lines races walk → IsWithin part.text.now walk
-    → EndsAt (ending_of is_broken) (drop walk.end part.text.now) → (found : List Race) × HasRaces part.text.now is_broken found None
-none_found true part races walk passed within ends = absurd ends
-none_found false part races walk passed within ends =
+pub none_found : (is_broken : Bool) (part : Part) (races : List Race) (reader : RaceReader) → HasPassed part.text.now 0 part.lines races reader → IsWithin part.text.now reader
+    → EndsAt (ending_of is_broken) (drop reader.end part.text.now) → (found : List Race) × HasRaces part.text.now is_broken found None
+none_found true part races reader passed within ends = absurd ends
+none_found false part races reader passed within ends =
     let text = part.text.now in
-    let front = take walk.end text in
-    let left = drop walk.end text in
+    let front = take reader.end text in
+    let left = drop reader.end text in
     let counted = passed.counted in
     let few = within.few in
     let Rest : List ℕ → Type 0 = λ r. IsFaultBehind false (length races) (line_count front) r None in (
@@ -148,7 +148,7 @@ none_found false part races walk passed within ends =
       record {
         before = front;
         rest = left;
-        parts = sym (take-append-drop walk.end text);
+        parts = sym (take-append-drop reader.end text);
         whole = passed.whole;
         few = omega arith;
         fault_is = subst Rest (sym ends) refl;

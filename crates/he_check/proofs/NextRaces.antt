@@ -8,11 +8,11 @@ use Rattle.std.proofs.lemmas.Slice.Eq.{starts_is}
 use Rattle.std.proofs.Math.Nat.{lt_of_not-le}
 use Rattle.std.proofs.Math.Seq.{get_or-append_seam, split_at, take-add}
 use Rattle.memchr.specs.Find.{IsFirstByte, is_byte}
-use Rattle.he_text.specs.Inputs.{line_count}
-use Rattle.he_text.specs.Words.{header_of}
-use Rattle.he_text.specs.declared.words.Version.{Version}
-use Rattle.he_text.specs.declared.words.Version.TheVariants.{One, Two}
-use Rattle.he_text.proofs.WalkLaws.{line_count-append}
+use Rattle.he_inputs.specs.Inputs.{line_count}
+use Rattle.he_words.specs.Words.{header_of}
+use Rattle.he_words.specs.declared.words.Version.{Version}
+use Rattle.he_words.specs.declared.words.Version.TheVariants.{One, Two}
+use Rattle.he_inputs.proofs.RaceReadingLaws.{line_count-append}
 use Rattle.he_check.specs.AllFaults.{BeginsRace, IsLastRace}
 use Rattle.he_check.specs.Meant.{begins}
 use Rattle.he_check.specs.Steps.{HasSearched, IsNextPart, begins_race}

@@ -4,11 +4,11 @@ use Rattle.std.specs.List.{join_with_byte, onto_first}
 use Rattle.std.proofs.lemmas.List.Splits.{join_with_byte-slice_split, length-slice_split, slice_split-cons_yes}
 use Rattle.std.proofs.lemmas.Option.{unwrap_or-slice_get}
 use Rattle.he_timeline.specs.Race.{Race}
-use Rattle.he_text.specs.Inputs.{AreRaceTexts, line_count}
-use Rattle.he_text.specs.Parts.{lines_of}
-use Rattle.he_text.specs.Text.{IsRaceText}
-use Rattle.he_text.specs.Words.{header_of}
-use Rattle.he_text.proofs.WalkLaws.{line_count-append}
+use Rattle.he_inputs.specs.Inputs.{AreRaceTexts, line_count}
+use Rattle.he_reading.specs.Parts.{lines_of}
+use Rattle.he_reading.specs.Text.{IsRaceText}
+use Rattle.he_words.specs.Words.{header_of}
+use Rattle.he_inputs.proofs.RaceReadingLaws.{line_count-append}
 use Rattle.he_check.specs.AllFaults.{BeginsRace}
 use Rattle.he_check.specs.Clauses.{line_at}
 use Rattle.he_check.specs.Steps.{AreWhole, EndsText, IsNextPart}

@@ -2,13 +2,13 @@
 -- part begins with the input, or with the next race behind a faulty one.
 use Rattle.std.specs.Prelude.{ℕ, ◌≡◌, ◌⊎◌, ◌≤◌, ◌+◌, Bool, true, false, List, [], ◌∷◌, ◌++◌, length, take, drop, codes, decimal, Some, None}
 use Rattle.he_timeline.specs.Race.{Race}
-use Rattle.he_text.specs.Inputs.{HasRaces, line_count}
-use Rattle.he_text.specs.Ranges.{line_end}
-use Rattle.he_text.specs.Words.{header_of}
-use Rattle.he_text.specs.declared.fault.TextFault.{TextFault}
-use Rattle.he_text.specs.declared.inputs.InputFault.{InputFault}
-use Rattle.he_text.specs.declared.inputs.InputFault.TheVariants.{Text, Read}
-use Rattle.he_text.specs.declared.words.Version.{Version}
+use Rattle.he_inputs.specs.Inputs.{HasRaces, line_count}
+use Rattle.he_words.specs.Ranges.{line_end}
+use Rattle.he_words.specs.Words.{header_of}
+use Rattle.he_words.specs.declared.fault.TextFault.{TextFault}
+use Rattle.he_inputs.specs.declared.input_fault.InputFault.{InputFault}
+use Rattle.he_inputs.specs.declared.input_fault.InputFault.TheVariants.{Text, Read}
+use Rattle.he_words.specs.declared.words.Version.{Version}
 use Rattle.he_check.specs.Clauses.{hint_of}
 use Rattle.he_check.specs.Sentences.{clause_text}
 

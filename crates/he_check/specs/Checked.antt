@@ -1,10 +1,10 @@
 -- What a check of an input tells: its races and lines, or its first fault.
 use Rattle.std.specs.Prelude.{ℕ, ◌≡◌, ⊤, Bool, List, length, Some, None}
 use Rattle.he_timeline.specs.Race.{Race}
-use Rattle.he_text.specs.Inputs.{HasRaces, line_count}
-use Rattle.he_text.specs.declared.inputs.InputFault.TheVariants as inputs
-use Rattle.he_text.specs.declared.stream_fault.StreamFault.{StreamFault}
-use Rattle.he_text.specs.declared.stream_fault.StreamFault.TheVariants.{Text, Read, Write, Memory}
+use Rattle.he_inputs.specs.Inputs.{HasRaces, line_count}
+use Rattle.he_inputs.specs.declared.input_fault.InputFault.TheVariants as inputs
+use Rattle.he_inputs.specs.declared.stream_fault.StreamFault.{StreamFault}
+use Rattle.he_inputs.specs.declared.stream_fault.StreamFault.TheVariants.{Text, Read, Write, Memory}
 use Rattle.he_check.specs.declared.input.Checked.{Checked}
 
 -- nothing is wrong with the input, and it has so many races and lines

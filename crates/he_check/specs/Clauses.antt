@@ -2,10 +2,10 @@
 use Rattle.std.specs.Prelude.{ℕ, ◌≡◌, ◌==◌, ◌-◌, ◌++◌, Bool, true, false, List, [], if◌then◌else◌, Option, None}
 use Rattle.std.specs.List.{filter_map, slice_get}
 use Rattle.std.specs.Option.{option_or, unwrap_or}
-use Rattle.he_text.specs.Parts.{lines_of, tokens_of}
-use Rattle.he_text.specs.declared.fault.TextFault.{TextFault}
-use Rattle.he_text.specs.declared.fault.TextKind.{TextKind}
-use Rattle.he_text.specs.declared.fault.TextKind.TheVariants as kinds
+use Rattle.he_reading.specs.Parts.{lines_of, tokens_of}
+use Rattle.he_words.specs.declared.fault.TextFault.{TextFault}
+use Rattle.he_words.specs.declared.fault.TextKind.{TextKind}
+use Rattle.he_words.specs.declared.fault.TextKind.TheVariants as kinds
 use Rattle.he_check.specs.Meant.{input_meant, meant_of}
 use Rattle.he_check.specs.Sentences.{clause_text}
 use Rattle.he_check.specs.declared.meant.Meant.{Meant}

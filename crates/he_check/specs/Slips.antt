@@ -8,8 +8,8 @@ use Rattle.he_addr.specs.declared.ip.Family.TheVariants as families
 use Rattle.he_addr.specs.declared.ip.Ip.{Ip}
 use Rattle.he_timeline.specs.Race.{Race, Reply}
 use Rattle.he_timeline.specs.Settings.{SettingValues}
-use Rattle.he_text.specs.Inputs.{line_count}
-use Rattle.he_text.specs.Text.{IsRaceText}
+use Rattle.he_inputs.specs.Inputs.{line_count}
+use Rattle.he_reading.specs.Text.{IsRaceText}
 use Rattle.he_check.specs.declared.slips.Slip.{Slip}
 use Rattle.he_check.specs.declared.slips.Slip.TheVariants.{NoRace, NoSource, IdleFloor, NoAnswer, LateAnswer, UnusableAnswer}
 use Rattle.he_check.specs.declared.slips.Warning.{Warning}

@@ -1,28 +1,28 @@
--- Mirrors the code: how far the walk over an input has come whose races are counted, and their warnings; and what is
+-- Mirrors the code: how far the reader of an input has come whose races are counted, and their warnings; and what is
 -- left of an input whose faults are told. What a check tells stands in `Checked`, `Slips` and `AllFaults`.
 use Rattle.std.specs.Prelude.{ℕ, ◌≡◌, ◌⊎◌, ◌≤◌, ◌+◌, ◌^◌, Bool, true, false, List, [], ◌∷◌, ◌++◌, ◌||◌, length, take, drop, codes, Option, Some, None}
 use Rattle.he_timeline.specs.Race.{Race}
-use Rattle.he_text.specs.Inputs.{HasRaces, line_count}
-use Rattle.he_text.specs.Ranges.{line_end}
-use Rattle.he_text.specs.Walks.{HasPassed, IsWithin}
-use Rattle.he_text.specs.declared.inputs.InputFault.{InputFault}
-use Rattle.he_text.specs.declared.inputs.InputFault.TheVariants.{Text, Read}
-use Rattle.he_text.specs.declared.fault.TextFault.{TextFault}
-use Rattle.he_text.specs.declared.walks.Walk.{Walk}
+use Rattle.he_inputs.specs.Inputs.{HasRaces, line_count}
+use Rattle.he_words.specs.Ranges.{line_end}
+use Rattle.he_inputs.specs.RaceReading.{HasPassed, IsWithin}
+use Rattle.he_inputs.specs.declared.input_fault.InputFault.{InputFault}
+use Rattle.he_inputs.specs.declared.input_fault.InputFault.TheVariants.{Text, Read}
+use Rattle.he_words.specs.declared.fault.TextFault.{TextFault}
+use Rattle.he_inputs.specs.declared.race_reader.RaceReader.{RaceReader}
 use Rattle.he_check.specs.AllFaults.{AreFaults, AreFaultsBehind, AreSaid, BeginsRace, IsNextRace, behind}
 use Rattle.he_check.specs.Clauses.{EndsInClause}
 use Rattle.he_check.specs.Meant.{begins}
 use Rattle.he_check.specs.Slips.{AreWarned}
-use Rattle.he_text.specs.declared.stream_fault.StreamFault.{StreamFault}
-use Rattle.he_text.specs.declared.stream_fault.StreamFault.TheVariants as checks
+use Rattle.he_inputs.specs.declared.stream_fault.StreamFault.{StreamFault}
+use Rattle.he_inputs.specs.declared.stream_fault.StreamFault.TheVariants as checks
 use Rattle.he_check.specs.declared.parts.Part.{Part}
 use Rattle.he_check.specs.declared.slips.Warning.{Warning}
 
-pub record HasCounted (input : List ℕ) (walk : Walk) (warnings : List Warning) : Type 0 where
+pub record HasCounted (input : List ℕ) (reader : RaceReader) (warnings : List Warning) : Type 0 where
   pub races : List Race
-  pub passed : HasPassed input 0 0 races walk
-  pub within : IsWithin input walk
-  pub warned : AreWarned 0 races (take walk.end input) warnings
+  pub passed : HasPassed input 0 0 races reader
+  pub within : IsWithin input reader
+  pub warned : AreWarned 0 races (take reader.end input) warnings
 
 -- whole lines
 abbrev pub AreWhole : List ℕ → Type 0

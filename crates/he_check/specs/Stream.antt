@@ -1,16 +1,16 @@
 -- What is taken from an input that is checked, and put into an output.
 use Rattle.std.specs.Prelude.{ℕ, ◌≡◌, ◌==◌, Bool, true, false, List, [], ◌∷◌, ◌++◌, if◌then◌else◌, decimal, codes, Result, Ok, Err}
 use Rattle.std.specs.List.{flat_map}
-use Rattle.he_text.specs.declared.fault.TextFault.{TextFault}
-use Rattle.he_text.specs.declared.inputs.InputFault.{InputFault}
-use Rattle.he_text.specs.declared.inputs.InputFault.TheVariants as inputs
+use Rattle.he_words.specs.declared.fault.TextFault.{TextFault}
+use Rattle.he_inputs.specs.declared.input_fault.InputFault.{InputFault}
+use Rattle.he_inputs.specs.declared.input_fault.InputFault.TheVariants as inputs
 use Rattle.he_check.specs.AllFaults.{AreFaults, AreSaid}
 use Rattle.he_check.specs.Checked.{IsRight, IsWrong}
 use Rattle.he_check.specs.Clauses.{EndsInClause}
 use Rattle.he_check.specs.Sentences.{warning_text}
 use Rattle.he_check.specs.Slips.{HasWarnings}
-use Rattle.he_text.specs.declared.stream_fault.StreamFault.{StreamFault}
-use Rattle.he_text.specs.declared.stream_fault.StreamFault.TheVariants.{Text, Read, Write, Memory}
+use Rattle.he_inputs.specs.declared.stream_fault.StreamFault.{StreamFault}
+use Rattle.he_inputs.specs.declared.stream_fault.StreamFault.TheVariants.{Text, Read, Write, Memory}
 use Rattle.he_check.specs.declared.input.Checked.{Checked}
 use Rattle.he_check.specs.declared.slips.Warning.{Warning}
 

@@ -6,7 +6,8 @@ ghost use Rattle.he_check.specs.Steps.{EndsText, HasTold, IsSaid, SaysFaults};
 use crate::explaining::explanation_of;
 use crate::parts::Part;
 use he_addr::{Memory, write_number};
-use he_text::{InputFault, TextFault};
+use he_inputs::InputFault;
+use he_words::TextFault;
 use std::alloc::Allocator;
 
 const READ_LINE: &[u8] = b"he: cannot read the input\n";

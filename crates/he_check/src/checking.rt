@@ -11,9 +11,9 @@ use crate::explaining::explain_fault;
 use crate::input::{Checked, check_input};
 use crate::telling::tell_warnings;
 use he_addr::{Memory, write_number};
+use he_inputs::StreamFault;
+use he_inputs::inputs::one_input;
 use he_stream::{InputStream, OutputStream, take_input, write_whole};
-use he_text::StreamFault;
-use he_text::inputs::one_input;
 use std::alloc::Allocator;
 
 /// Reads an input of timelines to its end and checks it: where nothing is wrong it writes how many races and lines the

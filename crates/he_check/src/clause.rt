@@ -3,13 +3,13 @@
 ghost use Rattle.std.specs.Prelude.{◌≡◌, ◌-◌, ◌++◌, OnOk};
 ghost use Rattle.std.specs.List.{slice_get};
 ghost use Rattle.std.specs.Option.{option_copied};
-ghost use Rattle.he_text.specs.Parts.{lines_of};
+ghost use Rattle.he_reading.specs.Parts.{lines_of};
 ghost use Rattle.he_check.specs.Clauses.{hint_of, is_of_words, line_at, line_meant};
 ghost use Rattle.he_check.specs.Sentences.{clause_text, meaning_of};
 
 use crate::meant::{Meant, input_meant, meant_of};
 use crate::parts::Part;
-use he_text::{LINE_END, TOKEN_END, TextFault, TextKind};
+use he_words::{LINE_END, TOKEN_END, TextFault, TextKind};
 use std::alloc::{AllocError, Allocator};
 
 // Appends what was likely meant, and a line end.

@@ -8,7 +8,7 @@ use crate::finding::find_sentence;
 use crate::parts::Part;
 use crate::place::find_line;
 use crate::showing::show_line;
-use he_text::TextFault;
+use he_words::TextFault;
 use std::alloc::{AllocError, Allocator};
 
 /// Appends what is said of a fault of the text `input`: its line, printed behind two spaces with a mark `^` below the

@@ -7,10 +7,10 @@ use crate::place::{Place, first_word, token, token_count};
 use crate::repeats::find_repeat;
 use crate::sentence::{Sentence, SharedPrecedence, WrongPart};
 use he_addr::read_number;
-use he_timeline::limits::{DEFAULT_ATTEMPT, MAX_ADDRESSES};
 use he_select::PolicyFault;
-use he_text::limits::{MAX_LINE, MOST_RACES};
-use he_text::{LINE_END, Name, TOKEN_END, TextKind, Word};
+use he_timeline::limits::{DEFAULT_ATTEMPT, MAX_ADDRESSES};
+use he_words::limits::{MAX_LINE, MOST_RACES};
+use he_words::{LINE_END, Name, TOKEN_END, TextKind, Word};
 
 // The tokens of an answer before its addresses: the word and the tick.
 const ANSWER_HEAD: usize = 2;

@@ -4,8 +4,8 @@ use crate::place::{Place, first_word, token, token_count};
 use crate::sentence::{Numbers, Sentence};
 use he_addr::{Family, Ip, read_ip, read_ip_of, read_number, read_prefix, read_source};
 use he_timeline::limits::{MAX_DURATION, MAX_PAUSE_END, MAX_TICK, MIN_DURATION};
-use he_text::limits::{MAX_INTERFACE, MAX_LABEL, MAX_PRECEDENCE, MIN_INTERFACE, MIN_PAUSE_END};
-use he_text::{LINE_END, Name, TOKEN_END, Word};
+use he_words::limits::{MAX_INTERFACE, MAX_LABEL, MAX_PRECEDENCE, MIN_INTERFACE, MIN_PAUSE_END};
+use he_words::{LINE_END, Name, TOKEN_END, Word};
 
 const MILLISECONDS: &str = " milliseconds";
 

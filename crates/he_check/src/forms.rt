@@ -1,7 +1,7 @@
 // What the lines look like, by the word that begins them.
 
-use he_text::Word;
-use he_text::limits::{ROUTE_MARKS, SOURCE_MARKS};
+use he_words::Word;
+use he_words::limits::{ROUTE_MARKS, SOURCE_MARKS};
 
 pub(crate) fn form(word: Word) -> &'static str {
     match word {

@@ -4,7 +4,7 @@ ghost use Rattle.he_check.specs.Checked.{IsRight, IsWrong};
 ghost use Rattle.he_check.specs.Slips.{HasWarnings};
 
 use crate::slips::{Slip, Warning, add_if, add_warnings};
-use he_text::{Ending, StreamFault, Walk};
+use he_inputs::{Ending, RaceReader, StreamFault};
 use std::alloc::Allocator;
 use std::mem::drop;
 
@@ -36,19 +36,19 @@ pub fn check_input<A: Allocator + Copy>(
     ensures wrong { IfErr result (IsWrong input.now is_broken) }
 {
     let ending = Ending::of(is_broken);
-    let mut walk = Walk::START;
+    let mut reader = RaceReader::START;
     let mut warnings = Vec::new(alloc);
     let mut line = 1;
-    while let Some(race) = walk.next(alloc, input, ending)? {
+    while let Some(race) = reader.next(alloc, input, ending)? {
         let added = add_warnings(&race, line, &mut warnings);
         drop(race);
         added?;
-        line = walk.lines + 1;
+        line = reader.lines + 1;
     }
-    add_if(walk.races == 0, 1, Slip::NoRace, &mut warnings)?;
+    add_if(reader.races == 0, 1, Slip::NoRace, &mut warnings)?;
     let checked = Checked {
-        races: walk.races as u64,
-        lines: walk.lines,
+        races: reader.races as u64,
+        lines: reader.lines,
     };
     Ok((checked, warnings))
 }

@@ -6,7 +6,7 @@
 //! that is `race 1` or `race 2`. [`explain_fault`] says of a fault what a compiler would: the line, a mark below the
 //! part that is wrong, and what was expected there.
 //!
-//! Proved: a check tells the input's first fault, by kind and line (`HasRaces` of he_text's `specs/Inputs`), and where
+//! Proved: a check tells the input's first fault, by kind and line (`HasRaces` of he_inputs, `specs/Inputs`), and where
 //! there is none the number of its races and lines (`specs/Checked`), and exactly the slips of its races as warnings,
 //! each with the race's first line (`specs/Slips`) and its sentence (`specs/Sentences`). A replay goes through its
 //! input by the same definition, so both tell one fault. Over streams, whatever they do (`specs/Stream`): the whole

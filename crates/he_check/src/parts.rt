@@ -5,8 +5,9 @@ ghost use Rattle.he_check.specs.AllFaults.{IsLastRace};
 ghost use Rattle.he_check.specs.Steps.{FindsFirst, IsNextPart, begins_race};
 
 use he_addr::Memory;
-use he_text::laws::first_faults;
-use he_text::{Ending, InputFault, LINE_END, Walk, WalkFault};
+use he_inputs::laws::first_faults;
+use he_inputs::{Ending, InputFault, RaceReader, RaceReaderFault};
+use he_words::LINE_END;
 use memchr::memchr;
 use std::alloc::Allocator;
 use std::mem::drop;
@@ -42,20 +43,20 @@ impl<'t> Part<'t> {
     {
         first_faults();
         let ending = Ending::of(is_broken);
-        let mut walk = Walk {
+        let mut reader = RaceReader {
             end: 0,
             races: 0,
             lines: self.lines,
         };
         loop {
-            match walk.next(alloc, self.text, ending) {
+            match reader.next(alloc, self.text, ending) {
                 Ok(Some(race)) => drop(race),
                 Ok(None) => return Ok(None),
-                Err(WalkFault::Memory) => return Err(Memory),
-                Err(WalkFault::Input(fault)) => {
+                Err(RaceReaderFault::Memory) => return Err(Memory),
+                Err(RaceReaderFault::Input(fault)) => {
                     let faulty = Part {
-                        text: &self.text[walk.end..],
-                        lines: walk.lines,
+                        text: &self.text[reader.end..],
+                        lines: reader.lines,
                     };
                     return Ok(Some((faulty, fault)));
                 }

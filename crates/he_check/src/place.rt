@@ -1,7 +1,7 @@
 // Where a fault stands: a line, and the lines of its race before it.
 
 use crate::parts::Part;
-use he_text::{LINE_END, TOKEN_END, Version, Word};
+use he_words::{LINE_END, TOKEN_END, Version, Word};
 use memchr::memchr;
 
 // The line with which a race ends.

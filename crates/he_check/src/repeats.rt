@@ -3,7 +3,7 @@
 use crate::place::{Place, first_word, token, token_count};
 use crate::sentence::Sentence;
 use he_addr::{read_ip, read_prefix, read_source};
-use he_text::{LINE_END, Word};
+use he_words::{LINE_END, Word};
 
 // The token of the line that is given a second time, by its place from 0 on.
 pub(crate) fn find_repeat(place: Place<'_>, word: Word) -> Option<(usize, Sentence)> {

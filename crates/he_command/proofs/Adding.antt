@@ -4,7 +4,7 @@ use Rattle.std.proofs.Common.{◌≡◌, ◌+◌, ◌⊎◌, ◌++◌, ◌∙◌
 use Rattle.he_timeline.specs.Changes.{ChangeValues}
 use Rattle.he_summary.specs.Courses.{Raced}
 use Rattle.he_summary.specs.Summed.{Adds, Sums}
-use Rattle.he_text.specs.declared.stream_fault.StreamFault.{StreamFault}
+use Rattle.he_inputs.specs.declared.stream_fault.StreamFault.{StreamFault}
 use Rattle.he_command.specs.Status.{status_of}
 use Rattle.he_command.specs.Summaries.{MayAddAll}
 use Rattle.he_command.specs.declared.run.TheConstants.{DONE}

@@ -7,9 +7,9 @@ use Rattle.he_stream.specs.declared.stream.OutputStream as outputs
 use Rattle.he_summary.specs.Courses.{Raced}
 use Rattle.he_summary.specs.Summed.{Adds, HasSummed, IsWritten, Sums}
 use Rattle.he_summary.specs.declared.summary.Form.{Form}
-use Rattle.he_text.specs.Ranges.{most_races}
-use Rattle.he_text.specs.declared.stream_fault.StreamFault.{StreamFault}
-use Rattle.he_text.specs.declared.stream_fault.StreamFault.TheVariants.{Memory}
+use Rattle.he_words.specs.Ranges.{most_races}
+use Rattle.he_inputs.specs.declared.stream_fault.StreamFault.{StreamFault}
+use Rattle.he_inputs.specs.declared.stream_fault.StreamFault.TheVariants.{Memory}
 use Rattle.he_command.specs.Status.{status_of}
 use Rattle.he_command.specs.Streams.{Gave, IsRefused, TookAll, TookPart}
 use Rattle.he_command.specs.Texts.{OfText, RunsTexts}

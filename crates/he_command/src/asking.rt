@@ -7,8 +7,8 @@ use crate::numbers::{SettingFault, changes_of, set, timeout};
 use clap::{Arg, ArgMatches, Command};
 use he_addr::Family;
 use he_connect::Families;
-use he_timeline::Changes;
 use he_resolver::Choice;
+use he_timeline::Changes;
 use std::alloc::{AllocError, Global};
 
 const ABOUT: &str =

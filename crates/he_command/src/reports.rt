@@ -6,7 +6,7 @@ use crate::files::STANDARD_INPUT;
 use crate::lender::Lender;
 use crate::run::{DONE, FAULT, report};
 use he_check::explain_fault;
-use he_text::TextFault;
+use he_words::TextFault;
 use std::alloc::Global;
 use std::fmt::Display;
 use std::fs;

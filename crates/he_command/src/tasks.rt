@@ -13,11 +13,11 @@ use crate::texts::{Task, Texts, has_headings};
 use he_addr::Memory;
 use he_check::check;
 use he_compare::compare;
+use he_inputs::StreamFault;
 use he_page::write_name;
-use he_timeline::Changes;
 use he_replay::{Asked, Content, replay};
 use he_stream::{FromReader, InputStream, OutputStream, write_whole};
-use he_text::StreamFault;
+use he_timeline::Changes;
 use std::alloc::{AllocError, Global};
 use std::io::Write;
 

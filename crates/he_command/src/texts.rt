@@ -8,9 +8,9 @@ use crate::limits::{DEFAULT_WORKERS, DEFAULT_WORKERS_TEXT, LEAST_WIDTH, MOST_WID
 use crate::numbers::{SettingFault, changes_of, set};
 use clap::{Arg, ArgAction, ArgMatches, Command, value_parser};
 use he_draw::Look;
-use he_timeline::Changes;
 use he_replay::Content;
 use he_replay::limits::{LEAST_WORKERS, MOST_WORKERS};
+use he_timeline::Changes;
 use std::alloc::{AllocError, Global};
 
 const REPLAY_ABOUT: &str = "Reads timelines of races and writes what happens in them";

@@ -1,19 +1,19 @@
--- One race more of an input that is compared, and how its walk ends.
+-- One race more of an input that is compared, and how its reading ends.
 use Rattle.std.proofs.Common.{ℕ, Result, IsErr, IsErrAnd, ◌≡◌, ◌+◌, ◌-◌, ◌≤◌, ◌<◌, List, [], ◌∷◌, ◌++◌, length, take, drop, Bool, Option, Some, Ok, Err, sym, subst, refl, ◌∙◌, ap, append_assoc, length-append, arith}
 use Rattle.std.specs.List.{slice_range}
 use Rattle.std.proofs.lemmas.List.{append-nil, take-append-drop}
 use Rattle.std.proofs.Math.Seq.{take-add}
 use Rattle.he_timeline.specs.Changes.{ChangeValues}
 use Rattle.he_timeline.specs.Race.{Race}
-use Rattle.he_text.specs.Inputs.{line_count}
-use Rattle.he_text.specs.Text.{IsRaceText}
-use Rattle.he_text.specs.Walks.{IsNextOf, IsWalkFault, IsWithin, PassesRace, ending_of}
-use Rattle.he_text.specs.declared.walks.Walk.{Walk}
-use Rattle.he_text.specs.declared.walks.WalkFault.{WalkFault}
-use Rattle.he_text.specs.declared.walks.WalkFault.TheVariants as walks
-use Rattle.he_text.proofs.WalkLaws.{has_fault, has_none, line_count-append, none_behind, passes_on}
+use Rattle.he_inputs.specs.Inputs.{line_count}
+use Rattle.he_reading.specs.Text.{IsRaceText}
+use Rattle.he_inputs.specs.RaceReading.{IsNextOf, IsReaderFault, IsWithin, PassesRace, ending_of}
+use Rattle.he_inputs.specs.declared.race_reader.RaceReader.{RaceReader}
+use Rattle.he_inputs.specs.declared.race_reader.RaceReaderFault.{RaceReaderFault}
+use Rattle.he_inputs.specs.declared.race_reader.RaceReaderFault.TheVariants as readers
+use Rattle.he_inputs.proofs.RaceReadingLaws.{has_fault, has_none, line_count-append, none_behind, passes_on}
 use Rattle.he_compare.specs.Compared.{AreCompared, IsCompared}
-use Rattle.he_compare.specs.Steps.{EndsWalk, HasWalked, TellsRace}
+use Rattle.he_compare.specs.Steps.{EndsReading, HasRead, TellsRace}
 use Rattle.he_compare.specs.Texts.{Compared}
 use Rattle.he_compare.specs.declared.told.Told.{Told}
 
@@ -55,9 +55,9 @@ take_to input from end le =
     let sum : end ≡ from + (end - from) = omega arith in
     ap (λ (n : ℕ). take n input) sum ∙ take-add from (end - from) input
 
-pub one_more : {A : Type 0} (changes : ChangeValues) (input : List ℕ) (old new : Walk) (kept longer : Told A) (race : Race) (number line : ℕ)
-    → HasWalked changes input old kept → IsWithin input new → PassesRace input old new race → number ≡ new.races → line ≡ old.lines + 1
-    → TellsRace changes race number line kept longer → HasWalked changes input new longer × (old.end < new.end)
+pub one_more : {A : Type 0} (changes : ChangeValues) (input : List ℕ) (old new : RaceReader) (kept longer : Told A) (race : Race) (number line : ℕ)
+    → HasRead changes input old kept → IsWithin input new → PassesRace input old new race → number ≡ new.races → line ≡ old.lines + 1
+    → TellsRace changes race number line kept longer → HasRead changes input new longer × (old.end < new.end)
 one_more changes input old new kept longer race number line before within passes numbered lined tells =
     let (compared, pair, has) = tells before.told before.has in
     let split : take new.end input ≡ take old.end input ++ slice_range input old.end new.end = take_to input old.end new.end (let past = passes.past in omega arith) in
@@ -80,29 +80,29 @@ one_more changes input old new kept longer race number line before within passes
       passes.past,
     )
 
--- the bytes that a walk has passed, and the others
+-- the bytes that a reader has passed, and the others
 parted : (input : List ℕ) (end : ℕ) → input ≡ take end input ++ drop end input
 parted input end = sym (take-append-drop end input)
 
-pub fails : {A : Type 0} (changes : ChangeValues) (input : List ℕ) (is_broken : Bool) (walk : Walk) (kept : Told A) (fault : WalkFault)
-    → HasWalked changes input walk kept → IsWalkFault input (ending_of is_broken) walk fault → EndsWalk changes input is_broken kept (Err fault)
-fails changes input is_broken walk kept (walks.Input fault) before is = (
+pub fails : {A : Type 0} (changes : ChangeValues) (input : List ℕ) (is_broken : Bool) (reader : RaceReader) (kept : Told A) (fault : RaceReaderFault)
+    → HasRead changes input reader kept → IsReaderFault input (ending_of is_broken) reader fault → EndsReading changes input is_broken kept (Err fault)
+fails changes input is_broken reader kept (readers.Input fault) before is = (
   before.told,
   record {
     races = before.races;
-    has = has_fault input is_broken before.races walk fault before.passed before.within.few is;
-    front = take walk.end input;
-    rest = drop walk.end input;
-    parts = parted input walk.end;
+    has = has_fault input is_broken before.races reader fault before.passed before.within.few is;
+    front = take reader.end input;
+    rest = drop reader.end input;
+    parts = parted input reader.end;
     are = before.are;
   },
   before.has,
 )
-fails changes input is_broken walk kept walks.Memory before is = tt
+fails changes input is_broken reader kept readers.Memory before is = tt
 
-pub ends : {A : Type 0} (changes : ChangeValues) (input : List ℕ) (is_broken : Bool) (old new : Walk) (kept : Told A) (found : Option Race)
-    → HasWalked changes input old kept → IsNextOf input (ending_of is_broken) old new found → ((race : Race) → found ≡ Some race → ⊥)
-    → EndsWalk changes input is_broken kept (Ok (record {}))
+pub ends : {A : Type 0} (changes : ChangeValues) (input : List ℕ) (is_broken : Bool) (old new : RaceReader) (kept : Told A) (found : Option Race)
+    → HasRead changes input old kept → IsNextOf input (ending_of is_broken) old new found → ((race : Race) → found ≡ Some race → ⊥)
+    → EndsReading changes input is_broken kept (Ok (record {}))
 ends changes input is_broken old new kept found before next none =
     let end = none_behind input is_broken old new found next none in (
       before.told,
@@ -118,6 +118,6 @@ ends changes input is_broken old new kept found before next none =
     )
 
 -- a fault that `?` hands on
-pub handed : {A : Type 0} (r : Result A WalkFault) (fault : WalkFault) (Tells : Result A WalkFault → Type 0) → IsErr r × IsErrAnd r (λ k. k ≡ fault) → Tells (Err fault) → Tells r
+pub handed : {A : Type 0} (r : Result A RaceReaderFault) (fault : RaceReaderFault) (Tells : Result A RaceReaderFault → Type 0) → IsErr r × IsErrAnd r (λ k. k ≡ fault) → Tells (Err fault) → Tells r
 handed (Ok x) fault Tells told tells = absurd told.1
-handed (Err k) fault Tells told tells = subst (λ (f : WalkFault). Tells (Err f)) (sym told.1) tells
+handed (Err k) fault Tells told tells = subst (λ (f : RaceReaderFault). Tells (Err f)) (sym told.1) tells

@@ -3,9 +3,9 @@ use Rattle.std.specs.Prelude.{ℕ, ◌≡◌, ◌+◌, ◌++◌, Bool, List, [],
 use Rattle.he_timeline.specs.Changes.{ChangeValues, changed}
 use Rattle.he_timeline.specs.Race.{Race}
 use Rattle.he_plan.specs.Transcript.{IsTranscript}
-use Rattle.he_text.specs.Inputs.{HasRaces, line_count}
-use Rattle.he_text.specs.Text.{IsRaceText}
-use Rattle.he_text.specs.declared.inputs.InputFault.{InputFault}
+use Rattle.he_inputs.specs.Inputs.{HasRaces, line_count}
+use Rattle.he_reading.specs.Text.{IsRaceText}
+use Rattle.he_inputs.specs.declared.input_fault.InputFault.{InputFault}
 use Rattle.he_compare.specs.Texts.{Compared, IsTold}
 
 -- the race with this number, which begins with this line, by its transcript and that of the race with the changes

@@ -1,12 +1,12 @@
--- Mirrors the code: what is told while the walk over an input goes on. What a comparison is stands in `Compared`.
+-- Mirrors the code: what is told while an input is read. What a comparison is stands in `Compared`.
 use Rattle.std.specs.Prelude.{ℕ, ◌≡◌, ◌<◌, ◌^◌, ⊤, Bool, true, false, List, [], ◌∷◌, ◌++◌, length, map, take, Some, None, Result, Ok, Err}
 use Rattle.std.specs.List.{filter_map, flat_map}
 use Rattle.he_timeline.specs.Changes.{ChangeValues}
 use Rattle.he_timeline.specs.Race.{Race}
-use Rattle.he_text.specs.Walks.{HasPassed, IsWithin}
-use Rattle.he_text.specs.declared.walks.Walk.{Walk}
-use Rattle.he_text.specs.declared.walks.WalkFault.{WalkFault}
-use Rattle.he_text.specs.declared.walks.WalkFault.TheVariants as walks
+use Rattle.he_inputs.specs.RaceReading.{HasPassed, IsWithin}
+use Rattle.he_inputs.specs.declared.race_reader.RaceReader.{RaceReader}
+use Rattle.he_inputs.specs.declared.race_reader.RaceReaderFault.{RaceReaderFault}
+use Rattle.he_inputs.specs.declared.race_reader.RaceReaderFault.TheVariants as readers
 use Rattle.he_compare.specs.Compared.{AreCompared, HasCompared, IsCompared}
 use Rattle.he_compare.specs.Texts.{Compared, line_text, verdict_on}
 use Rattle.he_compare.specs.Verdicts.{counts_of, difference_of}
@@ -34,24 +34,24 @@ abbrev pub TellsRace : {A : Type 0} → ChangeValues → Race → ℕ → ℕ �
 TellsRace changes race number line old new =
     (told : List Compared) → HasTold old told → (compared : Compared) × IsCompared changes race number line compared × HasTold new (told ++ compared ∷ [])
 
--- how far the walk has come whose races are told
-pub record HasWalked {A : Type 0} (changes : ChangeValues) (input : List ℕ) (walk : Walk) (kept : Told A) : Type 0 where
+-- how far the reader has come whose races are told
+pub record HasRead {A : Type 0} (changes : ChangeValues) (input : List ℕ) (reader : RaceReader) (kept : Told A) : Type 0 where
   pub races : List Race
   pub told : List Compared
-  pub passed : HasPassed input 0 0 races walk
-  pub within : IsWithin input walk
-  pub are : AreCompared changes 0 0 races (take walk.end input) told
+  pub passed : HasPassed input 0 0 races reader
+  pub within : IsWithin input reader
+  pub are : AreCompared changes 0 0 races (take reader.end input) told
   pub many : length told ≡ length races
   pub has : HasTold kept told
 
--- how the walk ends
-abbrev pub EndsWalk : {A : Type 0} → ChangeValues → List ℕ → Bool → Told A → Result (Unit {0}) WalkFault → Type 0
-EndsWalk changes input is_broken kept (Ok done) = (told : List Compared) × HasCompared changes input is_broken None told × HasTold kept told
-EndsWalk changes input is_broken kept (Err (walks.Input fault)) = (told : List Compared) × HasCompared changes input is_broken (Some fault) told × HasTold kept told
-EndsWalk changes input is_broken kept (Err walks.Memory) = ⊤
+-- how the reading ends
+abbrev pub EndsReading : {A : Type 0} → ChangeValues → List ℕ → Bool → Told A → Result (Unit {0}) RaceReaderFault → Type 0
+EndsReading changes input is_broken kept (Ok done) = (told : List Compared) × HasCompared changes input is_broken None told × HasTold kept told
+EndsReading changes input is_broken kept (Err (readers.Input fault)) = (told : List Compared) × HasCompared changes input is_broken (Some fault) told × HasTold kept told
+EndsReading changes input is_broken kept (Err readers.Memory) = ⊤
 
--- one race more is told, or the walk ends
-abbrev pub TellsNext : {A : Type 0} → ChangeValues → List ℕ → Bool → Walk → Walk → Told A → Result Bool WalkFault → Type 0
-TellsNext changes input is_broken old new kept (Ok true) = HasWalked changes input new kept × (old.end < new.end)
-TellsNext changes input is_broken old new kept (Ok false) = EndsWalk changes input is_broken kept (Ok (record {}))
-TellsNext changes input is_broken old new kept (Err fault) = EndsWalk changes input is_broken kept (Err fault)
+-- one race more is told, or the reader ends
+abbrev pub TellsNext : {A : Type 0} → ChangeValues → List ℕ → Bool → RaceReader → RaceReader → Told A → Result Bool RaceReaderFault → Type 0
+TellsNext changes input is_broken old new kept (Ok true) = HasRead changes input new kept × (old.end < new.end)
+TellsNext changes input is_broken old new kept (Ok false) = EndsReading changes input is_broken kept (Ok (record {}))
+TellsNext changes input is_broken old new kept (Err fault) = EndsReading changes input is_broken kept (Err fault)

@@ -1,11 +1,11 @@
 -- What is taken from an input that is compared, and put into an output.
 use Rattle.std.specs.Prelude.{ℕ, Bool, List, Option, Some, None, Result, Ok, Err}
 use Rattle.he_timeline.specs.Changes.{ChangeValues}
-use Rattle.he_text.specs.declared.inputs.InputFault.{InputFault}
-use Rattle.he_text.specs.declared.inputs.InputFault.TheVariants as inputs
+use Rattle.he_inputs.specs.declared.input_fault.InputFault.{InputFault}
+use Rattle.he_inputs.specs.declared.input_fault.InputFault.TheVariants as inputs
 use Rattle.he_compare.specs.Compared.{IsComparison}
-use Rattle.he_text.specs.declared.stream_fault.StreamFault.{StreamFault}
-use Rattle.he_text.specs.declared.stream_fault.StreamFault.TheVariants.{Text, Read, Write, Memory}
+use Rattle.he_inputs.specs.declared.stream_fault.StreamFault.{StreamFault}
+use Rattle.he_inputs.specs.declared.stream_fault.StreamFault.TheVariants.{Text, Read, Write, Memory}
 
 -- the input was given, whole or up to where it broke off, and this was done with what is told of it, up to this fault
 pub record Tells (changes : ChangeValues) (Given : List ℕ → Bool → Type 0) (Done : List ℕ → Type 0) (fault : Option InputFault) : Type 0 where

@@ -5,9 +5,9 @@ ghost use Rattle.he_stream.specs.Output.{PutsPart, PutsWhole};
 ghost use Rattle.he_compare.specs.Stream.{Compares};
 
 use crate::races::compare_races;
-use he_timeline::Changes;
+use he_inputs::StreamFault;
 use he_stream::{InputStream, OutputStream, take_input, write_whole};
-use he_text::StreamFault;
+use he_timeline::Changes;
 use std::alloc::Allocator;
 
 /// Reads an input of timelines to its end and writes a line for each race, in their order: how it ends, how it would

@@ -1,14 +1,14 @@
 // The races of an input, each told with its changes before the next is read.
 ghost use Rattle.std.specs.Prelude.{[], IfOk, OnOk};
 ghost use Rattle.he_compare.specs.Compared.{IsComparison};
-ghost use Rattle.he_compare.specs.Steps.{EndsWalk, HasTold, HasWalked, MayCount, TellsNext, TellsRace};
+ghost use Rattle.he_compare.specs.Steps.{EndsReading, HasTold, HasRead, MayCount, TellsNext, TellsRace};
 
 use crate::told::Told;
 use bumpalo::Bump;
 use he_addr::Memory;
+use he_inputs::{Ending, InputFault, RaceReader, RaceReaderFault};
 use he_plan::transcript_of;
 use he_timeline::{Changes, Timeline};
-use he_text::{Ending, InputFault, Walk, WalkFault};
 use std::alloc::Allocator;
 use std::mem::drop;
 
@@ -27,26 +27,28 @@ pub(crate) fn compare_races<A: Allocator + Copy>(
     let mut told = Told::new(alloc);
     match tell_races(alloc, changes, input, is_broken, &mut told) {
         Ok(()) => Ok((told.end()?, None)),
-        Err(WalkFault::Input(fault)) => Ok((told.end()?, Some(fault))),
-        Err(WalkFault::Memory) => Err(Memory),
+        Err(RaceReaderFault::Input(fault)) => Ok((told.end()?, Some(fault))),
+        Err(RaceReaderFault::Memory) => Err(Memory),
     }
 }
 
-// Tells the races of an input up to its first fault. No race is kept when the walk goes on to the next: a race and its
-// transcripts stand in an arena, whose memory the next one takes again.
+// Tells the races of an input up to its first fault. No race is kept when the reader goes on to the next: a race and
+// its transcripts stand in an arena, whose memory the next one takes again.
 fn tell_races<A: Allocator + Copy>(
     alloc: A,
     changes: Changes,
     input: &[u8],
     is_broken: bool,
     told: &mut Told<A>,
-) -> Result<(), WalkFault>
+) -> Result<(), RaceReaderFault>
     requires { HasTold told.old [] }
-    ensures { EndsWalk changes input.now is_broken told.new result }
+    ensures { EndsReading changes input.now is_broken told.new result }
 {
-    let mut arena = Bump::try_with_capacity(alloc, ARENA_BYTES).map_err(|_| WalkFault::Memory)?;
-    let mut walk = Walk::START;
-    while tell_next(&arena, changes, input, is_broken, &mut walk, told)? {
+    let mut arena = Bump::try_with_capacity(alloc, ARENA_BYTES).map_err(
+        |_| RaceReaderFault::Memory,
+    )?;
+    let mut reader = RaceReader::START;
+    while tell_next(&arena, changes, input, is_broken, &mut reader, told)? {
         // An arena that can't be reset is no fault: it grows.
         let _ = arena.reset();
     }
@@ -59,19 +61,19 @@ fn tell_next<A: Allocator + Copy, B: Allocator + Copy>(
     changes: Changes,
     input: &[u8],
     is_broken: bool,
-    walk: &mut Walk,
+    reader: &mut RaceReader,
     told: &mut Told<A>,
-) -> Result<bool, WalkFault>
-    requires { HasWalked changes input.now walk.old told.old }
-    ensures { TellsNext changes input.now is_broken walk.old walk.new told.new result }
+) -> Result<bool, RaceReaderFault>
+    requires { HasRead changes input.now reader.old told.old }
+    ensures { TellsNext changes input.now is_broken reader.old reader.new told.new result }
 {
-    let line = walk.lines + 1;
-    let Some(race) = walk.next(arena, input, Ending::of(is_broken))? else {
+    let line = reader.lines + 1;
+    let Some(race) = reader.next(arena, input, Ending::of(is_broken))? else {
         return Ok(false);
     };
-    match tell_race(arena, race, changes, walk.races as u64, line, told) {
+    match tell_race(arena, race, changes, reader.races as u64, line, told) {
         Ok(()) => Ok(true),
-        Err(_) => Err(WalkFault::Memory),
+        Err(_) => Err(RaceReaderFault::Memory),
     }
 }
 

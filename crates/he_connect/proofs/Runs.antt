@@ -5,7 +5,7 @@ use Rattle.he_timeline.specs.Race.{Race}
 use Rattle.he_timeline.specs.Settings.{SettingValues}
 use Rattle.he_race.specs.declared.live.Raced.{Raced}
 use Rattle.he_race.specs.Resolving.{ReplaysGiven}
-use Rattle.he_text.specs.Written.{timeline_text}
+use Rattle.he_write.specs.Written.{timeline_text}
 use Rattle.he_connect.specs.declared.asked.Families.{Families}
 use Rattle.he_connect.specs.declared.fault.ConnectFault.{ConnectFault}
 use Rattle.he_connect.specs.declared.racing.Run.{Run}

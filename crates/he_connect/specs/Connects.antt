@@ -8,7 +8,7 @@ use Rattle.he_race.specs.Resolving.{KeepsGiven}
 use Rattle.he_relay.specs.declared.fault.RelayFault.{RelayFault}
 use Rattle.he_relay.specs.Relays.{Relays}
 use Rattle.he_story.specs.Story.{Tells}
-use Rattle.he_text.specs.Written.{timeline_text}
+use Rattle.he_write.specs.Written.{timeline_text}
 use Rattle.he_connect.specs.declared.asked.Families.{Families}
 use Rattle.he_connect.specs.declared.connecting.Ended.{Ended}
 use Rattle.he_connect.specs.declared.connecting.Ended.TheVariants as ends

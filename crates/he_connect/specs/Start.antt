@@ -4,7 +4,7 @@ use Rattle.he_addr.specs.declared.ip.Family.TheVariants as families
 use Rattle.he_timeline.specs.Building.{empty_race, with_answer}
 use Rattle.he_timeline.specs.Race.{Race}
 use Rattle.he_timeline.specs.Settings.{SettingValues}
-use Rattle.he_text.specs.Inputs.{HasRaces}
+use Rattle.he_inputs.specs.Inputs.{HasRaces}
 use Rattle.he_connect.specs.declared.asked.Families.{Families}
 use Rattle.he_connect.specs.declared.asked.Families.TheVariants as tried
 

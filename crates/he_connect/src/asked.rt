@@ -1,8 +1,8 @@
 //! What a connection is asked for.
 
 use he_addr::Family;
-use he_timeline::Settings;
 use he_resolver::Choice;
+use he_timeline::Settings;
 
 /// The address families that are tried.
 #[derive(Clone, Copy, Debug, PartialEq, Eq)]

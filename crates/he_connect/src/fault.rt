@@ -4,10 +4,11 @@ ghost use Rattle.he_connect.specs.declared.fault.ConnectFault.TheVariants as fau
 ghost use Rattle.he_connect.specs.Connects.{IsBefore};
 
 use he_host::machine::MachineFault;
+use he_inputs::{InputFault, NotOneRace};
 use he_live::LiveFault;
 use he_relay::RelayFault;
 use he_resolver::NamesFault;
-use he_text::{InputFault, NotOneRace, TextFault};
+use he_words::TextFault;
 use std::alloc::{AllocError, AllocFailed};
 use std::io;
 use thiserror::Error;

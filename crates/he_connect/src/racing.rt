@@ -1,6 +1,6 @@
 //! The race of a connection that is asked for, on real sockets.
 ghost use Rattle.std.specs.Prelude.{◌≡◌, IfOk, IfErr, is_some};
-ghost use Rattle.he_text.specs.Written.{timeline_text};
+ghost use Rattle.he_write.specs.Written.{timeline_text};
 ghost use Rattle.he_connect.specs.Connects.{IsBefore, IsExplained, IsRun, RunsFrom};
 
 use crate::asked::Asked;
@@ -12,11 +12,11 @@ use crate::start::start_race;
 use crate::telling::Telling;
 use crate::tried::write_tried;
 use he_live::{Steps, resolving_race_on};
-use he_timeline::Timeline;
 use he_race::Raced;
 use he_resolver::{Lookup, NamesFault, SystemResolver};
 use he_story::write_story;
-use he_text::write_timeline;
+use he_timeline::Timeline;
+use he_write::write_timeline;
 use std::alloc::{AllocGlobal, Global};
 use std::io::Write;
 use std::mem::drop;

@@ -1,16 +1,16 @@
 //! The race of a connection before anything has happened in it.
 ghost use Rattle.std.specs.Prelude.{◌≡◌, ◌++◌, ◌∷◌, [], IfOk, IfErr, None, codes, false};
 ghost use Rattle.he_timeline.specs.Building.{empty_race};
-ghost use Rattle.he_text.specs.Inputs.{HasRaces};
+ghost use Rattle.he_inputs.specs.Inputs.{HasRaces};
 ghost use Rattle.he_connect.specs.Connects.{IsBefore};
 ghost use Rattle.he_connect.specs.Start.{Starts, lines_text, with_families};
 
 use crate::asked::Families;
 use crate::fault::ConnectFault;
 use he_addr::Family;
+use he_inputs::read_one_race;
 use he_timeline::limits::{DEFAULT_ATTEMPT, DEFAULT_COUNT, DEFAULT_LIMIT, DEFAULT_RESOLUTION};
 use he_timeline::{Settings, Timeline, TimelineBuilder};
-use he_text::read_one_race;
 use std::alloc::Global;
 use std::mem::drop;
 

@@ -10,4 +10,3 @@ mod ListedLaws
 mod OneRule
 mod SortLaws
 mod StartLaws
-mod WritingLaws

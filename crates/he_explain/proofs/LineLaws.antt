@@ -10,7 +10,7 @@ use Rattle.he_select.specs.Deciding.{deciding_rule}
 use Rattle.he_select.specs.Selection.{SelectionInput}
 use Rattle.he_select.specs.Attributes.{rule_between, attributes_of}
 use Rattle.he_select.proofs.DecidedRules.{deciding_is}
-use Rattle.he_text.specs.Ranges.{line_end}
+use Rattle.he_words.specs.Ranges.{line_end}
 use Rattle.he_explain.specs.Reasons.{Decision, behind_text, order_reasons_text, place_text, reason_line, reason_lines, reason_text, all_attributes_of}
 
 -- of addresses between which two decisions agree

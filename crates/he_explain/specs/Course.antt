@@ -5,7 +5,7 @@ use Rattle.he_addr.specs.declared.ip.Family.TheVariants as families
 use Rattle.he_addr.specs.Printing.{printed}
 use Rattle.he_timeline.specs.Race.{Race}
 use Rattle.he_plan.specs.Transcript.{IsTranscript, Report}
-use Rattle.he_text.specs.Ranges.{line_end}
+use Rattle.he_words.specs.Ranges.{line_end}
 use Rattle.he_explain.specs.declared.cause.Cause.{Cause}
 use Rattle.he_explain.specs.declared.cause.Cause.TheVariants as causes
 use Rattle.he_explain.specs.declared.events.Event.{Event}

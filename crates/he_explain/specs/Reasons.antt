@@ -10,7 +10,7 @@ use Rattle.he_select.specs.declared.selection.LabelledSource.{LabelledSource}
 use Rattle.he_select.specs.declared.attributes.DestinationAttributes.{DestinationAttributes}
 use Rattle.he_select.specs.Deciding.{deciding_rule}
 use Rattle.he_select.specs.Attributes.{attributes_of}
-use Rattle.he_text.specs.Ranges.{line_end}
+use Rattle.he_words.specs.Ranges.{line_end}
 
 -- the number and the name of a rule in RFC 6724 section 6; 8a and 8b are those of RFC 8305 section 4
 abbrev pub rule_text : DestinationRule → List ℕ

@@ -15,8 +15,8 @@ use crate::interlaced::{Interlaced, bring_to};
 use crate::listing::listed_in;
 use he_addr::{Family, Ip, Memory};
 use he_plan::{Attempt, Line, Mark, Outcome3, Transcript};
-use he_timeline::Timeline;
 use he_select::DestinationAttributes;
+use he_timeline::Timeline;
 use std::alloc::{AllocError, Allocator};
 
 // The two answers, the wait for the AAAA answer, the Resolution Delay's end, and the race's end.

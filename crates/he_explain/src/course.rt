@@ -3,7 +3,7 @@
 ghost use Rattle.std.specs.Prelude.{◌≡◌, ◌++◌, [], codes, decimal, filter, map, nat_le, IfOk, OnOk, OnErr};
 ghost use Rattle.std.specs.List.{flat_map};
 ghost use Rattle.he_addr.specs.Printing.{printed};
-ghost use Rattle.he_text.specs.Writing.{AppendsText};
+ghost use Rattle.he_words.specs.Appending.{AppendsText};
 ghost use Rattle.he_explain.specs.Course.{cause_text, course_text, event_text, held_text, kind_text, listed_text, put_events, start_text, turn_text};
 ghost use Rattle.he_explain.specs.Reasons.{all_attributes_of, values_text};
 
@@ -14,8 +14,8 @@ use crate::listing::{Listed, Turn};
 use crate::writing::{write_bytes, write_labelled, write_labelled_ip, write_values};
 use he_addr::{Family, Ip, Memory, write_number};
 use he_plan::{Transcript, sorted_attributes};
-use he_timeline::Timeline;
 use he_select::DestinationAttributes;
+use he_timeline::Timeline;
 use std::alloc::{AllocError, Allocator};
 
 /// The events up to the end by tick, those of one tick in the order of the list. What is sorted is references: an

@@ -1,7 +1,7 @@
 // A race explained: the order of its addresses, and its course.
 
 ghost use Rattle.std.specs.Prelude.{◌≡◌, ◌++◌, codes, OnOk, OnErr};
-ghost use Rattle.he_text.specs.Writing.{AppendsText, Grows};
+ghost use Rattle.he_words.specs.Appending.{AppendsText, Grows};
 ghost use Rattle.he_explain.specs.Course.{Explains, course_text, explanation_text};
 ghost use Rattle.he_explain.specs.Reasons.{all_attributes_of};
 
@@ -10,8 +10,8 @@ use crate::reasons::write_order_of;
 use crate::writing::write_bytes;
 use he_addr::Memory;
 use he_plan::{Transcript, sorted_attributes, transcript_of};
-use he_timeline::Timeline;
 use he_select::DestinationAttributes;
+use he_timeline::Timeline;
 use std::alloc::Allocator;
 
 // The course, and `end`.

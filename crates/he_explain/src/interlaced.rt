@@ -8,10 +8,10 @@ ghost use Rattle.he_timeline.specs.Race.{reply_of};
 ghost use Rattle.he_explain.specs.Reasons.{all_attributes_of};
 
 use he_addr::{Family, Ip, Memory};
-use he_timeline::timeline::are_addresses_in_range;
 use he_plan::interlace;
-use he_timeline::{Timeline, put};
 use he_select::DestinationAttributes;
+use he_timeline::timeline::are_addresses_in_range;
+use he_timeline::{Timeline, put};
 use std::alloc::{AllocError, Allocator};
 
 // The interlaced list of what is received, and which answers it is made of.

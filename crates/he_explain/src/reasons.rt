@@ -4,14 +4,14 @@ ghost use Rattle.std.specs.Prelude.{◌≡◌, ◌++◌, codes, decimal, None, O
 ghost use Rattle.he_addr.specs.Printing.{printed};
 ghost use Rattle.he_timeline.specs.Race.{Race};
 ghost use Rattle.he_select.specs.Attributes.{rule_between};
-ghost use Rattle.he_text.specs.Writing.{AppendsText};
+ghost use Rattle.he_words.specs.Appending.{AppendsText};
 ghost use Rattle.he_explain.specs.Reasons.{after_text, behind_text, compared_text, of_source, order_reasons_text, place_text, reason_line, reason_lines, reason_text, rtt_text, rule_text, all_attributes_of, with_source_text};
 
 use crate::writing::{write_bytes, write_labelled, write_labelled_ip, write_values};
 use he_addr::{Ip, Memory, write_number};
 use he_plan::sorted_attributes;
+use he_select::{DestinationAttributes, DestinationRule, LabelledSource};
 use he_timeline::Timeline;
-use he_select::{DestinationRule, LabelledSource, DestinationAttributes};
 use std::alloc::Allocator;
 
 // The rule's number and its name in the standard.

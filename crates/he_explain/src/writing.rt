@@ -2,7 +2,7 @@
 
 ghost use Rattle.std.specs.Prelude.{◌≡◌, ◌++◌, decimal, OnOk, OnErr};
 ghost use Rattle.he_addr.specs.Printing.{printed};
-ghost use Rattle.he_text.specs.Writing.{AppendsText};
+ghost use Rattle.he_words.specs.Appending.{AppendsText};
 ghost use Rattle.he_explain.specs.Reasons.{values_text};
 
 use he_addr::{Ip, Memory, write_ip, write_number};

@@ -4,8 +4,9 @@
 use crate::races::RACES;
 use he_addr::Memory;
 use he_explain::write_explanation;
+use he_reading::read_race;
 use he_timeline::Timeline;
-use he_text::{TextKind, read_race};
+use he_words::TextKind;
 use refusing::{MOST_RUNS, Refusing};
 
 // Whether what is written of this race is what is wanted; none where memory was refused.

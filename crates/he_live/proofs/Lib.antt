@@ -1,3 +1,2 @@
-mod LoopLaws
 mod Records
 mod Running

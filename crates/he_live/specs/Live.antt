@@ -5,11 +5,11 @@ use Rattle.he_timeline.specs.Changes.{ChangeValues, changed}
 use Rattle.he_timeline.specs.Race.{Race}
 use Rattle.he_plan.specs.Transcript.{IsTranscript, Report}
 use Rattle.he_plan.specs.declared.transcript.Outcome3.{Outcome3}
-use Rattle.he_text.specs.Inputs.{HasRaces, IsNotOne}
-use Rattle.he_text.specs.Written.{timeline_text, transcript_text}
-use Rattle.he_text.specs.declared.inputs.InputFault.TheVariants as inputs
-use Rattle.he_text.specs.declared.inputs.NotOneRace.{NotOneRace}
-use Rattle.he_text.specs.declared.inputs.NotOneRace.TheVariants as ones
+use Rattle.he_inputs.specs.Inputs.{HasRaces, IsNotOne}
+use Rattle.he_write.specs.Written.{timeline_text, transcript_text}
+use Rattle.he_inputs.specs.declared.input_fault.InputFault.TheVariants as inputs
+use Rattle.he_inputs.specs.declared.inputs.NotOneRace.{NotOneRace}
+use Rattle.he_inputs.specs.declared.inputs.NotOneRace.TheVariants as ones
 use Rattle.he_live.specs.Reasons.{AreFailed}
 use Rattle.he_live.specs.declared.recording.Told.{Told}
 use Rattle.he_live.specs.declared.fault.LiveFault.{LiveFault}

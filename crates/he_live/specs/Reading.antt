@@ -2,9 +2,9 @@
 use Rattle.std.specs.Prelude.{ℕ, ⊤, ◌≡◌, ◌++◌, Bool, List, Result, Ok, Err}
 use Rattle.he_timeline.specs.Race.{Race}
 use Rattle.he_plan.specs.Transcript.{Report}
-use Rattle.he_text.specs.declared.inputs.NotOneRace.{NotOneRace}
-use Rattle.he_text.specs.declared.inputs.NotOneRace.TheVariants as ones
-use Rattle.he_text.specs.Written.{timeline_text, transcript_text}
+use Rattle.he_inputs.specs.declared.inputs.NotOneRace.{NotOneRace}
+use Rattle.he_inputs.specs.declared.inputs.NotOneRace.TheVariants as ones
+use Rattle.he_write.specs.Written.{timeline_text, transcript_text}
 use Rattle.he_live.specs.Live.{GivesNone, GivesOne}
 use Rattle.he_live.specs.Reasons.{AreFailed}
 use Rattle.he_live.specs.declared.recording.Run.{Run}

@@ -3,7 +3,8 @@ ghost use Rattle.std.specs.Prelude.{◌≡◌};
 ghost use Rattle.he_live.specs.declared.fault.LiveFault.TheVariants.{Memory};
 ghost use Rattle.he_live.specs.Live.{IsRunFault, fault_of_input};
 
-use he_text::{InputFault, NotOneRace, TextFault};
+use he_inputs::{InputFault, NotOneRace};
+use he_words::TextFault;
 use std::alloc::AllocError;
 use std::io;
 use thiserror::Error;

@@ -5,7 +5,7 @@
 //!
 //! A timeline says what the client knows: the host's sources and routes (by which addresses are ordered, RFC 6724),
 //! and the addresses that the name has, each answer with the tick from which on it counts as known; 0 is at once.
-//! `he_text` reads one from a text, and `TimelineBuilder` of `he_plan` makes one.
+//! `he_inputs` reads one from a text, and `TimelineBuilder` of `he_plan` makes one.
 //!
 //! ```text
 //! fn connect<R>(rt: &R, text: &[u8], port: u16) -> Result<Option<TcpStream>, LiveFault>
@@ -20,7 +20,7 @@
 //! ```
 //!
 //! The stream is std's: its reads and writes wait, and nothing of the race is left but it. `raced.transcript` says
-//! what happened, `raced.recorded` is the record, of which `write_timeline` (`he_text`) makes a text that `he replay`
+//! what happened, `raced.recorded` is the record, of which `write_timeline` (`he_write`) makes a text that `he replay`
 //! reads, and [`failed_attempts`] says why attempts failed.
 //!
 //! [`live_race`] makes and ends an event loop of its own, [`live_race_on`] takes one of the crate `tokio`. Where

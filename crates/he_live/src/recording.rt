@@ -2,7 +2,7 @@
 ghost use Rattle.std.specs.Prelude.{◌≡◌, [], IfErr, IfOk};
 ghost use Rattle.he_stream.specs.Input.{Gives};
 ghost use Rattle.he_stream.specs.Output.{PutsPart, PutsWhole};
-ghost use Rattle.he_text.specs.Written.{timeline_text};
+ghost use Rattle.he_write.specs.Written.{timeline_text};
 ghost use Rattle.he_live.specs.Live.{IsLiveText, IsRunFault, KeepsTold, Lives};
 ghost use Rattle.he_live.specs.Reading.{IsTold, ReadsOne};
 
@@ -10,11 +10,12 @@ use crate::failures::{FailedAttempt, failed_attempts};
 use crate::fault::LiveFault;
 use crate::racing::live_race;
 use crate::steps::Steps;
+use he_inputs::{NotOneRace, read_one_race};
 use he_plan::Outcome3;
-use he_timeline::{Changes, Timeline};
 use he_race::Raced;
 use he_stream::{InputStream, OutputStream, take_input, write_whole};
-use he_text::{NotOneRace, read_one_race, write_timeline, write_transcript};
+use he_timeline::{Changes, Timeline};
+use he_write::{write_timeline, write_transcript};
 use std::alloc::{AllocGlobal, Global};
 use std::mem::drop;
 use std::net::{Net, TcpStream};

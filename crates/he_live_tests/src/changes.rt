@@ -3,8 +3,8 @@
 use crate::homes::{Lender, free_port, replays};
 use he_live::{Told, live};
 use he_plan::Outcome3;
-use he_timeline::{Changes, Range};
 use he_stream::{FromReader, ToWriter};
+use he_timeline::{Changes, Range};
 use std::mem::drop;
 use std::net::{Net, TcpListener, TcpStream};
 use std::test::Fail;

@@ -1,9 +1,9 @@
 // Races whose clock fails on the way.
 
+use he_inputs::read_one_race;
 use he_live::{LiveFault, Steps, live_race};
 use he_plan::Outcome3;
 use he_timeline::Timeline;
-use he_text::read_one_race;
 use std::alloc::{Alloc, AllocGlobal, Global};
 use std::io;
 use std::mem::drop;

@@ -2,9 +2,9 @@
 
 use crate::homes::{Lender, ONE, REFUSED, Wanted, race_on};
 use he_live::{LiveFault, Reason, Told, live};
-use he_timeline::Changes;
 use he_stream::{FromReader, ToWriter};
-use he_text::{TextFault, TextKind};
+use he_timeline::Changes;
+use he_words::{TextFault, TextKind};
 use std::fs::File;
 use std::mem::drop;
 use std::net::Net;

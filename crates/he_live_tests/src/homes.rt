@@ -1,11 +1,12 @@
 // Races on real sockets, and what is wanted of them.
 
+use he_inputs::read_one_race;
 use he_live::{LiveFault, Reason, Steps, live_race, live_race_on};
 use he_plan::{Mark, Outcome3, Transcript};
 use he_race::Raced;
 use he_replay::{Asked, Content, replay};
 use he_stream::{FromReader, ToWriter};
-use he_text::{read_one_race, write_timeline, write_transcript};
+use he_write::{write_timeline, write_transcript};
 use std::alloc::AllocGlobal;
 use std::mem::drop;
 use std::net::{IpAddr, Ipv4Addr, Net, SocketAddr, TcpListener, TcpStream};

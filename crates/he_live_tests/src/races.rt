@@ -6,8 +6,8 @@ use crate::homes::{
 use he_addr::Ip;
 use he_live::{FailedAttempt, Reason, Told, live};
 use he_plan::Outcome3;
-use he_timeline::Changes;
 use he_stream::{FromReader, ToWriter};
+use he_timeline::Changes;
 use std::io::Read;
 use std::mem::drop;
 use std::net::{IpAddr, Ipv4Addr, Ipv6Addr, Net, SocketAddr, TcpListener, TcpStream as StdStream};

@@ -5,9 +5,9 @@ use crate::homes::{
 };
 use futures::task::{Context, Poll};
 use he_addr::{Family, Ip};
+use he_inputs::read_one_race;
 use he_live::{Quiet, Reason, Step, Steps, Watcher, What, resolving_race_on};
 use he_race::AnswerSource;
-use he_text::read_one_race;
 use std::alloc::Global;
 use std::cell::Cell;
 use std::io;

@@ -1,8 +1,8 @@
 -- Why a record has no step.
 use Rattle.std.specs.Prelude.{ℕ, ◌⊎◌, ⊤, List, false}
-use Rattle.he_text.specs.declared.inputs.NotOneRace.{NotOneRace}
-use Rattle.he_text.specs.declared.inputs.NotOneRace.TheVariants as ones
-use Rattle.he_text.specs.Inputs.{IsNotOne}
+use Rattle.he_inputs.specs.declared.inputs.NotOneRace.{NotOneRace}
+use Rattle.he_inputs.specs.declared.inputs.NotOneRace.TheVariants as ones
+use Rattle.he_inputs.specs.Inputs.{IsNotOne}
 use Rattle.he_next.specs.declared.fault.NextFault.{NextFault}
 use Rattle.he_next.specs.declared.fault.NextFault.TheVariants as faults
 use Rattle.he_next.specs.Steps.{IsLate, ended, with_pause}

@@ -6,8 +6,8 @@ use Rattle.he_plan.specs.Transcript.{IsTranscript, Report}
 use Rattle.he_plan.specs.declared.transcript.Line.{Line}
 use Rattle.he_plan.specs.declared.transcript.Outcome3.{Outcome3}
 use Rattle.he_plan.specs.declared.transcript.Outcome3.TheVariants as results
-use Rattle.he_text.specs.Inputs.{HasRaces}
-use Rattle.he_text.specs.Written.{written_line}
+use Rattle.he_inputs.specs.Inputs.{HasRaces}
+use Rattle.he_write.specs.Written.{written_line}
 use Rattle.he_next.specs.declared.step.Action.{Action}
 use Rattle.he_next.specs.declared.step.Action.TheVariants.{Start, Wait, Won, Exhausted, Limit}
 use Rattle.he_next.specs.declared.step.Pause.{Pause}

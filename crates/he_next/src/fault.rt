@@ -5,7 +5,7 @@ ghost use Rattle.he_next.specs.Faults.{next_fault};
 ghost use Rattle.he_next.specs.declared.fault.NextFault.TheVariants as faults;
 
 use he_addr::Memory;
-use he_text::{InputFault, NotOneRace};
+use he_inputs::{InputFault, NotOneRace};
 
 /// Why a record has no step.
 #[derive(Clone, Copy, Debug, PartialEq, Eq)]

@@ -7,8 +7,8 @@ ghost use Rattle.he_next.specs.Steps.{IsSoFar, ended, with_pause};
 
 use crate::fault::NextFault;
 use he_addr::{Memory, write_number};
+use he_inputs::read_one_race;
 use he_plan::{Transcript, transcript_of};
-use he_text::read_one_race;
 use std::alloc::Allocator;
 
 // A race so far: its limit, and its transcript if nothing more happens.

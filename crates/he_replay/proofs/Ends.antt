@@ -8,14 +8,14 @@ use Rattle.std.specs.Result.{IsErr, IsErrAnd}
 use Rattle.he_stream.specs.declared.answer.Flushed.{Flushed}
 use Rattle.he_stream.specs.declared.answer.Put.{Put}
 use Rattle.he_stream.specs.Output.{PutsAndEnds, PutsInRounds, PutsRoundsPart, PutsWhole}
-use Rattle.he_text.specs.declared.inputs.InputFault.{InputFault}
-use Rattle.he_text.specs.declared.inputs.InputFault.TheVariants as inputs
-use Rattle.he_text.specs.declared.walks.Ending.TheVariants as endings
-use Rattle.he_text.specs.declared.walks.Walk.{Walk}
-use Rattle.he_text.specs.Ranges.{most_races}
-use Rattle.he_text.specs.Walks.{ending_of}
-use Rattle.he_text.specs.declared.stream_fault.StreamFault.{StreamFault}
-use Rattle.he_text.specs.declared.stream_fault.StreamFault.TheVariants as faults
+use Rattle.he_inputs.specs.declared.input_fault.InputFault.{InputFault}
+use Rattle.he_inputs.specs.declared.input_fault.InputFault.TheVariants as inputs
+use Rattle.he_inputs.specs.declared.race_reader.Ending.TheVariants as endings
+use Rattle.he_inputs.specs.declared.race_reader.RaceReader.{RaceReader}
+use Rattle.he_words.specs.Ranges.{most_races}
+use Rattle.he_inputs.specs.RaceReading.{ending_of}
+use Rattle.he_inputs.specs.declared.stream_fault.StreamFault.{StreamFault}
+use Rattle.he_inputs.specs.declared.stream_fault.StreamFault.TheVariants as faults
 use Rattle.he_replay.specs.Output.{TextRelation}
 use Rattle.he_replay.specs.Rounds.{EndsWithFault, GoesOn, HasTold, IsAt, IsFaultPast, PutsAny, PutsRound}
 use Rattle.he_replay.specs.Stream.{PutsOutput, Streams, TellsSome}
@@ -35,22 +35,22 @@ not_open false is = cc
 
 -- a round in which nothing was ready
 pub told_none : {S : Type 0} (IsText : TextRelation) (contents : S → Option (List ℕ)) (puts : S → Put → S → Type 0) (flushes : S → Flushed → S → Type 0)
-    (bytes : List ℕ) (walk : Walk) (state : S) → walk.end ≡ 0 → walk.races ≤ most_races → GoesOn IsText contents puts flushes endings.Open bytes walk bytes walk state state
-told_none IsText contents puts flushes bytes walk state front few = record {
+    (bytes : List ℕ) (reader : RaceReader) (state : S) → reader.end ≡ 0 → reader.races ≤ most_races → GoesOn IsText contents puts flushes endings.Open bytes reader bytes reader state state
+told_none IsText contents puts flushes bytes reader state front few = record {
   text = [];
-  walk = walk;
-  told = none_told IsText bytes walk [] front few refl;
+  reader = reader;
+  told = none_told IsText bytes reader [] front few refl;
   fault_is = inl refl;
   put = inr (refl, refl, refl);
   held = sym (ap (λ (n : ℕ). drop n bytes) front);
-  at = ap (λ (n : ℕ). record { end = n; races = walk.races; lines = walk.lines }) front;
+  at = ap (λ (n : ℕ). record { end = n; races = reader.races; lines = reader.lines }) front;
 }
 
-module _ (IsText : TextRelation) (Done : List ℕ → Type 0) (a b c : Option (List ℕ)) (old new : List ℕ) (filled : ℕ) (walk : Walk)
-    (same : take filled new ≡ take filled old) (at : IsAt IsText (take filled old) walk (Consumes a b) Done)
+module _ (IsText : TextRelation) (Done : List ℕ → Type 0) (a b c : Option (List ℕ)) (old new : List ℕ) (filled : ℕ) (reader : RaceReader)
+    (same : take filled new ≡ take filled old) (at : IsAt IsText (take filled old) reader (Consumes a b) Done)
   where
     -- a step gave more bytes
-    pub at_piece : (count size : ℕ) → count ≤ size → Consumes b c (take count (take size (drop filled new))) → IsAt IsText (take (filled + count) new) walk (Consumes a c) Done
+    pub at_piece : (count size : ℕ) → count ≤ size → Consumes b c (take count (take size (drop filled new))) → IsAt IsText (take (filled + count) new) reader (Consumes a c) Done
     at_piece count size small took =
         let piece = take count (drop filled new) in
         let here : Consumes b c piece = subst (Consumes b c) (take-take count size (drop filled new) small) took in
@@ -70,7 +70,7 @@ module _ (IsText : TextRelation) (Done : List ℕ → Type 0) (a b c : Option (L
         }
 
     -- a step gave none
-    pub at_same : Keeps b c → IsAt IsText (take filled new) walk (Consumes a c) Done
+    pub at_same : Keeps b c → IsAt IsText (take filled new) reader (Consumes a c) Done
     at_same kept = record {
       races = at.races;
       before = at.before;
@@ -85,7 +85,7 @@ module _ (IsText : TextRelation) (Done : List ℕ → Type 0) (a b c : Option (L
     }
 
 module _ {S : Type 0} (IsText : TextRelation) (contents : S → Option (List ℕ)) (puts : S → Put → S → Type 0) (flushes : S → Flushed → S → Type 0)
-    (Took : List ℕ → Type 0) (first state last : S) (bytes : List ℕ) (from : Walk) (at : IsAt IsText bytes from Took (PutsInRounds contents puts flushes first state))
+    (Took : List ℕ → Type 0) (first state last : S) (bytes : List ℕ) (from : RaceReader) (at : IsAt IsText bytes from Took (PutsInRounds contents puts flushes first state))
   where
     abbrev Done : List ℕ → Type 0
     Done = PutsInRounds contents puts flushes first state
@@ -98,11 +98,11 @@ module _ {S : Type 0} (IsText : TextRelation) (contents : S → Option (List ℕ
         subst Here same (subst (PutsInRounds contents puts flushes first state) (sym (ap (λ (t : List ℕ). at.text ++ t) none ∙ append-nil at.text)) at.put)
 
     -- a round went on
-    pub at_round : (kept : List ℕ) (next : Walk) → GoesOn IsText contents puts flushes endings.Open bytes from kept next state last → IsAt IsText kept next Took (PutsInRounds contents puts flushes first last)
+    pub at_round : (kept : List ℕ) (next : RaceReader) → GoesOn IsText contents puts flushes endings.Open bytes from kept next state last → IsAt IsText kept next Took (PutsInRounds contents puts flushes first last)
     at_round kept next on =
         let Held : List ℕ → Type 0 = λ h. IsAt IsText h next Took (PutsInRounds contents puts flushes first last) in
-        let Next : Walk → Type 0 = λ w. IsAt IsText (drop on.walk.end bytes) w Took (PutsInRounds contents puts flushes first last) in
-        subst Held (sym on.held) (subst Next (sym on.at) (round_on IsText bytes from Took Done at on.text on.walk on.told (PutsInRounds contents puts flushes first last) (put_on on.text on.put)))
+        let Next : RaceReader → Type 0 = λ w. IsAt IsText (drop on.reader.end bytes) w Took (PutsInRounds contents puts flushes first last) in
+        subst Held (sym on.held) (subst Next (sym on.at) (round_on IsText bytes from Took Done at on.text on.reader on.told (PutsInRounds contents puts flushes first last) (put_on on.text on.put)))
 
     -- what was told so far
     told_so_far : TellsSome IsText (at.before ++ bytes) at.text
@@ -130,59 +130,59 @@ module _ {S : Type 0} (IsText : TextRelation) (contents : S → Option (List ℕ
       }
 
       -- a round was the last, since something was wrong
-      pub ends_told : ((taken : List ℕ) → Took taken → Taken taken) → (kept : List ℕ) (next : Walk) (fault : StreamFault)
+      pub ends_told : ((taken : List ℕ) → Took taken → Taken taken) → (kept : List ℕ) (next : RaceReader) (fault : StreamFault)
           → PutsRound IsText contents puts flushes endings.Open bytes from kept next state last (Err fault) → Ends (Err fault)
       ends_told taken kept next (faults.Text fault) ends = inr record {
         input = at.before ++ bytes;
         text = at.text ++ ends.text;
         taken = taken _ at.took;
-        output = λ more is_broken. told_output IsText bytes from Took Done at ends.text ends.walk ends.told more is_broken (Some (inputs.Text fault)) (ends.fault_is more is_broken tt);
+        output = λ more is_broken. told_output IsText bytes from Took Done at ends.text ends.reader ends.told more is_broken (Some (inputs.Text fault)) (ends.fault_is more is_broken tt);
         written = one_more_round contents puts flushes first state last at.text ends.text at.put ends.put;
       }
-      ends_told taken kept next faults.Read ends = absurd (not_broken bytes ends.walk ends.fault_is)
-      ends_told taken kept next faults.Write (text, walk, told, failed) = record {
+      ends_told taken kept next faults.Read ends = absurd (not_broken bytes ends.reader ends.fault_is)
+      ends_told taken kept next faults.Write (text, reader, told, failed) = record {
         input = at.before ++ bytes;
         text = at.text ++ text;
         taken = inl (taken _ at.took);
-        told = some_told IsText bytes from Took Done at text walk told;
+        told = some_told IsText bytes from Took Done at text reader told;
         written = round_failed contents puts flushes first state last at.text text at.put failed;
       }
       ends_told taken kept next faults.Memory same = ends_refused taken same
 
       module _ (is_broken : Bool) (gave : (taken : List ℕ) → Took taken → Gave taken is_broken) where
         -- all was told and put
-        ends_output : (text : List ℕ) (walk : Walk) (fault : Option InputFault) → HasTold IsText bytes from.races from.lines text walk → IsFaultPast (ending_of is_broken) bytes walk fault
+        ends_output : (text : List ℕ) (reader : RaceReader) (fault : Option InputFault) → HasTold IsText bytes from.races from.lines text reader → IsFaultPast (ending_of is_broken) bytes reader fault
             → PutsWhole contents puts flushes state last text → PutsOutput IsText Gave (PutsAndEnds contents puts flushes first last) fault
-        ends_output text walk fault told is put = record {
+        ends_output text reader fault told is put = record {
           input = at.before ++ bytes;
           is_broken = is_broken;
           text = at.text ++ text;
           gave = gave _ at.took;
-          output = last_output IsText bytes from Took Done at text walk told is_broken fault is;
+          output = last_output IsText bytes from Took Done at text reader told is_broken fault is;
           written = one_more_round contents puts flushes first state last at.text text at.put put;
         }
 
         ends_fault : (fault : InputFault) → EndsWithFault IsText contents puts flushes (ending_of is_broken) bytes from state last fault
             → PutsOutput IsText Gave (PutsAndEnds contents puts flushes first last) (Some fault)
-        ends_fault fault ends = ends_output ends.text ends.walk (Some fault) ends.told ends.fault_is ends.put
+        ends_fault fault ends = ends_output ends.text ends.reader (Some fault) ends.told ends.fault_is ends.put
 
         -- nothing followed, and so the round was the last
-        pub ends_given : (kept : List ℕ) (next : Walk) (result : Result (Unit {0}) StreamFault)
+        pub ends_given : (kept : List ℕ) (next : RaceReader) (result : Result (Unit {0}) StreamFault)
             → PutsRound IsText contents puts flushes (ending_of is_broken) bytes from kept next state last result → Ends result
         ends_given kept next (Ok done) on = elim on.fault_is [
           | inl goes_on ↦ absurd (not_open is_broken goes_on)
           | inr is ↦ elim on.put [
-            | inl put ↦ ends_output on.text on.walk None on.told is put
+            | inl put ↦ ends_output on.text on.reader None on.told is put
             | inr none ↦ absurd (not_open is_broken none.0)
           ]
         ]
         ends_given kept next (Err (faults.Text fault)) ends = inl (ends_fault (inputs.Text fault) ends)
         ends_given kept next (Err faults.Read) ends = ends_fault inputs.Read ends
-        ends_given kept next (Err faults.Write) (text, walk, told, failed) = record {
+        ends_given kept next (Err faults.Write) (text, reader, told, failed) = record {
           input = at.before ++ bytes;
           text = at.text ++ text;
           taken = inr (is_broken, gave _ at.took);
-          told = some_told IsText bytes from Took Done at text walk told;
+          told = some_told IsText bytes from Took Done at text reader told;
           written = round_failed contents puts flushes first state last at.text text at.put failed;
         }
         ends_given kept next (Err faults.Memory) same = record {

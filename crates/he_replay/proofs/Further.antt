@@ -4,18 +4,18 @@ use Rattle.std.proofs.lemmas.List.{append-nil}
 use Rattle.he_stream.specs.declared.answer.Flushed.{Flushed}
 use Rattle.he_stream.specs.declared.answer.Put.{Put}
 use Rattle.he_stream.specs.Output.{PutsInRounds, PutsPart, PutsRoundsPart, PutsAndEnds, PutsWhole}
-use Rattle.he_text.specs.declared.inputs.InputFault.{InputFault}
-use Rattle.he_text.specs.declared.inputs.InputFault.TheVariants as inputs
-use Rattle.he_text.specs.declared.walks.Ending.{Ending}
-use Rattle.he_text.specs.declared.walks.Ending.TheVariants as endings
-use Rattle.he_text.specs.declared.walks.Walk.{Walk}
-use Rattle.he_text.specs.Inputs.{IsFaultBehind, line_count}
-use Rattle.he_text.specs.Ranges.{most_races}
-use Rattle.he_text.specs.Walks.{MayFollow, ending_of}
-use Rattle.he_text.proofs.WalkLaws.{line_count-append}
+use Rattle.he_inputs.specs.declared.input_fault.InputFault.{InputFault}
+use Rattle.he_inputs.specs.declared.input_fault.InputFault.TheVariants as inputs
+use Rattle.he_inputs.specs.declared.race_reader.Ending.{Ending}
+use Rattle.he_inputs.specs.declared.race_reader.Ending.TheVariants as endings
+use Rattle.he_inputs.specs.declared.race_reader.RaceReader.{RaceReader}
+use Rattle.he_inputs.specs.Inputs.{IsFaultBehind, line_count}
+use Rattle.he_words.specs.Ranges.{most_races}
+use Rattle.he_inputs.specs.RaceReading.{MayFollow, ending_of}
+use Rattle.he_inputs.proofs.RaceReadingLaws.{line_count-append}
 use Rattle.std.specs.Result.{IsErr, IsErrAnd}
-use Rattle.he_text.specs.declared.stream_fault.StreamFault.{StreamFault}
-use Rattle.he_text.specs.declared.stream_fault.StreamFault.TheVariants as faults
+use Rattle.he_inputs.specs.declared.stream_fault.StreamFault.{StreamFault}
+use Rattle.he_inputs.specs.declared.stream_fault.StreamFault.TheVariants as faults
 use Rattle.he_replay.specs.declared.rounds.Told.{Told}
 use Rattle.he_replay.specs.Output.{AreTold, IsOutput, TextRelation}
 use Rattle.he_replay.specs.Rounds.{GoesOn, HasTold, IsAt, IsFaultPast, PutsRound, PutsTold}
@@ -26,11 +26,11 @@ use Rattle.he_replay.proofs.RaceTexts.{AreTold-append, told_at, told_texts}
 parts_of : (before bytes : List ℕ) (end : ℕ) → before ++ bytes ≡ (before ++ take end bytes) ++ drop end bytes
 parts_of before bytes end = ap (λ (b : List ℕ). before ++ b) (sym (take-append-drop end bytes)) ∙ sym (append_assoc before (take end bytes) (drop end bytes))
 
-module _ (IsText : TextRelation) (bytes : List ℕ) (from : Walk) (Took Done : List ℕ → Type 0) (at : IsAt IsText bytes from Took Done)
-    (text : List ℕ) (walk : Walk) (told : HasTold IsText bytes from.races from.lines text walk)
+module _ (IsText : TextRelation) (bytes : List ℕ) (from : RaceReader) (Took Done : List ℕ → Type 0) (at : IsAt IsText bytes from Took Done)
+    (text : List ℕ) (reader : RaceReader) (told : HasTold IsText bytes from.races from.lines text reader)
   where
     abbrev front : List ℕ
-    front = take walk.end bytes
+    front = take reader.end bytes
 
     texts : AreTold IsText 1 1 (at.races ++ told.races) (at.before ++ front) (at.text ++ text)
     texts =
@@ -39,10 +39,10 @@ module _ (IsText : TextRelation) (bytes : List ℕ) (from : Walk) (Took Done : L
         AreTold-append IsText 1 1 at.races at.before at.text at.told told.races front text
         (told_at IsText told.races front text _ _ (1 + length at.races) (1 + line_count at.before) (omega arith) (omega arith) told.told)
 
-    counted : walk.races ≡ length (at.races ++ told.races)
+    counted : reader.races ≡ length (at.races ++ told.races)
     counted = let before = at.counted in let more = told.counted in let longer = length-append at.races told.races in omega arith
 
-    lined : walk.lines ≡ line_count (at.before ++ front)
+    lined : reader.lines ≡ line_count (at.before ++ front)
     lined = let before = at.lined in let more = told.lined in let all = line_count-append at.before front in omega arith
 
     few : length (at.races ++ told.races) ≤ most_races
@@ -50,7 +50,7 @@ module _ (IsText : TextRelation) (bytes : List ℕ) (from : Walk) (Took Done : L
 
     -- some races more were told, and their text was put
     pub round_on : (Done' : List ℕ → Type 0) → Done' (at.text ++ text)
-        → IsAt IsText (drop walk.end bytes) (record { end = 0; races = walk.races; lines = walk.lines }) Took Done'
+        → IsAt IsText (drop reader.end bytes) (record { end = 0; races = reader.races; lines = reader.lines }) Took Done'
     round_on Done' done = record {
       races = at.races ++ told.races;
       before = at.before ++ front;
@@ -60,7 +60,7 @@ module _ (IsText : TextRelation) (bytes : List ℕ) (from : Walk) (Took Done : L
       counted = counted;
       few = told.few;
       lined = lined;
-      took = subst Took (parts_of at.before bytes walk.end) at.took;
+      took = subst Took (parts_of at.before bytes reader.end) at.took;
       put = done;
     }
 
@@ -69,24 +69,24 @@ module _ (IsText : TextRelation) (bytes : List ℕ) (from : Walk) (Took Done : L
     some_told = record {
       races = at.races ++ told.races;
       before = at.before ++ front;
-      rest = drop walk.end bytes;
-      parts = parts_of at.before bytes walk.end;
+      rest = drop reader.end bytes;
+      parts = parts_of at.before bytes reader.end;
       few = few;
       told = texts;
     }
 
     -- what was taken, and what may follow it, has this output, where this is the fault behind the races
-    pub told_output : (more : List ℕ) (is_broken : Bool) (fault : Option InputFault) → IsFaultBehind is_broken walk.races walk.lines (drop walk.end bytes ++ more) fault
+    pub told_output : (more : List ℕ) (is_broken : Bool) (fault : Option InputFault) → IsFaultBehind is_broken reader.races reader.lines (drop reader.end bytes ++ more) fault
         → IsOutput IsText ((at.before ++ bytes) ++ more) is_broken (at.text ++ text) fault
     told_output more is_broken fault is =
-        let Counted : ℕ → Type 0 = λ n. IsFaultBehind is_broken n walk.lines (drop walk.end bytes ++ more) fault in
-        let Lined : ℕ → Type 0 = λ n. IsFaultBehind is_broken (length (at.races ++ told.races)) n (drop walk.end bytes ++ more) fault in
+        let Counted : ℕ → Type 0 = λ n. IsFaultBehind is_broken n reader.lines (drop reader.end bytes ++ more) fault in
+        let Lined : ℕ → Type 0 = λ n. IsFaultBehind is_broken (length (at.races ++ told.races)) n (drop reader.end bytes ++ more) fault in
         record {
           races = at.races ++ told.races;
           has = record {
             before = at.before ++ front;
-            rest = drop walk.end bytes ++ more;
-            parts = ap (λ (b : List ℕ). b ++ more) (parts_of at.before bytes walk.end) ∙ append_assoc (at.before ++ front) (drop walk.end bytes) more;
+            rest = drop reader.end bytes ++ more;
+            parts = ap (λ (b : List ℕ). b ++ more) (parts_of at.before bytes reader.end) ∙ append_assoc (at.before ++ front) (drop reader.end bytes) more;
             whole = told_texts IsText 1 1 (at.races ++ told.races) (at.before ++ front) (at.text ++ text) texts;
             few = few;
             fault_is = subst Lined lined (subst Counted counted is);
@@ -95,7 +95,7 @@ module _ (IsText : TextRelation) (bytes : List ℕ) (from : Walk) (Took Done : L
         }
 
     -- nothing followed it
-    pub last_output : (is_broken : Bool) (fault : Option InputFault) → IsFaultPast (ending_of is_broken) bytes walk fault
+    pub last_output : (is_broken : Bool) (fault : Option InputFault) → IsFaultPast (ending_of is_broken) bytes reader fault
         → IsOutput IsText (at.before ++ bytes) is_broken (at.text ++ text) fault
     last_output is_broken fault is =
         let Of : List ℕ → Type 0 = λ input. IsOutput IsText input is_broken (at.text ++ text) fault in
@@ -111,40 +111,40 @@ no_break races lines [] is = cc
 no_break races lines (byte ∷ rest) (inl most) = let is = most.1 in cc
 no_break races lines (byte ∷ rest) (inr (few, (line, kind), found, is)) = cc
 
-pub not_broken : (bytes : List ℕ) (walk : Walk) → IsFaultPast endings.Open bytes walk (Some inputs.Read) → ⊥
-not_broken bytes walk is = no_break walk.races walk.lines (drop walk.end bytes ++ []) (is [] false tt)
+pub not_broken : (bytes : List ℕ) (reader : RaceReader) → IsFaultPast endings.Open bytes reader (Some inputs.Read) → ⊥
+not_broken bytes reader is = no_break reader.races reader.lines (drop reader.end bytes ++ []) (is [] false tt)
 
 -- how a round ends of which so much was told, by how the text was put
 module _ {S : Type 0} (IsText : TextRelation) (contents : S → Option (List ℕ)) (puts : S → Put → S → Type 0) (flushes : S → Flushed → S → Type 0)
-    (ending : Ending) (bytes : List ℕ) (from : Walk) (kept text : List ℕ) (told : Told) (has : HasTold IsText bytes from.races from.lines text told.walk)
-    (is : ((ending ≡ endings.Open) × (told.fault ≡ None)) ⊎ IsFaultPast ending bytes told.walk told.fault) (first last : S)
+    (ending : Ending) (bytes : List ℕ) (from : RaceReader) (kept text : List ℕ) (told : Told) (has : HasTold IsText bytes from.races from.lines text told.reader)
+    (is : ((ending ≡ endings.Open) × (told.fault ≡ None)) ⊎ IsFaultPast ending bytes told.reader told.fault) (first last : S)
   where
-    past : (fault : InputFault) → told.fault ≡ Some fault → IsFaultPast ending bytes told.walk (Some fault)
+    past : (fault : InputFault) → told.fault ≡ Some fault → IsFaultPast ending bytes told.reader (Some fault)
     past fault found = elim is [
       | inl (goes_on, none) ↦ let both : None ≡ Some fault = sym none ∙ found in cc
-      | inr behind ↦ subst (IsFaultPast ending bytes told.walk) found behind
+      | inr behind ↦ subst (IsFaultPast ending bytes told.reader) found behind
     ]
 
-    pub round_ends : (next : Walk) (fault : StreamFault) → PutsTold contents puts flushes ending told text first last (Err fault) → (result : Result (Unit {0}) StreamFault)
+    pub round_ends : (next : RaceReader) (fault : StreamFault) → PutsTold contents puts flushes ending told text first last (Err fault) → (result : Result (Unit {0}) StreamFault)
         → IsErr result × IsErrAnd result (λ f. f ≡ fault) → PutsRound IsText contents puts flushes ending bytes from kept next first last result
     round_ends next fault put (Ok done) handed = absurd handed.1
     round_ends next fault put (Err other) handed = subst (λ (f : StreamFault). PutsRound IsText contents puts flushes ending bytes from kept next first last (Err f)) (sym handed.1) (ends fault put)
       where
         ends : (fault : StreamFault) → PutsTold contents puts flushes ending told text first last (Err fault) → PutsRound IsText contents puts flushes ending bytes from kept next first last (Err fault)
-        ends (faults.Text fault) (found, put) = record { text = text; walk = told.walk; told = has; fault_is = past (inputs.Text fault) found; put = put }
-        ends faults.Read (found, put) = record { text = text; walk = told.walk; told = has; fault_is = past inputs.Read found; put = put }
-        ends faults.Write failed = (text, told.walk, has, failed)
+        ends (faults.Text fault) (found, put) = record { text = text; reader = told.reader; told = has; fault_is = past (inputs.Text fault) found; put = put }
+        ends faults.Read (found, put) = record { text = text; reader = told.reader; told = has; fault_is = past inputs.Read found; put = put }
+        ends faults.Write failed = (text, told.reader, has, failed)
         ends faults.Memory none = absurd none
 
-    pub round_goes : (walk : Walk) → PutsTold contents puts flushes ending told text first last (Ok walk) → kept ≡ drop walk.end bytes
-        → GoesOn IsText contents puts flushes ending bytes from kept (record { end = 0; races = walk.races; lines = walk.lines }) first last
-    round_goes walk (same, none, put) held = record {
+    pub round_goes : (reader : RaceReader) → PutsTold contents puts flushes ending told text first last (Ok reader) → kept ≡ drop reader.end bytes
+        → GoesOn IsText contents puts flushes ending bytes from kept (record { end = 0; races = reader.races; lines = reader.lines }) first last
+    round_goes reader (same, none, put) held = record {
       text = text;
-      walk = walk;
+      reader = reader;
       told = subst (HasTold IsText bytes from.races from.lines text) (sym same) has;
       fault_is = elim is [
         | inl (goes_on, right) ↦ inl goes_on
-        | inr behind ↦ inr (subst (λ (w : Walk). IsFaultPast ending bytes w None) (sym same) (subst (IsFaultPast ending bytes told.walk) none behind))
+        | inr behind ↦ inr (subst (λ (w : RaceReader). IsFaultPast ending bytes w None) (sym same) (subst (IsFaultPast ending bytes told.reader) none behind))
       ];
       put = put;
       held = held;

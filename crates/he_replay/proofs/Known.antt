@@ -2,16 +2,16 @@
 use Rattle.std.proofs.Common.{ℕ, ◌≡◌, ◌+◌, ◌++◌, ◌⊎◌, ◌==◌, List, [], ◌∷◌, length, Bool, true, false, Option, Some, None, ap, subst, sym, ◌∙◌, refl, arith, inl, inr, append_assoc}
 use Rattle.std.proofs.lemmas.List.{length-append}
 use Rattle.std.proofs.lemmas.List.Splits.{length-slice_split}
-use Rattle.he_text.specs.declared.fault.TextFault.{TextFault}
-use Rattle.he_text.specs.declared.fault.TextKind.{TextKind}
-use Rattle.he_text.specs.declared.fault.TextKind.TheVariants as kinds
-use Rattle.he_text.specs.Beginnings.{FaultStands, IsGroupFaultAtEnd, MayChange}
-use Rattle.he_text.specs.FaultSearch.{fault_of}
-use Rattle.he_text.specs.Parts.{lines_of}
-use Rattle.he_text.specs.declared.inputs.InputFault.{InputFault}
-use Rattle.he_text.specs.declared.inputs.InputFault.TheVariants.{Text, Read}
-use Rattle.he_text.specs.Inputs.{IsFaultBehind, fault_behind, line_count}
-use Rattle.he_text.proofs.WalkLaws.{line_count-append}
+use Rattle.he_words.specs.declared.fault.TextFault.{TextFault}
+use Rattle.he_words.specs.declared.fault.TextKind.{TextKind}
+use Rattle.he_words.specs.declared.fault.TextKind.TheVariants as kinds
+use Rattle.he_inputs.specs.Beginnings.{FaultStands, IsGroupFaultAtEnd, MayChange}
+use Rattle.he_reading.specs.FaultSearch.{fault_of}
+use Rattle.he_reading.specs.Parts.{lines_of}
+use Rattle.he_inputs.specs.declared.input_fault.InputFault.{InputFault}
+use Rattle.he_inputs.specs.declared.input_fault.InputFault.TheVariants.{Text, Read}
+use Rattle.he_inputs.specs.Inputs.{IsFaultBehind, fault_behind, line_count}
+use Rattle.he_inputs.proofs.RaceReadingLaws.{line_count-append}
 use Rattle.he_replay.specs.Known.{IsKnown}
 use Rattle.he_replay.specs.Output.{IsOutput, TextRelation}
 

@@ -11,10 +11,10 @@ use Rattle.he_timeline.specs.Race.{Race}
 use Rattle.he_plan.specs.Transcript.{Report, IsTranscript}
 use Rattle.he_story.specs.Floor.{floored}
 use Rattle.he_story.specs.Story.{IsStory, story_text}
-use Rattle.he_text.specs.declared.inputs.InputFault.{InputFault}
-use Rattle.he_text.specs.Inputs.{HasRaces}
-use Rattle.he_text.specs.Text.{IsRaceText}
-use Rattle.he_text.specs.Written.{transcript_text}
+use Rattle.he_inputs.specs.declared.input_fault.InputFault.{InputFault}
+use Rattle.he_inputs.specs.Inputs.{HasRaces}
+use Rattle.he_reading.specs.Text.{IsRaceText}
+use Rattle.he_write.specs.Written.{transcript_text}
 use Rattle.he_replay.specs.declared.race_texts.Content.{Content}
 use Rattle.he_replay.specs.declared.race_texts.Content.TheVariants as contents
 use Rattle.he_replay.specs.Output.{AreTold, IsOutput, IsTextOf, IsTextWith}

@@ -2,9 +2,9 @@
 use Rattle.std.proofs.Common.{ℕ, ◌≡◌, ◌+◌, ◌++◌, ◌∙◌, List, [], ◌∷◌, length, sym, ap, subst, arith, append_assoc}
 use Rattle.std.proofs.lemmas.List.{append_cancel_left}
 use Rattle.he_timeline.specs.Race.{Race}
-use Rattle.he_text.specs.Inputs.{AreRaceTexts, line_count}
-use Rattle.he_text.specs.Text.{IsRaceText}
-use Rattle.he_text.proofs.WalkLaws.{line_count-append}
+use Rattle.he_inputs.specs.Inputs.{AreRaceTexts, line_count}
+use Rattle.he_reading.specs.Text.{IsRaceText}
+use Rattle.he_inputs.proofs.RaceReadingLaws.{line_count-append}
 use Rattle.he_replay.specs.Output.{AreTold, TextRelation}
 use Rattle.he_replay.specs.Pieces.{IsAnywhere}
 

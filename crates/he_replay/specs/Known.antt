@@ -1,9 +1,9 @@
 -- How a fault of the text is known.
 use Rattle.std.specs.Prelude.{ℕ, ◌≡◌, ◌⊎◌, ◌++◌, Bool, true, false, List, Some}
-use Rattle.he_text.specs.declared.fault.TextFault.{TextFault}
-use Rattle.he_text.specs.Beginnings.{IsGroupFaultAtEnd}
-use Rattle.he_text.specs.declared.inputs.InputFault.TheVariants.{Text}
-use Rattle.he_text.specs.Inputs.{line_count}
+use Rattle.he_words.specs.declared.fault.TextFault.{TextFault}
+use Rattle.he_inputs.specs.Beginnings.{IsGroupFaultAtEnd}
+use Rattle.he_inputs.specs.declared.input_fault.InputFault.TheVariants.{Text}
+use Rattle.he_inputs.specs.Inputs.{line_count}
 use Rattle.he_replay.specs.Output.{IsOutput, TextRelation}
 
 -- each input that begins with these bytes has this output and this fault, however it ends

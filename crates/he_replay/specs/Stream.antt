@@ -3,15 +3,15 @@ use Rattle.std.specs.Prelude.{ℕ, ◌≡◌, ◌≤◌, ◌⊎◌, ◌++◌, Bo
 use Rattle.he_timeline.specs.Changes.{ChangeValues}
 use Rattle.he_timeline.specs.Race.{Race}
 use Rattle.he_pool.specs.declared.limits.TheConstants.{LEAST_WORKERS, MOST_WORKERS}
-use Rattle.he_text.specs.declared.fault.TextFault.{TextFault}
-use Rattle.he_text.specs.declared.inputs.InputFault.{InputFault}
-use Rattle.he_text.specs.declared.inputs.InputFault.TheVariants as inputs
-use Rattle.he_text.specs.Ranges.{most_races}
+use Rattle.he_words.specs.declared.fault.TextFault.{TextFault}
+use Rattle.he_inputs.specs.declared.input_fault.InputFault.{InputFault}
+use Rattle.he_inputs.specs.declared.input_fault.InputFault.TheVariants as inputs
+use Rattle.he_words.specs.Ranges.{most_races}
 use Rattle.he_replay.specs.Known.{Stands}
 use Rattle.he_replay.specs.Output.{AreTold, IsOutput, IsTextWith, TextRelation}
 use Rattle.he_replay.specs.declared.race_texts.Content.{Content}
-use Rattle.he_text.specs.declared.stream_fault.StreamFault.{StreamFault}
-use Rattle.he_text.specs.declared.stream_fault.StreamFault.TheVariants.{Text, Read, Write, Memory}
+use Rattle.he_inputs.specs.declared.stream_fault.StreamFault.{StreamFault}
+use Rattle.he_inputs.specs.declared.stream_fault.StreamFault.TheVariants.{Text, Read, Write, Memory}
 
 -- the input was given, whole or up to where it broke off, and its whole output, of this fault, was put in
 pub record PutsOutput (IsText : TextRelation) (Gave : List ℕ → Bool → Type 0) (Whole : List ℕ → Type 0) (fault : Option InputFault) : Type 0 where

@@ -1,8 +1,8 @@
 //! Laws of what is written for an input, each the contract of a function that runs nothing.
 ghost use Rattle.std.specs.Prelude.{◌≡◌, ℕ, Bool, List, Option, Some};
-ghost use Rattle.he_text.specs.declared.fault.TextFault.{TextFault};
-ghost use Rattle.he_text.specs.declared.inputs.InputFault.{InputFault};
-ghost use Rattle.he_text.specs.declared.inputs.InputFault.TheVariants.{Text};
+ghost use Rattle.he_words.specs.declared.fault.TextFault.{TextFault};
+ghost use Rattle.he_inputs.specs.declared.input_fault.InputFault.{InputFault};
+ghost use Rattle.he_inputs.specs.declared.input_fault.InputFault.TheVariants.{Text};
 ghost use Rattle.he_pool.specs.declared.limits.TheConstants.{LEAST_WORKERS, MOST_WORKERS};
 ghost use Rattle.he_pool.specs.Limits.{least_workers, most_workers};
 ghost use Rattle.he_timeline.specs.Changes.{ChangeValues};
@@ -10,9 +10,9 @@ ghost use Rattle.he_replay.specs.declared.race_texts.Content.{Content};
 ghost use Rattle.he_replay.specs.Known.{IsKnown};
 ghost use Rattle.he_replay.specs.Output.{IsOutput, IsTextWith};
 
+use he_inputs::inputs::one_input;
+use he_inputs::laws::{faults_stand, one_race_first};
 use he_plan::laws::one_transcript;
-use he_text::inputs::one_input;
-use he_text::laws::{faults_stand, one_race_first};
 
 /// An input, and whether it broke off, have one output and one fault.
 pub fn one_output()
@@ -36,7 +36,7 @@ pub fn faults_are_known()
     faults_stand();
 }
 
-/// The limits are the numbers that the definitions name. That of the races is he_text's (`he_text::laws::ranges`).
+/// The limits are the numbers that the definitions name. That of the races is tied by `he_words::laws::ranges`.
 pub fn limits_of_replays()
     ensures least { LEAST_WORKERS ≡ least_workers }
     ensures most { MOST_WORKERS ≡ most_workers }

@@ -1,7 +1,7 @@
 //! The limits of a replay.
 
 pub use he_pool::limits::{LEAST_WORKERS, MOST_WORKERS};
-pub use he_text::limits::MOST_RACES;
+pub use he_words::limits::MOST_RACES;
 
 /// The bytes of a piece, which a worker takes at a time, up to the end of its last race.
 pub const PIECE_BYTES: usize = 65_536;

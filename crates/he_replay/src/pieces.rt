@@ -5,7 +5,7 @@ ghost use Rattle.std.specs.Prelude.{◌≡◌, ◌≤◌, ◌<◌, [], IfOk, dro
 ghost use denote.Param.Send.{Frees, IsSend, IsSync};
 ghost use Rattle.he_board.specs.Passes.{IsPassOf, jobs_of};
 ghost use Rattle.he_pool.specs.declared.limits.TheConstants.{LEAST_WORKERS, MOST_WORKERS};
-ghost use Rattle.he_text.specs.Walks.{IsWithin};
+ghost use Rattle.he_inputs.specs.RaceReading.{IsWithin};
 ghost use Rattle.he_replay.specs.Pieces.{ArePieces, IsAnywhere, IsPiece, MayTake};
 ghost use Rattle.he_replay.specs.Rounds.{HasTold, IsAsked, TellsOn};
 
@@ -13,7 +13,7 @@ use crate::limits::{LEAST_WORKERS, MOST_PIECES, MOST_RACES, MOST_WORKERS, PIECE_
 use crate::race_texts::Asked;
 use crate::rounds::{Part, tell_races};
 use he_board::{Board, Pass};
-use he_text::{Ending, Walk};
+use he_inputs::{Ending, RaceReader};
 use memchr::memmem;
 use std::alloc::{AllocError, Allocator};
 use std::thread;
@@ -26,8 +26,8 @@ pub(crate) struct Piece<A: Allocator> {
     from: usize,
     // Their texts.
     text: Vec<u8, A>,
-    // The walk over the piece: how many races they are, and where in it they end.
-    walk: Walk,
+    // The reader of the piece: how many races they are, and where in it they end.
+    reader: RaceReader,
 }
 
 // How many pieces so many bytes have: the last one has what is too short for another.
@@ -167,7 +167,7 @@ fn tell_piece<A: Allocator + Copy>(
     asked: &Asked,
 ) -> Result<Piece<A>, AllocError>
     requires { number < count }
-    ensures { IfOk result (λ piece. IsPiece (IsAsked asked.now) bytes.now piece.from piece.text.items piece.walk) }
+    ensures { IfOk result (λ piece. IsPiece (IsAsked asked.now) bytes.now piece.from piece.text.items piece.reader) }
 {
     let from = piece_start(bytes, number);
     let end = if number + 1 == count {
@@ -176,8 +176,8 @@ fn tell_piece<A: Allocator + Copy>(
         piece_start(bytes, number + 1)
     };
     let mut text = Vec::new(alloc);
-    let walk = tell_range(alloc, bytes, from, end, asked, &mut text)?;
-    Ok(Piece { from, text, walk })
+    let reader = tell_range(alloc, bytes, from, end, asked, &mut text)?;
+    Ok(Piece { from, text, reader })
 }
 
 // Where the piece of this number begins: behind the first race that ends so many pieces' bytes from the start or more.
@@ -202,39 +202,39 @@ fn tell_range<A: Allocator + Copy>(
     end: usize,
     asked: &Asked,
     text: &mut Vec<u8, A>,
-) -> Result<Walk, AllocError>
+) -> Result<RaceReader, AllocError>
     requires from { from ≤ length bytes.now }
     requires end { end ≤ length bytes.now }
     requires none { text.old.items ≡ [] }
     ensures { IfOk result (HasTold (IsAsked asked.now) (drop from bytes.now) 0 0 text.new.items) }
 {
     if end <= from {
-        return Ok(Walk::START);
+        return Ok(RaceReader::START);
     }
     let part = Part {
-        begun: Walk::START,
+        begun: RaceReader::START,
         reach: end - from,
         ending: Ending::Open,
     };
     let told = tell_races(alloc, &bytes[from..end], part, asked, text)?;
-    Ok(told.walk)
+    Ok(told.reader)
 }
 
-// Appends the texts of first races of the bytes, at whose front the walk stands: of the pieces with which the bytes
+// Appends the texts of first races of the bytes, at whose front the reader stands: of the pieces with which the bytes
 // begin, as long as each is races to its end and all of them together are few enough.
 pub(crate) fn join_pieces<A: Allocator>(
     bytes: &[u8],
     asked: &Asked,
-    walk: Walk,
+    reader: RaceReader,
     pieces: &[Piece<A>],
     text: &mut Vec<u8, A>,
-) -> Result<Walk, AllocError>
+) -> Result<RaceReader, AllocError>
     requires anywhere { IsAnywhere (IsAsked asked.now) }
-    requires within { IsWithin bytes.now walk }
+    requires within { IsWithin bytes.now reader }
     requires told { ArePieces (IsAsked asked.now) bytes.now pieces.now }
-    ensures { IfOk result (TellsOn (IsAsked asked.now) bytes.now walk text.old.items text.new.items) }
+    ensures { IfOk result (TellsOn (IsAsked asked.now) bytes.now reader text.old.items text.new.items) }
 {
-    let mut begun = walk;
+    let mut begun = reader;
     for _passes in 0..pieces.len() {
         let before = begun.end;
         begun = join_some(bytes, asked, begun, pieces, text)?;
@@ -249,10 +249,10 @@ pub(crate) fn join_pieces<A: Allocator>(
 fn join_some<A: Allocator>(
     bytes: &[u8],
     asked: &Asked,
-    before: Walk,
+    before: RaceReader,
     pieces: &[Piece<A>],
     text: &mut Vec<u8, A>,
-) -> Result<Walk, AllocError>
+) -> Result<RaceReader, AllocError>
     requires anywhere { IsAnywhere (IsAsked asked.now) }
     requires within { IsWithin bytes.now before }
     requires told { ArePieces (IsAsked asked.now) bytes.now pieces.now }
@@ -262,12 +262,12 @@ fn join_some<A: Allocator>(
     let mut begun = before;
     for piece in pieces {
         let room = MOST_RACES - begun.races;
-        if piece.from == begun.end && piece.walk.races <= room {
+        if piece.from == begun.end && piece.reader.races <= room {
             text.extend_from_slice(&piece.text)?;
-            begun = Walk {
-                end: begun.end + piece.walk.end,
-                races: begun.races + piece.walk.races,
-                lines: begun.lines + piece.walk.lines,
+            begun = RaceReader {
+                end: begun.end + piece.reader.end,
+                races: begun.races + piece.reader.races,
+                lines: begun.lines + piece.reader.lines,
             };
         }
     }

@@ -1,6 +1,6 @@
 //! What is written of a race, and its text.
 ghost use Rattle.std.specs.Prelude.{◌≡◌, ◌++◌, None, OnOk};
-ghost use Rattle.he_text.specs.Written.{transcript_text};
+ghost use Rattle.he_write.specs.Written.{transcript_text};
 ghost use Rattle.he_replay.specs.Output.{IsTextOf, IsTranscriptText, has_place};
 ghost use Rattle.he_replay.specs.Rounds.{IsAsked, WritesText};
 
@@ -12,8 +12,8 @@ use he_json::{write_explanation_json, write_order_json, write_transcript_json};
 use he_page::write_section;
 use he_plan::{Transcript, transcript_of};
 use he_story::write_story;
-use he_text::{write_order, write_transcript};
 use he_timeline::{Changes, Timeline};
+use he_write::{write_order, write_transcript};
 use std::alloc::{AllocError, Allocator};
 
 /// What is written of a race.

@@ -7,8 +7,8 @@ ghost use Rattle.he_replay.specs.Stream.{Replays};
 use crate::limits::{LEAST_WORKERS, MOST_WORKERS};
 use crate::race_texts::Asked;
 use crate::streaming::stream_races;
+use he_inputs::StreamFault;
 use he_stream::{InputStream, OutputStream};
-use he_text::StreamFault;
 use std::alloc::Allocator;
 use std::thread::Threads;
 

@@ -1,15 +1,15 @@
 //! Rounds: the races that stand ready in the bytes that are held are told, each before the next is read, and their
 //! texts put into the output.
 ghost use Rattle.std.specs.Prelude.{◌≡◌, ◌+◌, ◌-◌, ◌≤◌, ◌^◌, false, IfOk, OnOk, drop, take, vec_len};
-ghost use Rattle.he_text.specs.declared.walks.Ending.TheVariants as endings;
-ghost use Rattle.he_text.specs.Walks.{IsWithin};
+ghost use Rattle.he_inputs.specs.declared.race_reader.Ending.TheVariants as endings;
+ghost use Rattle.he_inputs.specs.RaceReading.{IsWithin};
 ghost use Rattle.he_replay.specs.Rounds.{HasTold, IsAsked, PutsRound, PutsTold, Tells};
 
 use crate::limits::{ARENA_BYTES, MOST_RACES};
 use crate::race_texts::Asked;
 use bumpalo::Bump;
+use he_inputs::{Ending, InputFault, RaceReader, RaceReaderFault, StreamFault};
 use he_stream::{OutputStream, write_whole};
-use he_text::{Ending, InputFault, StreamFault, Walk, WalkFault};
 use std::alloc::{AllocError, Allocator};
 
 // What a call holds of its input, and what it told of it before.
@@ -20,8 +20,8 @@ pub(crate) struct Held<A: Allocator> {
     pub(crate) filled: usize,
     // The room for the next step.
     pub(crate) room: usize,
-    // The walk over the input, at the front of the bytes: the races that were told, and their lines.
-    pub(crate) walk: Walk,
+    // The reader of the input, at the front of the bytes: the races that were told, and their lines.
+    pub(crate) reader: RaceReader,
     // How many of the bytes were looked at when a race in them was not whole yet.
     pub(crate) tried: usize,
 }
@@ -29,14 +29,14 @@ pub(crate) struct Held<A: Allocator> {
 impl<A: Allocator> Held<A> {
     // Nothing is taken yet, and the first step gets so much room.
     pub(crate) fn new(alloc: A, room: usize) -> Held<A>
-        ensures empty { (result.filled ≡ 0) × (result.walk ≡ record { end = 0; races = 0; lines = 0 }) }
+        ensures empty { (result.filled ≡ 0) × (result.reader ≡ record { end = 0; races = 0; lines = 0 }) }
         ensures room { result.room ≡ room }
     {
         Held {
             bytes: Vec::new(alloc),
             filled: 0,
             room,
-            walk: Walk::START,
+            reader: RaceReader::START,
             tried: 0,
         }
     }
@@ -45,8 +45,8 @@ impl<A: Allocator> Held<A> {
 // What is asked of some bytes of an input.
 #[derive(Clone, Copy)]
 pub(crate) struct Part {
-    // How far the walk over them has come, whose races are told already.
-    pub(crate) begun: Walk,
+    // How far the reader of them has come, whose races are told already.
+    pub(crate) begun: RaceReader,
     // How far races are looked for: none is read that begins there or behind it, unless nothing follows the bytes, or
     // nothing may follow the races.
     pub(crate) reach: usize,
@@ -55,19 +55,19 @@ pub(crate) struct Part {
 }
 
 impl Part {
-    // Whether the walk goes on that has come so far.
-    fn goes_on(&self, walk: Walk) -> bool
+    // Whether the reader goes on that has come so far.
+    fn goes_on(&self, reader: RaceReader) -> bool
         ensures { result ≡ false → self.now.ending ≡ endings.Open }
     {
-        self.ending != Ending::Open || walk.end < self.reach || walk.races == MOST_RACES
+        self.ending != Ending::Open || reader.end < self.reach || reader.races == MOST_RACES
     }
 }
 
 // What was told of some bytes.
 #[derive(Clone, Copy)]
 pub(crate) struct Told {
-    // How far the walk came.
-    pub(crate) walk: Walk,
+    // How far the reader came.
+    pub(crate) reader: RaceReader,
     // What is wrong with the input behind that.
     pub(crate) fault: Option<InputFault>,
 }
@@ -85,42 +85,42 @@ pub(crate) fn put_round<A: Allocator + Copy, O: OutputStream>(
     output: &mut O,
 ) -> Result<(), StreamFault>
     requires within { held.old.filled ≤ vec_len held.old.bytes }
-    requires lines { held.old.walk.lines + held.old.filled ≤ 2 ^ 54 }
-    requires begun { HasTold (IsAsked asked.now) (take held.old.filled held.old.bytes.items) held.old.walk.races
-        held.old.walk.lines text.old.items part.begun }
+    requires lines { held.old.reader.lines + held.old.filled ≤ 2 ^ 54 }
+    requires begun { HasTold (IsAsked asked.now) (take held.old.filled held.old.bytes.items) held.old.reader.races
+        held.old.reader.lines text.old.items part.begun }
     ensures within { OnOk result (held.new.filled ≤ vec_len held.new.bytes) }
     ensures room { OnOk result (held.new.room ≡ held.old.room) }
-    ensures size { OnOk result (held.new.walk.lines + held.new.filled ≤ held.old.walk.lines + held.old.filled) }
+    ensures size { OnOk result (held.new.reader.lines + held.new.filled ≤ held.old.reader.lines + held.old.filled) }
     ensures told { PutsRound (IsAsked asked.now) O.contents O.puts O.flushes part.ending
-        (take held.old.filled held.old.bytes.items) held.old.walk
-        (take held.new.filled held.new.bytes.items) held.new.walk output.old output.new result }
+        (take held.old.filled held.old.bytes.items) held.old.reader
+        (take held.new.filled held.new.bytes.items) held.new.reader output.old output.new result }
 {
     let bytes = &held.bytes[..held.filled];
     let told = tell_races(alloc, bytes, part, asked, text)?;
-    let walk = put_told(part.ending, told, text.as_slice(), output)?;
+    let reader = put_told(part.ending, told, text.as_slice(), output)?;
     let all = part.reach == held.filled;
-    forget(&mut held.bytes, walk.end, held.filled);
-    held.filled -= walk.end;
-    held.walk = Walk { end: 0, ..walk };
+    forget(&mut held.bytes, reader.end, held.filled);
+    held.filled -= reader.end;
+    held.reader = RaceReader { end: 0, ..reader };
     held.tried = if all { held.filled } else { 0 };
     Ok(())
 }
 
-// Puts the text of what was told into the output, and answers how far the walk came. Where more may follow, nothing is
-// wrong and there is no text, nothing is put.
+// Puts the text of what was told into the output, and answers how far the reader came. Where more may follow, nothing
+// is wrong and there is no text, nothing is put.
 fn put_told<O: OutputStream>(
     ending: Ending,
     told: Told,
     text: &[u8],
     output: &mut O,
-) -> Result<Walk, StreamFault>
+) -> Result<RaceReader, StreamFault>
     ensures { PutsTold O.contents O.puts O.flushes ending told text.now output.old output.new result }
 {
     if ending != Ending::Open || told.fault.is_some() || !text.is_empty() {
         write_whole(output, text)?;
     }
     match told.fault {
-        None => Ok(told.walk),
+        None => Ok(told.reader),
         Some(fault) => Err(fault.into()),
     }
 }
@@ -136,7 +136,7 @@ fn forget<A: Allocator>(bytes: &mut Vec<u8, A>, end: usize, filled: usize)
 }
 
 // Appends the texts that are asked for of the races at the front of the bytes, behind those with which the part
-// begins. No race is kept when the walk goes on to the next: a race stands in an arena, whose memory the next one
+// begins. No race is kept when the reader goes on to the next: a race stands in an arena, whose memory the next one
 // takes again.
 pub(crate) fn tell_races<A: Allocator + Copy>(
     alloc: A,
@@ -149,23 +149,26 @@ pub(crate) fn tell_races<A: Allocator + Copy>(
     ensures { IfOk result (Tells (IsAsked asked.now) part.ending bytes.now part.begun text.old.items text.new.items) }
 {
     let mut arena = Bump::try_with_capacity(alloc, ARENA_BYTES)?;
-    let mut walk = part.begun;
-    while part.goes_on(walk) {
-        let number = walk.races + 1;
-        let line = walk.lines + 1;
-        match walk.next(&arena, bytes, part.ending) {
+    let mut reader = part.begun;
+    while part.goes_on(reader) {
+        let number = reader.races + 1;
+        let line = reader.lines + 1;
+        match reader.next(&arena, bytes, part.ending) {
             Ok(Some(race)) => asked.write(&arena, race, number, line, text)?,
             Ok(None) => break,
-            Err(WalkFault::Input(fault)) => {
+            Err(RaceReaderFault::Input(fault)) => {
                 return Ok(Told {
-                    walk,
+                    reader,
                     fault: Some(fault),
                 });
             }
-            Err(WalkFault::Memory) => return Err(AllocError),
+            Err(RaceReaderFault::Memory) => return Err(AllocError),
         }
         // An arena that can't be reset is no fault: it grows.
         let _ = arena.reset();
     }
-    Ok(Told { walk, fault: None })
+    Ok(Told {
+        reader,
+        fault: None,
+    })
 }

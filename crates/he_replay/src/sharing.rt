@@ -1,7 +1,7 @@
 // Races that workers share, of the bytes that a step of the input completes.
 ghost use Rattle.std.specs.Prelude.{◌≡◌, ◌≤◌, ◌<◌, ◌+◌, ◌^◌, IfOk, take, vec_len};
 ghost use Rattle.he_pool.specs.declared.limits.TheConstants.{LEAST_WORKERS, MOST_WORKERS};
-ghost use Rattle.he_text.specs.Ranges.{most_races};
+ghost use Rattle.he_words.specs.Ranges.{most_races};
 ghost use Rattle.he_replay.specs.Pieces.{IsAnywhere};
 ghost use Rattle.he_replay.specs.Rounds.{HasTold, IsAsked};
 
@@ -9,7 +9,7 @@ use crate::limits::{LEAST_WORKERS, MOST_WORKERS, PIECES_OF_A_WORKER};
 use crate::pieces::{join_pieces, piece_count, tell_pieces};
 use crate::race_texts::Asked;
 use crate::rounds::Held;
-use he_text::Walk;
+use he_inputs::RaceReader;
 use std::alloc::{AllocError, Allocator};
 use std::thread::Threads;
 
@@ -22,25 +22,25 @@ pub(crate) fn begin_shared<R: Threads + Sync, A: Allocator + Copy + Send + Sync>
     workers: u16,
     asked: &Asked,
     text: &mut Vec<u8, A>,
-) -> Result<Walk, AllocError>
+) -> Result<RaceReader, AllocError>
     requires anywhere { LEAST_WORKERS < workers → IsAnywhere (IsAsked asked.now) }
     requires some { LEAST_WORKERS ≤ workers }
     requires few { workers ≤ MOST_WORKERS }
     requires within { held.now.filled + count ≤ vec_len held.now.bytes }
-    requires front { (held.now.walk.end ≡ 0) × (held.now.walk.races ≤ most_races) }
-    requires lines { held.now.walk.lines + held.now.filled + count ≤ 2 ^ 54 }
+    requires front { (held.now.reader.end ≡ 0) × (held.now.reader.races ≤ most_races) }
+    requires lines { held.now.reader.lines + held.now.filled + count ≤ 2 ^ 54 }
     ensures { IfOk result (HasTold (IsAsked asked.now) (take
-        (held.now.filled + count) held.now.bytes.items) held.now.walk.races held.now.walk.lines text.new.items) }
+        (held.now.filled + count) held.now.bytes.items) held.now.reader.races held.now.reader.lines text.new.items) }
 {
     text.clear();
     let bytes = &held.bytes[..held.filled + count];
     let pieces = piece_count(bytes.len());
     let enough = enough_workers(pieces, workers);
     if enough == LEAST_WORKERS {
-        return Ok(held.walk);
+        return Ok(held.reader);
     }
     let told = tell_pieces(rt, alloc, bytes, pieces, enough, asked)?;
-    join_pieces(bytes, asked, held.walk, &told, text)
+    join_pieces(bytes, asked, held.reader, &told, text)
 }
 
 // So many of the workers that each has enough pieces to be worth its thread, and at least one.

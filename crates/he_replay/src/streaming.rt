@@ -4,9 +4,9 @@ ghost use Rattle.he_stream.specs.declared.limits.TheConstants.{READ_SIZE};
 ghost use Rattle.he_stream.specs.Input.{Gives, GivesSoFar};
 ghost use Rattle.he_stream.specs.Output.{PutsAndEnds, PutsInRounds, PutsRoundsPart};
 ghost use Rattle.he_pool.specs.declared.limits.TheConstants.{LEAST_WORKERS, MOST_WORKERS};
-ghost use Rattle.he_text.specs.declared.walks.Ending.TheVariants as endings;
-ghost use Rattle.he_text.specs.Ranges.{most_races};
-ghost use Rattle.he_text.specs.Walks.{ending_of};
+ghost use Rattle.he_inputs.specs.declared.race_reader.Ending.TheVariants as endings;
+ghost use Rattle.he_words.specs.Ranges.{most_races};
+ghost use Rattle.he_inputs.specs.RaceReading.{ending_of};
 ghost use Rattle.he_replay.specs.Pieces.{IsAnywhere};
 ghost use Rattle.he_replay.specs.Rounds.{HasTold, IsAsked, PutsRound};
 ghost use Rattle.he_replay.specs.Stream.{Streams};
@@ -17,9 +17,9 @@ use crate::limits::{
 use crate::race_texts::Asked;
 use crate::rounds::{Held, Part, put_round};
 use crate::sharing::begin_shared;
+use he_inputs::{Ending, RaceReader, StreamFault};
 use he_stream::limits::MOST_READS;
 use he_stream::{InputStream, OutputStream, Taken, take_piece};
-use he_text::{Ending, StreamFault, Walk};
 use memchr::memmem::rfind;
 use std::alloc::Allocator;
 use std::thread::Threads;
@@ -97,23 +97,23 @@ fn tell_held<A: Allocator + Copy, O: OutputStream>(
     alloc: A,
     held: &mut Held<A>,
     count: usize,
-    begun: Walk,
+    begun: RaceReader,
     asked: &Asked,
     text: &mut Vec<u8, A>,
     output: &mut O,
 ) -> Result<(), StreamFault>
     requires within { held.old.filled + count ≤ vec_len held.old.bytes }
-    requires front { (held.old.walk.end ≡ 0) × (held.old.walk.races ≤ most_races) }
-    requires lines { held.old.walk.lines + held.old.filled + count ≤ 2 ^ 54 }
+    requires front { (held.old.reader.end ≡ 0) × (held.old.reader.races ≤ most_races) }
+    requires lines { held.old.reader.lines + held.old.filled + count ≤ 2 ^ 54 }
     requires begun { HasTold (IsAsked asked.now) (take (held.old.filled + count) held.old.bytes.items)
-        held.old.walk.races held.old.walk.lines text.old.items begun }
+        held.old.reader.races held.old.reader.lines text.old.items begun }
     ensures within { OnOk result (held.new.filled ≤ vec_len held.new.bytes) }
     ensures room { OnOk result (held.new.room ≡ held.old.room) }
-    ensures size { OnOk result (held.new.walk.lines + held.new.filled
-        ≤ held.old.walk.lines + held.old.filled + count) }
+    ensures size { OnOk result (held.new.reader.lines + held.new.filled
+        ≤ held.old.reader.lines + held.old.filled + count) }
     ensures told { PutsRound (IsAsked asked.now) O.contents O.puts O.flushes endings.Open
-        (take (held.old.filled + count) held.old.bytes.items) held.old.walk
-        (take held.new.filled held.new.bytes.items) held.new.walk output.old output.new result }
+        (take (held.old.filled + count) held.old.bytes.items) held.old.reader
+        (take held.new.filled held.new.bytes.items) held.new.reader output.old output.new result }
 {
     let searched = held.filled;
     held.filled += count;
@@ -141,15 +141,15 @@ fn end_held<A: Allocator + Copy, O: OutputStream>(
     output: &mut O,
 ) -> Result<(), StreamFault>
     requires within { held.old.filled ≤ vec_len held.old.bytes }
-    requires front { (held.old.walk.end ≡ 0) × (held.old.walk.races ≤ most_races) }
-    requires lines { held.old.walk.lines + held.old.filled ≤ 2 ^ 54 }
+    requires front { (held.old.reader.end ≡ 0) × (held.old.reader.races ≤ most_races) }
+    requires lines { held.old.reader.lines + held.old.filled ≤ 2 ^ 54 }
     ensures { PutsRound (IsAsked asked.now) O.contents O.puts O.flushes (ending_of is_broken)
-        (take held.old.filled held.old.bytes.items) held.old.walk
-        (take held.new.filled held.new.bytes.items) held.new.walk output.old output.new result }
+        (take held.old.filled held.old.bytes.items) held.old.reader
+        (take held.new.filled held.new.bytes.items) held.new.reader output.old output.new result }
 {
     text.clear();
     let part = Part {
-        begun: held.walk,
+        begun: held.reader,
         reach: held.filled,
         ending: Ending::of(is_broken),
     };

@@ -2,9 +2,10 @@
 // nothing written and nothing explained, and all else as ever. `check` goes through `check_input` and `explain_fault`.
 
 use he_check::check;
+use he_inputs::StreamFault;
 use he_select::PolicyFault;
 use he_stream::{FromReader, ToWriter};
-use he_text::{StreamFault, TextFault, TextKind};
+use he_words::{TextFault, TextKind};
 use refusing::{Refusing, each_growth_refused};
 use std::alloc::Global;
 use stream_fakes::{FakeReader, FakeWriter};

@@ -1,9 +1,9 @@
 // Each growth refused in turn: the fault is Memory and what some first races ask for is written, or all is.
 
 use crate::hostile::{CONTENTS, TEXT, output_of, run_over};
+use he_inputs::StreamFault;
 use he_replay::Content;
 use he_stream::{FromReader, ToWriter};
-use he_text::StreamFault;
 use refusing::{Refusing, each_growth_refused};
 use std::alloc::{AllocError, Global};
 use std::test::Fail;

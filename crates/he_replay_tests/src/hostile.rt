@@ -1,9 +1,10 @@
 // Replays, orders and explanations of texts that break off, over readers and writers that fail.
 
+use he_inputs::StreamFault;
 use he_replay::{Asked, Content, replay};
 use he_select::PolicyFault;
 use he_stream::{FromReader, InputStream, ToWriter};
-use he_text::{StreamFault, TextFault, TextKind};
+use he_words::{TextFault, TextKind};
 use std::alloc::{AllocError, Allocator, Global};
 use std::io::Read;
 use std::mem::drop;

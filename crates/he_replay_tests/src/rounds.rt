@@ -1,9 +1,9 @@
 // What is written while the input still comes: of 100 races, each of which one read gives.
 
 use crate::hostile::{CONTENTS, TEXT, output_of, run_over};
+use he_inputs::StreamFault;
 use he_replay::{Asked, Content, replay};
 use he_stream::{FromReader, ToWriter};
-use he_text::StreamFault;
 use std::alloc::{AllocError, Global};
 use std::test::Fail;
 use std::thread::Threads;

@@ -2,10 +2,11 @@
 // memory is told only where a growth was refused, behind the whole texts of some first races.
 ghost use Rattle.std.specs.Prelude.{◌≤◌};
 
+use he_inputs::StreamFault;
 use he_replay::limits::{PIECE_BYTES, PIECES_OF_A_WORKER};
 use he_replay::{Asked, Content, replay};
 use he_stream::{FromReader, ToWriter};
-use he_text::{StreamFault, TextFault, TextKind};
+use he_words::{TextFault, TextKind};
 use refusing::{Refusing, each_growth_refused};
 use std::alloc::{AllocError, Global};
 use std::test::Fail;

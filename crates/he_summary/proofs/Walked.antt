@@ -1,20 +1,20 @@
--- One race more of an input is summed, and how its walk ends.
+-- One race more of an input is summed, and how its reading ends.
 use Rattle.std.proofs.Common.{ℕ, ◌≡◌, ◌+◌, ◌-◌, ◌<◌, Bool, true, false, List, [], ◌∷◌, ◌++◌, length, Option, Some, None, Result, Ok, Err, OnOk, IsErr, IsErrAnd, refl, sym, subst, append_assoc, length-append, arith}
 use Rattle.std.specs.List.{AllZip}
 use Rattle.std.proofs.lemmas.List.{append-nil}
 use Rattle.he_timeline.specs.Changes.{ChangeValues, changed}
 use Rattle.he_timeline.specs.Race.{Race}
 use Rattle.he_plan.specs.Transcript.{IsTranscript, Report}
-use Rattle.he_text.specs.StreamFaults.{fault_of_walk}
-use Rattle.he_text.specs.Walks.{IsWalkFault, IsWithin, ending_of}
-use Rattle.he_text.specs.declared.inputs.InputFault.{InputFault}
-use Rattle.he_text.specs.declared.inputs.InputFault.TheVariants as inputs
-use Rattle.he_text.specs.declared.walks.Walk.{Walk}
-use Rattle.he_text.specs.declared.walks.WalkFault.{WalkFault}
-use Rattle.he_text.specs.declared.walks.WalkFault.TheVariants as walks
-use Rattle.he_text.proofs.WalkLaws.{has_fault, has_none, none_passed, passes_on}
+use Rattle.he_inputs.specs.StreamFaults.{fault_of_reader}
+use Rattle.he_inputs.specs.RaceReading.{IsReaderFault, IsWithin, ending_of}
+use Rattle.he_inputs.specs.declared.input_fault.InputFault.{InputFault}
+use Rattle.he_inputs.specs.declared.input_fault.InputFault.TheVariants as inputs
+use Rattle.he_inputs.specs.declared.race_reader.RaceReader.{RaceReader}
+use Rattle.he_inputs.specs.declared.race_reader.RaceReaderFault.{RaceReaderFault}
+use Rattle.he_inputs.specs.declared.race_reader.RaceReaderFault.TheVariants as readers
+use Rattle.he_inputs.proofs.RaceReadingLaws.{has_fault, has_none, none_passed, passes_on}
 use Rattle.he_summary.specs.Courses.{Raced}
-use Rattle.he_summary.specs.Steps.{AreSummed, EndsWalk, HasEnded, HasWalked, MaySum, SumsNext, SumsRace}
+use Rattle.he_summary.specs.Steps.{AreSummed, EndsReading, HasEnded, HasRead, MaySum, SumsNext, SumsRace}
 use Rattle.he_summary.specs.Summed.{Adds, HasAdded, HasSummed, IsRaced, MayAdd, Sums}
 
 -- one more behind the others
@@ -32,7 +32,7 @@ as_many changes [] (first ∷ added) are = absurd are
 as_many changes (one ∷ races) [] are = absurd are
 
 pub none_walked : (changes : ChangeValues) (input : List ℕ) (sums : Sums) → IsWithin input (record { end = 0; races = 0; lines = 0 })
-    → HasWalked changes input (record { end = 0; races = 0; lines = 0 }) sums sums
+    → HasRead changes input (record { end = 0; races = 0; lines = 0 }) sums sums
 none_walked changes input sums within = record {
   races = [];
   passed = none_passed input 0 0;
@@ -41,8 +41,8 @@ none_walked changes input sums within = record {
 }
 
 -- one more can be summed
-pub may_sum : (changes : ChangeValues) (input : List ℕ) (walk : Walk) (old new : Sums) → HasWalked changes input walk old new → MayAdd old → MaySum new
-may_sum changes input walk old new walked (races, has, few) =
+pub may_sum : (changes : ChangeValues) (input : List ℕ) (reader : RaceReader) (old new : Sums) → HasRead changes input reader old new → MayAdd old → MaySum new
+may_sum changes input reader old new walked (races, has, few) =
     let added = walked.summed.added in
     let many : length added ≡ length walked.races = as_many changes walked.races added walked.summed.are in
     let passed = walked.passed.counted in
@@ -50,8 +50,8 @@ may_sum changes input walk old new walked (races, has, few) =
     let all : length (races ++ added) ≡ length races + length added = length-append races added in
     (races ++ added, walked.summed.sums races has, omega arith)
 
-pub one_more : (changes : ChangeValues) (input : List ℕ) (is_broken : Bool) (before after : Walk) (first old new : Sums) → HasWalked changes input before first old
-    → SumsNext changes input is_broken before after old new (Ok true) → HasWalked changes input after first new × (length input - after.end < length input - before.end)
+pub one_more : (changes : ChangeValues) (input : List ℕ) (is_broken : Bool) (before after : RaceReader) (first old new : Sums) → HasRead changes input before first old
+    → SumsNext changes input is_broken before after old new (Ok true) → HasRead changes input after first new × (length input - after.end < length input - before.end)
 one_more changes input is_broken before after first old new walked (race, passes, within, (report, told, sums)) =
     let raced : Raced = record { race = changed changes race; report = report } in
     let past = passes.past in
@@ -72,27 +72,27 @@ one_more changes input is_broken before after first old new walked (race, passes
 unchanged : (changes : ChangeValues) (races : List Race) (first old new : Sums) → new ≡ old → AreSummed changes races first old → AreSummed changes races first new
 unchanged changes races first old new same summed = subst (AreSummed changes races first) (sym same) summed
 
-pub ends : (changes : ChangeValues) (input : List ℕ) (is_broken : Bool) (before after : Walk) (first old new : Sums) → HasWalked changes input before first old
-    → SumsNext changes input is_broken before after old new (Ok false) → EndsWalk changes input is_broken first new (Ok (record {}))
+pub ends : (changes : ChangeValues) (input : List ℕ) (is_broken : Bool) (before after : RaceReader) (first old new : Sums) → HasRead changes input before first old
+    → SumsNext changes input is_broken before after old new (Ok false) → EndsReading changes input is_broken first new (Ok (record {}))
 ends changes input is_broken before after first old new walked (same, end) = record {
   races = walked.races;
   has = has_none input is_broken walked.races before walked.passed walked.within.few end;
   summed = unchanged changes walked.races first old new same walked.summed;
 }
 
-pub fails : (changes : ChangeValues) (input : List ℕ) (is_broken : Bool) (before after : Walk) (first old new : Sums) (fault : WalkFault) → HasWalked changes input before first old
-    → SumsNext changes input is_broken before after old new (Err fault) → EndsWalk changes input is_broken first new (Err fault)
-fails changes input is_broken before after first old new (walks.Input fault) walked (same, is) = record {
+pub fails : (changes : ChangeValues) (input : List ℕ) (is_broken : Bool) (before after : RaceReader) (first old new : Sums) (fault : RaceReaderFault) → HasRead changes input before first old
+    → SumsNext changes input is_broken before after old new (Err fault) → EndsReading changes input is_broken first new (Err fault)
+fails changes input is_broken before after first old new (readers.Input fault) walked (same, is) = record {
   races = walked.races;
   has = has_fault input is_broken walked.races before fault walked.passed walked.within.few is;
   summed = unchanged changes walked.races first old new same walked.summed;
 }
-fails changes input is_broken before after first old new walks.Memory walked is = tt
+fails changes input is_broken before after first old new readers.Memory walked is = tt
 
-pub stops : (changes : ChangeValues) (input : List ℕ) (is_broken : Bool) (before after : Walk) (sums : Sums) (fault : WalkFault) → IsWalkFault input (ending_of is_broken) before fault
+pub stops : (changes : ChangeValues) (input : List ℕ) (is_broken : Bool) (before after : RaceReader) (sums : Sums) (fault : RaceReaderFault) → IsReaderFault input (ending_of is_broken) before fault
     → SumsNext changes input is_broken before after sums sums (Err fault)
-stops changes input is_broken before after sums (walks.Input fault) is = (refl, is)
-stops changes input is_broken before after sums walks.Memory is = tt
+stops changes input is_broken before after sums (readers.Input fault) is = (refl, is)
+stops changes input is_broken before after sums readers.Memory is = tt
 
 -- what is added
 added : (changes : ChangeValues) (Given : List ℕ → Bool → Type 0) (input : List ℕ) (is_broken : Bool) (old new : Sums) (fault : Option InputFault) → Given input is_broken
@@ -110,14 +110,14 @@ added changes Given input is_broken old new fault given has = record {
 }
 
 pub adds : (changes : ChangeValues) (Given : List ℕ → Bool → Type 0) (input : List ℕ) (is_broken : Bool) (old new : Sums) → Given input is_broken
-    → EndsWalk changes input is_broken old new (Ok (record {})) → Adds changes Given old new (Ok (record {}))
+    → EndsReading changes input is_broken old new (Ok (record {})) → Adds changes Given old new (Ok (record {}))
 adds changes Given input is_broken old new given has = added changes Given input is_broken old new None given has
 
-pub adds_to : (changes : ChangeValues) (Given : List ℕ → Bool → Type 0) (input : List ℕ) (is_broken : Bool) (old new : Sums) (fault : WalkFault) → Given input is_broken
-    → EndsWalk changes input is_broken old new (Err fault) → Adds changes Given old new (Err (fault_of_walk fault))
-adds_to changes Given input is_broken old new (walks.Input (inputs.Text fault)) given has = added changes Given input is_broken old new (Some (inputs.Text fault)) given has
-adds_to changes Given input is_broken old new (walks.Input inputs.Read) given has = added changes Given input is_broken old new (Some inputs.Read) given has
-adds_to changes Given input is_broken old new walks.Memory given has = tt
+pub adds_to : (changes : ChangeValues) (Given : List ℕ → Bool → Type 0) (input : List ℕ) (is_broken : Bool) (old new : Sums) (fault : RaceReaderFault) → Given input is_broken
+    → EndsReading changes input is_broken old new (Err fault) → Adds changes Given old new (Err (fault_of_reader fault))
+adds_to changes Given input is_broken old new (readers.Input (inputs.Text fault)) given has = added changes Given input is_broken old new (Some (inputs.Text fault)) given has
+adds_to changes Given input is_broken old new (readers.Input inputs.Read) given has = added changes Given input is_broken old new (Some inputs.Read) given has
+adds_to changes Given input is_broken old new readers.Memory given has = tt
 
 -- a fault that `?` hands on
 pub handed : {A E : Type 0} (r : Result A E) (fault : E) (Tells : Result A E → Type 0) → IsErr r × IsErrAnd r (λ k. k ≡ fault) → Tells (Err fault) → Tells r

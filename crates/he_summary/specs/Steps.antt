@@ -1,15 +1,15 @@
--- Mirrors the code: what is kept while the walk over an input goes on. What a summary is stands in `Summed`.
+-- Mirrors the code: what is kept while an input is read. What a summary is stands in `Summed`.
 use Rattle.std.specs.Prelude.{ℕ, ◌≡◌, ◌<◌, ◌^◌, ⊤, Bool, true, false, List, ◌∷◌, [], ◌++◌, drop, length, Option, Some, None, Result, Ok, Err}
 use Rattle.std.specs.List.{AllZip}
 use Rattle.he_timeline.specs.Changes.{ChangeValues, changed}
 use Rattle.he_timeline.specs.Race.{Race}
 use Rattle.he_plan.specs.Transcript.{IsTranscript, Report}
-use Rattle.he_text.specs.Inputs.{HasRaces}
-use Rattle.he_text.specs.Walks.{EndsAt, HasPassed, IsWalkFault, IsWithin, PassesRace, ending_of}
-use Rattle.he_text.specs.declared.inputs.InputFault.{InputFault}
-use Rattle.he_text.specs.declared.walks.Walk.{Walk}
-use Rattle.he_text.specs.declared.walks.WalkFault.{WalkFault}
-use Rattle.he_text.specs.declared.walks.WalkFault.TheVariants as walks
+use Rattle.he_inputs.specs.Inputs.{HasRaces}
+use Rattle.he_inputs.specs.RaceReading.{EndsAt, HasPassed, IsReaderFault, IsWithin, PassesRace, ending_of}
+use Rattle.he_inputs.specs.declared.input_fault.InputFault.{InputFault}
+use Rattle.he_inputs.specs.declared.race_reader.RaceReader.{RaceReader}
+use Rattle.he_inputs.specs.declared.race_reader.RaceReaderFault.{RaceReaderFault}
+use Rattle.he_inputs.specs.declared.race_reader.RaceReaderFault.TheVariants as readers
 use Rattle.he_summary.specs.Courses.{Raced}
 use Rattle.he_summary.specs.Summed.{HasSummed, IsRaced, Sums}
 
@@ -29,11 +29,11 @@ pub record AreSummed (changes : ChangeValues) (races : List Race) (old new : Sum
   pub are : AllZip (IsRaced changes) races added
   pub sums : (before : List Raced) → HasSummed old before → HasSummed new (before ++ added)
 
--- how far the walk has come whose races are summed
-pub record HasWalked (changes : ChangeValues) (input : List ℕ) (walk : Walk) (old new : Sums) : Type 0 where
+-- how far the reader has come whose races are summed
+pub record HasRead (changes : ChangeValues) (input : List ℕ) (reader : RaceReader) (old new : Sums) : Type 0 where
   pub races : List Race
-  pub passed : HasPassed input 0 0 races walk
-  pub within : IsWithin input walk
+  pub passed : HasPassed input 0 0 races reader
+  pub within : IsWithin input reader
   pub summed : AreSummed changes races old new
 
 -- the races of the input up to its first fault are summed
@@ -42,17 +42,17 @@ pub record HasEnded (changes : ChangeValues) (input : List ℕ) (is_broken : Boo
   pub has : HasRaces input is_broken races fault
   pub summed : AreSummed changes races old new
 
--- how the walk ends
-abbrev pub EndsWalk : ChangeValues → List ℕ → Bool → Sums → Sums → Result (Unit {0}) WalkFault → Type 0
-EndsWalk changes input is_broken old new (Ok done) = HasEnded changes input is_broken None old new
-EndsWalk changes input is_broken old new (Err (walks.Input fault)) = HasEnded changes input is_broken (Some fault) old new
-EndsWalk changes input is_broken old new (Err walks.Memory) = ⊤
+-- how the reading ends
+abbrev pub EndsReading : ChangeValues → List ℕ → Bool → Sums → Sums → Result (Unit {0}) RaceReaderFault → Type 0
+EndsReading changes input is_broken old new (Ok done) = HasEnded changes input is_broken None old new
+EndsReading changes input is_broken old new (Err (readers.Input fault)) = HasEnded changes input is_broken (Some fault) old new
+EndsReading changes input is_broken old new (Err readers.Memory) = ⊤
 
--- a walk passes one race more, which is summed; or it ends, or stops at a fault
-abbrev pub SumsNext : ChangeValues → List ℕ → Bool → Walk → Walk → Sums → Sums → Result Bool WalkFault → Type 0
+-- a reader passes one race more, which is summed; or it ends, or stops at a fault
+abbrev pub SumsNext : ChangeValues → List ℕ → Bool → RaceReader → RaceReader → Sums → Sums → Result Bool RaceReaderFault → Type 0
 SumsNext changes input is_broken before after old new (Ok true) =
     (race : Race) × PassesRace input before after race × IsWithin input after × SumsRace (changed changes race) old new
 SumsNext changes input is_broken before after old new (Ok false) = (new ≡ old) × EndsAt (ending_of is_broken) (drop before.end input)
-SumsNext changes input is_broken before after old new (Err (walks.Input fault)) =
-    (new ≡ old) × IsWalkFault input (ending_of is_broken) before (walks.Input fault)
-SumsNext changes input is_broken before after old new (Err walks.Memory) = ⊤
+SumsNext changes input is_broken before after old new (Err (readers.Input fault)) =
+    (new ≡ old) × IsReaderFault input (ending_of is_broken) before (readers.Input fault)
+SumsNext changes input is_broken before after old new (Err readers.Memory) = ⊤

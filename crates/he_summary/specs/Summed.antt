@@ -6,12 +6,12 @@ use Rattle.he_timeline.specs.Changes.{ChangeValues, changed}
 use Rattle.he_timeline.specs.Race.{Race}
 use Rattle.he_plan.specs.Transcript.{IsTranscript}
 use Rattle.he_timeline.specs.declared.limits.TheConstants.{MAX_ATTEMPTS}
-use Rattle.he_text.specs.Inputs.{HasRaces}
-use Rattle.he_text.specs.Ranges.{most_races}
-use Rattle.he_text.specs.declared.inputs.InputFault.{InputFault}
-use Rattle.he_text.specs.declared.inputs.InputFault.TheVariants as inputs
-use Rattle.he_text.specs.declared.stream_fault.StreamFault.{StreamFault}
-use Rattle.he_text.specs.declared.stream_fault.StreamFault.TheVariants.{Text, Read, Write, Memory}
+use Rattle.he_inputs.specs.Inputs.{HasRaces}
+use Rattle.he_words.specs.Ranges.{most_races}
+use Rattle.he_inputs.specs.declared.input_fault.InputFault.{InputFault}
+use Rattle.he_inputs.specs.declared.input_fault.InputFault.TheVariants as inputs
+use Rattle.he_inputs.specs.declared.stream_fault.StreamFault.{StreamFault}
+use Rattle.he_inputs.specs.declared.stream_fault.StreamFault.TheVariants.{Text, Read, Write, Memory}
 use Rattle.he_summary.specs.Courses.{Raced, counts_of, course_of, time_of}
 use Rattle.he_summary.specs.Json.{summary_json}
 use Rattle.he_summary.specs.Texts.{summary_text}

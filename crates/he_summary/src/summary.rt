@@ -16,10 +16,10 @@ use crate::tallies::Tallies;
 use crate::text::write_text;
 use crate::times::spread_of;
 use he_addr::Memory;
+use he_inputs::StreamFault;
 use he_plan::Transcript;
-use he_timeline::{Changes, Timeline};
 use he_stream::{InputStream, take_input};
-use he_text::StreamFault;
+use he_timeline::{Changes, Timeline};
 use std::alloc::{AllocError, Allocator};
 use std::marker::Model;
 

@@ -2,19 +2,19 @@
 use Rattle.std.proofs.Common.{◌≡◌, ℕ, Bool, true, false, List, Ok, refl, sym, subst}
 use Rattle.he_addr.specs.declared.ip.Family.TheVariants as families
 use Rattle.he_addr.specs.declared.ip.Ip.{Ip}
-use Rattle.he_text.specs.declared.words.Word.{Word}
-use Rattle.he_text.specs.declared.words.Word.TheVariants as words
-use Rattle.he_text.specs.Forms.{setting_in, row_in, host_source_in, host_route_in, answer_in, round_trip_in, used_in, connect_in, pause_in, end_in, word_of, said_by, said_in}
-use Rattle.he_text.specs.Parts.{tokens_of}
-use Rattle.he_text.specs.Said.{Said, Setting, PolicyRow, HostSource, HostRoute, Answer, RoundTrip, UsedBefore, Told, Paused, Ended}
-use Rattle.he_text.specs.Text.{Says, IsAllowed}
-use Rattle.he_text.specs.Words.{is_end}
-use Rattle.he_text.proofs.CompleteForms.{Knows, Suits, is_line, line_said}
-use Rattle.he_text.proofs.FormFacts.{answer_ok, round_trip_ok, used_ok, connect_ok}
-use Rattle.he_text.proofs.LineReads.{says_read, reads_said}
-use Rattle.he_text.proofs.Results.{bind_ok}
-use Rattle.he_text.proofs.SaysLaws.{says, word_tokens}
-use Rattle.he_text.proofs.SelectionFacts.{source_ok}
+use Rattle.he_words.specs.declared.words.Word.{Word}
+use Rattle.he_words.specs.declared.words.Word.TheVariants as words
+use Rattle.he_reading.specs.Forms.{setting_in, row_in, host_source_in, host_route_in, answer_in, round_trip_in, used_in, connect_in, pause_in, end_in, word_of, said_by, said_in}
+use Rattle.he_reading.specs.Parts.{tokens_of}
+use Rattle.he_reading.specs.Said.{Said, Setting, PolicyRow, HostSource, HostRoute, Answer, RoundTrip, UsedBefore, OutcomeOf, Paused, Ended}
+use Rattle.he_reading.specs.Text.{Says, IsAllowed}
+use Rattle.he_words.specs.Words.{is_end}
+use Rattle.he_reading.proofs.CompleteForms.{Knows, Suits, is_line, line_said}
+use Rattle.he_reading.proofs.FormFacts.{answer_ok, round_trip_ok, used_ok, connect_ok}
+use Rattle.he_reading.proofs.LineReads.{says_read, reads_said}
+use Rattle.he_reading.proofs.Results.{bind_ok}
+use Rattle.he_reading.proofs.SaysLaws.{says, word_tokens}
+use Rattle.he_reading.proofs.SelectionFacts.{source_ok}
 
 allowed : (known : Ip → Bool) (word : Word) (tokens : List (List ℕ)) (s : Said) → said_by known word tokens ≡ Ok s → IsAllowed known s
 unfolding said_by
@@ -56,9 +56,9 @@ allowed known words.Used tokens s e =
     let same : UsedBefore read.0 ≡ s = cc (read.2) in
     let P : Said → Type 0 = IsAllowed known in subst P same fact.known_is
 allowed known words.Connect tokens s e =
-    let read = bind_ok (connect_in known tokens) (λ told. Ok (Told told.0 told.1)) s e in
+    let read = bind_ok (connect_in known tokens) (λ told. Ok (OutcomeOf told.0 told.1)) s e in
     let fact = connect_ok known tokens read.0 read.1 in
-    let same : Told read.0.0 read.0.1 ≡ s = cc (read.2) in
+    let same : OutcomeOf read.0.0 read.0.1 ≡ s = cc (read.2) in
     let P : Said → Type 0 = IsAllowed known in subst P same fact.known_is
 allowed known words.Pause tokens s e =
     let read = bind_ok (pause_in tokens) (λ pause. Ok (Paused pause.0 pause.1)) s e in
@@ -102,7 +102,7 @@ suits known (HostRoute route) h = (tt, tt)
 suits known (Answer family reply) h = (h, tt)
 suits known (RoundTrip ip rtt) h = (tt, h)
 suits known (UsedBefore ip) h = (tt, h)
-suits known (Told ip outcome) h = (tt, h)
+suits known (OutcomeOf ip outcome) h = (tt, h)
 suits known (Paused from to) h = (tt, tt)
 suits known Ended h = (tt, tt)
 

@@ -6,8 +6,8 @@ use Rattle.std.proofs.lemmas.List.Concat.{flat_map-cons}
 use Rattle.std.proofs.lemmas.List.Elements.{All-from_recursion}
 use Rattle.std.proofs.lemmas.List.Splits.{slice_split_at}
 use Rattle.he_addr.specs.Text.{IsToken}
-use Rattle.he_text.specs.Parts.{lines_of, tokens_of}
-use Rattle.he_text.proofs.PartLaws.{Lacks, joined_parts}
+use Rattle.he_reading.specs.Parts.{lines_of, tokens_of}
+use Rattle.he_reading.proofs.PartLaws.{Lacks, joined_parts}
 
 -- the most bytes of a token: those of a prefix
 abbrev pub AreTokens : List (List ℕ) → Type 0

@@ -18,14 +18,14 @@ use Rattle.he_select.specs.declared.host.Route.{Route}
 use Rattle.he_select.specs.Hosts.{HostLists}
 use Rattle.he_select.specs.TableFaults.{table_fault}
 use Rattle.he_select.specs.Tables.{IsAdmitted}
-use Rattle.he_text.specs.declared.words.Name.{Name}
-use Rattle.he_text.specs.declared.words.Name.TheVariants.{Resolution, Attempt, Count, Limit, Floor}
-use Rattle.he_text.specs.Said.{Said, Setting, PolicyRow, HostSource, HostRoute, Answer, RoundTrip, UsedBefore, Told, Paused, setting_said, row_said, source_said, route_said, answer_said, rtt_said, used_said, outcome_said, pause_said, at_front, setting_given, rows_given, sources_given, routes_given, answer_given, rtts_given, used_given, outcomes_given, pauses_given, settings_given, table_of_rows, race_of}
-use Rattle.he_text.specs.declared.words.Version.{Version}
-use Rattle.he_text.specs.declared.words.Version.TheVariants.{One, Two}
-use Rattle.he_text.specs.Text.{group_said, are_in_order, may_say}
-use Rattle.he_text.specs.Written.{version_for, version_of}
-use Rattle.he_text.proofs.CompleteGroups.{order_below}
+use Rattle.he_words.specs.declared.words.Name.{Name}
+use Rattle.he_words.specs.declared.words.Name.TheVariants.{Resolution, Attempt, Count, Limit, Floor}
+use Rattle.he_reading.specs.Said.{Said, Setting, PolicyRow, HostSource, HostRoute, Answer, RoundTrip, UsedBefore, OutcomeOf, Paused, setting_said, row_said, source_said, route_said, answer_said, rtt_said, used_said, outcome_said, pause_said, at_front, setting_given, rows_given, sources_given, routes_given, answer_given, rtts_given, used_given, outcomes_given, pauses_given, settings_given, table_of_rows, race_of}
+use Rattle.he_words.specs.declared.words.Version.{Version}
+use Rattle.he_words.specs.declared.words.Version.TheVariants.{One, Two}
+use Rattle.he_reading.specs.Text.{group_said, are_in_order, may_say}
+use Rattle.he_write.specs.Written.{version_for, version_of}
+use Rattle.he_reading.proofs.CompleteGroups.{order_below}
 
 -- the lines of a race that is written, all settings and rows among them
 abbrev pub floor_as : Option ℕ → List Said
@@ -43,7 +43,7 @@ abbrev pub rtt_as : Ip × ℕ → Said
 rtt_as told = RoundTrip told.0 told.1
 
 abbrev pub told_as : Ip × Outcome → Said
-told_as told = Told told.0 told.1
+told_as told = OutcomeOf told.0 told.1
 
 abbrev pub paused_as : ℕ × ℕ → Said
 paused_as pause = Paused pause.0 pause.1

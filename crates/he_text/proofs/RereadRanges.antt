@@ -24,8 +24,8 @@ use Rattle.he_select.specs.declared.host.Route.{Route}
 use Rattle.he_select.specs.declared.policy.Row.{Row}
 use Rattle.he_select.specs.HostFaults.{host_causes, host_fault, is_sound_source, is_sound_route}
 use Rattle.he_text.specs.InRange.{RowInRange, SourceInRange, RouteInRange, RaceInRange}
-use Rattle.he_text.specs.Said.{Said, PolicyRow, HostSource, HostRoute, UsedBefore}
-use Rattle.he_text.proofs.CompleteRaces.{admitted_host}
+use Rattle.he_reading.specs.Said.{Said, PolicyRow, HostSource, HostRoute, UsedBefore}
+use Rattle.he_reading.proofs.CompleteRaces.{admitted_host}
 use Rattle.he_text.proofs.RereadRaces.{floor_as, settings_said, answer_as, rtt_as, told_as, paused_as, told_on, used_on, rtts_on, a_on, aaaa_on, routes_on, sources_on, rows_on, race_said}
 use Rattle.he_text.proofs.RereadSaid.{Spellable}
 

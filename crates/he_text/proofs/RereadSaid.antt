@@ -14,19 +14,18 @@ use Rattle.he_timeline.specs.declared.limits.TheConstants.{MAX_TICK, MIN_DURATIO
 use Rattle.he_timeline.specs.declared.outcome.Outcome.{Outcome}
 use Rattle.he_timeline.specs.declared.outcome.Outcome.TheVariants as outcomes
 use Rattle.he_timeline.specs.Timeline.{duration_of}
-use Rattle.he_text.specs.declared.limits.TheConstants.{MAX_LINE, MAX_PRECEDENCE, MAX_LABEL, MIN_INTERFACE, MAX_INTERFACE}
-use Rattle.he_text.specs.declared.words.Name.{Name}
-use Rattle.he_text.specs.declared.words.Name.TheVariants.{Resolution, Attempt, Count, Limit, Floor}
-use Rattle.he_text.specs.declared.words.Word.{Word}
-use Rattle.he_text.specs.declared.words.Word.TheVariants as words
-use Rattle.he_text.specs.Forms.{least_value, most_value}
-use Rattle.he_text.specs.Parts.{tokens_of}
+use Rattle.he_words.specs.declared.limits.TheConstants.{MAX_LINE, MAX_PRECEDENCE, MAX_LABEL, MIN_INTERFACE, MAX_INTERFACE}
+use Rattle.he_words.specs.declared.words.Name.{Name}
+use Rattle.he_words.specs.declared.words.Name.TheVariants.{Resolution, Attempt, Count, Limit, Floor}
+use Rattle.he_words.specs.declared.words.Word.{Word}
+use Rattle.he_words.specs.declared.words.Word.TheVariants as words
+use Rattle.he_words.specs.Words.{least_value, most_value, spelling_of, name_spelling}
+use Rattle.he_reading.specs.Parts.{tokens_of}
 use Rattle.he_text.specs.InRange.{RowInRange, RouteInRange}
-use Rattle.he_text.specs.Said.{Said, Setting, PolicyRow, HostSource, HostRoute, Answer, RoundTrip, UsedBefore, Told, Paused, Ended, word_said}
-use Rattle.he_text.specs.Text.{mark_text, marked, source_marks, route_marks}
-use Rattle.he_text.proofs.LineReads.{Reads, ReadsList, ReadsNumber}
-use Rattle.he_text.specs.Words.{spelling_of, name_spelling}
-use Rattle.he_text.proofs.PartLaws.{Lacks}
+use Rattle.he_reading.specs.Said.{Said, Setting, PolicyRow, HostSource, HostRoute, Answer, RoundTrip, UsedBefore, OutcomeOf, Paused, Ended, word_said}
+use Rattle.he_words.specs.Marks.{mark_text, marked, source_marks, route_marks}
+use Rattle.he_reading.proofs.LineReads.{Reads, ReadsList, ReadsNumber}
+use Rattle.he_reading.proofs.PartLaws.{Lacks}
 use Rattle.he_text.proofs.RereadLines.{AreTokens, wider, token_from, tokens_back, line_size, one_line}
 
 -- the addresses of an answer, or `none`
@@ -43,7 +42,7 @@ others_of (HostRoute route) = prefix_text true route.prefix ∷ decimal route.in
 others_of (Answer family reply) = decimal reply.tick ∷ listed_text reply.addresses
 others_of (RoundTrip ip rtt) = printed ip ∷ decimal rtt ∷ []
 others_of (UsedBefore ip) = printed ip ∷ []
-others_of (Told ip outcome) = printed ip ∷ mark_text outcome ∷ decimal (duration_of outcome) ∷ []
+others_of (OutcomeOf ip outcome) = printed ip ∷ mark_text outcome ∷ decimal (duration_of outcome) ∷ []
 others_of (Paused from to) = decimal from ∷ decimal to ∷ []
 others_of Ended = []
 
@@ -59,7 +58,7 @@ Spellable (HostRoute route) = RouteInRange route × (MIN_INTERFACE ≤ route.int
 Spellable (Answer family reply) = (reply.tick ≤ MAX_TICK) × (length reply.addresses ≤ MAX_ADDRESSES) × AllByRecursion InRange reply.addresses
 Spellable (RoundTrip ip rtt) = InRange ip × (MIN_DURATION ≤ rtt) × (rtt ≤ MAX_DURATION)
 Spellable (UsedBefore ip) = InRange ip
-Spellable (Told ip outcome) = InRange ip × (MIN_DURATION ≤ duration_of outcome) × (duration_of outcome ≤ MAX_DURATION)
+Spellable (OutcomeOf ip outcome) = InRange ip × (MIN_DURATION ≤ duration_of outcome) × (duration_of outcome ≤ MAX_DURATION)
 Spellable (Paused from to) = (from ≤ MAX_TICK) × (1 ≤ to) × (to ≤ MAX_PAUSE_END)
 Spellable Ended = ⊥
 
@@ -132,7 +131,7 @@ others_tokens (HostRoute route) h =
 others_tokens (Answer family reply) h = (number_token reply.tick MAX_TICK h.0 (omega arith), listed_tokens reply.addresses h.2)
 others_tokens (RoundTrip ip rtt) h = (address_token ip h.0, (number_token rtt MAX_DURATION h.2 (omega arith), tt))
 others_tokens (UsedBefore ip) h = (address_token ip h, tt)
-others_tokens (Told ip outcome) h = (address_token ip h.0, (mark_token outcome, (number_token (duration_of outcome) MAX_DURATION h.2 (omega arith), tt)))
+others_tokens (OutcomeOf ip outcome) h = (address_token ip h.0, (mark_token outcome, (number_token (duration_of outcome) MAX_DURATION h.2 (omega arith), tt)))
 others_tokens (Paused from to) h = (number_token from MAX_TICK h.0 (omega arith), (number_token to MAX_PAUSE_END h.2 (omega arith), tt))
 others_tokens Ended h = absurd h
 
@@ -172,7 +171,7 @@ others_few (HostRoute route) h = omega (arith, route_marks_few route.tunnel)
 others_few (Answer family reply) h = omega (arith, listed_count reply.addresses h.1)
 others_few (RoundTrip ip rtt) h = omega arith
 others_few (UsedBefore ip) h = omega arith
-others_few (Told ip outcome) h = omega arith
+others_few (OutcomeOf ip outcome) h = omega arith
 others_few (Paused from to) h = omega arith
 others_few Ended h = omega arith
 
@@ -241,10 +240,10 @@ written_says (RoundTrip ip rtt) h = (
   number_is MIN_DURATION MAX_DURATION rtt h.1 h.2 (omega arith),
 )
 written_says (UsedBefore ip) h = (printed ip, written_tokens (UsedBefore ip) h, (addresses_read_back ip h).1)
-written_says (Told ip outcome) h = (
+written_says (OutcomeOf ip outcome) h = (
   printed ip,
   decimal (duration_of outcome),
-  written_tokens (Told ip outcome) h,
+  written_tokens (OutcomeOf ip outcome) h,
   (addresses_read_back ip h.0).1,
   number_is MIN_DURATION MAX_DURATION (duration_of outcome) h.1 h.2 (omega arith),
 )

@@ -12,17 +12,17 @@ use Rattle.he_addr.specs.declared.ip.Ip.{Ip}
 use Rattle.he_timeline.specs.Race.{Race, Reply}
 use Rattle.he_timeline.specs.Settings.{SettingValues}
 use Rattle.he_timeline.specs.Timeline.{IsRace}
-use Rattle.he_text.specs.Parts.{lines_of}
+use Rattle.he_reading.specs.Parts.{lines_of}
 use Rattle.he_text.specs.InRange.{RaceInRange}
-use Rattle.he_text.specs.declared.words.Version.{Version}
-use Rattle.he_text.specs.declared.words.Version.TheVariants.{One, Two}
-use Rattle.he_text.specs.Said.{Said, PolicyRow, HostSource, HostRoute, Answer, UsedBefore}
-use Rattle.he_text.specs.Text.{Says, answer_word, IsRaceText}
-use Rattle.he_text.specs.Words.{header_of, spelling_of}
-use Rattle.he_text.specs.Written.{setting_text, floor_text, settings_text, version_of, rtt_text, used_text, row_text, host_source_text, host_route_text, reply_text, answer_text, outcome_text, pause_text, timeline_text}
-use Rattle.he_text.proofs.LineReads.{says_read}
-use Rattle.he_text.proofs.CompleteLines.{AreShort}
-use Rattle.he_text.proofs.PartLaws.{Lacks}
+use Rattle.he_words.specs.declared.words.Version.{Version}
+use Rattle.he_words.specs.declared.words.Version.TheVariants.{One, Two}
+use Rattle.he_reading.specs.Said.{Said, PolicyRow, HostSource, HostRoute, Answer, UsedBefore}
+use Rattle.he_reading.specs.Text.{Says, answer_word, IsRaceText}
+use Rattle.he_words.specs.Words.{header_of, spelling_of}
+use Rattle.he_write.specs.Written.{setting_text, floor_text, settings_text, version_of, rtt_text, used_text, row_text, host_source_text, host_route_text, reply_text, answer_text, outcome_text, pause_text, timeline_text}
+use Rattle.he_reading.proofs.LineReads.{says_read}
+use Rattle.he_reading.proofs.CompleteLines.{AreShort}
+use Rattle.he_reading.proofs.PartLaws.{Lacks}
 use Rattle.he_text.proofs.RereadLines.{ended, lines_back, lacks_from}
 use Rattle.he_text.proofs.RereadRaces.{floor_as, settings_said, answer_as, rtt_as, told_as, paused_as, told_on, used_on, rtts_on, a_on, aaaa_on, routes_on, sources_on, rows_on, race_said, said_in_order, said_of_version, settings_once, answers_once, race_back}
 use Rattle.he_text.proofs.RereadRanges.{AllSpellable, race_can}

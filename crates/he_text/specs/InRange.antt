@@ -1,5 +1,5 @@
--- The ranges that the parts of a race have in the program by their types. A race of the definitions may have others, which no
--- text spells.
+-- The ranges that the parts of a race have in the program by their types. A race of the definitions may have others,
+-- which no text spells.
 use Rattle.std.specs.Prelude.{ℕ, ◌≤◌}
 use Rattle.std.specs.List.{All}
 use Rattle.he_addr.specs.Ip.{InRange}
@@ -9,7 +9,7 @@ use Rattle.he_timeline.specs.Race.{Race, addresses_of}
 use Rattle.he_select.specs.declared.policy.Row.{Row}
 use Rattle.he_select.specs.declared.host.Source.{Source}
 use Rattle.he_select.specs.declared.host.Route.{Route}
-use Rattle.he_text.specs.Ranges.{most_u16}
+use Rattle.he_words.specs.Ranges.{most_u16}
 
 abbrev pub RowInRange : Row → Type 0
 RowInRange row = IsPrefix row.prefix.bits row.prefix.len × (row.precedence ≤ most_u16) × (row.label ≤ most_u16)

@@ -8,8 +8,8 @@ ghost use Rattle.he_timeline.specs.Race.{reply_of, addresses_of};
 ghost use Rattle.he_text.specs.InRange.{RowInRange, SourceInRange, RouteInRange, RaceInRange};
 
 use he_addr::{Family, Ip};
-use he_timeline::Timeline;
 use he_select::{Route, Row, Source};
+use he_timeline::Timeline;
 use std::alloc::Allocator;
 
 fn row_range(row: Row)

@@ -2,6 +2,6 @@
 #![tactic(auto)]
 
 #[cfg(test)]
-mod walks;
+mod race_reader;
 #[cfg(test)]
 mod written;

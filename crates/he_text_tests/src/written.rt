@@ -3,10 +3,10 @@
 
 use he_addr::Memory;
 use he_plan::{Transcript, transcript_of};
-use he_timeline::Timeline;
 use he_text::{
     NotOneRace, TextKind, read_one_race, read_race, write_order, write_timeline, write_transcript,
 };
+use he_timeline::Timeline;
 use refusing::{MOST_RUNS, Refusing, each_growth_refused};
 use std::test::Fail;
 

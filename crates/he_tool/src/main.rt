@@ -8,9 +8,9 @@
 use he_command::{
     Lender, columns_of, read_words, report, report_not_text, run_line, takes_text, tell_waiting,
 };
+use he_inputs::StreamFault;
 use he_relay::Waiting;
 use he_stream::{FromReader, ToWriter};
-use he_text::StreamFault;
 use std::io::IsTerminal;
 use std::process::ExitCode;
 use std::{env, io};

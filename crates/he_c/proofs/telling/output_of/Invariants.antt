@@ -4,7 +4,7 @@ use Rattle.he_c.specs.Telling.{HasTold}
 use Rattle.he_c.proofs.telling.output_of.Given as goal
 
 abbrev pub invariant-loop-race : goal.invariant-loop-race
-invariant-loop-race l = HasTold (IsTextOf l.fn.content) l.fn.input l.text.items l.walk
+invariant-loop-race l = HasTold (IsTextOf l.fn.content) l.fn.input l.text.items l.reader
 
 abbrev pub decreases-loop-race : goal.decreases-loop-race
-decreases-loop-race l = length l.fn.input - l.walk.end
+decreases-loop-race l = length l.fn.input - l.reader.end

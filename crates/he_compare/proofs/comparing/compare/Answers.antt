@@ -1,7 +1,7 @@
 use Rattle.std.proofs.Common.{◌≡◌, Result, Ok, Err, IsErr, IsErrAnd, subst, sym}
 use Rattle.he_compare.specs.Stream.{Compares, Tells}
-use Rattle.he_text.specs.declared.stream_fault.StreamFault.{StreamFault}
-use Rattle.he_text.specs.declared.stream_fault.StreamFault.TheVariants.{Write}
+use Rattle.he_inputs.specs.declared.stream_fault.StreamFault.{StreamFault}
+use Rattle.he_inputs.specs.declared.stream_fault.StreamFault.TheVariants.{Write}
 use Rattle.he_stream.specs.Input.{Gives}
 use Rattle.he_stream.specs.Output.{PutsPart, PutsWhole}
 use Rattle.he_compare.proofs.comparing.compare.Goals as goal

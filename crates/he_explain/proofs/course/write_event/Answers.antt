@@ -1,7 +1,7 @@
 use Rattle.std.proofs.Common.{◌++◌, ◌∷◌, [], decimal}
-use Rattle.he_text.specs.Ranges.{line_end}
+use Rattle.he_words.specs.Ranges.{line_end}
 use Rattle.he_explain.specs.Course.{kind_text}
-use Rattle.he_explain.proofs.WritingLaws.{writes_then}
+use Rattle.he_words.proofs.Appending.{writes_then}
 use Rattle.he_explain.proofs.course.write_event.Goals as goal
 
 pub returns : goal.returns

@@ -1,6 +1,6 @@
 use Rattle.std.proofs.Common.{◌≡◌, ◌++◌, drop, map}
 use Rattle.std.specs.List.{flat_map}
-use Rattle.he_text.specs.Writing.{Grows}
+use Rattle.he_words.specs.Appending.{Grows}
 use Rattle.he_explain.specs.Course.{event_text}
 use Rattle.he_explain.proofs.course.write_events.Given as goal
 

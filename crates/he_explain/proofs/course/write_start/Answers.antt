@@ -1,7 +1,7 @@
 use Rattle.std.proofs.Common.{◌++◌, decimal, codes}
 use Rattle.he_addr.specs.Printing.{printed}
 use Rattle.he_explain.specs.Course.{cause_text, held_text, listed_text}
-use Rattle.he_explain.proofs.WritingLaws.{writes_then}
+use Rattle.he_words.proofs.Appending.{writes_then}
 use Rattle.he_explain.proofs.course.write_start.Goals as goal
 
 pub returns : goal.returns

@@ -1,5 +1,5 @@
 use Rattle.he_explain.specs.Course.{cause_text, held_text}
-use Rattle.he_explain.proofs.WritingLaws.{writes_then}
+use Rattle.he_words.proofs.Appending.{writes_then}
 use Rattle.he_explain.proofs.course.write_why.Goals as goal
 
 pub returns : goal.returns

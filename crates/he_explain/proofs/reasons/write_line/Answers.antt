@@ -1,8 +1,8 @@
 use Rattle.std.proofs.Common.{◌++◌, ◌∷◌, []}
 use Rattle.he_select.specs.Attributes.{rule_between}
-use Rattle.he_text.specs.Ranges.{line_end}
+use Rattle.he_words.specs.Ranges.{line_end}
 use Rattle.he_explain.specs.Reasons.{place_text, reason_text}
-use Rattle.he_explain.proofs.WritingLaws.{writes_then}
+use Rattle.he_words.proofs.Appending.{writes_then}
 use Rattle.he_explain.proofs.reasons.write_line.Goals as goal
 
 pub returns : goal.returns

@@ -1,7 +1,7 @@
 use Rattle.std.proofs.Common.{◌≡◌, ◌++◌, drop}
 use Rattle.std.specs.Prelude.{None}
 use Rattle.he_select.specs.Attributes.{rule_between}
-use Rattle.he_text.specs.Writing.{Grows}
+use Rattle.he_words.specs.Appending.{Grows}
 use Rattle.he_explain.specs.Reasons.{reason_lines}
 use Rattle.he_explain.proofs.reasons.write_lines.Given as goal
 

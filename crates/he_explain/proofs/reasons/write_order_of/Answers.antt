@@ -1,5 +1,5 @@
 use Rattle.std.proofs.Common.{ℕ, List, subst}
-use Rattle.he_text.specs.Writing.{AppendsText}
+use Rattle.he_words.specs.Appending.{AppendsText}
 use Rattle.he_explain.proofs.LineLaws.{race_lines}
 use Rattle.he_explain.proofs.reasons.write_order_of.Goals as goal
 

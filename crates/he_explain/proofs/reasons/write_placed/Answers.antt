@@ -1,6 +1,6 @@
 use Rattle.std.proofs.Common.{◌++◌, decimal, codes}
 use Rattle.he_addr.specs.Printing.{printed}
-use Rattle.he_explain.proofs.WritingLaws.{writes_then}
+use Rattle.he_words.proofs.Appending.{writes_then}
 use Rattle.he_explain.proofs.reasons.write_placed.Goals as goal
 
 pub returns : goal.returns

@@ -1,6 +1,6 @@
 use Rattle.std.proofs.Common.{◌++◌, codes}
 use Rattle.he_explain.specs.Reasons.{rtt_text}
-use Rattle.he_explain.proofs.WritingLaws.{writes_then}
+use Rattle.he_words.proofs.Appending.{writes_then}
 use Rattle.he_explain.proofs.reasons.write_rtts.Goals as goal
 
 pub returns : goal.returns

@@ -1,5 +1,5 @@
 use Rattle.he_live.specs.Reasons.{failure_line}
-use Rattle.he_live.proofs.LoopLaws.{one_more_at}
+use Rattle.he_write.proofs.LoopLaws.{one_more_at}
 use Rattle.he_live.proofs.failures.write_failures.Goals as goal
 
 pub loop-attempt-preserved : goal.loop-attempt-preserved

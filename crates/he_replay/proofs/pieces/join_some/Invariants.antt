@@ -1,6 +1,5 @@
-use Rattle.he_text.specs.Walks.{IsWithin}
-use Rattle.he_replay.specs.Rounds.{IsAsked}
-use Rattle.he_replay.specs.Rounds.{TellsOn}
+use Rattle.he_inputs.specs.RaceReading.{IsWithin}
+use Rattle.he_replay.specs.Rounds.{IsAsked, TellsOn}
 use Rattle.he_replay.proofs.pieces.join_some.Given as goal
 
 abbrev pub invariant-loop-piece : goal.invariant-loop-piece

@@ -11,7 +11,7 @@ loop-number-preserved g c =
     let before = c.loop-number.invariant in
     elim c.if-take.branch [
       | then-take+in_ok-tell_piece+in_ok-push w ↦
-          let more = All-push (λ x. IsPiece (IsAsked c.args.asked.now) bytes x.from x.text.items x.walk) c.loop-number.pieces.items w.in_ok-tell_piece.field-0 before.1 w.in_ok-tell_piece.ensures in
-          rw w.pieces-is (c.take.ensures.own, subst (All (λ x. IsPiece (IsAsked c.args.asked.now) bytes x.from x.text.items x.walk)) (sym w.in_ok-push.ensures.items) more)
+          let more = All-push (λ x. IsPiece (IsAsked c.args.asked.now) bytes x.from x.text.items x.reader) c.loop-number.pieces.items w.in_ok-tell_piece.field-0 before.1 w.in_ok-tell_piece.ensures in
+          rw w.pieces-is (c.take.ensures.own, subst (All (λ x. IsPiece (IsAsked c.args.asked.now) bytes x.from x.text.items x.reader)) (sym w.in_ok-push.ensures.items) more)
       | else-take w ↦ rw w.pieces-is (c.take.ensures.own, before.1)
     ]

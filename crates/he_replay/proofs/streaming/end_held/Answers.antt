@@ -3,4 +3,4 @@ use Rattle.he_replay.proofs.Told.{none_told}
 use Rattle.he_replay.proofs.streaming.end_held.Goals as goal
 
 pub put_round-requires-clause-begun : goal.put_round-requires-clause-begun
-put_round-requires-clause-begun g c = none_told (IsAsked c.args.asked.now) _ c.args.held.now.walk _ c.requires.front.0 c.requires.front.1 c.clear.ensures.items
+put_round-requires-clause-begun g c = none_told (IsAsked c.args.asked.now) _ c.args.held.now.reader _ c.requires.front.0 c.requires.front.1 c.clear.ensures.items

@@ -5,7 +5,7 @@ use Rattle.he_stream.specs.declared.limits.TheConstants.{READ_SIZE}
 use Rattle.he_stream.specs.Input.{Gives, GivesSoFar}
 use Rattle.he_stream.specs.Limits.{most_reads}
 use Rattle.he_stream.proofs.Chains.{one_step_more}
-use Rattle.he_text.specs.declared.stream_fault.StreamFault.TheVariants as faults
+use Rattle.he_inputs.specs.declared.stream_fault.StreamFault.TheVariants as faults
 use Rattle.he_replay.specs.Rounds.{IsAsked}
 use Rattle.he_replay.proofs.Ends.{at_piece, at_round, at_same, ends_given, ends_handed, ends_refused, ends_told}
 use Rattle.he_replay.proofs.Input.{gives_broken, gives_no_end, gives_so_far, gives_whole}
@@ -33,7 +33,7 @@ pub tell_held-requires-clause-lines : goal.tell_held-requires-clause-lines
 tell_held-requires-clause-lines g c =
     let step = rw c.in-Bytes.is at c.in_ok-count.ensures.step in
     let small : c.in-Bytes.count ≤ c.loop-steps.held.room = omega (arith, step.0.1, length-take {A = ℕ}) in
-    let size : c.loop-steps.held.walk.lines + c.loop-steps.held.filled ≤ READ_SIZE * c.loop-steps._steps = c.loop-steps.invariant.1 in
+    let size : c.loop-steps.held.reader.lines + c.loop-steps.held.filled ≤ READ_SIZE * c.loop-steps._steps = c.loop-steps.invariant.1 in
     let few : c.loop-steps._steps < most_reads = omega (arith, c.loop-steps-test.true) in
     let most : c.loop-steps.held.room ≤ READ_SIZE = c.loop-steps.invariant.5 in
     omega (arith, small, most, size, few)
@@ -71,7 +71,7 @@ returns-in_err-tell_held-in-Bytes g c =
     ends_handed _ _ _ _ _ _ c.from_residual-in_err-tell_held-in-Bytes.result c.in_err-tell_held-in-Bytes.field-0.0 c.from_residual-in_err-tell_held-in-Bytes.ensures
     (ends_told (IsAsked c.args.asked.now) _ _ _ _ _ _ _ _ _ at
     (Gives g.I.InputStream.remaining g.I.InputStream.takes c.args.input.now c.take_piece.new.input)
-    (GivesSoFar g.I.InputStream.remaining g.I.InputStream.takes c.args.input.now c.take_piece.new.input) taken (take c.tell_held.new.held.filled c.tell_held.new.held.bytes.items) c.tell_held.new.held.walk _ c.in_err-tell_held-in-Bytes.ensures.told)
+    (GivesSoFar g.I.InputStream.remaining g.I.InputStream.takes c.args.input.now c.take_piece.new.input) taken (take c.tell_held.new.held.filled c.tell_held.new.held.bytes.items) c.tell_held.new.held.reader _ c.in_err-tell_held-in-Bytes.ensures.told)
 
 pub returns-in-End : goal.returns-in-End
 returns-in-End g c =
@@ -107,12 +107,12 @@ loop-steps-preserved g c =
           let small : w.in-Bytes.count ≤ c.loop-steps.held.room = omega (arith, step.0.1, length-take {A = ℕ}) in
           let at = at_piece (IsAsked c.args.asked.now) _ _ _ _ c.loop-steps.held.bytes.items c.take_piece.new.bytes.items c.loop-steps.held.filled _ c.in_ok-count.ensures.front before.2 w.in-Bytes.count c.loop-steps.held.room small step.0.2 in
           let told = w.in_ok-tell_held-in-Bytes.ensures in
-          let size : w.tell_held.new.held.walk.lines + w.tell_held.new.held.filled ≤ READ_SIZE * (c.loop-steps._steps + 1) = let more = told.size in let so_far = before.1 in let most = before.5 in omega (arith, small, most, more, so_far) in
+          let size : w.tell_held.new.held.reader.lines + w.tell_held.new.held.filled ≤ READ_SIZE * (c.loop-steps._steps + 1) = let more = told.size in let so_far = before.1 in let most = before.5 in omega (arith, small, most, more, so_far) in
           rw w.held-is (rw w.output-is (told.within, size, at_round (IsAsked c.args.asked.now) _ _ _ _ _ _ _ _ _ at _ _ told.told, one_step_more _ _ _ _ _ _ _ before.3 tt step.1, w.next_room.ensures.some, w.next_room.ensures.few))
       | in-Interrupted w ↦
           let step = rw w.in-Interrupted.is at c.in_ok-count.ensures.step in
           let at = at_same (IsAsked c.args.asked.now) _ _ _ _ c.loop-steps.held.bytes.items c.take_piece.new.bytes.items c.loop-steps.held.filled _ c.in_ok-count.ensures.front before.2 step.0 in
-          let size : c.loop-steps.held.walk.lines + c.loop-steps.held.filled ≤ READ_SIZE * (c.loop-steps._steps + 1) = let so_far = before.1 in omega (arith, so_far) in
+          let size : c.loop-steps.held.reader.lines + c.loop-steps.held.filled ≤ READ_SIZE * (c.loop-steps._steps + 1) = let so_far = before.1 in omega (arith, so_far) in
           rw w.held-is (rw w.output-is (c.in_ok-count.ensures.within, size, at, one_step_more _ _ _ _ _ _ _ before.3 tt step.1, before.4, before.5))
     ]
 

@@ -12,8 +12,8 @@ use Rattle.he_replay.proofs.streaming.stream_races.Given as goal
 -- and there is room for the next
 abbrev pub invariant-loop-steps : goal.invariant-loop-steps
 invariant-loop-steps g l =
-    (l.held.filled ≤ vec_len l.held.bytes) × (l.held.walk.lines + l.held.filled ≤ READ_SIZE * l._steps)
-    × IsAt (IsAsked l.asked) (take l.held.filled l.held.bytes.items) l.held.walk
+    (l.held.filled ≤ vec_len l.held.bytes) × (l.held.reader.lines + l.held.filled ≤ READ_SIZE * l._steps)
+    × IsAt (IsAsked l.asked) (take l.held.filled l.held.bytes.items) l.held.reader
     (Consumes (g.I.InputStream.remaining l.fn.input) (g.I.InputStream.remaining l.input))
     (PutsInRounds g.O.OutputStream.contents g.O.OutputStream.puts g.O.OutputStream.flushes l.fn.output l.output)
     × StepsOn g.I.InputStream.takes TakesOn l._steps l.fn.input l.input

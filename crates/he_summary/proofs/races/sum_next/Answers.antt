@@ -1,6 +1,6 @@
 use Rattle.std.proofs.Common.{refl, subst}
 use Rattle.he_timeline.specs.Race.{Race}
-use Rattle.he_text.proofs.WalkLaws.{none_behind}
+use Rattle.he_inputs.proofs.RaceReadingLaws.{none_behind}
 use Rattle.he_summary.specs.Steps.{SumsNext, SumsRace}
 use Rattle.he_summary.proofs.Walked.{handed, stops}
 use Rattle.he_summary.proofs.races.sum_next.Goals as goal
@@ -9,13 +9,13 @@ pub returns-in_err-race : goal.returns-in_err-race
 returns-in_err-race g c =
     let is = rw c.of.ensures at c.in_err-race.ensures.fault in
     handed c.from_residual.result c.in_err-race.field-0.0
-    (SumsNext c.args.changes c.args.input.now c.args.is_broken c.args.walk.now c.next.new.self c.args.summary.now c.args.summary.now) c.from_residual.ensures
-    (stops c.args.changes c.args.input.now c.args.is_broken c.args.walk.now c.next.new.self c.args.summary.now c.in_err-race.field-0.0 is)
+    (SumsNext c.args.changes c.args.input.now c.args.is_broken c.args.reader.now c.next.new.self c.args.summary.now c.args.summary.now) c.from_residual.ensures
+    (stops c.args.changes c.args.input.now c.args.is_broken c.args.reader.now c.next.new.self c.args.summary.now c.in_err-race.field-0.0 is)
 
 pub returns-in_default : goal.returns-in_default
 returns-in_default g c =
     let found = rw c.of.ensures at c.in_ok-race.ensures.found in
-    (refl, (none_behind c.args.input.now c.args.is_broken c.args.walk.now c.next.new.self c.in_ok-race.field-0 found c.in_default.not-Some).1)
+    (refl, (none_behind c.args.input.now c.args.is_broken c.args.reader.now c.next.new.self c.in_ok-race.field-0 found c.in_default.not-Some).1)
 
 pub returns-in-Ok : goal.returns-in-Ok
 returns-in-Ok g c =

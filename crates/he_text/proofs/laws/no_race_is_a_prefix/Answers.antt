@@ -1,4 +1,4 @@
-use Rattle.he_text.proofs.CompleteTexts.{no_longer}
+use Rattle.he_reading.proofs.CompleteTexts.{no_longer}
 use Rattle.he_text.proofs.laws.no_race_is_a_prefix.Goals as goal
 
 pub returns : goal.returns

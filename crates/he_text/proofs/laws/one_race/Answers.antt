@@ -1,4 +1,4 @@
-use Rattle.he_text.proofs.CompleteTexts.{one_value}
+use Rattle.he_reading.proofs.CompleteTexts.{one_value}
 use Rattle.he_text.proofs.laws.one_race.Goals as goal
 
 pub returns : goal.returns

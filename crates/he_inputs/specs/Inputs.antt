@@ -1,0 +1,61 @@
+-- What an input of races has: races, and what is wrong behind them.
+use Rattle.std.specs.Prelude.{ℕ, ◌≡◌, ◌≢◌, ◌≤◌, ◌+◌, ◌==◌, ◌++◌, ⊤, Bool, true, false, List, [], ◌∷◌, length, count_by, ◌⊎◌, Option, Some, None}
+use Rattle.he_timeline.specs.Race.{Race}
+use Rattle.he_words.specs.declared.fault.TextKind.{TextKind}
+use Rattle.he_words.specs.declared.fault.TextKind.TheVariants as kinds
+use Rattle.he_inputs.specs.declared.input_fault.InputFault.{InputFault}
+use Rattle.he_inputs.specs.declared.input_fault.InputFault.TheVariants.{Text, Read}
+use Rattle.he_inputs.specs.declared.inputs.NotOneRace.{NotOneRace}
+use Rattle.he_inputs.specs.declared.inputs.NotOneRace.TheVariants as faults
+use Rattle.he_reading.specs.FaultSearch.{fault_of}
+use Rattle.he_words.specs.Ranges.{line_end, most_races}
+use Rattle.he_reading.specs.Text.{IsRaceText}
+
+-- the text is, one after the other, a text of each of the races
+abbrev pub AreTexts : (List ℕ → Race → Type 0) → List Race → List ℕ → Type 0
+AreTexts IsText [] text = text ≡ []
+AreTexts IsText (race ∷ races) text =
+    (first : List ℕ) × (more : List ℕ) × (text ≡ first ++ more) × IsText first race × AreTexts IsText races more
+
+-- a timeline text of each of the races
+abbrev pub AreRaceTexts : List Race → List ℕ → Type 0
+AreRaceTexts races text = AreTexts IsRaceText races text
+
+-- how many lines end in the text
+abbrev pub line_count : List ℕ → ℕ
+line_count text = count_by (λ byte. byte == line_end) text
+
+-- the fault of an input that ends behind whole races: it broke off there, or there is none
+abbrev pub fault_at_end : Bool → Option InputFault
+fault_at_end true = Some Read
+fault_at_end false = None
+
+-- a fault of the text behind so many lines; where the input broke off, a text that ends inside a race is no fault of
+-- its own
+abbrev pub fault_behind : Bool → ℕ → ℕ × TextKind → InputFault
+fault_behind true lines (line, kinds.Unfinished) = Read
+fault_behind is_broken lines (line, kind) = Text (record { line = lines + line; kind = kind })
+
+-- the fault of what stands behind so many races and lines: nothing may follow the last race that an input may have,
+-- and what follows other races is no race
+abbrev pub IsFaultBehind : Bool → ℕ → ℕ → List ℕ → Option InputFault → Type 0
+IsFaultBehind is_broken races lines [] fault = fault ≡ fault_at_end is_broken
+IsFaultBehind is_broken races lines (byte ∷ rest) fault =
+    ((races ≡ most_races) × (fault ≡ Some (Text (record { line = lines + 1; kind = kinds.TooMany }))))
+    ⊎ ((races + 1 ≤ most_races)
+    × (found : ℕ × TextKind) × (fault_of (byte ∷ rest) ≡ Some found) × (fault ≡ Some (fault_behind is_broken lines found)))
+
+-- the input has these races up to its first fault, and this fault. It broke off behind its bytes where `is_broken`.
+pub record HasRaces (input : List ℕ) (is_broken : Bool) (races : List Race) (fault : Option InputFault) : Type 0 where
+  pub before : List ℕ
+  pub rest : List ℕ
+  pub parts : input ≡ before ++ rest
+  pub whole : AreRaceTexts races before
+  pub few : length races ≤ most_races
+  pub fault_is : IsFaultBehind is_broken (length races) (line_count before) rest fault
+
+-- why an input is not one race and nothing else: its first fault, or, where there is none, how many races it has
+abbrev pub IsNotOne : List ℕ → Bool → NotOneRace → Type 0
+IsNotOne input is_broken (faults.Fault fault) = (races : List Race) × HasRaces input is_broken races (Some fault)
+IsNotOne input is_broken faults.Count = (races : List Race) × HasRaces input is_broken races None × (length races ≢ 1)
+IsNotOne input is_broken faults.Memory = ⊤

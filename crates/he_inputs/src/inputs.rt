@@ -1,0 +1,103 @@
+//! Inputs that are to have one race.
+ghost use Rattle.std.specs.Prelude.{ℕ, List, Bool, Option, ◌≡◌, [], ◌∷◌, None, false, IfOk, IfErr};
+ghost use Rattle.he_timeline.specs.Race.{Race};
+ghost use Rattle.he_inputs.specs.declared.input_fault.InputFault.{InputFault};
+ghost use Rattle.he_inputs.specs.Inputs.{HasRaces, IsNotOne};
+ghost use Rattle.he_inputs.specs.RaceReadingSteps.{HasFirst, not_one};
+ghost use Rattle.he_inputs.specs.RaceReading.{HasPassed};
+
+use crate::input_fault::InputFault;
+use crate::laws::one_race_first;
+use crate::race_reader::{Ending, RaceReader, RaceReaderFault};
+use he_reading::laws::begins_where_no_fault;
+use he_timeline::Timeline;
+use std::alloc::Allocator;
+use std::mem::drop;
+
+/// An input, and whether it broke off, have one list of races and one fault. Runs nothing.
+pub fn one_input()
+    ensures { (input : List ℕ) (is_broken : Bool) (races others : List Race) (fault other_fault : Option InputFault)
+        → HasRaces input is_broken races fault → HasRaces input is_broken others other_fault → (races ≡ others)
+        × (fault ≡ other_fault) }
+{
+    one_race_first();
+    begins_where_no_fault();
+}
+
+/// Why an input is not one race.
+#[derive(Clone, Copy, Debug, PartialEq, Eq)]
+pub enum NotOneRace {
+    /// Something is wrong with the input.
+    Fault(InputFault),
+    /// Nothing is wrong with it, but it has no race, or more than one.
+    Count,
+    /// An allocation was refused.
+    Memory,
+}
+
+/// The race of an input that has one race and nothing else. `is_broken` tells that the input broke off after these
+/// bytes.
+///
+/// # Errors
+///
+/// - `Fault` with the first thing that is wrong with the input, whatever the number of races before it: a fault of its
+///   text, of which a race above the 4,096th is one (`TooMany` at its first line), or `Read` where the input broke off
+///   and its text has no fault before that.
+/// - `Count` where nothing is wrong, but the input has no race, or more than one.
+/// - `Memory` where an allocation was refused.
+pub fn read_one_race<A: Allocator + Copy>(
+    alloc: A,
+    input: &[u8],
+    is_broken: bool,
+) -> Result<Timeline<A>, NotOneRace>
+    ensures one { IfOk result (λ race. HasRaces input.now is_broken (race ∷ []) None) }
+    ensures fault { IfErr result (IsNotOne input.now is_broken) }
+{
+    let mut reader = RaceReader::START;
+    let Some(race) = reader.next(alloc, input, Ending::of(is_broken))? else {
+        return Err(NotOneRace::Count);
+    };
+    match check_behind(alloc, input, is_broken, reader) {
+        Ok(()) => Ok(race),
+        Err(fault) => {
+            drop(race);
+            Err(fault)
+        }
+    }
+}
+
+// Whether nothing follows the first race of an input, which the reader has passed.
+fn check_behind<A: Allocator + Copy>(
+    alloc: A,
+    input: &[u8],
+    is_broken: bool,
+    first: RaceReader,
+) -> Result<(), NotOneRace>
+    requires { HasFirst input.now first first }
+    ensures one { IfOk result
+        (λ _. (race : Race) → HasPassed input.now 0 0 (race ∷ []) first
+        → HasRaces input.now is_broken (race ∷ []) None) }
+    ensures fault { IfErr result (IsNotOne input.now is_broken) }
+{
+    let ending = Ending::of(is_broken);
+    let mut reader = first;
+    while let Some(other) = reader.next(alloc, input, ending)? {
+        drop(other);
+    }
+    if reader.races == 1 {
+        Ok(())
+    } else {
+        Err(NotOneRace::Count)
+    }
+}
+
+impl From<RaceReaderFault> for NotOneRace {
+    ghost from_gives = { λ fault told. told ≡ not_one fault };
+
+    fn from(fault: RaceReaderFault) -> NotOneRace {
+        match fault {
+            RaceReaderFault::Input(fault) => NotOneRace::Fault(fault),
+            RaceReaderFault::Memory => NotOneRace::Memory,
+        }
+    }
+}

@@ -1,5 +1,0 @@
-use Rattle.he_text.proofs.OneInput.{one_input}
-use Rattle.he_text.proofs.inputs.one_input.Goals as goal
-
-pub returns : goal.returns
-returns c = one_input c.one_race_first.ensures c.begins_where_no_fault.ensures

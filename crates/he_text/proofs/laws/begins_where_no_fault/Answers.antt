@@ -1,5 +1,0 @@
-use Rattle.he_text.proofs.CompleteFaults.{begins_right, right_begins}
-use Rattle.he_text.proofs.laws.begins_where_no_fault.Goals as goal
-
-pub returns : goal.returns
-returns c = λ text. (begins_right text, right_begins text)

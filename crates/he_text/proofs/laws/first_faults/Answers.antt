@@ -1,5 +1,0 @@
-use Rattle.he_text.proofs.FirstFaults.{first_fault_is, is_first_fault}
-use Rattle.he_text.proofs.laws.first_faults.Goals as goal
-
-pub returns : goal.returns
-returns c = λ text line kind. (first_fault_is text line kind, is_first_fault text line kind)

@@ -1,5 +1,0 @@
-use Rattle.he_text.proofs.Mending.{mendable_changes}
-use Rattle.he_text.proofs.laws.mendable_faults_change.Goals as goal
-
-pub returns : goal.returns
-returns c = mendable_changes

@@ -1,5 +1,0 @@
-use Rattle.he_text.proofs.Beginnings.{one_race_first}
-use Rattle.he_text.proofs.laws.one_race_first.Goals as goal
-
-pub returns : goal.returns
-returns c = one_race_first

@@ -1,7 +1,0 @@
-use Rattle.std.proofs.Common.{◌≡◌, ◌++◌, take}
-use Rattle.std.specs.List.{flat_map}
-use Rattle.he_text.specs.Written.{rtt_text}
-use Rattle.he_text.proofs.timelines.write_rtts.Given as goal
-
-abbrev pub invariant-loop-told : goal.invariant-loop-told
-invariant-loop-told g l = l.out.items ≡ l.fn.out.items ++ flat_map rtt_text (take l.told-index l.rtts)

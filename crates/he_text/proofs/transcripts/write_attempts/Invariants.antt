@@ -1,6 +1,0 @@
-use Rattle.std.proofs.Common.{◌≡◌, ◌++◌, take}
-use Rattle.he_text.specs.Written.{attempts_text}
-use Rattle.he_text.proofs.transcripts.write_attempts.Given as goal
-
-abbrev pub invariant-loop-line : goal.invariant-loop-line
-invariant-loop-line g l = l.out.items ≡ l.fn.out.items ++ attempts_text (take l.line-index l.lines)

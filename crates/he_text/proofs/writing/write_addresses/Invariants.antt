@@ -1,7 +1,0 @@
-use Rattle.std.proofs.Common.{◌≡◌, ◌++◌, map, take}
-use Rattle.he_addr.specs.Printing.{printed}
-use Rattle.he_text.specs.Writing.{spaced}
-use Rattle.he_text.proofs.writing.write_addresses.Given as goal
-
-abbrev pub invariant-loop-ip : goal.invariant-loop-ip
-invariant-loop-ip g l = l.out.items ≡ l.fn.out.items ++ spaced (map printed (take l.ip-index l.ips))

@@ -1,0 +1,4 @@
+mod LineTexts
+pub mod LoopLaws
+mod OrderTexts
+mod WrittenLines
