@@ -4,9 +4,8 @@ ghost use Rattle.std.specs.Prelude.{◌≡◌, ℕ, ◌≤◌, ◌++◌, IfSome,
 ghost use Rattle.he_addr.specs.Reading.{digits_in, numeral_in, number_in};
 ghost use Rattle.he_addr.specs.Text.{SpellsNumber};
 
-use crate::memory::Memory;
 use itoa::Buffer;
-use std::alloc::Allocator;
+use std::alloc::{AllocError as Memory, Allocator};
 
 /// The most digits of a number in the texts.
 pub const NUMBER_DIGITS: usize = 10;

@@ -6,10 +6,9 @@ ghost use Rattle.he_addr.specs.Printed.{IsPrinted, IsPrintedSource, IsPrintedPre
 ghost use Rattle.he_addr.specs.Printing.{printed, source_text, prefix_text};
 
 use crate::ip::Ip;
-use crate::memory::Memory;
 use crate::prefix::{MAPPED_LEN, Prefix};
 use crate::printing::{ADDRESS_LEN, PREFIX_LEN, prepend_ip, prepend_source};
-use std::alloc::Allocator;
+use std::alloc::{AllocError as Memory, Allocator};
 
 /// Appends the text of the address (RFC 5952 section 4): for IPv6 lower case, no leading zeros in a group, `::` for
 /// the first of the longest runs of at least two zero groups, no dotted part. After [`Memory`] the text is as it was.

@@ -1,5 +1,6 @@
--- The rule of the board's table, by sums and minima over the views of all passes. `Lawful` says the same in other words.
--- Word 0 is spare, word 1 + r is the winner word of the race r, and word 1 + RACES + j is the word of the job j.
+-- The rule of the board's table, by sums and minima over the views of all passes. `Lawful` says the same in other
+-- words. Word 0 is spare, word 1 + r is the winner word of the race r, and word 1 + RACES + j is the word of the job
+-- j.
 use Rattle.std.specs.Prelude.{◌≡◌, ℕ, ◌+◌, ◌<◌, ◌≤◌, min, List, [], ◌∷◌, length, slice_index, true}
 use mathlib.Core.Option.{some}
 use lib.ListN.{get_elem?}

@@ -38,7 +38,8 @@ IsUnoffered views race = EachView views (λ v. (key : ℕ) → ¬ Contains v.off
 pub record Lawful (jobs races : ℕ) (words : List ℕ) (views : List View) : Type 0 where
   pub size : length words ≡ 1 + RACES + jobs
   pub few : races ≤ RACES
-  -- the word of a job is 1 where exactly one view has taken it, and 0 where none has and none knows it to be taken; there is no other case
+  -- the word of a job is 1 where exactly one view has taken it, and 0 where none has and none knows it to be taken;
+  -- there is no other case
   pub job_words : (job : ℕ) → (job < jobs → slice_index words (job_word job) ≡ 1) × TakenOnce views job ⊎ (job < jobs → slice_index words (job_word job) ≡ 0) × IsFree views job
   -- the word of a race is one of its offers, or `NO_OFFER` where there is none
   pub winner_words : (race : ℕ) → race < races → IsOffered views race (slice_index words (winner_word race)) ⊎ (slice_index words (winner_word race) ≡ NO_OFFER) × IsUnoffered views race

@@ -3,7 +3,8 @@ use Rattle.std.specs.Prelude.{ℕ, ◌+◌, ◌-◌, ◌*◌, ◌/◌, ◌%◌, 
 use Rattle.he_board.specs.declared.limits.TheConstants.{PLACES, NO_OFFER}
 use Rattle.he_board.specs.declared.view.View.{View}
 
--- the key of an offer: of two offers the one at the lower tick has the lower key, and at one tick the one at the lower place
+-- the key of an offer: of two offers the one at the lower tick has the lower key, and at one tick the one at the lower
+-- place
 abbrev pub key_of : ℕ → ℕ → ℕ
 key_of tick place = tick * PLACES + place
 

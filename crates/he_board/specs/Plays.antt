@@ -1,4 +1,5 @@
--- What each atomic step tells the pass that takes it: of the step, the seat before, the number found and the seat after.
+-- What each atomic step tells the pass that takes it: of the step, the seat before, the number found and the seat
+-- after.
 use Rattle.std.specs.Prelude.{◌≡◌, ◌≢◌, ℕ, ◌==◌, ◌<◌, ◌≤◌, if◌then◌else◌}
 use Rattle.atomic_table.specs.Table.{Me, Step}
 use Rattle.he_board.specs.declared.limits.TheConstants.{PARTS, NO_OFFER}

@@ -67,10 +67,12 @@ impl<A: Allocator> Board<A> {
         requires own { IsPassOf self.now pass.old }
         requires job { job < jobs_of self.now }
         ensures own { IsPassOf self.now pass.new }
-        ensures noted { notes pass.new ≡ (if result then taking job (notes pass.old) else knowing job (notes pass.old)) }
+        ensures noted { notes pass.new ≡ (if result then taking job (notes pass.old) else knowing job
+            (notes pass.old)) }
 
         // The same, field by field.
-        ensures taken { (notes pass.new).taken ≡ (if result then (notes pass.old).taken ++ job ∷ [] else (notes pass.old).taken) }
+        ensures taken { (notes pass.new).taken ≡ (if result then (notes pass.old).taken ++ job ∷ [] else
+            (notes pass.old).taken) }
         ensures known { (notes pass.new).known ≡ (notes pass.old).known ++ job ∷ [] }
         ensures offers { (notes pass.new).offers ≡ (notes pass.old).offers }
         ensures looked { (notes pass.new).looked ≡ (notes pass.old).looked }

@@ -10,27 +10,33 @@ ghost use Rattle.he_board.specs.declared.view.View.{View};
 /// the moment at which the board is made, through each step of each pass in every order, so the board is always
 /// lawful.
 pub fn board_is_lawful()
-    ensures { (jobs races : ℕ) (words : List ℕ) (views : List View) → (Balanced jobs races words views ↔ Lawful jobs races words views) }
+    ensures { (jobs races : ℕ) (words : List ℕ) (views : List View)
+        → (Balanced jobs races words views ↔ Lawful jobs races words views) }
 {}
 
 /// `least_of` is at most each value noted of the race, and is one of them or `NO_OFFER`.
 pub fn least_is_least()
-    ensures at_most { (race value : ℕ) (noted : List (ℕ × ℕ)) → Contains noted (race, value) → least_of race noted ≤ value }
-    ensures one_of { (race : ℕ) (noted : List (ℕ × ℕ)) → Contains noted (race, least_of race noted) ⊎ (least_of race noted ≡ NO_OFFER) }
+    ensures at_most { (race value : ℕ) (noted : List (ℕ × ℕ)) → Contains noted (race, value)
+        → least_of race noted ≤ value }
+    ensures one_of { (race : ℕ) (noted : List (ℕ × ℕ)) → Contains noted (race, least_of race noted)
+        ⊎ (least_of race noted ≡ NO_OFFER) }
 {}
 
 /// A key gives back its tick and its place.
 pub fn keys_read_back()
-    ensures { (tick place : ℕ) → tick ≤ LAST_TICK → place < PLACES → winner_of (key_of tick place) ≡ Some (tick, place) }
+    ensures { (tick place : ℕ) → tick ≤ LAST_TICK → place < PLACES
+        → winner_of (key_of tick place) ≡ Some (tick, place) }
 {}
 
 /// Keys are ordered by tick, and at one tick by place.
 pub fn keys_are_ordered()
-    ensures { (tick place other_tick other_place : ℕ) → place < PLACES → other_place < PLACES → ((key_of tick place < key_of other_tick other_place) ↔ ((tick < other_tick) ⊎ (tick ≡ other_tick) × (place < other_place))) }
+    ensures { (tick place other_tick other_place : ℕ) → place < PLACES → other_place < PLACES
+        → ((key_of tick place < key_of other_tick other_place) ↔ ((tick < other_tick) ⊎ (tick ≡ other_tick)
+        × (place < other_place))) }
 {}
 
-/// The limits of a board, as numbers: 2,097,152 jobs, 4,096 races, 512 places, 1,048,576 parts and ticks up to 7,200,000
-/// (milliseconds). What a winner word holds while nothing was offered is 2^64 - 1.
+/// The limits of a board, as numbers: 2,097,152 jobs, 4,096 races, 512 places, 1,048,576 parts and ticks up to
+/// 7,200,000 (milliseconds). What a winner word holds while nothing was offered is 2^64 - 1.
 pub fn limits_as_numbers()
     ensures jobs { JOBS ≡ 2097152 }
     ensures races { RACES ≡ 4096 }

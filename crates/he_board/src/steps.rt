@@ -16,7 +16,8 @@ impl<A: Allocator> Board<A> {
         requires own { IsPassOf self.now pass.old }
         requires job { job < jobs_of self.now }
         ensures own { IsPassOf self.now pass.new }
-        ensures noted { notes pass.new ≡ (if result == 0 then taking job (notes pass.old) else knowing job (notes pass.old)) }
+        ensures noted { notes pass.new ≡ (if result == 0 then taking job (notes pass.old) else knowing job
+            (notes pass.old)) }
     {
         self.table
             .shared

@@ -9,8 +9,8 @@ use Rattle.he_inputs.specs.Inputs.{HasRaces}
 use Rattle.he_c.specs.Answers.{Leaves}
 use Rattle.he_c.specs.declared.answer.Told.{Told}
 
--- how many races and lines the input has, where nothing is wrong with it; else that is its first fault, of which something
--- is said
+-- how many races and lines the input has, where nothing is wrong with it; else that is its first fault, of which
+-- something is said
 abbrev pub IsCheckOf : List ℕ → List ℕ → Option InputFault → Type 0
 IsCheckOf input text None = (checked : Checked) × IsRight input false checked × (text ≡ report_text checked)
 IsCheckOf input text (Some fault) = (races : List Race) × HasRaces input false races (Some fault)

@@ -1,5 +1,5 @@
--- Mirrors the code: how far the reader of an input has come whose races are told. What is told of the whole input stands
--- in `Outputs`.
+-- Mirrors the code: how far the reader of an input has come whose races are told. What is told of the whole input
+-- stands in `Outputs`.
 use Rattle.std.specs.Prelude.{ℕ, ◌≡◌, ◌++◌, List}
 use Rattle.he_timeline.specs.Race.{Race}
 use Rattle.he_inputs.specs.declared.race_reader.RaceReader.{RaceReader}

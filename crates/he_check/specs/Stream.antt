@@ -37,8 +37,8 @@ pub record FindsWrong (Given : List ℕ → Bool → Type 0) (fault : StreamFaul
   pub given : Given input is_broken
   pub wrong : IsWrong input is_broken fault
 
--- Given: what the input gave, and whether it broke off after that; Whole and Part: the text of which all was put into the
--- output and then flushed, or a first part until that failed; Kept: nothing was put into the output
+-- Given: what the input gave, and whether it broke off after that; Whole and Part: the text of which all was put into
+-- the output and then flushed, or a first part until that failed; Kept: nothing was put into the output
 abbrev pub Checks : (List ℕ → Bool → Type 0) → (List ℕ → Type 0) → (List ℕ → Type 0) → Type 0 → Result (Unit {0}) StreamFault → Type 0
 Checks Given Whole Part Kept (Ok done) = (checked : Checked) × FindsRight Given checked × Whole (report_text checked)
 Checks Given Whole Part Kept (Err (Text fault)) = FindsWrong Given (Text fault) × Kept
@@ -55,15 +55,16 @@ pub record TellsWarnings (Given : List ℕ → Bool → Type 0) (old new : List 
   pub are : HasWarnings input warnings
   pub told : new ≡ old ++ flat_map warning_text warnings
 
--- the input was given, whole or up to where it broke off, and what is said of its fault ends in the clause of the fault
+-- the input was given, whole or up to where it broke off, and what is said of its fault ends in the clause of the
+-- fault
 pub record TellsFault (Given : List ℕ → Bool → Type 0) (fault : TextFault) (old new : List ℕ) : Type 0 where
   pub input : List ℕ
   pub is_broken : Bool
   pub given : Given input is_broken
   pub told : EndsInClause input fault old new
 
--- the input was given, whole or up to where it broke off, and all its faults are told behind what stood there, of which
--- this is the first
+-- the input was given, whole or up to where it broke off, and all its faults are told behind what stood there, of
+-- which this is the first
 pub record TellsAll (Given : List ℕ → Bool → Type 0) (first : InputFault) (old new : List ℕ) : Type 0 where
   pub input : List ℕ
   pub is_broken : Bool

@@ -52,7 +52,8 @@ fn tell_first<'t, A: Allocator + Copy>(
     text: &mut Vec<u8, A>,
 ) -> Result<Option<Part<'t>>, Memory>
     requires { EndsText input.now 0 part }
-    ensures told { IfOk result (λ left. HasTold input.now is_broken (Some part.entry) left text.old.items text.new.items) }
+    ensures told { IfOk result (λ left. HasTold input.now is_broken
+        (Some part.entry) left text.old.items text.new.items) }
     ensures left { IfOk result (λ left. IfSome left (EndsText input.now 0)) }
     ensures shorter { IfOk result (λ left. IfSome left (λ next. length next.text.now < length part.entry.text.now)) }
 {

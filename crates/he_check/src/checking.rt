@@ -53,7 +53,8 @@ pub fn check<A: Allocator + Copy, I: InputStream, O: OutputStream>(
         (PutsWhole O.contents O.puts O.flushes output.old output.new)
         (PutsPart O.contents O.puts O.flushes output.old output.new) (output.new ≡ output.old) result }
     ensures stays { StartsWith explanation.new.items explanation.old.items }
-    ensures quiet { Explains is_all (Gives I.remaining I.takes input.old input.new) explanation.old.items explanation.new.items result }
+    ensures quiet { Explains is_all (Gives I.remaining I.takes input.old input.new) explanation.old.items
+        explanation.new.items result }
 {
     one_input();
     let given = take_input(alloc, input)?;

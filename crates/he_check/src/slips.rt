@@ -61,7 +61,8 @@ fn add_of_answer<A: Allocator, B: Allocator>(
     line: u64,
     warnings: &mut Vec<Warning, A>,
 ) -> Result<(), AllocError>
-    ensures { OnOk result (warnings.new.items ≡ warnings.old.items ++ map (warning_at line) (answer_slips family race.now.settings.limit (reply_of race.now family))) }
+    ensures { OnOk result (warnings.new.items ≡ warnings.old.items ++ map (warning_at line)
+        (answer_slips family race.now.settings.limit (reply_of race.now family))) }
 {
     let Some((tick, ips)) = race.answer(family) else {
         return add_if(true, line, Slip::NoAnswer(family), warnings);

@@ -15,7 +15,8 @@ pub record IsCompared (changes : ChangeValues) (race : Race) (number line : ℕ)
   pub as_it_stands : IsTranscript race compared.stands
   pub with_changes : IsTranscript (changed changes race) compared.changed
 
--- behind so many races and lines the text is, one after the other, a text of each of these races, compared in their order
+-- behind so many races and lines the text is, one after the other, a text of each of these races, compared in their
+-- order
 abbrev pub AreCompared : ChangeValues → ℕ → ℕ → List Race → List ℕ → List Compared → Type 0
 AreCompared changes before lines [] text told = (text ≡ []) × (told ≡ [])
 AreCompared changes before lines (race ∷ races) text told =

@@ -16,8 +16,8 @@ pub record Tells (changes : ChangeValues) (Given : List ℕ → Bool → Type 0)
   pub told : IsComparison changes input is_broken fault text
   pub done : Done text
 
--- Given: what the input gave, and whether it broke off after that; Whole and Part: the text of which all was put into the
--- output and then flushed, or a first part until that failed; Kept: nothing was put into the output
+-- Given: what the input gave, and whether it broke off after that; Whole and Part: the text of which all was put into
+-- the output and then flushed, or a first part until that failed; Kept: nothing was put into the output
 abbrev pub Compares : ChangeValues → (List ℕ → Bool → Type 0) → (List ℕ → Type 0) → (List ℕ → Type 0) → Type 0 → Result (Unit {0}) StreamFault → Type 0
 Compares changes Given Whole Part Kept (Ok done) = Tells changes Given Whole None
 Compares changes Given Whole Part Kept (Err (Text fault)) = Tells changes Given Whole (Some (inputs.Text fault))

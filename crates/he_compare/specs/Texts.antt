@@ -13,8 +13,8 @@ use Rattle.he_compare.specs.declared.told.Counts.{Counts}
 use Rattle.he_compare.specs.declared.verdict.Verdict.{Verdict}
 use Rattle.he_compare.specs.declared.verdict.Verdict.TheVariants.{Sooner, Later, Same, OnlyWith, OnlyWithout, Neither}
 
--- a race of an input, by its number and the line with which it begins, both from 1: its transcripts as it stands, and with
--- the changes
+-- a race of an input, by its number and the line with which it begins, both from 1: its transcripts as it stands, and
+-- with the changes
 pub record Compared : Type 0 where
   pub number : ℕ
   pub line : ℕ

@@ -9,7 +9,14 @@ use he_plan::laws::one_transcript;
 
 /// With no changes both transcripts of a race are one, so that its line says the same twice.
 pub fn no_changes_no_difference()
-    ensures { (race : Race) (stands other : Report) → IsRace race → IsTranscript race stands → IsTranscript (changed (record { resolution = None; attempt = None; count = None; limit = None; floor = None }) race) other → other ≡ stands }
+    ensures { (race : Race) (stands other : Report) → IsRace race → IsTranscript race stands
+        → IsTranscript (changed (record {
+          resolution = None;
+          attempt = None;
+          count = None;
+          limit = None;
+          floor = None;
+        }) race) other → other ≡ stands }
 {
     one_transcript();
 }

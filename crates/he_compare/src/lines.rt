@@ -16,7 +16,8 @@ pub(crate) fn append_line<A: Allocator + Copy, B: Allocator>(
     changed: &Transcript<B>,
     text: &mut Vec<u8, A>,
 ) -> Result<(), Memory>
-    ensures { OnOk result (text.new.items ≡ text.old.items ++ line_text (record { number = number; line = line; stands = stands.now; changed = changed.now })) }
+    ensures { OnOk result (text.new.items ≡ text.old.items ++ line_text
+        (record { number = number; line = line; stands = stands.now; changed = changed.now })) }
 {
     append_number(b"race ", number, b", line ", text)?;
     append_number(b"", line, b": ", text)?;

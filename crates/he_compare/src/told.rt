@@ -39,7 +39,8 @@ impl Counts {
     // With one race more, which has this verdict.
     fn with(self, verdict: Verdict) -> Counts
         requires { MayCount self }
-        ensures { (verdicts : List Verdict) → self ≡ counts_of verdicts → result ≡ counts_of (verdicts ++ verdict ∷ []) }
+        ensures { (verdicts : List Verdict) → self ≡ counts_of verdicts
+            → result ≡ counts_of (verdicts ++ verdict ∷ []) }
     {
         let counts = Counts {
             races: self.races + 1,
@@ -102,7 +103,13 @@ impl<A: Allocator + Copy> Told<A> {
         changed: &Transcript<B>,
     ) -> Result<(), Memory>
         requires { MayCount self.old.counts }
-        ensures { (told : List Compared) → HasTold self.old told → OnOk result (HasTold self.new (told ++ record { number = number; line = line; stands = stands.now; changed = changed.now } ∷ [])) }
+        ensures { (told : List Compared) → HasTold self.old told
+            → OnOk result (HasTold self.new (told ++ record {
+              number = number;
+              line = line;
+              stands = stands.now;
+              changed = changed.now;
+            } ∷ [])) }
     {
         append_line(number, line, stands, changed, &mut self.text)?;
         let verdict = Verdict::of(stands.result(), changed.result());

@@ -71,14 +71,6 @@ impl<T: Drop> From<AllocFailed<T>> for ConnectFault {
     }
 }
 
-impl From<he_addr::Memory> for ConnectFault {
-    ghost from_gives = { λ _ fault. IsBefore fault };
-
-    fn from(_refused: he_addr::Memory) -> ConnectFault {
-        ConnectFault::Memory
-    }
-}
-
 impl From<MachineFault> for ConnectFault {
     ghost from_gives = { λ _ fault. IsBefore fault };
 

@@ -53,17 +53,6 @@ pub enum AnswerFault {
     Memory,
 }
 
-impl From<Memory> for NameFault {
-    ghost use Rattle.std.specs.Prelude.{◌≡◌};
-    ghost use Rattle.he_dns.specs.declared.fault.NameFault.TheVariants as faults;
-
-    ghost from_gives = { λ _ fault. fault ≡ faults.Memory };
-
-    fn from(_refused: Memory) -> NameFault {
-        NameFault::Memory
-    }
-}
-
 impl From<AllocError> for NameFault {
     ghost use Rattle.std.specs.Prelude.{◌≡◌};
     ghost use Rattle.he_dns.specs.declared.fault.NameFault.TheVariants as faults;

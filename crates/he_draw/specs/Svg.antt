@@ -113,8 +113,8 @@ svg_text is_alone number line race report =
     ++ (top_text is_alone (heading_text number line report.result)
     ++ (body_svg (end_tick report.result) (rows_of race report) ++ codes "</svg>\n"))
 
--- the text is the image of the race, alone or of a page, by its transcript: the race of this number in its input, counted
--- from 1, which begins at this line
+-- the text is the image of the race, alone or of a page, by its transcript: the race of this number in its input,
+-- counted from 1, which begins at this line
 pub record IsSvg (is_alone : Bool) (number line : ℕ) (drawn : List ℕ) (race : Race) : Type 0 where
   pub report : Report
   pub is : IsTranscript race report

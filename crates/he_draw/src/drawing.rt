@@ -56,7 +56,8 @@ fn write_sign_and<A: Allocator + Copy>(
     next: Sign,
     text: &mut Vec<u8, A>,
 ) -> Result<(), Memory>
-    ensures { OnOk result (text.new.items ≡ text.old.items ++ (sign_text look first ++ repeat more (sign_text look next))) }
+    ensures { OnOk result (text.new.items ≡ text.old.items ++ (sign_text look first ++ repeat more
+        (sign_text look next))) }
 {
     write_words(sign_text(look, first), text)?;
     write_repeated(more, sign_text(look, next), text)

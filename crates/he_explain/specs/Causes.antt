@@ -1,5 +1,5 @@
--- Why an attempt of a race starts at its tick, and not at an earlier one (RFC 8305 sections 3 and 5, and the floor of our
--- own).
+-- Why an attempt of a race starts at its tick, and not at an earlier one (RFC 8305 sections 3 and 5, and the floor of
+-- our own).
 use Rattle.std.specs.Prelude.{ℕ, ◌+◌, ◌&&◌, if◌then◌else◌, List, [], ◌∷◌, max, min, Bool, Option, Some, None, nat_lt}
 use Rattle.std.specs.List.{list_any}
 use Rattle.std.specs.Option.{option_map_or}
@@ -43,8 +43,8 @@ floor_cause race last failed next (Some floor) =
     if nat_lt (seen race (last.tick + floor)) next.tick && nat_lt (seen race failed) next.tick then LaterAnswer (family_of next.ip)
     else (if nat_lt (last.tick + floor) failed then LastFailure failed else Floor last.place floor)
 
--- one that starts when that delay is over: the delay after the attempt before, unless it was over at an earlier tick at
--- which the client could act; then, again, the answer came later
+-- one that starts when that delay is over: the delay after the attempt before, unless it was over at an earlier tick
+-- at which the client could act; then, again, the answer came later
 abbrev pub delay_cause : Race → Attempt → Attempt → Cause
 delay_cause race last next =
     if nat_lt (seen race (last.tick + race.settings.attempt)) next.tick then LaterAnswer (family_of next.ip)

@@ -22,7 +22,8 @@ use std::alloc::{AllocError, Allocator};
 // The two answers, the wait for the AAAA answer, the Resolution Delay's end, and the race's end.
 const OTHER_EVENTS: usize = 5;
 
-/// The events of the race with this transcript, by kind, also those after its end; its all_attributes are given sorted.
+/// The events of the race with this transcript, by kind, also those after its end; its all_attributes are given
+/// sorted.
 pub fn collect_events<A: Allocator + Copy, B: Allocator, C: Allocator>(
     alloc: A,
     timeline: &Timeline<B>,
@@ -97,7 +98,9 @@ fn push_answers<A: Allocator, B: Allocator>(
     events: &mut Vec<Event, A>,
     timeline: &Timeline<B>,
 ) -> Result<(), AllocError>
-    ensures { OnOk result (events.new.items ≡ events.old.items ++ (answer_events timeline.now families.V6 timeline.now.aaaa ++ answer_events timeline.now families.V4 timeline.now.a)) }
+    ensures { OnOk result (events.new.items ≡ events.old.items ++
+        (answer_events timeline.now families.V6 timeline.now.aaaa ++ answer_events timeline.now families.V4
+        timeline.now.a)) }
 {
     push_answer(events, timeline, Family::V6)?;
     push_answer(events, timeline, Family::V4)
@@ -108,7 +111,8 @@ fn push_answer<A: Allocator, B: Allocator>(
     timeline: &Timeline<B>,
     family: Family,
 ) -> Result<(), AllocError>
-    ensures { OnOk result (events.new.items ≡ events.old.items ++ answer_events timeline.now family (reply_of timeline.now family)) }
+    ensures { OnOk result (events.new.items ≡ events.old.items ++ answer_events timeline.now family
+        (reply_of timeline.now family)) }
 {
     let Some((tick, ips)) = timeline.answer(family) else {
         return Ok(());
@@ -189,7 +193,8 @@ fn push_attempts<A: Allocator + Copy, B: Allocator>(
     lines: &[Line],
 ) -> Result<(), Memory>
     requires { sorted.now ≡ all_attributes_of timeline.now }
-    ensures { OnOk result (events.new.items ≡ events.old.items ++ (flat_map (λ line. failed_by line.place line.mark) lines.now ++ start_events timeline.now None 0 lines.now)) }
+    ensures { OnOk result (events.new.items ≡ events.old.items ++ (flat_map
+        (λ line. failed_by line.place line.mark) lines.now ++ start_events timeline.now None 0 lines.now)) }
 {
     push_failures(events, lines)?;
     push_starts(alloc, events, timeline, sorted, lines)
@@ -201,7 +206,8 @@ fn push_end<A: Allocator>(
     ending: Outcome3,
     lines: &[Line],
 ) -> Result<(), AllocError>
-    ensures { OnOk result (events.new.items ≡ events.old.items ++ (end_event ending ∷ flat_map (λ line. cancelled_by line.place line.mark) lines.now)) }
+    ensures { OnOk result (events.new.items ≡ events.old.items ++ (end_event ending ∷ flat_map
+        (λ line. cancelled_by line.place line.mark) lines.now)) }
 {
     push_ending(events, ending)?;
     push_cancelled(events, lines)
@@ -218,7 +224,8 @@ fn push_ending<A: Allocator>(events: &mut Vec<Event, A>, ending: Outcome3) -> Re
 }
 
 fn push_failures<A: Allocator>(events: &mut Vec<Event, A>, lines: &[Line]) -> Result<(), AllocError>
-    ensures { OnOk result (events.new.items ≡ events.old.items ++ flat_map (λ line. failed_by line.place line.mark) lines.now) }
+    ensures { OnOk result (events.new.items ≡ events.old.items ++ flat_map
+        (λ line. failed_by line.place line.mark) lines.now) }
 {
     for line in lines {
         match line.mark {
@@ -233,7 +240,8 @@ fn push_cancelled<A: Allocator>(
     events: &mut Vec<Event, A>,
     lines: &[Line],
 ) -> Result<(), AllocError>
-    ensures { OnOk result (events.new.items ≡ events.old.items ++ flat_map (λ line. cancelled_by line.place line.mark) lines.now) }
+    ensures { OnOk result (events.new.items ≡ events.old.items ++ flat_map
+        (λ line. cancelled_by line.place line.mark) lines.now) }
 {
     for line in lines {
         match line.mark {

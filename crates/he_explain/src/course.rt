@@ -25,7 +25,8 @@ pub fn sort_events<'a, A: Allocator>(
     events: &'a [Event],
     end: u64,
 ) -> Result<Vec<&'a Event, A>, AllocError>
-    ensures { IfOk result (λ sorted. map (λ event. event.now) sorted.items ≡ put_events [] (filter (λ event. nat_le event.tick end) events.now)) }
+    ensures { IfOk result (λ sorted. map (λ event. event.now) sorted.items
+        ≡ put_events [] (filter (λ event. nat_le event.tick end) events.now)) }
 {
     let mut sorted = events_until(alloc, events, end)?;
     sort_by_tick(&mut sorted)?;
@@ -37,7 +38,8 @@ fn events_until<'a, A: Allocator>(
     events: &'a [Event],
     end: u64,
 ) -> Result<Vec<&'a Event, A>, AllocError>
-    ensures { IfOk result (λ kept. map (λ event. event.now) kept.items ≡ filter (λ event. nat_le event.tick end) events.now) }
+    ensures { IfOk result (λ kept. map (λ event. event.now) kept.items
+        ≡ filter (λ event. nat_le event.tick end) events.now) }
 {
     events
         .iter()
@@ -46,7 +48,8 @@ fn events_until<'a, A: Allocator>(
 }
 
 fn sort_by_tick<'a, A: Allocator>(events: &mut Vec<&'a Event, A>) -> Result<(), AllocError>
-    ensures { OnOk result (map (λ event. event.now) events.new.items ≡ put_events [] (map (λ event. event.now) events.old.items)) }
+    ensures { OnOk result (map (λ event. event.now) events.new.items
+        ≡ put_events [] (map (λ event. event.now) events.old.items)) }
 {
     events.sort_by_key(|event| event.tick)
 }
@@ -57,7 +60,8 @@ fn write_floor<A: Allocator + Copy>(
     floor: u64,
     out: &mut Vec<u8, A>,
 ) -> Result<(), Memory>
-    ensures { AppendsText result out.old.items out.new.items (values_text (codes ", ") floor (codes " after attempt ") place ++ codes " as all have failed") }
+    ensures { AppendsText result out.old.items out.new.items (values_text (codes ", ") floor
+        (codes " after attempt ") place ++ codes " as all have failed") }
 {
     write_values(b", ", floor, b" after attempt ", place, out)?;
     write_bytes(b" as all have failed", out)
@@ -127,7 +131,8 @@ fn write_listed<A: Allocator + Copy>(listed: Listed, out: &mut Vec<u8, A>) -> Re
 
 // CAUSE, LISTED, behind a comma
 fn write_reasons<A: Allocator + Copy>(start: Start, out: &mut Vec<u8, A>) -> Result<(), Memory>
-    ensures { AppendsText result out.old.items out.new.items ((cause_text start.cause ++ held_text start.held) ++ listed_text start.listed) }
+    ensures { AppendsText result out.old.items out.new.items
+        ((cause_text start.cause ++ held_text start.held) ++ listed_text start.listed) }
 {
     write_why(start.cause, start.held, out)?;
     write_listed(start.listed, out)
@@ -139,7 +144,8 @@ fn write_attempt<A: Allocator + Copy>(
     ip: Ip,
     out: &mut Vec<u8, A>,
 ) -> Result<(), Memory>
-    ensures { AppendsText result out.old.items out.new.items ((codes " attempt " ++ decimal place) ++ (codes " " ++ printed ip)) }
+    ensures { AppendsText result out.old.items out.new.items ((codes " attempt " ++ decimal place) ++
+        (codes " " ++ printed ip)) }
 {
     write_labelled(b" attempt ", place, out)?;
     write_labelled_ip(b" ", ip, out)
@@ -192,7 +198,8 @@ fn write_event<A: Allocator + Copy>(event: Event, out: &mut Vec<u8, A>) -> Resul
 }
 
 fn write_events<A: Allocator + Copy>(events: &[&Event], out: &mut Vec<u8, A>) -> Result<(), Memory>
-    ensures { AppendsText result out.old.items out.new.items (flat_map event_text (map (λ event. event.now) events.now)) }
+    ensures { AppendsText result out.old.items out.new.items (flat_map event_text (map
+        (λ event. event.now) events.now)) }
 {
     for event in events {
         write_event(**event, out)?;

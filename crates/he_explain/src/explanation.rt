@@ -23,7 +23,8 @@ fn write_ended<A: Allocator + Copy, B: Allocator, C: Allocator>(
     out: &mut Vec<u8, A>,
 ) -> Result<(), Memory>
     requires { sorted.now ≡ all_attributes_of timeline.now }
-    ensures { AppendsText result out.old.items out.new.items (course_text timeline.now transcript.now ++ codes "end\n") }
+    ensures { AppendsText result out.old.items out.new.items
+        (course_text timeline.now transcript.now ++ codes "end\n") }
 {
     write_course_of(alloc, timeline, sorted, transcript, out)?;
     write_bytes(b"end\n", out)

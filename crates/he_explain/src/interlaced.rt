@@ -93,7 +93,8 @@ fn included<A: Allocator>(
     v6: bool,
     v4: bool,
 ) -> Result<Vec<Ip, A>, AllocError>
-    ensures { IfOk result (λ ips. ips.items ≡ filter (is_of_included v6 v4) (map (λ attributes. attributes.ip) sorted.now)) }
+    ensures { IfOk result (λ ips. ips.items ≡ filter (is_of_included v6 v4) (map
+        (λ attributes. attributes.ip) sorted.now)) }
 {
     sorted
         .iter()

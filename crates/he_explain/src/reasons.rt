@@ -65,7 +65,8 @@ fn write_rtts<A: Allocator + Copy>(
     earlier: Option<u64>,
     out: &mut Vec<u8, A>,
 ) -> Result<(), Memory>
-    ensures { AppendsText result out.old.items out.new.items ((codes ": " ++ rtt_text later) ++ (codes " after " ++ rtt_text earlier)) }
+    ensures { AppendsText result out.old.items out.new.items ((codes ": " ++ rtt_text later) ++
+        (codes " after " ++ rtt_text earlier)) }
 {
     write_rtt(b": ", later, out)?;
     write_rtt(b" after ", earlier, out)
@@ -147,7 +148,8 @@ fn write_rule<A: Allocator + Copy>(
     later: &DestinationAttributes,
     out: &mut Vec<u8, A>,
 ) -> Result<(), Memory>
-    ensures { AppendsText result out.old.items out.new.items ((codes " by rule " ++ rule_text rule) ++ compared_text rule earlier.now later.now) }
+    ensures { AppendsText result out.old.items out.new.items
+        ((codes " by rule " ++ rule_text rule) ++ compared_text rule earlier.now later.now) }
 {
     write_name(rule, out)?;
     write_compared(rule, earlier, later, out)
@@ -182,7 +184,8 @@ fn write_source<A: Allocator + Copy>(
 
 // order PLACE ADDRESS
 fn write_placed<A: Allocator + Copy>(place: u64, ip: Ip, out: &mut Vec<u8, A>) -> Result<(), Memory>
-    ensures { AppendsText result out.old.items out.new.items ((codes "order " ++ decimal place) ++ (codes " " ++ printed ip)) }
+    ensures { AppendsText result out.old.items out.new.items ((codes "order " ++ decimal place) ++
+        (codes " " ++ printed ip)) }
 {
     write_labelled(b"order ", place, out)?;
     write_labelled_ip(b" ", ip, out)
@@ -224,7 +227,8 @@ fn write_end<A: Allocator + Copy>(
     attributes: &DestinationAttributes,
     out: &mut Vec<u8, A>,
 ) -> Result<(), Memory>
-    ensures { AppendsText result out.old.items out.new.items (reason_text rule_between place earlier attributes.now ++ codes "\n") }
+    ensures { AppendsText result out.old.items out.new.items
+        (reason_text rule_between place earlier attributes.now ++ codes "\n") }
 {
     write_reason(place, earlier, attributes, out)?;
     write_bytes(b"\n", out)
@@ -261,7 +265,8 @@ pub(crate) fn write_order_of<A: Allocator + Copy>(
     sorted: &[DestinationAttributes],
     out: &mut Vec<u8, A>,
 ) -> Result<(), Memory>
-    ensures { (race : Race) → sorted.now ≡ all_attributes_of race → AppendsText result out.old.items out.new.items (order_reasons_text race) }
+    ensures { (race : Race) → sorted.now ≡ all_attributes_of race
+        → AppendsText result out.old.items out.new.items (order_reasons_text race) }
 {
     write_lines(sorted, out)
 }

@@ -48,12 +48,6 @@ impl<T: Drop> From<AllocFailed<T>> for MachineFault {
     }
 }
 
-impl From<Memory> for MachineFault {
-    fn from(_refused: Memory) -> MachineFault {
-        MachineFault::Memory
-    }
-}
-
 impl From<io::Error> for MachineFault {
     fn from(error: io::Error) -> MachineFault {
         match error.kind() {

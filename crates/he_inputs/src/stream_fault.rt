@@ -36,14 +36,6 @@ impl From<AllocError> for StreamFault {
     }
 }
 
-impl From<Memory> for StreamFault {
-    ghost from_gives = { λ _ fault. fault ≡ Memory };
-
-    fn from(_refused: Memory) -> StreamFault {
-        StreamFault::Memory
-    }
-}
-
 impl From<WriteFault> for StreamFault {
     ghost from_gives = { λ _ fault. fault ≡ Write };
 

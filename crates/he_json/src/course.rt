@@ -13,8 +13,8 @@ use he_explain::{
     Cause, Event, EventKind, Listed, Start, Turn, collect_events, end_tick, sort_events,
 };
 use he_plan::Transcript;
-use he_timeline::Timeline;
 use he_select::DestinationAttributes;
+use he_timeline::Timeline;
 use std::alloc::Allocator;
 
 fn family_name(family: Family) -> &'static [u8]
@@ -33,7 +33,8 @@ fn write_delay<A: Allocator + Copy>(
     place: usize,
     text: &mut Vec<u8, A>,
 ) -> Result<(), Memory>
-    ensures { OnOk result (text.new.items ≡ text.old.items ++ parted (codes ",") (delay_members name.now delay place)) }
+    ensures { OnOk result (text.new.items ≡ text.old.items ++ parted (codes ",")
+        (delay_members name.now delay place)) }
 {
     write_members(
         b",",
@@ -52,7 +53,8 @@ fn write_named<A: Allocator + Copy>(
     name: &[u8],
     text: &mut Vec<u8, A>,
 ) -> Result<(), Memory>
-    ensures { OnOk result (text.new.items ≡ text.old.items ++ parted (codes ",") (words_member key.now name.now ∷ [])) }
+    ensures { OnOk result (text.new.items ≡ text.old.items ++ parted (codes ",")
+        (words_member key.now name.now ∷ [])) }
 {
     write_members(b",", &[Member(key, Value::Words(name))], text)
 }
@@ -197,7 +199,8 @@ fn write_event<A: Allocator + Copy>(event: Event, text: &mut Vec<u8, A>) -> Resu
 
 // The events, with a comma between each two.
 fn write_events<A: Allocator + Copy>(events: &[&Event], text: &mut Vec<u8, A>) -> Result<(), Memory>
-    ensures { OnOk result (text.new.items ≡ text.old.items ++ parted [] (map event_json (map (λ event. event.now) events.now))) }
+    ensures { OnOk result (text.new.items ≡ text.old.items ++ parted [] (map event_json (map
+        (λ event. event.now) events.now))) }
 {
     let mut gap: &[u8] = b"";
     for event in events {
@@ -209,7 +212,8 @@ fn write_events<A: Allocator + Copy>(events: &[&Event], text: &mut Vec<u8, A>) -
 }
 
 fn write_array<A: Allocator + Copy>(events: &[&Event], text: &mut Vec<u8, A>) -> Result<(), Memory>
-    ensures { OnOk result (text.new.items ≡ text.old.items ++ array (map event_json (map (λ event. event.now) events.now))) }
+    ensures { OnOk result (text.new.items ≡ text.old.items ++ array (map event_json (map
+        (λ event. event.now) events.now))) }
 {
     write_words(b"[", text)?;
     write_events(events, text)?;

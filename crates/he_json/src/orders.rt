@@ -8,8 +8,8 @@ ghost use Rattle.he_json.specs.Orders.{IsOrderJson, place_json, place_members, p
 use crate::members::{Member, Value, write_members, write_words};
 use he_addr::Memory;
 use he_plan::sorted_attributes;
-use he_timeline::Timeline;
 use he_select::DestinationAttributes;
+use he_timeline::Timeline;
 use std::alloc::Allocator;
 
 pub(crate) fn write_place_members<A: Allocator + Copy>(

@@ -59,7 +59,8 @@ fn write_values<A: Allocator + Copy>(
     other: Option<u64>,
     text: &mut Vec<u8, A>,
 ) -> Result<(), Memory>
-    ensures { OnOk result (text.new.items ≡ text.old.items ++ parted (codes ",") (member (codes "own") (number_or_null own) ∷ member key.now (number_or_null other) ∷ [])) }
+    ensures { OnOk result (text.new.items ≡ text.old.items ++ parted (codes ",") (member (codes "own")
+        (number_or_null own) ∷ member key.now (number_or_null other) ∷ [])) }
 {
     write_members(
         b",",
@@ -77,7 +78,8 @@ fn write_after<A: Allocator + Copy>(
     before: u64,
     text: &mut Vec<u8, A>,
 ) -> Result<(), Memory>
-    ensures { OnOk result (text.new.items ≡ text.old.items ++ parted (codes ",") (after_members (decimal own) (decimal before))) }
+    ensures { OnOk result (text.new.items ≡ text.old.items ++ parted (codes ",") (after_members (decimal own)
+        (decimal before))) }
 {
     write_values(Some(own), b"before", Some(before), text)
 }
@@ -112,7 +114,8 @@ fn write_compared<A: Allocator + Copy>(
     later: &DestinationAttributes,
     text: &mut Vec<u8, A>,
 ) -> Result<(), Memory>
-    ensures { OnOk result (text.new.items ≡ text.old.items ++ parted (codes ",") (compared_members rule earlier.now later.now)) }
+    ensures { OnOk result (text.new.items ≡ text.old.items ++ parted (codes ",")
+        (compared_members rule earlier.now later.now)) }
 {
     match rule {
         DestinationRule::MatchingScope => {
@@ -167,7 +170,8 @@ fn write_reason<A: Allocator + Copy>(
     later: &DestinationAttributes,
     text: &mut Vec<u8, A>,
 ) -> Result<(), Memory>
-    ensures { OnOk result (text.new.items ≡ text.old.items ++ parted (codes ",") (reason_members rule earlier.now later.now)) }
+    ensures { OnOk result (text.new.items ≡ text.old.items ++ parted (codes ",")
+        (reason_members rule earlier.now later.now)) }
 {
     write_rule(rule, text)?;
     write_compared(rule, earlier, later, text)
@@ -179,7 +183,8 @@ fn write_behind<A: Allocator + Copy>(
     later: &DestinationAttributes,
     text: &mut Vec<u8, A>,
 ) -> Result<(), Memory>
-    ensures { OnOk result (text.new.items ≡ text.old.items ++ parted (codes ",") (behind_members rule_between earlier later.now)) }
+    ensures { OnOk result (text.new.items ≡ text.old.items ++ parted (codes ",")
+        (behind_members rule_between earlier later.now)) }
 {
     match earlier {
         Some(earlier) => {
@@ -209,7 +214,8 @@ pub(crate) fn write_reasons<A: Allocator + Copy>(
     sorted: &[DestinationAttributes],
     text: &mut Vec<u8, A>,
 ) -> Result<(), Memory>
-    ensures { OnOk result (text.new.items ≡ text.old.items ++ parted [] (reasoned_places rule_between 0 None sorted.now)) }
+    ensures { OnOk result (text.new.items ≡ text.old.items ++ parted []
+        (reasoned_places rule_between 0 None sorted.now)) }
 {
     let mut gap: &[u8] = b"";
     let mut earlier = None;

@@ -96,7 +96,8 @@ fn write_whole<A: Allocator + Copy>(
     ending: Outcome3,
     text: &mut Vec<u8, A>,
 ) -> Result<(), Memory>
-    ensures { OnOk result (text.new.items ≡ text.old.items ++ transcript_json (record { lines = lines.now; result = ending })) }
+    ensures { OnOk result (text.new.items ≡ text.old.items ++ transcript_json
+        (record { lines = lines.now; result = ending })) }
 {
     write_words(b"{\"attempts\":[", text)?;
     write_attempts(lines, text)?;

@@ -40,14 +40,6 @@ impl From<AllocError> for LiveFault {
     }
 }
 
-impl From<he_addr::Memory> for LiveFault {
-    ghost from_gives = { λ _ fault. fault ≡ Memory };
-
-    fn from(_refused: he_addr::Memory) -> LiveFault {
-        LiveFault::Memory
-    }
-}
-
 impl From<io::Error> for LiveFault {
     ghost from_gives = { λ _ fault. IsRunFault fault };
 

@@ -10,9 +10,9 @@ use Rattle.he_story.specs.Story.{IsStory}
 abbrev pub shared_text : Bor (List ℕ) → List ℕ
 shared_text text = text.now
 
--- what begins a page, up to the style of its images, which stands in an image that has no size. On a wide screen picture
--- and story stand side by side, on a narrow one the story stands below, and the picture keeps a width at which it can be
--- read. The tags that would end the page are such as HTML lets a writer leave out
+-- what begins a page, up to the style of its images, which stands in an image that has no size. On a wide screen
+-- picture and story stand side by side, on a narrow one the story stands below, and the picture keeps a width at which
+-- it can be read. The tags that would end the page are such as HTML lets a writer leave out
 unfoldable pub opening_text : List ℕ
 opening_text =
     concat (codes "<!DOCTYPE html>\n<html lang='en'>\n<head>\n<meta charset='utf-8'>\n"
@@ -41,8 +41,8 @@ abbrev pub section_text : List ℕ → List ℕ → List ℕ
 section_text picture story =
     concat (codes "<section>\n<figure>\n" ∷ picture ∷ codes "</figure>\n<pre>" ∷ story ∷ codes "</pre>\n</section>\n" ∷ [])
 
--- the text is the part of a page that the race has: the race of this number in its input, counted from 1, which begins at
--- this line
+-- the text is the part of a page that the race has: the race of this number in its input, counted from 1, which begins
+-- at this line
 pub record IsSection (number line : ℕ) (told : List ℕ) (race : Race) : Type 0 where
   pub picture : List ℕ
   pub is_picture : IsSvg false number line picture race

@@ -5,8 +5,8 @@ ghost use Rattle.he_page.specs.Page.{WritesSection};
 
 use he_addr::Memory;
 use he_draw::write_svg;
-use he_timeline::Timeline;
 use he_story::write_story;
+use he_timeline::Timeline;
 use std::alloc::Allocator;
 
 /// Appends the picture of the race beside its story. `number` is the race's number in its input, counted from 1, and

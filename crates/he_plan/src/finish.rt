@@ -6,8 +6,7 @@ ghost use Rattle.he_plan.specs.Finish.{fate_of, IsInTime, IsWinner};
 ghost use Rattle.he_timeline.specs.Timeline.{IsRace};
 
 use crate::attempts::Attempt;
-use he_timeline::Outcome;
-use he_timeline::Timeline;
+use he_timeline::{Outcome, Timeline};
 use std::alloc::Allocator;
 
 /// What becomes of an attempt: it succeeds or fails at a tick that is at most the limit, it still runs at the limit,

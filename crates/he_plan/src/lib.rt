@@ -37,19 +37,20 @@ pub mod interlacing;
 pub mod laws;
 pub mod listing;
 pub mod planning;
-mod untried;
+pub mod race_state;
 mod starts;
 pub mod transcript;
-pub mod race_state;
+mod untried;
 
 pub use attempts::{Attempt, Plan};
 pub use finish::{Fate, fate_of, winner};
-pub use he_timeline::{BuildFault, Changes, Outcome, Range, Settings, Timeline, TimelineBuilder};
-pub use he_timeline::limits;
+pub use he_timeline::{
+    BuildFault, Changes, Outcome, Range, Settings, Timeline, TimelineBuilder, limits,
+};
 pub use interlacing::interlace;
 pub use listing::sorted_attributes;
 pub use planning::plan;
+pub use race_state::RaceState;
 pub use transcript::{
     Line, Mark, Outcome3, Transcript, transcript_at_stop, transcript_of, transcript_of_fates,
 };
-pub use race_state::RaceState;

@@ -14,10 +14,10 @@ ghost use Rattle.he_plan.specs.RaceState.{AreSorted};
 ghost use Rattle.he_select.specs.Attributes.{attributes_of};
 
 use crate::interlacing::{interlace, members};
-use he_timeline::Timeline;
-use he_timeline::timeline::{are_addresses_in_range};
 use he_addr::{Family, Ip, Memory};
 use he_select::{DestinationAttributes, Known, order, order_known, order_known_with_attributes};
+use he_timeline::Timeline;
+use he_timeline::timeline::are_addresses_in_range;
 use std::alloc::{AllocError, Allocator};
 
 // The interlaced list of the included answers. The addresses of both answers are sorted at the first list that needs

@@ -11,9 +11,9 @@ ghost use Rattle.he_plan.specs.RaceState.{IsStopped, IsUnderway};
 
 use crate::attempts::Plan;
 use crate::finish::{Fate, next_winner};
-use he_timeline::Timeline;
 use crate::race_state::RaceState;
 use he_addr::Memory;
+use he_timeline::Timeline;
 use std::alloc::Allocator;
 
 /// The attempts that the race makes while no success stops it, by place: one that succeeds is taken as still running.

@@ -10,10 +10,10 @@ ghost use Rattle.he_plan.specs.RaceState.{EndsOne, IsUnderway, MakesNext, counte
 
 use crate::attempts::Attempt;
 use crate::finish::{Fate, fate_of};
-use crate::untried::Untried;
 use crate::starts::next_tick;
-use he_timeline::Timeline;
+use crate::untried::Untried;
 use he_addr::Memory;
+use he_timeline::Timeline;
 use std::alloc::{AllocError, Allocator, Global};
 use std::marker::Model;
 

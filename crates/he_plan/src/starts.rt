@@ -12,11 +12,10 @@ ghost use Rattle.he_timeline.specs.Timeline.{IsRace};
 ghost use Rattle.he_plan.specs.RaceState.{IsQueue};
 
 use crate::attempts::Attempt;
-use he_timeline::limits::{MAX_LIMIT, MAX_TICK};
 use crate::untried::Untried;
-use he_timeline::Settings;
-use he_timeline::Timeline;
 use he_addr::{Family, Ip};
+use he_timeline::limits::{MAX_LIMIT, MAX_TICK};
+use he_timeline::{Settings, Timeline};
 use std::alloc::Allocator;
 
 pub(crate) fn next_tick<A: Allocator, B: Allocator>(

@@ -11,9 +11,9 @@ ghost use Rattle.he_plan.specs.Transcript.{IsTranscript, AreKnown, AreTold, stop
 use crate::attempts::{Attempt, Plan, is_tried};
 use crate::finish::Fate;
 use crate::planning::run_to_stop;
-use he_timeline::Timeline;
-use he_timeline::timeline::{are_addresses_in_range};
 use he_addr::{Family, Ip, Memory};
+use he_timeline::Timeline;
+use he_timeline::timeline::are_addresses_in_range;
 use std::alloc::{Allocator, Global};
 use std::marker::Model;
 

@@ -8,8 +8,8 @@ ghost use Rattle.he_plan.specs.RaceState.{IsAtNext, IsQueue, nothing_received};
 
 use crate::attempts::{Attempt, is_tried};
 use crate::listing::interlaced_list;
-use he_timeline::{Timeline, put};
 use he_addr::{Family, Ip, Memory};
+use he_timeline::{Timeline, put};
 use std::alloc::Allocator;
 use std::marker::Model;
 

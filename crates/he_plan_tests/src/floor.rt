@@ -182,7 +182,8 @@ fn no_floor_while_another_attempt_runs(rt: HostRuntime) {
     assert!(rt; has_transcript(&heap, &race, &lines, Outcome3::Limit(1_000)) == Some(true));
 }
 
-// A success is no failure: the next attempt would start after the Connection Attempt Delay, and the race is won before.
+// A success is no failure: the next attempt would start after the Connection Attempt Delay, and the race is won
+// before.
 #[test]
 fn no_floor_after_a_success(rt: HostRuntime) {
     let heap = Refusing::new(rt.alloc());

@@ -1,8 +1,8 @@
 // Builders over the standard policy table and the hosts of the worked races.
 
 use he_addr::{Ip, Prefix};
-use he_timeline::{Settings, TimelineBuilder};
 use he_select::{Host, Policy, Route, Source};
+use he_timeline::{Settings, TimelineBuilder};
 use refusing::Refusing;
 
 /// A host by what is special about it.

@@ -3,8 +3,8 @@
 use crate::hosts::{HostKind, builder};
 use he_addr::{Family, Ip, Prefix};
 use he_plan::{Line, Mark, Outcome3, sorted_attributes, transcript_of};
+use he_select::{DestinationAttributes, Host, Policy, Route, Source};
 use he_timeline::{BuildFault, Outcome, Settings, Timeline, TimelineBuilder};
-use he_select::{Host, Policy, Route, Source, DestinationAttributes};
 use refusing::Refusing;
 use std::mem::drop;
 

@@ -9,8 +9,8 @@ ghost use Rattle.he_addr.specs.Ip.{is_usable};
 use crate::hosts::{HostKind, builder};
 use he_addr::{Family, Ip, Memory};
 use he_plan::{Attempt, interlace, plan};
-use he_timeline::{Outcome, Settings, Timeline, TimelineBuilder};
 use he_select::order;
+use he_timeline::{Outcome, Settings, Timeline, TimelineBuilder};
 use refusing::Refusing;
 use std::mem::drop;
 

@@ -131,8 +131,8 @@ pub record IsKept (old new : View) : Type 0 where
   pub offers : new.offers ≡ old.offers
   pub later : IsLater old new
 
--- the first so many races are settled: each has its transcript, and its least offer is its winner; and where there is one,
--- the pass has taken each job once that it knows to be taken
+-- the first so many races are settled: each has its transcript, and its least offer is its winner; and where there is
+-- one, the pass has taken each job once that it knows to be taken
 pub record AreSettled (races : List Race) (count : ℕ) (v : View) (reports : List Report) : Type 0 where
   pub transcripts : AllZip IsTranscript (take count races) reports
   pub winners : (number : ℕ) (race : Race) → number < count → slice_get races number ≡ Some race → IsWinnerOf race (winner_of (least_of number v.offers))

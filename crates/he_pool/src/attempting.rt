@@ -43,7 +43,8 @@ pub(crate) fn run_attempt<A: Allocator>(
     ensures taken { (notes pass.new).taken ≡ (notes pass.old).taken }
     ensures known { (notes pass.new).known ≡ (notes pass.old).known }
     ensures later { IsLater (notes pass.old) (notes pass.new) }
-    ensures real { (races : List Race) → slice_get races number ≡ Some timeline.now → All (IsOfSuccess races) (notes pass.old).offers → All (IsOfSuccess races) (notes pass.new).offers }
+    ensures real { (races : List Race) → slice_get races number ≡ Some timeline.now
+        → All (IsOfSuccess races) (notes pass.old).offers → All (IsOfSuccess races) (notes pass.new).offers }
     ensures honest { IsHonest timeline.now number place (notes pass.new) attempt.now result }
     ensures skips { least_of number (notes pass.old).looked / PLACES ≤ attempt.now.tick → result ≡ Skipped }
 {
@@ -77,9 +78,12 @@ pub(crate) fn run_job<A: Allocator>(
     ensures taken { (notes pass.new).taken ≡ (notes pass.old).taken }
     ensures known { (notes pass.new).known ≡ (notes pass.old).known }
     ensures later { IsLater (notes pass.old) (notes pass.new) }
-    ensures real { (races : List Race) → slice_get races number ≡ Some timeline.now → All (IsOfSuccess races) (notes pass.old).offers → All (IsOfSuccess races) (notes pass.new).offers }
-    ensures honest { (x : Attempt) → slice_get plan.now place ≡ Some x → IsHonest timeline.now number place (notes pass.new) x result }
-    ensures skips { (x : Attempt) → slice_get plan.now place ≡ Some x → least_of number (notes pass.old).looked / PLACES ≤ x.tick → result ≡ Skipped }
+    ensures real { (races : List Race) → slice_get races number ≡ Some timeline.now
+        → All (IsOfSuccess races) (notes pass.old).offers → All (IsOfSuccess races) (notes pass.new).offers }
+    ensures honest { (x : Attempt) → slice_get plan.now place ≡ Some x
+        → IsHonest timeline.now number place (notes pass.new) x result }
+    ensures skips { (x : Attempt) → slice_get plan.now place ≡ Some x
+        → least_of number (notes pass.old).looked / PLACES ≤ x.tick → result ≡ Skipped }
 {
     let attempts = plan.attempts();
     match attempts.get(place) {

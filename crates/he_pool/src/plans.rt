@@ -12,7 +12,8 @@ pub(crate) fn join_plans<A: Allocator>(
     plans: &mut Vec<Option<Plan<A>>, A>,
     others: &mut Vec<Option<Plan<A>>, A>,
 )
-    ensures { (races : List Race) → ArePlans races plans.old.items → ArePlans races others.old.items → ArePlans races plans.new.items }
+    ensures { (races : List Race) → ArePlans races plans.old.items → ArePlans races others.old.items
+        → ArePlans races plans.new.items }
 {
     for number in 0..plans.len().min(others.len()) {
         let plan = take_plan(others, number);
@@ -27,7 +28,8 @@ pub(crate) fn take_plan<A: Allocator>(
 ) -> Option<Plan<A>>
     requires { number < length plans.old.items }
     ensures len { length plans.new.items ≡ length plans.old.items }
-    ensures plan { (races : List Race) → ArePlans races plans.old.items → (race : Race) → slice_get races number ≡ Some race → IfSome result (AreAttempts race) }
+    ensures plan { (races : List Race) → ArePlans races plans.old.items → (race : Race)
+        → slice_get races number ≡ Some race → IfSome result (AreAttempts race) }
     ensures plans { (races : List Race) → ArePlans races plans.old.items → ArePlans races plans.new.items }
 {
     plans[number].take()
@@ -40,7 +42,8 @@ fn keep_plan<A: Allocator>(
 )
     requires { number < length plans.old.items }
     ensures len { length plans.new.items ≡ length plans.old.items }
-    ensures plans { (races : List Race) → ArePlans races plans.old.items → ((race : Race) → slice_get races number ≡ Some race → IfSome plan (AreAttempts race)) → ArePlans races plans.new.items }
+    ensures plans { (races : List Race) → ArePlans races plans.old.items → ((race : Race)
+        → slice_get races number ≡ Some race → IfSome plan (AreAttempts race)) → ArePlans races plans.new.items }
 {
     if plan.is_some() {
         plans[number] = plan;

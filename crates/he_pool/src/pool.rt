@@ -92,19 +92,29 @@ fn run_halves<R: Threads + Sync, A: Allocator + Copy + Send + Sync, G: Gate + Sy
     requires far { MayRun board.now q far }
     requires some { (1 ≤ near.count) × (1 ≤ far.count) }
     ensures first { IsDone board.now timelines.now (notes p).parts result.0.0 }
-    ensures first_worked { IfOk result.0.1 (λ work. IsWorked timelines.now (notes result.0.0) work.done.items work.plans.items) }
+    ensures first_worked { IfOk result.0.1 (λ work. IsWorked timelines.now
+        (notes result.0.0) work.done.items work.plans.items) }
     ensures second { IsDone board.now timelines.now (notes q).parts result.1.0 }
-    ensures second_worked { IfOk result.1.1 (λ work. IsWorked timelines.now (notes result.1.0) work.done.items work.plans.items) }
+    ensures second_worked { IfOk result.1.1 (λ work. IsWorked timelines.now
+        (notes result.1.0) work.done.items work.plans.items) }
 {
     thread::join(
         rt,
         move || -> (Pass, Result<Work<A>, Memory>)
-            requires { IsSync R.row × IsSend A.row × IsSync A.row × IsSync G.row × Frees A.Allocator A.dealloc_token × IsReady timelines.now firsts.now board.now × MayRun board.now p near }
-            ensures { IsDone board.entry.now timelines.entry.now (notes p).parts result.0 × IfOk result.1 (λ work. IsWorked timelines.entry.now (notes result.0) work.done.items work.plans.items) }
+            requires { IsSync R.row × IsSend A.row × IsSync A.row × IsSync G.row
+                × Frees A.Allocator A.dealloc_token × IsReady timelines.now firsts.now board.now
+                × MayRun board.now p near }
+            ensures { IsDone board.entry.now timelines.entry.now (notes p).parts result.0
+                × IfOk result.1 (λ work. IsWorked timelines.entry.now
+                (notes result.0) work.done.items work.plans.items) }
         { run_range(rt, alloc, timelines, firsts, board, gate, p, near) },
         move || -> (Pass, Result<Work<A>, Memory>)
-            requires { IsSync R.row × IsSend A.row × IsSync A.row × IsSync G.row × Frees A.Allocator A.dealloc_token × IsReady timelines.now firsts.now board.now × MayRun board.now q far }
-            ensures { IsDone board.entry.now timelines.entry.now (notes q).parts result.0 × IfOk result.1 (λ work. IsWorked timelines.entry.now (notes result.0) work.done.items work.plans.items) }
+            requires { IsSync R.row × IsSend A.row × IsSync A.row × IsSync G.row
+                × Frees A.Allocator A.dealloc_token × IsReady timelines.now firsts.now board.now
+                × MayRun board.now q far }
+            ensures { IsDone board.entry.now timelines.entry.now (notes q).parts result.0
+                × IfOk result.1 (λ work. IsWorked timelines.entry.now
+                (notes result.0) work.done.items work.plans.items) }
         { run_range(rt, alloc, timelines, firsts, board, gate, q, far) },
     )
 }
@@ -118,8 +128,12 @@ fn join_halves<A: Allocator>(
     requires own { IsPassOf board.now left.0 × IsPassOf board.now right.0 }
     ensures own { IsPassOf board.now result.0 }
     ensures parts { (notes result.0).parts ≡ (notes left.0).parts + (notes right.0).parts }
-    ensures real { (races : List Race) → All (IsOfSuccess races) (notes left.0).offers → All (IsOfSuccess races) (notes right.0).offers → All (IsOfSuccess races) (notes result.0).offers }
-    ensures worked { (races : List Race) → IfOk left.1 (λ work. IsWorked races (notes left.0) work.done.items work.plans.items) → IfOk right.1 (λ work. IsWorked races (notes right.0) work.done.items work.plans.items) → IfOk result.1 (λ work. IsWorked races (notes result.0) work.done.items work.plans.items) }
+    ensures real { (races : List Race) → All (IsOfSuccess races) (notes left.0).offers
+        → All (IsOfSuccess races) (notes right.0).offers → All (IsOfSuccess races) (notes result.0).offers }
+    ensures worked { (races : List Race) → IfOk left.1 (λ work. IsWorked races
+        (notes left.0) work.done.items work.plans.items) → IfOk right.1 (λ work. IsWorked races
+        (notes right.0) work.done.items work.plans.items) → IfOk result.1 (λ work. IsWorked races
+        (notes result.0) work.done.items work.plans.items) }
 {
     let (p, first) = left;
     let (q, second) = right;
@@ -132,7 +146,10 @@ fn join_work<A: Allocator>(
     first: Result<Work<A>, Memory>,
     second: Result<Work<A>, Memory>,
 ) -> Result<Work<A>, Memory>
-    ensures { (races : List Race) (v w u : View) → u ≡ joined v w → IfOk first (λ work. IsWorked races v work.done.items work.plans.items) → IfOk second (λ work. IsWorked races w work.done.items work.plans.items) → IfOk result (λ work. IsWorked races u work.done.items work.plans.items) }
+    ensures { (races : List Race) (v w u : View) → u ≡ joined v w
+        → IfOk first (λ work. IsWorked races v work.done.items work.plans.items)
+        → IfOk second (λ work. IsWorked races w work.done.items work.plans.items)
+        → IfOk result (λ work. IsWorked races u work.done.items work.plans.items) }
 {
     let mut work = first?;
     let mut other = second?;

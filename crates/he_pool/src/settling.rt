@@ -65,7 +65,8 @@ fn tell<A: Allocator + Copy>(
     winner: Option<(u64, usize)>,
 ) -> Result<Transcript<A>, Memory>
     requires enough { first + length attempts.now ≤ length fates.now }
-    requires told { AreTold timeline.now attempts.now (slice_range fates.now first (first + length attempts.now)) winner }
+    requires told { AreTold timeline.now attempts.now (slice_range fates.now first
+        (first + length attempts.now)) winner }
     ensures { IfOk result (IsTranscript timeline.now) }
 {
     let end = first + attempts.attempts().len();
@@ -101,13 +102,16 @@ fn settle_race<A: Allocator + Copy, G>(
     requires parts { (notes pass.old).parts ≡ PARTS }
     requires number { number < length batch.now.timelines.now }
     requires real { All (IsOfSuccess batch.now.timelines.now) (notes pass.old).offers }
-    requires made { (race : Race) → slice_get batch.now.timelines.now number ≡ Some race → IfSome made (AreAttempts race) }
+    requires made { (race : Race) → slice_get batch.now.timelines.now number ≡ Some race
+        → IfSome made (AreAttempts race) }
     requires fates { AreFates batch.now.timelines.now (notes pass.old) fates.now }
     ensures own { IsPassOf batch.now.board.now pass.new }
     ensures noted { notes pass.new ≡ looking number (least_of number (notes pass.old).offers) (notes pass.old) }
     ensures taken { (job : ℕ) → 0 < times job (notes pass.old).known → times job (notes pass.old).taken ≡ 1 }
-    ensures winner { (race : Race) → slice_get batch.now.timelines.now number ≡ Some race → IfOk result (λ _. IsWinnerOf race (winner_of (least_of number (notes pass.old).offers))) }
-    ensures transcript { (race : Race) → slice_get batch.now.timelines.now number ≡ Some race → IfOk result (IsTranscript race) }
+    ensures winner { (race : Race) → slice_get batch.now.timelines.now number ≡ Some race
+        → IfOk result (λ _. IsWinnerOf race (winner_of (least_of number (notes pass.old).offers))) }
+    ensures transcript { (race : Race) → slice_get batch.now.timelines.now number ≡ Some race
+        → IfOk result (IsTranscript race) }
 {
     let timeline = &batch.timelines[number];
     let _settings = timeline.settings();
@@ -132,7 +136,8 @@ fn settle_all<A: Allocator + Copy, G>(
     requires fates { AreFates batch.now.timelines.now (notes pass.old) fates.now }
     ensures own { IsPassOf batch.now.board.now pass.new }
     ensures kept { IsKept (notes pass.old) (notes pass.new) }
-    ensures settled { IfOk result (λ transcripts. AreSettled batch.now.timelines.now (length batch.now.timelines.now) (notes pass.new) transcripts.items) }
+    ensures settled { IfOk result (λ transcripts. AreSettled batch.now.timelines.now (length batch.now.timelines.now)
+        (notes pass.new) transcripts.items) }
 {
     let mut plans = plans;
     let mut transcripts = Vec::with_capacity(batch.alloc, batch.timelines.len())?;

@@ -68,14 +68,16 @@ fn try_job<A: Allocator + Copy, G: Gate>(
     requires below { job < batch_jobs batch.now.timelines.now }
     requires place { place < PLACES }
     requires is { job_at batch.now.timelines.now job ≡ (number, place) }
-    requires planned { (race : Race) → slice_get batch.now.timelines.now number ≡ Some race → IfSome made (AreAttempts race) }
+    requires planned { (race : Race) → slice_get batch.now.timelines.now number ≡ Some race
+        → IfSome made (AreAttempts race) }
     requires sound { IsSound batch.now.timelines.now (notes pass.old) done.old.items }
     requires real { All (IsOfSuccess batch.now.timelines.now) (notes pass.old).offers }
     ensures own { IsPassOf batch.now.board.now pass.new }
     ensures parts { (notes pass.new).parts ≡ (notes pass.old).parts }
     ensures real { All (IsOfSuccess batch.now.timelines.now) (notes pass.new).offers }
     ensures known { (notes pass.new).known ≡ (notes pass.old).known ++ job ∷ [] }
-    ensures planned { (race : Race) → slice_get batch.now.timelines.now number ≡ Some race → IfOk result (λ made. IfSome made (AreAttempts race)) }
+    ensures planned { (race : Race) → slice_get batch.now.timelines.now number ≡ Some race
+        → IfOk result (λ made. IfSome made (AreAttempts race)) }
     ensures sound { OnOk result (IsSound batch.now.timelines.now (notes pass.new) done.new.items) }
 {
     if !batch.board.take(pass, job) {
@@ -133,8 +135,10 @@ fn try_race<A: Allocator + Copy, G: Gate>(
     ensures parts { (notes pass.new).parts ≡ (notes pass.old).parts }
     ensures real { All (IsOfSuccess batch.now.timelines.now) (notes pass.new).offers }
     ensures more { IsMore (notes pass.old).known (notes pass.new).known }
-    ensures tried { OnOk result (IsTried (batch_jobs (take number batch.now.timelines.now)) (batch_jobs (take (number + 1) batch.now.timelines.now)) (notes pass.new).known) }
-    ensures held { OnOk result (IsHeld batch.now.timelines.now (notes pass.new) work.new.done.items work.new.plans.items) }
+    ensures tried { OnOk result (IsTried (batch_jobs (take number batch.now.timelines.now)) (batch_jobs (take
+        (number + 1) batch.now.timelines.now)) (notes pass.new).known) }
+    ensures held { OnOk result (IsHeld batch.now.timelines.now
+        (notes pass.new) work.new.done.items work.new.plans.items) }
 {
     let (first, count) = jobs_of_race(batch, number);
     let mut made = None;
@@ -171,8 +175,10 @@ fn try_races<A: Allocator + Copy, G: Gate>(
     ensures parts { (notes pass.new).parts ≡ (notes pass.old).parts }
     ensures real { All (IsOfSuccess batch.now.timelines.now) (notes pass.new).offers }
     ensures more { IsMore (notes pass.old).known (notes pass.new).known }
-    ensures tried { OnOk result (IsTried (batch_jobs (take from batch.now.timelines.now)) (batch_jobs (take to batch.now.timelines.now)) (notes pass.new).known) }
-    ensures held { OnOk result (IsHeld batch.now.timelines.now (notes pass.new) work.new.done.items work.new.plans.items) }
+    ensures tried { OnOk result (IsTried (batch_jobs (take from batch.now.timelines.now)) (batch_jobs
+        (take to batch.now.timelines.now)) (notes pass.new).known) }
+    ensures held { OnOk result (IsHeld batch.now.timelines.now
+        (notes pass.new) work.new.done.items work.new.plans.items) }
 {
     for number in from..to {
         try_race(batch, pass, worker, number, work)?;
@@ -194,7 +200,8 @@ fn try_all<A: Allocator + Copy, G: Gate>(
     ensures own { IsPassOf batch.now.board.now pass.new }
     ensures parts { (notes pass.new).parts ≡ (notes pass.old).parts }
     ensures real { All (IsOfSuccess batch.now.timelines.now) (notes pass.new).offers }
-    ensures worked { IfOk result (λ work. IsWorked batch.now.timelines.now (notes pass.new) work.done.items work.plans.items) }
+    ensures worked { IfOk result (λ work. IsWorked batch.now.timelines.now
+        (notes pass.new) work.done.items work.plans.items) }
 {
     let count = batch.timelines.len();
     let mut work = new_work(batch.alloc, count)?;
@@ -231,7 +238,8 @@ pub(crate) fn run_worker<A: Allocator + Copy, G: Gate>(
     ensures own { IsPassOf batch.now.board.now result.0 }
     ensures parts { (notes result.0).parts ≡ (notes pass).parts }
     ensures real { All (IsOfSuccess batch.now.timelines.now) (notes result.0).offers }
-    ensures worked { IfOk result.1 (λ work. IsWorked batch.now.timelines.now (notes result.0) work.done.items work.plans.items) }
+    ensures worked { IfOk result.1 (λ work. IsWorked batch.now.timelines.now
+        (notes result.0) work.done.items work.plans.items) }
 {
     let mut pass = pass;
     let first = worker * batch.timelines.len() / workers;

@@ -2,8 +2,8 @@
 
 use crate::homes::{Given, race};
 use he_plan::{Fate, Plan, plan};
-use he_timeline::{Outcome, Timeline};
 use he_race::run_attempt;
+use he_timeline::{Outcome, Timeline};
 use std::alloc::Global;
 use std::mem::drop;
 use std::test::Fail;

@@ -1,8 +1,8 @@
 // The host and the addresses of the worked races.
 
 use he_addr::{Family, Ip, Prefix};
-use he_timeline::{Outcome, Range, Settings, Timeline, TimelineBuilder};
 use he_select::{Host, Policy, Route, Source};
+use he_timeline::{Outcome, Range, Settings, Timeline, TimelineBuilder};
 use std::alloc::Global;
 use std::mem::drop;
 use std::test::Fail;

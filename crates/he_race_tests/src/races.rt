@@ -8,11 +8,11 @@ use futures::Future;
 use futures::task::{Context, Doorbell, Poll, Solo};
 use he_addr::Ip;
 use he_plan::{Mark, Outcome3};
-use he_timeline::{Outcome, Timeline};
 use he_race::{
     ConnectFault, Connector, RaceFault, RaceFuture, Raced, Scripted, ScriptedTrial, TickFault,
     Ticker, WheelTicker,
 };
+use he_timeline::{Outcome, Timeline};
 use std::alloc::Global;
 use std::mem::drop;
 use std::test::Fail;

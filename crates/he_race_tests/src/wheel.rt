@@ -2,8 +2,8 @@
 
 use crate::homes::{Given, race};
 use futures::task::{Doorbell, Solo};
-use he_timeline::Timeline;
 use he_race::{Ticker, WheelTicker};
+use he_timeline::Timeline;
 use std::alloc::Global;
 use std::mem::drop;
 use std::test::Fail;

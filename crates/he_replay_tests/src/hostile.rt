@@ -175,8 +175,8 @@ static BROKEN: [(bool, &[u8], Result<(), StreamFault>); 6] = [
     ),
 ];
 
-// How many of these end as they must, and have the output of the text where it stands before them: flushed when the text
-// was whole, and again at the end.
+// How many of these end as they must, and have the output of the text where it stands before them: flushed when the
+// text was whole, and again at the end.
 fn right_breaks<R: Threads + Sync>(
     rt: &R,
     alloc: Global,

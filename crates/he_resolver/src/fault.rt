@@ -62,14 +62,6 @@ impl<T: Drop> From<AllocFailed<T>> for NamesFault {
     }
 }
 
-impl From<he_addr::Memory> for NamesFault {
-    ghost from_gives = { λ _ fault. fault ≡ Memory };
-
-    fn from(_refused: he_addr::Memory) -> NamesFault {
-        NamesFault::Memory
-    }
-}
-
 impl From<io::Error> for NamesFault {
     ghost from_gives = { λ _ fault. (fault ≡ Runtime) ⊎ (fault ≡ Memory) };
 

@@ -1,4 +1,5 @@
--- Mirrors the code: the rows in which it looks an address up, what it keeps of the row, and what it gives to the rules.
+-- Mirrors the code: the rows in which it looks an address up, what it keeps of the row, and what it gives to the
+-- rules.
 use Rattle.std.specs.Prelude.{List, Option}
 use Rattle.std.specs.Option.{option_map_or}
 use Rattle.he_select.specs.declared.host.Route.{Route}

@@ -1,5 +1,5 @@
--- The lines of the addresses that the code writes are those of the definition: the rule that it finds between two addresses
--- is the first that tells them apart.
+-- The lines of the addresses that the code writes are those of the definition: the rule that it finds between two
+-- addresses is the first that tells them apart.
 use Rattle.std.proofs.Common.{◌≡◌, ℕ, ◌+◌, List, [], ◌∷◌, ◌++◌, length, decimal, map, refl, sym, ◌∙◌, ap, codes}
 use Rattle.std.specs.Prelude.{Option, None, Some, option_map}
 use Rattle.std.specs.List.{concat}

@@ -1,5 +1,5 @@
--- The race's addresses in order of preference, each with what puts it behind the one before (RFC 6724 section 6, RFC 8305
--- section 4).
+-- The race's addresses in order of preference, each with what puts it behind the one before (RFC 6724 section 6, RFC
+-- 8305 section 4).
 use Rattle.std.specs.Prelude.{ℕ, ◌+◌, ◌*◌, ◌^◌, ◌++◌, if◌then◌else◌, Bool, true, false, List, [], ◌∷◌, length, decimal, codes, Option, Some, None}
 use Rattle.std.specs.List.{concat, list_any}
 use Rattle.he_addr.specs.declared.ip.Ip.{Ip}

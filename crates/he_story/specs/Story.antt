@@ -15,8 +15,8 @@ story_text number line race report with_floor =
     heading_text number line report
     ++ (preferred_text race ++ (happening_text race report ++ (closing_text race report ++ floor_text race report with_floor)))
 
--- the text is the story of the race, by its transcript and the one that it has with a floor: the race of this number in its
--- input, counted from 1, which begins at this line
+-- the text is the story of the race, by its transcript and the one that it has with a floor: the race of this number
+-- in its input, counted from 1, which begins at this line
 pub record IsStory (number line : ℕ) (told : List ℕ) (race : Race) : Type 0 where
   pub report : Report
   pub with_floor : Report

@@ -128,7 +128,8 @@ fn write_answer<A: Allocator + Copy, B: Allocator>(
     lines: &[Line],
     text: &mut Vec<u8, A>,
 ) -> Result<(), Memory>
-    ensures { OnOk result (text.new.items ≡ text.old.items ++ answer_text timeline.now family end lines.now (reply_of timeline.now family)) }
+    ensures { OnOk result (text.new.items ≡ text.old.items ++ answer_text timeline.now family end lines.now
+        (reply_of timeline.now family)) }
 {
     match timeline.answer(family) {
         Some((tick, ips)) => write_seen(family, end, lines, timeline.seen(tick), ips, text),

@@ -10,8 +10,8 @@ use crate::heading::write_ending_of;
 use crate::parts::{Part, write_parts, write_words};
 use he_addr::Memory;
 use he_explain::end_tick;
-use he_timeline::limits::MIN_FLOOR;
 use he_plan::{Line, Transcript, transcript_of};
+use he_timeline::limits::MIN_FLOOR;
 use he_timeline::{Changes, Outcome, Timeline};
 use std::alloc::Allocator;
 
@@ -31,13 +31,14 @@ fn is_failure(outcome: Option<Outcome>) -> bool
     matches!(outcome, Some(Outcome::Fail(_)))
 }
 
-// Whether the transcript is surely that of the race with a floor too: a floor starts an attempt only where all before it
-// have failed, and the first one never does.
+// Whether the transcript is surely that of the race with a floor too: a floor starts an attempt only where all before
+// it have failed, and the first one never does.
 pub(crate) fn is_floored<A: Allocator, B: Allocator>(
     timeline: &Timeline<A>,
     transcript: &Transcript<B>,
 ) -> bool
-    ensures { IsTrue result → IsTranscript timeline.now transcript.now → IsTranscript (floored timeline.now) transcript.now }
+    ensures { IsTrue result → IsTranscript timeline.now transcript.now
+        → IsTranscript (floored timeline.now) transcript.now }
 {
     begins_unfailing(timeline, transcript.attempts())
 }

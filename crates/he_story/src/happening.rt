@@ -17,8 +17,8 @@ use he_explain::{
     Cause, Event, EventKind, Listed, Start, Turn, collect_events, end_tick, sort_events,
 };
 use he_plan::{Line, Transcript};
-use he_timeline::Timeline;
 use he_select::DestinationAttributes;
+use he_timeline::Timeline;
 use std::alloc::Allocator;
 
 // Why an attempt starts now.
@@ -299,7 +299,8 @@ fn write_events<A: Allocator + Copy, B: Allocator>(
     events: &[&Event],
     text: &mut Vec<u8, A>,
 ) -> Result<(), Memory>
-    ensures { OnOk result (text.new.items ≡ text.old.items ++ flat_map (event_line timeline.now lines.now width) (map (λ event. event.now) events.now)) }
+    ensures { OnOk result (text.new.items ≡ text.old.items ++ flat_map (event_line timeline.now lines.now width) (map
+        (λ event. event.now) events.now)) }
 {
     for event in events {
         write_event(timeline, lines, width, **event, text)?;

@@ -14,7 +14,8 @@ fn write_won<A: Allocator + Copy>(
     winner: Option<&Line>,
     text: &mut Vec<u8, A>,
 ) -> Result<(), Memory>
-    ensures { OnOk result (text.new.items ≡ text.old.items ++ won_text tick count (option_map (λ line. line.now) winner.entry)) }
+    ensures { OnOk result (text.new.items ≡ text.old.items ++ won_text tick count (option_map
+        (λ line. line.now) winner.entry)) }
 {
     let Some(line) = winner else {
         return Ok(());

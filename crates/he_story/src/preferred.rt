@@ -8,8 +8,8 @@ ghost use Rattle.he_story.specs.Preferred.{address_line, address_lines, behind_t
 
 use crate::parts::{Part, width_of, write_aligned, write_parts, write_words};
 use he_addr::{Family, Ip, Memory};
+use he_select::{DestinationAttributes, DestinationRule, LabelledSource, Route};
 use he_timeline::Timeline;
-use he_select::{DestinationRule, LabelledSource, Route, DestinationAttributes};
 use std::alloc::Allocator;
 
 // What the address stands for, by its prefix.
@@ -220,7 +220,8 @@ fn write_address<A: Allocator + Copy>(
     attributes: &DestinationAttributes,
     text: &mut Vec<u8, A>,
 ) -> Result<(), Memory>
-    ensures { OnOk result (text.new.items ≡ text.old.items ++ address_line routes.now rule_between width number earlier attributes.now) }
+    ensures { OnOk result (text.new.items ≡ text.old.items ++ address_line routes.now rule_between width number earlier
+        attributes.now) }
 {
     let ip = attributes.ip;
     let kind = kind_text(ip);
@@ -239,7 +240,8 @@ fn write_addresses<A: Allocator + Copy>(
     sorted: &[DestinationAttributes],
     text: &mut Vec<u8, A>,
 ) -> Result<(), Memory>
-    ensures { OnOk result (text.new.items ≡ text.old.items ++ address_lines routes.now rule_between (length (decimal (length sorted.now)) + 2) 1 None sorted.now) }
+    ensures { OnOk result (text.new.items ≡ text.old.items ++ address_lines routes.now rule_between (length (decimal
+        (length sorted.now)) + 2) 1 None sorted.now) }
 {
     let width = width_of(sorted.len() as u64) + 2;
     let mut earlier = None;

@@ -24,7 +24,8 @@ fn write_told<A: Allocator + Copy, B: Allocator, C: Allocator>(
     with_floor: &Transcript<C>,
     text: &mut Vec<u8, A>,
 ) -> Result<(), Memory>
-    ensures { OnOk result (text.new.items ≡ text.old.items ++ story_text number line timeline.now transcript.now with_floor.now) }
+    ensures { OnOk result (text.new.items ≡ text.old.items ++ story_text number line timeline.now transcript.now
+        with_floor.now) }
 {
     let sorted = sorted_attributes(alloc, timeline)?;
     write_heading(number, line, transcript, text)?;

@@ -126,7 +126,8 @@ pub fn take_piece<S: InputStream, A: Allocator>(
     ensures within { filled ≤ vec_len bytes.new }
     ensures room { OnOk result (filled + room ≤ vec_len bytes.new) }
     ensures front { take filled bytes.new.items ≡ take filled bytes.old.items }
-    ensures step { TakesPiece S.remaining S.takes input.old input.new (take room (drop filled bytes.new.items)) result }
+    ensures step { TakesPiece S.remaining S.takes input.old input.new (take room
+        (drop filled bytes.new.items)) result }
 {
     make_room(bytes, filled, room)?;
     Ok(take_at(input, bytes.as_mut_slice(), filled, room))

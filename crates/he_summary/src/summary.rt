@@ -104,7 +104,8 @@ impl<A: Allocator + Copy> Summary<A> {
     ) -> Result<(), Memory>
         requires may { MaySum self.old }
         requires transcript { IsTranscript race.now transcript.now }
-        ensures { (races : List Raced) → HasSummed self.old races → OnOk result (HasSummed self.new (races ++ record { race = race.now; report = transcript.now } ∷ [])) }
+        ensures { (races : List Raced) → HasSummed self.old races
+            → OnOk result (HasSummed self.new (races ++ record { race = race.now; report = transcript.now } ∷ [])) }
     {
         let course = Course::of(race, transcript);
         push_time(course.ending, &mut self.times)?;
@@ -119,7 +120,8 @@ impl<A: Allocator + Copy> Summary<A> {
     /// `Memory` where an allocation was refused. A first part of the summary may then have been appended.
     pub fn write(&mut self, form: Form, text: &mut Vec<u8, A>) -> Result<(), Memory>
         ensures kept { (races : List Raced) → HasSummed self.old races → HasSummed self.new races }
-        ensures written { (races : List Raced) → HasSummed self.old races → OnOk result (IsWritten form races text.old.items text.new.items) }
+        ensures written { (races : List Raced) → HasSummed self.old races
+            → OnOk result (IsWritten form races text.old.items text.new.items) }
     {
         self.times.sort_unstable();
         self.write_sorted(form, text)
@@ -127,7 +129,8 @@ impl<A: Allocator + Copy> Summary<A> {
 
     fn write_sorted(&self, form: Form, text: &mut Vec<u8, A>) -> Result<(), Memory>
         requires { IsSorted nat_cmp self.now.times }
-        ensures { (races : List Raced) → HasSummed self.now races → OnOk result (IsWritten form races text.old.items text.new.items) }
+        ensures { (races : List Raced) → HasSummed self.now races
+            → OnOk result (IsWritten form races text.old.items text.new.items) }
     {
         let spread = spread_of(self.times.as_slice());
         let failing = self.tallies.ranked(self.alloc)?;

@@ -78,7 +78,8 @@ impl<A: Allocator + Copy> Tallies<A> {
         transcript: &Transcript<C>,
     ) -> Result<(), Memory>
         requires { MayTally self.old (length transcript.now.lines) }
-        ensures { (tries : List Try) → AreTallies tries self.old → OnOk result (AreTallies (tries ++ map (try_of race.now) transcript.now.lines) self.new) }
+        ensures { (tries : List Try) → AreTallies tries self.old
+            → OnOk result (AreTallies (tries ++ map (try_of race.now) transcript.now.lines) self.new) }
     {
         for line in transcript.attempts() {
             self.add_try(line.ip, is_lost(race, line))?;
@@ -88,7 +89,8 @@ impl<A: Allocator + Copy> Tallies<A> {
 
     fn add_try(&mut self, ip: Ip, is_lost: bool) -> Result<(), Memory>
         requires { MayTally self.old 1 }
-        ensures { (tries : List Try) → AreTallies tries self.old → OnOk result (AreTallies (tries ++ record { ip = ip; is_lost = is_lost } ∷ []) self.new) }
+        ensures { (tries : List Try) → AreTallies tries self.old
+            → OnOk result (AreTallies (tries ++ record { ip = ip; is_lost = is_lost } ∷ []) self.new) }
     {
         let tally = self.of(ip);
         self.by_address.insert(ip, tally.with(is_lost))?;

@@ -76,8 +76,8 @@ limit 9
 ";
 
 // A race of version 2, as it is written, and behind it its order and its transcript. A round trip time that is known
-// comes before one that isn't, and before an earlier use (RFC 8305 section 4). The first attempt fails at 30, the floor
-// after its start.
+// comes before one that isn't, and before an earlier use (RFC 8305 section 4). The first attempt fails at 30, the
+// floor after its start.
 const SECOND: &str = "race 2
 set resolution 50
 set attempt 250
