@@ -6,7 +6,7 @@ use he_check::check;
 use he_draw::Look;
 use he_inputs::StreamFault;
 use he_replay::limits::{LEAST_WORKERS, MOST_WORKERS};
-use he_replay::{Asked, Content, replay};
+use he_replay::{Content, TextRequest, replay};
 use he_stream::{FromReader, ToWriter};
 use std::alloc::AllocError;
 use std::fmt::Display;
@@ -201,7 +201,7 @@ fn run_asked<R: Threads + Sync>(
     for number in 0..ways {
         let mut input = input_of(text, way(text, number));
         let mut output = ToWriter::new(FakeWriter::new(rt.alloc()));
-        let asked = Asked::of(content);
+        let asked = TextRequest::of(content);
         let workers = workers.max(LEAST_WORKERS).min(MOST_WORKERS);
         let ended = replay(threads, rt.alloc(), asked, workers, &mut input, &mut output);
         let is_written = output.writer().held() == wanted;

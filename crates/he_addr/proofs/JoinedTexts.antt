@@ -5,7 +5,7 @@ use Rattle.std.specs.Int.{w32, to_be_bytes}
 use Rattle.std.proofs.lemmas.Bool.{le-leb, cond-true}
 use Rattle.std.proofs.lemmas.List.{drop_all}
 use Rattle.std.proofs.lemmas.Slice.{between_to_end}
-use Rattle.he_addr.specs.declared.printing.Run.{Run}
+use Rattle.he_addr.specs.declared.printing.ZeroGroups.{ZeroGroups}
 use Rattle.he_addr.specs.Prepending.{Prepends}
 use Rattle.he_addr.specs.Printed.{dotted, groups_of, hex, joined, shortened}
 use Rattle.he_addr.specs.Printing.{longest, printed_v6}
@@ -36,15 +36,15 @@ pub group_before : (groups : List ℕ) (place : ℕ) {old mid now new : List ℕ
     → Prepends old end new start (joined (drop place groups))
 group_before groups place more behind mark group = prepends_as (sym (joined_before groups place more)) (prepends_then (prepends_then behind mark) group)
 
-pub shortened_is : (number : ℕ) (groups : List ℕ) (run : Run) → groups ≡ groups_of number → run ≡ longest groups → 2 ≤ run.len
+pub shortened_is : (number : ℕ) (groups : List ℕ) (run : ZeroGroups) → groups ≡ groups_of number → run ≡ longest groups → 2 ≤ run.len
     → joined (take run.start groups) ++ 58 ∷ 58 ∷ joined (between (run.start + run.len) 8 groups) ≡ printed_v6 number
 unfolding printed_v6
 shortened_is number groups run of first two =
     let same : run ≡ longest (groups_of number) = first ∙ ap longest of in
     ap (λ rest. joined (take run.start groups) ++ 58 ∷ 58 ∷ joined rest) (between_to_end groups (run.start + run.len) 8 (omega (arith, ap length of)))
     ∙ ap (λ gs. shortened gs run.start run.len) of
-    ∙ ap (λ (r : Run). shortened (groups_of number) r.start r.len) same
-    ∙ sym (cond-true (leb 2 (longest (groups_of number)).len) (shortened (groups_of number) (longest (groups_of number)).start (longest (groups_of number)).len) (joined (groups_of number)) (le-leb 2 (longest (groups_of number)).len (subst (λ (r : Run). 2 ≤ r.len) same two)))
+    ∙ ap (λ (r : ZeroGroups). shortened (groups_of number) r.start r.len) same
+    ∙ sym (cond-true (leb 2 (longest (groups_of number)).len) (shortened (groups_of number) (longest (groups_of number)).start (longest (groups_of number)).len) (joined (groups_of number)) (le-leb 2 (longest (groups_of number)).len (subst (λ (r : ZeroGroups). 2 ≤ r.len) same two)))
 
 dotted_shape : (a b c d : List ℕ) → (a ++ 46 ∷ []) ++ ((b ++ 46 ∷ []) ++ ((c ++ 46 ∷ []) ++ d)) ≡ a ++ 46 ∷ (b ++ 46 ∷ (c ++ 46 ∷ d))
 dotted_shape a b c d = simp append_assoc

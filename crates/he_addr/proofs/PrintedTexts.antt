@@ -10,7 +10,7 @@ use Rattle.std.proofs.lemmas.Bool.{leb-true, leb-false, le-leb, lt-leb, cond-tru
 use Rattle.std.proofs.lemmas.Fmt.{digits_is_IsNumeral, length-decimal-le}
 use Rattle.std.proofs.lemmas.List.{take-append-drop, drop-drop, length-append, length-replicate, append_assoc}
 use Rattle.std.proofs.lemmas.Nat.{shr-shr, from_be_bytes-to_be_bytes_4}
-use Rattle.he_addr.specs.declared.printing.Run.{Run}
+use Rattle.he_addr.specs.declared.printing.ZeroGroups.{ZeroGroups}
 use Rattle.he_addr.specs.declared.ip.Ip.{Ip}
 use Rattle.he_addr.specs.declared.ip.Ip.TheVariants.{V4, V6}
 use Rattle.he_addr.specs.Ip.{InRange}
@@ -242,7 +242,7 @@ groups_some : (groups : List ℕ) → length groups ≡ 8 → AreGroups groups �
 groups_some [] eight all = absurd (omega (arith, eight))
 groups_some (g ∷ gs) eight all =
     let groups : List ℕ = g ∷ gs in
-    let run : Run = longest groups in
+    let run : ZeroGroups = longest groups in
     cond_both (leb 2 run.len) (shortened groups run.start run.len) (joined groups) (λ text. 0 < length text)
     (λ _. omega (arith, length-append (joined (take run.start groups)) (58 ∷ 58 ∷ joined (drop (run.start + run.len) groups))))
     (λ _. joined_some g gs all.0)

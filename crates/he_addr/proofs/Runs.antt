@@ -2,7 +2,7 @@
 use Rattle.std.proofs.Common.{◌≡◌, ◌⊎◌, inl, inr, ⊎_elim, ℕ, zero, suc, ◌+◌, ◌<◌, ◌≤◌, Bool, true, false, cond, eqb, leb, List, [], ◌∷◌, length, take, replicate, refl, ◌∙◌, ap, arith}
 use Rattle.std.proofs.Math.Numerals.{add-one}
 use Rattle.std.proofs.lemmas.Bool.{eqb-true, eq-eqb, leb-true, leb-false, cond-true, cases_lt}
-use Rattle.he_addr.specs.declared.printing.Run.{Run}
+use Rattle.he_addr.specs.declared.printing.ZeroGroups.{ZeroGroups}
 use Rattle.he_addr.specs.Printed.{IsZeroRun}
 use Rattle.he_addr.specs.Printing.{zeros, longest}
 
@@ -14,7 +14,7 @@ pub zeros-le : (groups : List ℕ) → zeros groups ≤ length groups
 zeros-le [] = omega arith
 zeros-le (g ∷ gs) = grown (eqb g 0) (zeros gs) (length gs) (zeros-le gs)
 
-abbrev chosen : Bool → ℕ → Run → Run
+abbrev chosen : Bool → ℕ → ZeroGroups → ZeroGroups
 chosen b here behind = cond b (record { start = 0; len = here }) (record { start = behind.start + 1; len = behind.len })
 
 -- the zeros that stand first
@@ -36,7 +36,7 @@ zeros_most (suc n) (g ∷ gs) h =
     omega (arith, counted, zeros_most n gs tail)
 
 -- a run of zeros than which none is longer, and none as long stands before it
-pub record IsFirstLongest (groups : List ℕ) (run : Run) : Type 0 where
+pub record IsFirstLongest (groups : List ℕ) (run : ZeroGroups) : Type 0 where
   pub run_of : IsZeroRun groups run.start run.len
   pub first : (other n : ℕ) → IsZeroRun groups other n → (n < run.len) ⊎ ((n ≡ run.len) × (run.start ≤ other))
 

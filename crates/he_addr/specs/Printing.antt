@@ -2,7 +2,7 @@
 use Rattle.std.specs.Prelude.{ℕ, ◌+◌, ◌-◌, ◌%◌, ◌^◌, ◌==◌, ◌&&◌, Bool, List, [], ◌∷◌, ◌++◌, decimal, nat_le, if◌then◌else◌}
 use Rattle.he_addr.specs.declared.ip.Ip.{Ip}
 use Rattle.he_addr.specs.declared.ip.Ip.TheVariants.{V4, V6}
-use Rattle.he_addr.specs.declared.printing.Run.{Run}
+use Rattle.he_addr.specs.declared.printing.ZeroGroups.{ZeroGroups}
 use Rattle.he_addr.specs.Prefix.{PrefixBits, is_inside_mapped}
 use Rattle.he_addr.specs.Printed.{dotted, groups_of, joined, shortened}
 
@@ -12,15 +12,15 @@ zeros [] = 0
 zeros (g ∷ gs) = if g == 0 then zeros gs + 1 else 0
 
 -- of a run that begins here and the longest one behind it, the longer; this one if they are equally long
-abbrev pub longer : ℕ → Run → Run
+abbrev pub longer : ℕ → ZeroGroups → ZeroGroups
 longer here behind = if nat_le behind.len here then record { start = 0; len = here } else record { start = behind.start + 1; len = behind.len }
 
 -- the first of the longest runs of zero groups
-abbrev pub longest : List ℕ → Run
+abbrev pub longest : List ℕ → ZeroGroups
 longest [] = record { start = 0; len = 0 }
 longest (g ∷ gs) = longer (zeros (g ∷ gs)) (longest gs)
 
-abbrev pub printed_groups : List ℕ → Run → List ℕ
+abbrev pub printed_groups : List ℕ → ZeroGroups → List ℕ
 printed_groups groups run = if nat_le 2 run.len then shortened groups run.start run.len else joined groups
 
 unfoldable pub printed_v6 : ℕ → List ℕ

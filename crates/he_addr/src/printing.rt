@@ -36,7 +36,7 @@ const BYTE_DIGITS: usize = 3;
 
 // Zero groups that stand side by side.
 #[derive(Clone, Copy)]
-struct Run {
+struct ZeroGroups {
     start: usize,
     len: usize,
 }
@@ -64,11 +64,11 @@ fn groups(number: u128) -> [u16; GROUPS]
 }
 
 // The first of the longest runs of zero groups.
-fn longest_run(groups: &[u16; GROUPS]) -> Run
+fn longest_run(groups: &[u16; GROUPS]) -> ZeroGroups
     ensures longest { result ≡ longest groups.now }
     ensures within { result.start + result.len ≤ GROUPS }
 {
-    let mut best = Run {
+    let mut best = ZeroGroups {
         start: GROUPS,
         len: 0,
     };
@@ -76,7 +76,7 @@ fn longest_run(groups: &[u16; GROUPS]) -> Run
     for start in (0..GROUPS).rev() {
         len = if groups[start] == 0 { len + 1 } else { 0 };
         if len >= best.len {
-            best = Run { start, len };
+            best = ZeroGroups { start, len };
         }
     }
     best

@@ -1,6 +1,6 @@
 -- What a call leaves to its caller: the text in the caller's room, what is told of it, and the answer.
 use Rattle.std.specs.Prelude.{ℕ, ◌≡◌, ◌++◌, List, length, drop, if◌then◌else◌, nat_le, Option, Some, None}
-use Rattle.he_c.specs.declared.answer.Told.{Told}
+use Rattle.he_c.specs.declared.answer.CallDetails.{CallDetails}
 use Rattle.he_c.specs.declared.codes.TheConstants.{DONE, FAULT, NO_ROOM, HEADER, WORD, NUMBER, ADDRESS, PREFIX, REPEATED, RANGE, TOO_MANY, UNFINISHED, NO_DEFAULT_ROW, NO_MAPPED_ROW, SHARED_PRECEDENCE, OTHER_POLICY, MEMORY}
 use Rattle.he_select.specs.declared.policy.PolicyFault.{PolicyFault}
 use Rattle.he_select.specs.declared.policy.PolicyFault.TheVariants as policies
@@ -45,11 +45,11 @@ fault_line (Some Read) = 0
 fault_line (Some (Text fault)) = fault.line
 
 -- what is told of a text and a fault: how long the text is, and the fault's line and kind
-abbrev pub told_of : List ℕ → Option InputFault → Told
+abbrev pub told_of : List ℕ → Option InputFault → CallDetails
 told_of text fault = record { length = length text; line = fault_line fault; kind = fault_kind fault }
 
 -- nothing is told
-abbrev pub nothing_told : Told
+abbrev pub nothing_told : CallDetails
 nothing_told = record { length = 0; line = 0; kind = 0 }
 
 abbrev pub answer_by : Option InputFault → ℕ
@@ -65,12 +65,12 @@ abbrev pub put_front : List ℕ → List ℕ → List ℕ
 put_front text room = if nat_le (length text) (length room) then text ++ drop (length text) room else room
 
 -- the text was put into the room, and told with its fault
-pub record Leaves (text : List ℕ) (fault : Option InputFault) (old new : List ℕ) (told : Told) (answer : ℕ) : Type 0 where
+pub record Leaves (text : List ℕ) (fault : Option InputFault) (old new : List ℕ) (told : CallDetails) (answer : ℕ) : Type 0 where
   pub put : new ≡ put_front text old
   pub tells : told ≡ told_of text fault
   pub answers : answer ≡ answer_of old text fault
 
 -- nothing was done
-pub record LeavesNothing (old new : List ℕ) (told : Told) : Type 0 where
+pub record LeavesNothing (old new : List ℕ) (told : CallDetails) : Type 0 where
   pub same : new ≡ old
   pub tells : told ≡ nothing_told

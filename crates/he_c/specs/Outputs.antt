@@ -8,7 +8,7 @@ use Rattle.he_inputs.specs.Inputs.{AreTexts, HasRaces}
 use Rattle.he_write.specs.Orders.{order_text}
 use Rattle.he_write.specs.Written.{transcript_text}
 use Rattle.he_c.specs.Answers.{Leaves}
-use Rattle.he_c.specs.declared.answer.Told.{Told}
+use Rattle.he_c.specs.declared.answer.CallDetails.{CallDetails}
 use Rattle.he_c.specs.declared.telling.Content.{Content}
 use Rattle.he_c.specs.declared.telling.Content.TheVariants as contents
 
@@ -33,7 +33,7 @@ pub record IsOutput (IsText : List ℕ → Race → Type 0) (input text : List �
   pub told : AreTexts IsText races text
 
 -- what is left of the input's output
-pub record LeavesOutput (IsText : List ℕ → Race → Type 0) (input old new : List ℕ) (told : Told) (answer : ℕ) : Type 0 where
+pub record LeavesOutput (IsText : List ℕ → Race → Type 0) (input old new : List ℕ) (told : CallDetails) (answer : ℕ) : Type 0 where
   pub text : List ℕ
   pub fault : Option InputFault
   pub output : IsOutput IsText input text fault

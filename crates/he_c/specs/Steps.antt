@@ -12,7 +12,7 @@ use Rattle.he_next.specs.Faults.{IsNextFault}
 use Rattle.he_next.specs.Steps.{IsStep}
 use Rattle.he_inputs.specs.declared.input_fault.InputFault.{InputFault}
 use Rattle.he_c.specs.Answers.{fault_kind, fault_line, nothing_told}
-use Rattle.he_c.specs.declared.answer.Told.{Told}
+use Rattle.he_c.specs.declared.answer.CallDetails.{CallDetails}
 use Rattle.he_c.specs.declared.codes.TheConstants.{START, WAIT, WON, EXHAUSTED, LIMIT}
 use Rattle.he_c.specs.declared.step.StepNumbers.{StepNumbers}
 
@@ -44,7 +44,7 @@ abbrev pub no_step : StepNumbers
 no_step = record { action = 0; family = 0; place = 0; tick = 0; pause_from = 0; pause_until = 0; address = replicate 16 0 }
 
 -- the numbers are those of the record's step
-pub record LeavesStep (record_text : List ℕ) (started now : ℕ) (numbers : StepNumbers) (told : Told) : Type 0 where
+pub record LeavesStep (record_text : List ℕ) (started now : ℕ) (numbers : StepNumbers) (told : CallDetails) : Type 0 where
   pub step : Step
   pub is : IsStep record_text started now step
   pub pauses : PausesAs step.pause numbers
@@ -52,7 +52,7 @@ pub record LeavesStep (record_text : List ℕ) (started now : ℕ) (numbers : St
   pub tells : told ≡ nothing_told
 
 -- what is told is why the record has no step
-pub record LeavesFault (record_text : List ℕ) (started now : ℕ) (told : Told) : Type 0 where
+pub record LeavesFault (record_text : List ℕ) (started now : ℕ) (told : CallDetails) : Type 0 where
   pub fault : InputFault
   pub is : IsNextFault record_text started now (faults.Record fault)
   pub tells : told ≡ record { length = 0; line = fault_line (Some fault); kind = fault_kind (Some fault) }

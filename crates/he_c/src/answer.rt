@@ -10,7 +10,7 @@ use he_inputs::InputFault;
 /// What is told of a call, besides its answer: `struct he_told` of `he.h`.
 #[repr(C)]
 #[derive(Clone, Copy)]
-pub struct Told {
+pub struct CallDetails {
     /// How many bytes the whole text has.
     pub length: u64,
     /// The line of the fault, counted from 1, or 0.
@@ -20,7 +20,7 @@ pub struct Told {
 }
 
 // Nothing is told.
-pub(crate) const NOTHING: Told = Told {
+pub(crate) const NOTHING: CallDetails = CallDetails {
     length: 0,
     line: 0,
     kind: 0,
@@ -36,11 +36,16 @@ fn answer_by(fault: Option<InputFault>) -> u32
 }
 
 // Puts the text at the front of the room, and tells of it and of the fault.
-pub(crate) fn leave(text: &[u8], fault: Option<InputFault>, room: &mut [u8], told: &mut Told) -> u32
+pub(crate) fn leave(
+    text: &[u8],
+    fault: Option<InputFault>,
+    room: &mut [u8],
+    told: &mut CallDetails,
+) -> u32
     ensures left { Leaves text.now fault room.old room.new told.new result }
     ensures done { result ≢ NO_MEMORY }
 {
-    *told = Told {
+    *told = CallDetails {
         length: text.len() as u64,
         line: fault_line(fault),
         kind: fault_kind(fault),

@@ -7,7 +7,7 @@ ghost use Rattle.he_c.specs.Answers.{fault_kind, fault_line, nothing_told};
 ghost use Rattle.he_c.specs.Steps.{LeavesFault, LeavesStep, no_step};
 ghost use Rattle.he_c.specs.declared.codes.TheConstants.{DONE, FAULT, NOT_ONE, NO_MEMORY, NO_ROOM};
 
-use crate::answer::{NOTHING, Told};
+use crate::answer::{CallDetails, NOTHING};
 use crate::codes::{DONE, FAULT, NO_MEMORY, NOT_ONE, fault_kind, fault_line};
 use crate::step::{NO_STEP, StepNumbers, numbers_of};
 use he_inputs::InputFault;
@@ -22,7 +22,7 @@ pub extern "C" fn he_next(
     started: u64,
     now: u64,
     step: &mut StepNumbers,
-    told: &mut Told,
+    told: &mut CallDetails,
 ) -> u32
     ensures done { result ≡ DONE → LeavesStep lines.now started now step.new told.new }
     ensures fault { result ≡ FAULT → LeavesFault lines.now started now told.new }
@@ -48,10 +48,10 @@ pub extern "C" fn he_next(
     }
 }
 
-fn fault_told(fault: InputFault) -> Told
+fn fault_told(fault: InputFault) -> CallDetails
     ensures { result ≡ record { length = 0; line = fault_line (Some fault); kind = fault_kind (Some fault) } }
 {
-    Told {
+    CallDetails {
         length: 0,
         line: fault_line(Some(fault)),
         kind: fault_kind(Some(fault)),

@@ -7,7 +7,7 @@ ghost use Rattle.he_c.specs.Checks.{LeavesCheck};
 ghost use Rattle.he_c.specs.Outputs.{IsOrderText, IsTextOf, IsTranscriptText, LeavesOutput};
 ghost use Rattle.he_c.specs.declared.codes.TheConstants.{NO_MEMORY};
 
-use crate::answer::{NOTHING, Told, leave};
+use crate::answer::{CallDetails, NOTHING, leave};
 use crate::checking::check_of;
 use crate::codes::NO_MEMORY;
 use crate::telling::{Content, output_of};
@@ -15,7 +15,12 @@ use std::alloc::Global;
 
 /// Writes the transcripts of the races of the text, up to its first fault.
 #[unsafe(no_mangle)]
-pub extern "C" fn he_replay(alloc: Global, text: &[u8], room: &mut [u8], told: &mut Told) -> u32
+pub extern "C" fn he_replay(
+    alloc: Global,
+    text: &[u8],
+    room: &mut [u8],
+    told: &mut CallDetails,
+) -> u32
     ensures left { result ≢ NO_MEMORY → LeavesOutput IsTranscriptText text.now room.old room.new told.new result }
     ensures memory { result ≡ NO_MEMORY → LeavesNothing room.old room.new told.new }
 {
@@ -24,7 +29,12 @@ pub extern "C" fn he_replay(alloc: Global, text: &[u8], room: &mut [u8], told: &
 
 /// Writes the orders of the addresses of the races of the text, up to its first fault.
 #[unsafe(no_mangle)]
-pub extern "C" fn he_order(alloc: Global, text: &[u8], room: &mut [u8], told: &mut Told) -> u32
+pub extern "C" fn he_order(
+    alloc: Global,
+    text: &[u8],
+    room: &mut [u8],
+    told: &mut CallDetails,
+) -> u32
     ensures left { result ≢ NO_MEMORY → LeavesOutput IsOrderText text.now room.old room.new told.new result }
     ensures memory { result ≡ NO_MEMORY → LeavesNothing room.old room.new told.new }
 {
@@ -33,7 +43,12 @@ pub extern "C" fn he_order(alloc: Global, text: &[u8], room: &mut [u8], told: &m
 
 /// Writes why the races of the text went as they did, up to its first fault.
 #[unsafe(no_mangle)]
-pub extern "C" fn he_explain(alloc: Global, text: &[u8], room: &mut [u8], told: &mut Told) -> u32
+pub extern "C" fn he_explain(
+    alloc: Global,
+    text: &[u8],
+    room: &mut [u8],
+    told: &mut CallDetails,
+) -> u32
     ensures left { result ≢ NO_MEMORY → LeavesOutput IsExplanation text.now room.old room.new told.new result }
     ensures memory { result ≡ NO_MEMORY → LeavesNothing room.old room.new told.new }
 {
@@ -42,7 +57,12 @@ pub extern "C" fn he_explain(alloc: Global, text: &[u8], room: &mut [u8], told: 
 
 /// Writes how many races and lines the text has, or what is said of its first fault.
 #[unsafe(no_mangle)]
-pub extern "C" fn he_check(alloc: Global, text: &[u8], room: &mut [u8], told: &mut Told) -> u32
+pub extern "C" fn he_check(
+    alloc: Global,
+    text: &[u8],
+    room: &mut [u8],
+    told: &mut CallDetails,
+) -> u32
     ensures left { result ≢ NO_MEMORY → LeavesCheck text.now room.old room.new told.new result }
     ensures memory { result ≡ NO_MEMORY → LeavesNothing room.old room.new told.new }
 {
@@ -55,7 +75,13 @@ pub extern "C" fn he_check(alloc: Global, text: &[u8], room: &mut [u8], told: &m
     }
 }
 
-fn tell(alloc: Global, input: &[u8], content: Content, room: &mut [u8], told: &mut Told) -> u32
+fn tell(
+    alloc: Global,
+    input: &[u8],
+    content: Content,
+    room: &mut [u8],
+    told: &mut CallDetails,
+) -> u32
     ensures left { result ≢ NO_MEMORY → LeavesOutput (IsTextOf content) input.now room.old room.new told.new result }
     ensures memory { result ≡ NO_MEMORY → LeavesNothing room.old room.new told.new }
 {

@@ -20,7 +20,7 @@ use Rattle.he_check.specs.Stream.{Explains, TellsAll}
 use Rattle.he_inputs.specs.declared.stream_fault.StreamFault.{StreamFault}
 use Rattle.he_inputs.specs.declared.stream_fault.StreamFault.TheVariants as checks
 use Rattle.he_check.specs.Steps.{AreLeft, EndsText, HasTold, IsFirst, IsNextPart, IsSaid, SaysFaults, SaysOf, StandsBehind, fault_over}
-use Rattle.he_check.specs.declared.parts.Part.{Part}
+use Rattle.he_check.specs.declared.parts.RestOfInput.{RestOfInput}
 use Rattle.he_check.proofs.WholeLines.{whole_races}
 
 abbrev pub FirstFaults : Type 0
@@ -90,7 +90,7 @@ nothing_follows true = (refl, refl)
 nothing_follows false = (refl, refl)
 
 -- the reader stopped before the first fault of the part
-pub first_found : FirstFaults → (is_broken : Bool) (part faulty : Part) (races : List Race) (reader : RaceReader) (fault : InputFault)
+pub first_found : FirstFaults → (is_broken : Bool) (part faulty : RestOfInput) (races : List Race) (reader : RaceReader) (fault : InputFault)
     → HasPassed part.text.now 0 part.lines races reader → IsWithin part.text.now reader → IsReaderFault part.text.now (ending_of is_broken) reader (readers.Input fault)
     → faulty.text.now ≡ drop reader.end part.text.now → faulty.lines ≡ reader.lines → IsFirst is_broken part faulty fault × EndsText part.text.now part.lines faulty
 first_found first is_broken part faulty races reader fault passed within is rest lines =
@@ -134,7 +134,7 @@ first_found first is_broken part faulty races reader fault passed within is rest
     )
 
 -- a part without a fault
-pub none_found : (is_broken : Bool) (part : Part) (races : List Race) (reader : RaceReader) → HasPassed part.text.now 0 part.lines races reader → IsWithin part.text.now reader
+pub none_found : (is_broken : Bool) (part : RestOfInput) (races : List Race) (reader : RaceReader) → HasPassed part.text.now 0 part.lines races reader → IsWithin part.text.now reader
     → EndsAt (ending_of is_broken) (drop reader.end part.text.now) → (found : List Race) × HasRaces part.text.now is_broken found None
 none_found true part races reader passed within ends = absurd ends
 none_found false part races reader passed within ends =
@@ -163,11 +163,11 @@ AreSaid-append input (Text fault ∷ faults) more text rest (words, later, is, a
     (words, later ++ rest, ap (λ (t : List ℕ). t ++ rest) is ∙ append_assoc (fault_text input fault words) later rest, AreSaid-append input faults more later rest are said)
 
 -- nothing is told
-pub tells_none : (input : List ℕ) (is_broken : Bool) (left : Option Part) (text : List ℕ) → HasTold input is_broken left left text text
+pub tells_none : (input : List ℕ) (is_broken : Bool) (left : Option RestOfInput) (text : List ℕ) → HasTold input is_broken left left text text
 tells_none input is_broken left text = record { faults = []; text = []; longer = sym (append-nil text); said = refl; are = λ more are. are }
 
 -- more is told
-pub tells_on : (input : List ℕ) (is_broken : Bool) (first left last : Option Part) (text more most : List ℕ)
+pub tells_on : (input : List ℕ) (is_broken : Bool) (first left last : Option RestOfInput) (text more most : List ℕ)
     → HasTold input is_broken first left text more → HasTold input is_broken left last more most → HasTold input is_broken first last text most
 tells_on input is_broken first left last text more most old new = record {
   faults = old.faults ++ new.faults;
@@ -178,7 +178,7 @@ tells_on input is_broken first left last text more most old new = record {
 }
 
 -- all is told
-pub tells_all : (input : List ℕ) (is_broken : Bool) (part : Part) (text : List ℕ) → part.text.now ≡ input → part.lines ≡ 0
+pub tells_all : (input : List ℕ) (is_broken : Bool) (part : RestOfInput) (text : List ℕ) → part.text.now ≡ input → part.lines ≡ 0
     → HasTold input is_broken (Some part) None [] text → SaysFaults input is_broken [] text
 tells_all input is_broken part text is none told =
     let At : List ℕ → ℕ → Type 0 = λ t n. AreFaultsBehind is_broken n t told.faults in
@@ -193,13 +193,13 @@ tells_all input is_broken part text is none told =
     }
 
 -- nothing is wrong with the part
-pub tells_right : (input : List ℕ) (is_broken : Bool) (part : Part) (text : List ℕ) → (races : List Race) × HasRaces part.text.now is_broken races None
+pub tells_right : (input : List ℕ) (is_broken : Bool) (part : RestOfInput) (text : List ℕ) → (races : List Race) × HasRaces part.text.now is_broken races None
     → HasTold input is_broken (Some part) None text text
 tells_right input is_broken part text right =
     record { faults = []; text = []; longer = sym (append-nil text); said = refl; are = λ more none. subst (AreFaultsBehind is_broken part.lines part.text.now) (sym none) right }
 
 -- the input broke off before a fault of the part
-pub tells_read : (input : List ℕ) (is_broken : Bool) (part faulty : Part) (fault : InputFault) (text more : List ℕ) → IsFirst is_broken part faulty fault
+pub tells_read : (input : List ℕ) (is_broken : Bool) (part faulty : RestOfInput) (fault : InputFault) (text more : List ℕ) → IsFirst is_broken part faulty fault
     → ((found : TextFault) → fault ≡ Text found → ⊥) → more ≡ text ++ read_text → HasTold input is_broken (Some part) None text more
 tells_read input is_broken part faulty fault text more first other longer = by_found first.found first.has first.told
   where
@@ -215,10 +215,10 @@ tells_read input is_broken part faulty fault text more first other longer = by_f
     }
 
 -- what follows a fault of the text, which the part's first one is
-record Follows (is_broken : Bool) (faulty : Part) (faults : List InputFault) : Type 0 where
-  by : (IsLastRace faulty.text.now × (faults ≡ told_at_end is_broken)) ⊎ ((next : Part) × IsNextPart faulty next × AreFaultsBehind is_broken next.lines next.text.now faults)
+record Follows (is_broken : Bool) (faulty : RestOfInput) (faults : List InputFault) : Type 0 where
+  by : (IsLastRace faulty.text.now × (faults ≡ told_at_end is_broken)) ⊎ ((next : RestOfInput) × IsNextPart faulty next × AreFaultsBehind is_broken next.lines next.text.now faults)
 
-faults_on : (is_broken : Bool) (part faulty : Part) (fault : TextFault) → IsFirst is_broken part faulty (Text fault) → (faults : List InputFault) → Follows is_broken faulty faults
+faults_on : (is_broken : Bool) (part faulty : RestOfInput) (fault : TextFault) → IsFirst is_broken part faulty (Text fault) → (faults : List InputFault) → Follows is_broken faulty faults
     → AreFaultsBehind is_broken part.lines part.text.now (Text fault ∷ faults)
 faults_on is_broken part faulty fault first faults follows = by_found first.found first.has first.told first.rest first.lines
   where
@@ -244,7 +244,7 @@ faults_on is_broken part faulty fault first faults follows = by_found first.foun
         )
 
 -- a fault of the text is told, and a race follows
-pub tells_next : (input : List ℕ) (is_broken : Bool) (part faulty next : Part) (fault : TextFault) (old new : List ℕ) → IsFirst is_broken part faulty (Text fault)
+pub tells_next : (input : List ℕ) (is_broken : Bool) (part faulty next : RestOfInput) (fault : TextFault) (old new : List ℕ) → IsFirst is_broken part faulty (Text fault)
     → IsSaid input fault old new → IsNextPart faulty next → HasTold input is_broken (Some part) (Some next) old new
 tells_next input is_broken part faulty next fault old new first (text, longer, said) is = record {
   faults = Text fault ∷ [];
@@ -255,7 +255,7 @@ tells_next input is_broken part faulty next fault old new first (text, longer, s
 }
 
 -- a fault of the text is told, and no race follows
-pub tells_last : (input : List ℕ) (is_broken : Bool) (part faulty : Part) (fault : TextFault) (old new : List ℕ) → is_broken ≡ false → IsFirst is_broken part faulty (Text fault)
+pub tells_last : (input : List ℕ) (is_broken : Bool) (part faulty : RestOfInput) (fault : TextFault) (old new : List ℕ) → is_broken ≡ false → IsFirst is_broken part faulty (Text fault)
     → IsSaid input fault old new → IsLastRace faulty.text.now → HasTold input is_broken (Some part) None old new
 tells_last input is_broken part faulty fault old new is_whole first (text, longer, said) last = record {
   faults = Text fault ∷ [];
@@ -266,7 +266,7 @@ tells_last input is_broken part faulty fault old new is_whole first (text, longe
 }
 
 -- the same of an input that broke off
-pub tells_broken : (input : List ℕ) (is_broken : Bool) (part faulty : Part) (fault : TextFault) (old new more : List ℕ) → is_broken ≡ true → IsFirst is_broken part faulty (Text fault)
+pub tells_broken : (input : List ℕ) (is_broken : Bool) (part faulty : RestOfInput) (fault : TextFault) (old new more : List ℕ) → is_broken ≡ true → IsFirst is_broken part faulty (Text fault)
     → IsSaid input fault old new → IsLastRace faulty.text.now → more ≡ new ++ read_text → HasTold input is_broken (Some part) None old more
 tells_broken input is_broken part faulty fault old new more broke first (text, longer, said) last most = record {
   faults = Text fault ∷ Read ∷ [];

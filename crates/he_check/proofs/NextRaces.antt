@@ -16,10 +16,10 @@ use Rattle.he_inputs.proofs.RaceReadingLaws.{line_count-append}
 use Rattle.he_check.specs.AllFaults.{BeginsRace, IsLastRace}
 use Rattle.he_check.specs.Meant.{begins}
 use Rattle.he_check.specs.Steps.{HasSearched, IsNextPart, begins_race}
-use Rattle.he_check.specs.declared.parts.Part.{Part}
+use Rattle.he_check.specs.declared.parts.RestOfInput.{RestOfInput}
 
 -- nothing is searched yet
-pub none_searched : (part : Part) → HasSearched part part.lines part.text.now
+pub none_searched : (part : RestOfInput) → HasSearched part part.lines part.text.now
 none_searched part = record {
   at = 0;
   left = refl;
@@ -113,7 +113,7 @@ race_there text at (front, version, more, split, place) =
     is_start (drop at text) version more (ap (λ (t : List ℕ). drop at t) parts ∙ drop_at before race at long)
 
 -- one line more is searched
-pub one_searched : (part : Part) (lines : ℕ) (rest next : List ℕ) (end : ℕ) → HasSearched part lines rest → IsFirstByte (is_byte 10) rest (Some end)
+pub one_searched : (part : RestOfInput) (lines : ℕ) (rest next : List ℕ) (end : ℕ) → HasSearched part lines rest → IsFirstByte (is_byte 10) rest (Some end)
     → next ≡ drop (end + 1) rest → begins_race next ≡ false → HasSearched part (lines + 1) next
 one_searched part lines rest next end before found next_is other_line =
     let text = part.text.now in
@@ -138,7 +138,7 @@ one_searched part lines rest next end before found next_is other_line =
     }
 
 -- the line begins the next race
-pub next_found : (part next : Part) (lines : ℕ) (rest : List ℕ) (end : ℕ) → HasSearched part lines rest → IsFirstByte (is_byte 10) rest (Some end)
+pub next_found : (part next : RestOfInput) (lines : ℕ) (rest : List ℕ) (end : ℕ) → HasSearched part lines rest → IsFirstByte (is_byte 10) rest (Some end)
     → next.text.now ≡ drop (end + 1) rest → next.lines ≡ lines + 1 → begins_race next.text.now ≡ true → part.lines + length part.text.now ≤ 2 ^ 63 → IsNextPart part next
 next_found part next lines rest end before found next_is lined race room =
     let text = part.text.now in
@@ -166,7 +166,7 @@ next_found part next lines rest end before found next_is lined race room =
     }
 
 -- no line is left
-pub none_left : (part : Part) (lines : ℕ) (rest : List ℕ) → HasSearched part lines rest → IsFirstByte (is_byte 10) rest None → IsLastRace part.text.now
+pub none_left : (part : RestOfInput) (lines : ℕ) (rest : List ℕ) → HasSearched part lines rest → IsFirstByte (is_byte 10) rest None → IsLastRace part.text.now
 none_left part lines rest before none at (front, version, more, split, place) =
     let text = part.text.now in
     let is : BeginsRace text at = (front, version, more, split, place) in
@@ -176,7 +176,7 @@ none_left part lines rest before none at (front, version, more, split, place) =
     early rest text before.at (length rest) at before.left none is (before.none at is) (omega arith)
 
 -- a line more can be counted
-pub counts_more : (part : Part) (lines : ℕ) (rest : List ℕ) → HasSearched part lines rest → part.lines + length part.text.now ≤ 2 ^ 63 → lines ≤ 2 ^ 63
+pub counts_more : (part : RestOfInput) (lines : ℕ) (rest : List ℕ) → HasSearched part lines rest → part.lines + length part.text.now ≤ 2 ^ 63 → lines ≤ 2 ^ 63
 counts_more part lines rest before room =
     let text = part.text.now in
     let few : line_count (take before.at text) ≤ length (take before.at text) = count_by-le-length (λ b. eqb b 10) (take before.at text) in

@@ -12,7 +12,7 @@ use Rattle.he_inputs.proofs.RaceReadingLaws.{line_count-append}
 use Rattle.he_check.specs.AllFaults.{BeginsRace}
 use Rattle.he_check.specs.Clauses.{line_at}
 use Rattle.he_check.specs.Steps.{AreWhole, EndsText, IsNextPart}
-use Rattle.he_check.specs.declared.parts.Part.{Part}
+use Rattle.he_check.specs.declared.parts.RestOfInput.{RestOfInput}
 
 whole_append : (first more : List ℕ) → AreWhole first → AreWhole more → AreWhole (first ++ more)
 whole_append first more are (inl none) = subst AreWhole (sym (ap (λ (r : List ℕ). first ++ r) none ∙ append-nil first)) are
@@ -60,7 +60,7 @@ lines_behind before rest (inr (front, is)) =
     )
 
 -- a line of the part is that of the text
-pub line_there : (text : List ℕ) (part : Part) (line : ℕ) → EndsText text 0 part → part.lines + 1 ≤ line → line_at (line - part.lines) part.text.now ≡ line_at line text
+pub line_there : (text : List ℕ) (part : RestOfInput) (line : ℕ) → EndsText text 0 part → part.lines + 1 ≤ line → line_at (line - part.lines) part.text.now ≡ line_at line text
 line_there text part line ends behind =
     let rest = part.text.now in
     let lines = lines_behind ends.before rest ends.whole in
@@ -76,7 +76,7 @@ line_there text part line ends behind =
     ∙ sym there
 
 -- all of a text ends it
-pub ends_whole_text : (text : List ℕ) (part : Part) → part.text.now ≡ text → part.lines ≡ 0 → length text ≤ 2 ^ 62 → EndsText text 0 part
+pub ends_whole_text : (text : List ℕ) (part : RestOfInput) → part.text.now ≡ text → part.lines ≡ 0 → length text ≤ 2 ^ 62 → EndsText text 0 part
 ends_whole_text text part is none room = record {
   before = [];
   split = sym is;
@@ -86,7 +86,7 @@ ends_whole_text text part is none room = record {
 }
 
 -- what ends the end of a text ends the text
-pub ends_behind : (text : List ℕ) (part last : Part) → EndsText text 0 part → EndsText part.text.now part.lines last → EndsText text 0 last
+pub ends_behind : (text : List ℕ) (part last : RestOfInput) → EndsText text 0 part → EndsText part.text.now part.lines last → EndsText text 0 last
 ends_behind text part last first second =
     let counted = first.counted in
     let more = second.counted in
@@ -100,7 +100,7 @@ ends_behind text part last first second =
     }
 
 -- what is left from the next race on ends a part
-pub next_ends : (part next : Part) → IsNextPart part next → EndsText part.text.now part.lines next
+pub next_ends : (part next : RestOfInput) → IsNextPart part next → EndsText part.text.now part.lines next
 next_ends part next is = ends is.is.begins
   where
     ends : BeginsRace part.text.now is.at → EndsText part.text.now part.lines next

@@ -15,7 +15,7 @@ use Rattle.he_check.specs.Meant.{begins}
 use Rattle.he_check.specs.Slips.{AreWarned}
 use Rattle.he_inputs.specs.declared.stream_fault.StreamFault.{StreamFault}
 use Rattle.he_inputs.specs.declared.stream_fault.StreamFault.TheVariants as checks
-use Rattle.he_check.specs.declared.parts.Part.{Part}
+use Rattle.he_check.specs.declared.parts.RestOfInput.{RestOfInput}
 use Rattle.he_check.specs.declared.slips.Warning.{Warning}
 
 pub record HasCounted (input : List ℕ) (reader : RaceReader) (warnings : List Warning) : Type 0 where
@@ -29,7 +29,7 @@ abbrev pub AreWhole : List ℕ → Type 0
 AreWhole lines = (lines ≡ []) ⊎ ((front : List ℕ) × (lines ≡ front ++ line_end ∷ []))
 
 -- the part ends a text, and stands behind so many whole lines of it; the lines can be counted
-pub record EndsText (text : List ℕ) (lines : ℕ) (part : Part) : Type 0 where
+pub record EndsText (text : List ℕ) (lines : ℕ) (part : RestOfInput) : Type 0 where
   pub before : List ℕ
   pub split : text ≡ before ++ part.text.now
   pub whole : AreWhole before
@@ -47,7 +47,7 @@ StandsBehind lines Read = Unit {0}
 StandsBehind lines (Text fault) = lines + 1 ≤ fault.line
 
 -- the first fault of the part, and what is left from its race on
-pub record IsFirst (is_broken : Bool) (part faulty : Part) (fault : InputFault) : Type 0 where
+pub record IsFirst (is_broken : Bool) (part faulty : RestOfInput) (fault : InputFault) : Type 0 where
   pub races : List Race
   pub found : InputFault
   pub has : HasRaces part.text.now is_broken races (Some found)
@@ -61,7 +61,7 @@ abbrev pub begins_race : List ℕ → Bool
 begins_race text = begins (codes "race 1" ++ 10 ∷ []) text || begins (codes "race 2" ++ 10 ∷ []) text
 
 -- behind so many lines of the part this is left, and no race begins up to there
-pub record HasSearched (part : Part) (lines : ℕ) (rest : List ℕ) : Type 0 where
+pub record HasSearched (part : RestOfInput) (lines : ℕ) (rest : List ℕ) : Type 0 where
   pub at : ℕ
   pub left : rest ≡ drop at part.text.now
   pub within : at ≤ length part.text.now
@@ -69,19 +69,19 @@ pub record HasSearched (part : Part) (lines : ℕ) (rest : List ℕ) : Type 0 wh
   pub none : (other : ℕ) → BeginsRace part.text.now other → at + 1 ≤ other
 
 -- what is left of the part from the next race on
-pub record IsNextPart (part next : Part) : Type 0 where
+pub record IsNextPart (part next : RestOfInput) : Type 0 where
   pub at : ℕ
   pub is : IsNextRace part.text.now at
   pub text : next.text.now ≡ drop at part.text.now
   pub lines : next.lines ≡ part.lines + line_count (take at part.text.now)
   pub room : next.lines + length next.text.now ≤ 2 ^ 63
 
-abbrev pub FindsFirst : Bool → Part → Option (Part × InputFault) → Type 0
+abbrev pub FindsFirst : Bool → RestOfInput → Option (RestOfInput × InputFault) → Type 0
 FindsFirst is_broken part None = (races : List Race) × HasRaces part.text.now is_broken races None
 FindsFirst is_broken part (Some (faulty, fault)) = IsFirst is_broken part faulty fault × EndsText part.text.now part.lines faulty
 
 -- the faults of what is left
-abbrev pub AreLeft : Bool → Option Part → List InputFault → Type 0
+abbrev pub AreLeft : Bool → Option RestOfInput → List InputFault → Type 0
 AreLeft is_broken None faults = faults ≡ []
 AreLeft is_broken (Some part) faults = AreFaultsBehind is_broken part.lines part.text.now faults
 
@@ -105,7 +105,7 @@ SaysOf false input is_broken (checks.Text fault) old new = EndsInClause input fa
 SaysOf is_all input is_broken fault old new = new ≡ old
 
 -- the first faults of what was left are told, and these parts are left
-pub record HasTold (input : List ℕ) (is_broken : Bool) (old new : Option Part) (old_text new_text : List ℕ) : Type 0 where
+pub record HasTold (input : List ℕ) (is_broken : Bool) (old new : Option RestOfInput) (old_text new_text : List ℕ) : Type 0 where
   pub faults : List InputFault
   pub text : List ℕ
   pub longer : new_text ≡ old_text ++ text

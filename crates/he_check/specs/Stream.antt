@@ -37,14 +37,14 @@ pub record FindsWrong (Given : List ℕ → Bool → Type 0) (fault : StreamFaul
   pub given : Given input is_broken
   pub wrong : IsWrong input is_broken fault
 
--- Given: what the input gave, and whether it broke off after that; Whole and Part: the text of which all was put into
+-- Given: what the input gave, and whether it broke off after that; Whole and RestOfInput: the text of which all was put into
 -- the output and then flushed, or a first part until that failed; Kept: nothing was put into the output
 abbrev pub Checks : (List ℕ → Bool → Type 0) → (List ℕ → Type 0) → (List ℕ → Type 0) → Type 0 → Result (Unit {0}) StreamFault → Type 0
-Checks Given Whole Part Kept (Ok done) = (checked : Checked) × FindsRight Given checked × Whole (report_text checked)
-Checks Given Whole Part Kept (Err (Text fault)) = FindsWrong Given (Text fault) × Kept
-Checks Given Whole Part Kept (Err Read) = FindsWrong Given Read × Kept
-Checks Given Whole Part Kept (Err Write) = (checked : Checked) × FindsRight Given checked × Part (report_text checked)
-Checks Given Whole Part Kept (Err Memory) = Kept
+Checks Given Whole RestOfInput Kept (Ok done) = (checked : Checked) × FindsRight Given checked × Whole (report_text checked)
+Checks Given Whole RestOfInput Kept (Err (Text fault)) = FindsWrong Given (Text fault) × Kept
+Checks Given Whole RestOfInput Kept (Err Read) = FindsWrong Given Read × Kept
+Checks Given Whole RestOfInput Kept (Err Write) = (checked : Checked) × FindsRight Given checked × RestOfInput (report_text checked)
+Checks Given Whole RestOfInput Kept (Err Memory) = Kept
 
 -- the input was given, whole or up to where it broke off, and its warnings are told behind what stood there
 pub record TellsWarnings (Given : List ℕ → Bool → Type 0) (old new : List ℕ) : Type 0 where

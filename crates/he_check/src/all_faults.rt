@@ -4,7 +4,7 @@ ghost use Rattle.std.specs.Prelude.{◌≡◌, ◌<◌, ◌≤◌, ◌+◌, [], 
 ghost use Rattle.he_check.specs.Steps.{EndsText, HasTold, IsSaid, SaysFaults};
 
 use crate::explaining::explanation_of;
-use crate::parts::Part;
+use crate::parts::RestOfInput;
 use he_addr::{Memory, write_number};
 use he_inputs::InputFault;
 use he_words::TextFault;
@@ -36,7 +36,7 @@ fn explanation_of_all<A: Allocator + Copy>(
     ensures { IfOk result (λ text. SaysFaults input.now is_broken [] text.items) }
 {
     let mut text = Vec::new(alloc);
-    let mut left = Some(Part::whole(input));
+    let mut left = Some(RestOfInput::whole(input));
     while let Some(part) = left {
         left = tell_first(alloc, input, part, is_broken, &mut text)?;
     }
@@ -47,10 +47,10 @@ fn explanation_of_all<A: Allocator + Copy>(
 fn tell_first<'t, A: Allocator + Copy>(
     alloc: A,
     input: &[u8],
-    part: Part<'t>,
+    part: RestOfInput<'t>,
     is_broken: bool,
     text: &mut Vec<u8, A>,
-) -> Result<Option<Part<'t>>, Memory>
+) -> Result<Option<RestOfInput<'t>>, Memory>
     requires { EndsText input.now 0 part }
     ensures told { IfOk result (λ left. HasTold input.now is_broken
         (Some part.entry) left text.old.items text.new.items) }
@@ -79,7 +79,7 @@ fn tell_first<'t, A: Allocator + Copy>(
 fn append_fault<A: Allocator + Copy>(
     alloc: A,
     input: &[u8],
-    faulty: Part<'_>,
+    faulty: RestOfInput<'_>,
     fault: TextFault,
     text: &mut Vec<u8, A>,
 ) -> Result<(), Memory>

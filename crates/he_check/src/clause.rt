@@ -8,7 +8,7 @@ ghost use Rattle.he_check.specs.Clauses.{hint_of, is_of_words, line_at, line_mea
 ghost use Rattle.he_check.specs.Sentences.{clause_text, meaning_of};
 
 use crate::meant::{Meant, input_meant, meant_of};
-use crate::parts::Part;
+use crate::parts::RestOfInput;
 use he_words::{LINE_END, TOKEN_END, TextFault, TextKind};
 use std::alloc::{AllocError, Allocator};
 
@@ -29,7 +29,7 @@ pub(crate) fn append_clause<A: Allocator>(
 
 // What was likely meant where the input has this fault: by its first bytes, or by the words of the faulty line, which
 // stands in the part.
-pub(crate) fn hint_of(input: &[u8], part: Part<'_>, fault: TextFault) -> Option<Meant>
+pub(crate) fn hint_of(input: &[u8], part: RestOfInput<'_>, fault: TextFault) -> Option<Meant>
     requires { line_at (fault.line - part.lines) part.text.now ≡ line_at fault.line input.now }
     ensures { result ≡ hint_of input.now fault }
 {

@@ -5,7 +5,7 @@ ghost use Rattle.he_check.specs.Clauses.{EndsInClause, line_at};
 
 use crate::clause::{append_clause, hint_of};
 use crate::finding::find_sentence;
-use crate::parts::Part;
+use crate::parts::RestOfInput;
 use crate::place::find_line;
 use crate::showing::show_line;
 use he_words::TextFault;
@@ -31,7 +31,7 @@ pub fn explain_fault<A: Allocator + Copy>(
     ensures clause { OnOk result (EndsInClause input.now fault explanation.old.items explanation.new.items) }
     ensures err { OnErr result (explanation.new.items ≡ explanation.old.items) }
 {
-    let said = explanation_of(alloc, input, Part::whole(input), fault)?;
+    let said = explanation_of(alloc, input, RestOfInput::whole(input), fault)?;
     explanation.extend_from_slice(said.as_slice())
 }
 
@@ -40,7 +40,7 @@ pub fn explain_fault<A: Allocator + Copy>(
 pub(crate) fn explanation_of<A: Allocator + Copy>(
     alloc: A,
     input: &[u8],
-    part: Part<'_>,
+    part: RestOfInput<'_>,
     fault: TextFault,
 ) -> Result<Vec<u8, A>, AllocError>
     requires { line_at (fault.line - part.lines) part.text.now ≡ line_at fault.line input.now }

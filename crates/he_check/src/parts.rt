@@ -14,19 +14,19 @@ use std::mem::drop;
 
 // What is left of an input from one of its lines on.
 #[derive(Clone, Copy)]
-pub(crate) struct Part<'t> {
+pub(crate) struct RestOfInput<'t> {
     pub(crate) text: &'t [u8],
     // How many lines stand before it.
     pub(crate) lines: u64,
 }
 
-impl<'t> Part<'t> {
+impl<'t> RestOfInput<'t> {
     // All of an input.
-    pub(crate) fn whole(input: &'t [u8]) -> Part<'t>
+    pub(crate) fn whole(input: &'t [u8]) -> RestOfInput<'t>
         ensures text { result.text ≡ input.entry }
         ensures lines { result.lines ≡ 0 }
     {
-        Part {
+        RestOfInput {
             text: input,
             lines: 0,
         }
@@ -37,7 +37,7 @@ impl<'t> Part<'t> {
         self,
         alloc: A,
         is_broken: bool,
-    ) -> Result<Option<(Part<'t>, InputFault)>, Memory>
+    ) -> Result<Option<(RestOfInput<'t>, InputFault)>, Memory>
         requires { self.lines + length self.text.now ≤ 2 ^ 63 }
         ensures { IfOk result (FindsFirst is_broken self.entry) }
     {
@@ -54,7 +54,7 @@ impl<'t> Part<'t> {
                 Ok(None) => return Ok(None),
                 Err(RaceReaderFault::Memory) => return Err(Memory),
                 Err(RaceReaderFault::Input(fault)) => {
-                    let faulty = Part {
+                    let faulty = RestOfInput {
                         text: &self.text[reader.end..],
                         lines: reader.lines,
                     };
@@ -65,7 +65,7 @@ impl<'t> Part<'t> {
     }
 
     // What is left from the next race on, behind the one with which the part begins.
-    pub(crate) fn next_race(self) -> Option<Part<'t>>
+    pub(crate) fn next_race(self) -> Option<RestOfInput<'t>>
         requires { self.lines + length self.text.now ≤ 2 ^ 63 }
         ensures { MatchOption result (IsLastRace self.entry.text.now) (IsNextPart self.entry) }
     {
@@ -75,7 +75,7 @@ impl<'t> Part<'t> {
             rest = &rest[end + 1..];
             lines += 1;
             if begins_race(rest) {
-                return Some(Part { text: rest, lines });
+                return Some(RestOfInput { text: rest, lines });
             }
         }
         None

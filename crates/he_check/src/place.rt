@@ -1,6 +1,6 @@
 // Where a fault stands: a line, and the lines of its race before it.
 
-use crate::parts::Part;
+use crate::parts::RestOfInput;
 use he_words::{LINE_END, TOKEN_END, Version, Word};
 use memchr::memchr;
 
@@ -24,7 +24,7 @@ pub(crate) struct Place<'t> {
 
 // The line with this number, which stands in the part. The part begins with a race, and its lines before this one are
 // to be right, so that a race ends with each of them that is `end`.
-pub(crate) fn find_line(part: Part<'_>, number: u64) -> Place<'_> {
+pub(crate) fn find_line(part: RestOfInput<'_>, number: u64) -> Place<'_> {
     let mut rest = part.text;
     let mut race = part.text;
     let mut first = part.lines.saturating_add(1);

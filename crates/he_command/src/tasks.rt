@@ -15,7 +15,7 @@ use he_check::check;
 use he_compare::compare;
 use he_inputs::StreamFault;
 use he_page::write_name;
-use he_replay::{Asked, Content, replay};
+use he_replay::{Content, TextRequest, replay};
 use he_stream::{FromReader, InputStream, OutputStream, write_whole};
 use he_timeline::Changes;
 use std::alloc::{AllocError, Global};
@@ -232,7 +232,7 @@ where
 {
     match work.task {
         Task::Write { content, workers } => {
-            let asked = Asked {
+            let asked = TextRequest {
                 content,
                 changes: work.changes,
             };

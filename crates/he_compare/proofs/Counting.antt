@@ -8,11 +8,11 @@ use Rattle.std.proofs.lemmas.List.Elements.{filter_map-append}
 use Rattle.he_compare.specs.Steps.{HasTold}
 use Rattle.he_compare.specs.Texts.{Compared, IsTold, counts_text, line_text, spread_text, verdict_on}
 use Rattle.he_compare.specs.Verdicts.{counts_of, difference_of}
-use Rattle.he_compare.specs.declared.told.Told.{Told}
+use Rattle.he_compare.specs.declared.told.ComparedRaces.{ComparedRaces}
 use Rattle.he_compare.specs.declared.verdict.Verdict.{Verdict}
 
 -- one race more is told
-pub told_on : {A : Type 0} (old new : Told A) (told : List Compared) (one : Compared) (verdict : Verdict) → HasTold old told → verdict ≡ verdict_on one
+pub told_on : {A : Type 0} (old new : ComparedRaces A) (told : List Compared) (one : Compared) (verdict : Verdict) → HasTold old told → verdict ≡ verdict_on one
     → new.text.items ≡ old.text.items ++ line_text one
     → ((verdicts : List Verdict) → old.counts ≡ counts_of verdicts → new.counts ≡ counts_of (verdicts ++ verdict ∷ []))
     → new.differences.items ≡ old.differences.items ++ filter_map difference_of (verdict ∷ [])
@@ -28,7 +28,7 @@ told_on old new told one verdict has same text counts differences =
     }
 
 -- all that is told, with the sums
-pub ended : {A : Type 0} (kept : Told A) (told : List Compared) (sorted counted text : List ℕ) → HasTold kept told
+pub ended : {A : Type 0} (kept : ComparedRaces A) (told : List Compared) (sorted counted text : List ℕ) → HasTold kept told
     → IsPermutation kept.differences.items sorted → IsSorted nat_cmp sorted → counted ≡ kept.text.items ++ counts_text kept.counts
     → text ≡ counted ++ spread_text sorted → IsTold told text
 ended kept told sorted counted text has permutation in_order first second = (

@@ -15,7 +15,7 @@ use Rattle.he_inputs.proofs.RaceReadingLaws.{has_fault, has_none, line_count-app
 use Rattle.he_compare.specs.Compared.{AreCompared, IsCompared}
 use Rattle.he_compare.specs.Steps.{EndsReading, HasRead, TellsRace}
 use Rattle.he_compare.specs.Texts.{Compared}
-use Rattle.he_compare.specs.declared.told.Told.{Told}
+use Rattle.he_compare.specs.declared.told.ComparedRaces.{ComparedRaces}
 
 -- one race more behind the others
 compared_on : (changes : ChangeValues) (before lines : ℕ) (races : List Race) (text : List ℕ) (told : List Compared) → AreCompared changes before lines races text told
@@ -55,7 +55,7 @@ take_to input from end le =
     let sum : end ≡ from + (end - from) = omega arith in
     ap (λ (n : ℕ). take n input) sum ∙ take-add from (end - from) input
 
-pub one_more : {A : Type 0} (changes : ChangeValues) (input : List ℕ) (old new : RaceReader) (kept longer : Told A) (race : Race) (number line : ℕ)
+pub one_more : {A : Type 0} (changes : ChangeValues) (input : List ℕ) (old new : RaceReader) (kept longer : ComparedRaces A) (race : Race) (number line : ℕ)
     → HasRead changes input old kept → IsWithin input new → PassesRace input old new race → number ≡ new.races → line ≡ old.lines + 1
     → TellsRace changes race number line kept longer → HasRead changes input new longer × (old.end < new.end)
 one_more changes input old new kept longer race number line before within passes numbered lined tells =
@@ -84,7 +84,7 @@ one_more changes input old new kept longer race number line before within passes
 parted : (input : List ℕ) (end : ℕ) → input ≡ take end input ++ drop end input
 parted input end = sym (take-append-drop end input)
 
-pub fails : {A : Type 0} (changes : ChangeValues) (input : List ℕ) (is_broken : Bool) (reader : RaceReader) (kept : Told A) (fault : RaceReaderFault)
+pub fails : {A : Type 0} (changes : ChangeValues) (input : List ℕ) (is_broken : Bool) (reader : RaceReader) (kept : ComparedRaces A) (fault : RaceReaderFault)
     → HasRead changes input reader kept → IsReaderFault input (ending_of is_broken) reader fault → EndsReading changes input is_broken kept (Err fault)
 fails changes input is_broken reader kept (readers.Input fault) before is = (
   before.told,
@@ -100,7 +100,7 @@ fails changes input is_broken reader kept (readers.Input fault) before is = (
 )
 fails changes input is_broken reader kept readers.Memory before is = tt
 
-pub ends : {A : Type 0} (changes : ChangeValues) (input : List ℕ) (is_broken : Bool) (old new : RaceReader) (kept : Told A) (found : Option Race)
+pub ends : {A : Type 0} (changes : ChangeValues) (input : List ℕ) (is_broken : Bool) (old new : RaceReader) (kept : ComparedRaces A) (found : Option Race)
     → HasRead changes input old kept → IsNextOf input (ending_of is_broken) old new found → ((race : Race) → found ≡ Some race → ⊥)
     → EndsReading changes input is_broken kept (Ok (record {}))
 ends changes input is_broken old new kept found before next none =

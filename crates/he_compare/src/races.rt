@@ -3,7 +3,7 @@ ghost use Rattle.std.specs.Prelude.{[], IfOk, OnOk};
 ghost use Rattle.he_compare.specs.Compared.{IsComparison};
 ghost use Rattle.he_compare.specs.Steps.{EndsReading, HasTold, HasRead, MayCount, TellsNext, TellsRace};
 
-use crate::told::Told;
+use crate::told::ComparedRaces;
 use bumpalo::Bump;
 use he_addr::Memory;
 use he_inputs::{Ending, InputFault, RaceReader, RaceReaderFault};
@@ -24,7 +24,7 @@ pub(crate) fn compare_races<A: Allocator + Copy>(
 ) -> Result<(Vec<u8, A>, Option<InputFault>), Memory>
     ensures { IfOk result (λ found. IsComparison changes input.now is_broken found.1 found.0.items) }
 {
-    let mut told = Told::new(alloc);
+    let mut told = ComparedRaces::new(alloc);
     match tell_races(alloc, changes, input, is_broken, &mut told) {
         Ok(()) => Ok((told.end()?, None)),
         Err(RaceReaderFault::Input(fault)) => Ok((told.end()?, Some(fault))),
@@ -39,7 +39,7 @@ fn tell_races<A: Allocator + Copy>(
     changes: Changes,
     input: &[u8],
     is_broken: bool,
-    told: &mut Told<A>,
+    told: &mut ComparedRaces<A>,
 ) -> Result<(), RaceReaderFault>
     requires { HasTold told.old [] }
     ensures { EndsReading changes input.now is_broken told.new result }
@@ -62,7 +62,7 @@ fn tell_next<A: Allocator + Copy, B: Allocator + Copy>(
     input: &[u8],
     is_broken: bool,
     reader: &mut RaceReader,
-    told: &mut Told<A>,
+    told: &mut ComparedRaces<A>,
 ) -> Result<bool, RaceReaderFault>
     requires { HasRead changes input.now reader.old told.old }
     ensures { TellsNext changes input.now is_broken reader.old reader.new told.new result }
@@ -84,7 +84,7 @@ fn tell_race<A: Allocator + Copy, B: Allocator + Copy>(
     changes: Changes,
     number: u64,
     line: u64,
-    told: &mut Told<A>,
+    told: &mut ComparedRaces<A>,
 ) -> Result<(), Memory>
     requires { MayCount told.old.counts }
     ensures { OnOk result (TellsRace changes race number line told.old told.new) }

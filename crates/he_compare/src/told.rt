@@ -77,17 +77,17 @@ impl Counts {
 
 // The lines of some first races, and what the line with their sums needs.
 #[derive(Drop)]
-pub(crate) struct Told<A: Allocator> {
+pub(crate) struct ComparedRaces<A: Allocator> {
     pub(crate) text: Vec<u8, A>,
     pub(crate) counts: Counts,
     pub(crate) differences: Vec<u64, A>,
 }
 
-impl<A: Allocator + Copy> Told<A> {
-    pub(crate) fn new(alloc: A) -> Told<A>
+impl<A: Allocator + Copy> ComparedRaces<A> {
+    pub(crate) fn new(alloc: A) -> ComparedRaces<A>
         ensures { HasTold result [] }
     {
-        Told {
+        ComparedRaces {
             text: Vec::new(alloc),
             counts: Counts::NONE,
             differences: Vec::new(alloc),

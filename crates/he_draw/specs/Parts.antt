@@ -1,8 +1,8 @@
 -- What the lines of a picture are made of.
 use Rattle.std.specs.Prelude.{ℕ, ◌+◌, ◌*◌, List, decimal}
 use Rattle.he_addr.specs.Printing.{printed}
-use Rattle.he_draw.specs.declared.parts.Part.{Part}
-use Rattle.he_draw.specs.declared.parts.Part.TheVariants as parts
+use Rattle.he_draw.specs.declared.parts.LinePart.{LinePart}
+use Rattle.he_draw.specs.declared.parts.LinePart.TheVariants as parts
 
 -- where the row of a place begins in an image, from its top: each is 24 high, and what stands above them as high as
 -- two
@@ -10,7 +10,7 @@ abbrev pub top_of : ℕ → ℕ
 top_of place = 24 * (place + 2)
 
 -- a place is told counted from 1
-abbrev pub part_text : Part → List ℕ
+abbrev pub part_text : LinePart → List ℕ
 part_text (parts.Words words) = words.now
 part_text (parts.Number n) = decimal n
 part_text (parts.Place place) = decimal (place + 1)

@@ -7,7 +7,7 @@ ghost use Rattle.he_draw.specs.Looks.{sign_text};
 
 use crate::frame::Frame;
 use crate::look::{Look, Sign, sign_text};
-use crate::parts::{Part, width_of, write_parts, write_repeated, write_words};
+use crate::parts::{LinePart, width_of, write_parts, write_repeated, write_words};
 use crate::rows::Row;
 use crate::words::{stop_of_mark, write_label, write_row_words};
 use he_addr::Memory;
@@ -164,7 +164,10 @@ fn write_scale<A: Allocator + Copy>(frame: Frame, text: &mut Vec<u8, A>) -> Resu
     write_repeated(frame.label, b" ", text)?;
     write_words(b"  0", text)?;
     write_repeated(between, b" ", text)?;
-    write_parts(&[Part::Number(frame.end), Part::Words(b" ms\n")], text)
+    write_parts(
+        &[LinePart::Number(frame.end), LinePart::Words(b" ms\n")],
+        text,
+    )
 }
 
 #[tactic(auto, unfolding(crate::specs::Drawn::drawn_text))]

@@ -3,7 +3,7 @@
 ghost use Rattle.std.specs.Prelude.{◌≡◌, ◌++◌, OnOk};
 ghost use Rattle.he_draw.specs.Heading.{ending_text, heading_text};
 
-use crate::parts::{Part, write_parts};
+use crate::parts::{LinePart, write_parts};
 use he_addr::Memory;
 use he_plan::Outcome3;
 use std::alloc::Allocator;
@@ -14,27 +14,27 @@ fn write_ending<A: Allocator + Copy>(ending: Outcome3, text: &mut Vec<u8, A>) ->
     match ending {
         Outcome3::Won(place, tick) => write_parts(
             &[
-                Part::Words(b"won after "),
-                Part::Number(tick),
-                Part::Words(b" ms by attempt "),
-                Part::Place(place),
-                Part::Words(b"\n"),
+                LinePart::Words(b"won after "),
+                LinePart::Number(tick),
+                LinePart::Words(b" ms by attempt "),
+                LinePart::Place(place),
+                LinePart::Words(b"\n"),
             ],
             text,
         ),
         Outcome3::Exhausted(tick) => write_parts(
             &[
-                Part::Words(b"nothing left to try after "),
-                Part::Number(tick),
-                Part::Words(b" ms\n"),
+                LinePart::Words(b"nothing left to try after "),
+                LinePart::Number(tick),
+                LinePart::Words(b" ms\n"),
             ],
             text,
         ),
         Outcome3::Limit(tick) => write_parts(
             &[
-                Part::Words(b"given up at the limit of "),
-                Part::Number(tick),
-                Part::Words(b" ms\n"),
+                LinePart::Words(b"given up at the limit of "),
+                LinePart::Number(tick),
+                LinePart::Words(b" ms\n"),
             ],
             text,
         ),
@@ -53,11 +53,11 @@ pub(crate) fn write_heading<A: Allocator + Copy>(
 {
     write_parts(
         &[
-            Part::Words(b"race "),
-            Part::Number(number as u64),
-            Part::Words(b", line "),
-            Part::Number(line),
-            Part::Words(b": "),
+            LinePart::Words(b"race "),
+            LinePart::Number(number as u64),
+            LinePart::Words(b", line "),
+            LinePart::Number(line),
+            LinePart::Words(b": "),
         ],
         text,
     )?;

@@ -10,7 +10,7 @@ use std::alloc::Allocator;
 
 // A part of a line.
 #[derive(Clone, Copy)]
-pub(crate) enum Part<'t> {
+pub(crate) enum LinePart<'t> {
     Words(&'t [u8]),
     Number(u64),
     // A place that is counted from 0. It is written counted from 1.
@@ -20,15 +20,15 @@ pub(crate) enum Part<'t> {
     Address(Ip),
 }
 
-fn write_part<A: Allocator + Copy>(part: Part, text: &mut Vec<u8, A>) -> Result<(), Memory>
+fn write_part<A: Allocator + Copy>(part: LinePart, text: &mut Vec<u8, A>) -> Result<(), Memory>
     ensures { OnOk result (text.new.items ≡ text.old.items ++ part_text part.entry) }
 {
     match part {
-        Part::Words(words) => write_words(words, text),
-        Part::Number(number) => write_number(number, text),
-        Part::Place(place) => write_wide(place as u128 + 1, text),
-        Part::Top(place) => write_wide(24 * (place as u128 + 2), text),
-        Part::Address(ip) => write_ip(ip, text),
+        LinePart::Words(words) => write_words(words, text),
+        LinePart::Number(number) => write_number(number, text),
+        LinePart::Place(place) => write_wide(place as u128 + 1, text),
+        LinePart::Top(place) => write_wide(24 * (place as u128 + 2), text),
+        LinePart::Address(ip) => write_ip(ip, text),
     }
 }
 
@@ -50,7 +50,7 @@ pub(crate) fn write_words<A: Allocator + Copy>(
 }
 
 pub(crate) fn write_parts<A: Allocator + Copy>(
-    parts: &[Part],
+    parts: &[LinePart],
     text: &mut Vec<u8, A>,
 ) -> Result<(), Memory>
     ensures { OnOk result (text.new.items ≡ text.old.items ++ flat_map part_text parts.now) }

@@ -7,7 +7,7 @@ ghost use Rattle.he_draw.specs.Svg.{bar_width, circle_text, kind_of_mark, label_
 use crate::drawing::sign_of_mark;
 use crate::frame::Frame;
 use crate::look::{Look, sign_text};
-use crate::parts::{Part, write_parts, write_words};
+use crate::parts::{LinePart, write_parts, write_words};
 use crate::rows::Row;
 use crate::words::{stop_of_mark, write_label, write_row_words};
 use he_addr::Memory;
@@ -53,13 +53,13 @@ fn write_rect<A: Allocator + Copy>(
 {
     write_parts(
         &[
-            Part::Words(b"<rect class='"),
-            Part::Words(kind),
-            Part::Words(b"' x='"),
-            Part::Number(x_of(end, from)),
-            Part::Words(b"' y='7' width='"),
-            Part::Number(bar_width(end, from, to)),
-            Part::Words(b"' height='10'/>"),
+            LinePart::Words(b"<rect class='"),
+            LinePart::Words(kind),
+            LinePart::Words(b"' x='"),
+            LinePart::Number(x_of(end, from)),
+            LinePart::Words(b"' y='7' width='"),
+            LinePart::Number(bar_width(end, from, to)),
+            LinePart::Words(b"' height='10'/>"),
         ],
         text,
     )
@@ -75,9 +75,9 @@ fn write_circle<A: Allocator + Copy>(
 {
     write_parts(
         &[
-            Part::Words(b"<circle cx='"),
-            Part::Number(x_of(end, tick)),
-            Part::Words(b"' cy='12' r='4'/>"),
+            LinePart::Words(b"<circle cx='"),
+            LinePart::Number(x_of(end, tick)),
+            LinePart::Words(b"' cy='12' r='4'/>"),
         ],
         text,
     )
@@ -104,11 +104,11 @@ fn write_mark<A: Allocator + Copy>(
     let sign = sign_text(Look::Unicode, sign_of_mark(mark));
     write_parts(
         &[
-            Part::Words(b"<text x='"),
-            Part::Number(x_of(end, stop_of_mark(mark)) + 4),
-            Part::Words(b"' y='17'>"),
-            Part::Words(sign),
-            Part::Words(b"</text>"),
+            LinePart::Words(b"<text x='"),
+            LinePart::Number(x_of(end, stop_of_mark(mark)) + 4),
+            LinePart::Words(b"' y='17'>"),
+            LinePart::Words(sign),
+            LinePart::Words(b"</text>"),
         ],
         text,
     )
@@ -138,9 +138,9 @@ fn write_row_opening<A: Allocator + Copy>(place: usize, text: &mut Vec<u8, A>) -
 {
     write_parts(
         &[
-            Part::Words(b"<g transform='translate(0 "),
-            Part::Top(place),
-            Part::Words(b")'>"),
+            LinePart::Words(b"<g transform='translate(0 "),
+            LinePart::Top(place),
+            LinePart::Words(b")'>"),
         ],
         text,
     )

@@ -6,7 +6,7 @@ ghost use Rattle.he_draw.specs.Svg.{DrawsSvg, IsSvg, body_svg, caption_text, edg
 
 use crate::collecting::{collect_rows, end_tick};
 use crate::heading::write_heading;
-use crate::parts::{Part, write_parts, write_words};
+use crate::parts::{LinePart, write_parts, write_words};
 use crate::rows::Row;
 use crate::shapes::write_shapes;
 use he_addr::Memory;
@@ -21,9 +21,9 @@ fn write_opening<A: Allocator + Copy>(count: usize, text: &mut Vec<u8, A>) -> Re
 {
     write_parts(
         &[
-            Part::Words(b"<svg xmlns='http://www.w3.org/2000/svg' viewBox='-8 0 1056 "),
-            Part::Top(count),
-            Part::Words(b"' font-family='monospace' font-size='12'>\n"),
+            LinePart::Words(b"<svg xmlns='http://www.w3.org/2000/svg' viewBox='-8 0 1056 "),
+            LinePart::Top(count),
+            LinePart::Words(b"' font-family='monospace' font-size='12'>\n"),
         ],
         text,
     )
@@ -37,19 +37,19 @@ pub fn write_style<A: Allocator + Copy>(text: &mut Vec<u8, A>) -> Result<(), Mem
 {
     write_parts(
         &[
-            Part::Words(
+            LinePart::Words(
                 b"<style>\nsvg{background:#fff}\ntext{fill:#222}\ncircle{fill:#24a}\npath{stroke:#888}\n",
             ),
-            Part::Words(
+            LinePart::Words(
                 b".wait{fill:url(#dots)}\n.pause{fill:url(#hatch)}\n.won{fill:#171}\n.failed{fill:#b22}\n.cancelled{fill:#999}\n",
             ),
-            Part::Words(
+            LinePart::Words(
                 b"@media(prefers-color-scheme:dark){svg{background:#222}text{fill:#ddd}circle{fill:#8af}.won{fill:#4c4}.failed{fill:#f66}}\n</style>\n",
             ),
-            Part::Words(
+            LinePart::Words(
                 b"<defs>\n<pattern id='dots' width='5' height='5' patternUnits='userSpaceOnUse'><circle cx='2' cy='2' r='1'/></pattern>\n",
             ),
-            Part::Words(
+            LinePart::Words(
                 b"<pattern id='hatch' width='5' height='5' patternUnits='userSpaceOnUse'><path d='M0 5L5 0'/></pattern>\n</defs>\n",
             ),
         ],
@@ -115,15 +115,15 @@ fn write_edges<A: Allocator + Copy>(
 {
     write_parts(
         &[
-            Part::Words(b"<path d='M300 48V"),
-            Part::Top(count),
-            Part::Words(b"M801 48V"),
-            Part::Top(count),
-            Part::Words(
+            LinePart::Words(b"<path d='M300 48V"),
+            LinePart::Top(count),
+            LinePart::Words(b"M801 48V"),
+            LinePart::Top(count),
+            LinePart::Words(
                 b"'/>\n<text x='300' y='42'>0</text><text x='801' y='42' text-anchor='end'>",
             ),
-            Part::Number(end),
-            Part::Words(b" ms</text>\n"),
+            LinePart::Number(end),
+            LinePart::Words(b" ms</text>\n"),
         ],
         text,
     )

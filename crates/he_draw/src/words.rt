@@ -3,7 +3,7 @@
 ghost use Rattle.std.specs.Prelude.{◌≡◌, ◌++◌, OnOk};
 ghost use Rattle.he_draw.specs.Words.{family_text, became_text, label_text, range_text, stop_of_mark, words_text};
 
-use crate::parts::{Part, write_parts, write_words};
+use crate::parts::{LinePart, write_parts, write_words};
 use crate::rows::Row;
 use he_addr::{Family, Memory, write_ip};
 use he_plan::Mark;
@@ -68,10 +68,10 @@ fn write_range<A: Allocator + Copy>(
 {
     write_parts(
         &[
-            Part::Number(from),
-            Part::Words(b"-"),
-            Part::Number(to),
-            Part::Words(what),
+            LinePart::Number(from),
+            LinePart::Words(b"-"),
+            LinePart::Number(to),
+            LinePart::Words(what),
         ],
         text,
     )
@@ -87,21 +87,21 @@ pub(crate) fn write_row_words<A: Allocator + Copy>(
     match row {
         Row::Answered(_, tick, usable) => write_parts(
             &[
-                Part::Number(tick),
-                Part::Words(b" ms, "),
-                Part::Number(usable as u64),
-                Part::Words(b" usable"),
+                LinePart::Number(tick),
+                LinePart::Words(b" ms, "),
+                LinePart::Number(usable as u64),
+                LinePart::Words(b" usable"),
             ],
             text,
         ),
         Row::Waits(from, to, usable) => write_parts(
             &[
-                Part::Number(from),
-                Part::Words(b"-"),
-                Part::Number(to),
-                Part::Words(b" ms wait, "),
-                Part::Number(usable as u64),
-                Part::Words(b" usable"),
+                LinePart::Number(from),
+                LinePart::Words(b"-"),
+                LinePart::Number(to),
+                LinePart::Words(b" ms wait, "),
+                LinePart::Number(usable as u64),
+                LinePart::Words(b" usable"),
             ],
             text,
         ),

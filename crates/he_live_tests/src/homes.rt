@@ -4,7 +4,7 @@ use he_inputs::read_one_race;
 use he_live::{LiveFault, Reason, Steps, live_race, live_race_on};
 use he_plan::{Mark, Outcome3, Transcript};
 use he_race::Raced;
-use he_replay::{Asked, Content, replay};
+use he_replay::{Content, TextRequest, replay};
 use he_stream::{FromReader, ToWriter};
 use he_write::{write_timeline, write_transcript};
 use std::alloc::AllocGlobal;
@@ -87,7 +87,7 @@ pub fn replays<R: Lender>(rt: &R, transcript: &[u8], record: &[u8]) -> Result<bo
     let told = replay(
         rt,
         rt.alloc(),
-        Asked::of(Content::Transcript),
+        TextRequest::of(Content::Transcript),
         1,
         &mut input,
         &mut output,

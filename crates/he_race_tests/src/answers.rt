@@ -1,7 +1,7 @@
 // Races whose answers come while they run, over a source that tells them from a tick on and a ticker that visits
 // ticks.
 
-use crate::homes::{Given, V4_A, V6_A, V6_B, race, unanswered};
+use crate::homes::{PlannedRace, V4_A, V6_A, V6_B, race, unanswered};
 use crate::races::drive;
 use futures::task::{Context, Doorbell, Poll, Solo};
 use he_addr::{Family, Ip};
@@ -14,7 +14,7 @@ use std::test::Fail;
 
 // What a source tells of a family.
 #[derive(Clone, Copy)]
-enum Told {
+enum SourceAnswer {
     Nothing,
     One(Ip),
     // addresses of both families, some of them twice
@@ -23,12 +23,12 @@ enum Told {
     Many,
 }
 
-fn addresses(alloc: Global, told: Told) -> Result<Vec<Ip>, AllocError> {
+fn addresses(alloc: Global, told: SourceAnswer) -> Result<Vec<Ip>, AllocError> {
     match told {
-        Told::Nothing => Ok(Vec::new(alloc)),
-        Told::One(ip) => Vec::from_slice(alloc, &[ip]),
-        Told::Mixed => Vec::from_slice(alloc, &[V4_A, V6_A, V6_A, V4_A, V6_B]),
-        Told::Many => many(alloc),
+        SourceAnswer::Nothing => Ok(Vec::new(alloc)),
+        SourceAnswer::One(ip) => Vec::from_slice(alloc, &[ip]),
+        SourceAnswer::Mixed => Vec::from_slice(alloc, &[V4_A, V6_A, V6_A, V4_A, V6_B]),
+        SourceAnswer::Many => many(alloc),
     }
 }
 
@@ -44,8 +44,8 @@ fn many(alloc: Global) -> Result<Vec<Ip>, AllocError> {
 #[derive(Clone, Copy, Drop)]
 struct Telling {
     alloc: Global,
-    six: Option<(u64, Told)>,
-    four: Option<(u64, Told)>,
+    six: Option<(u64, SourceAnswer)>,
+    four: Option<(u64, SourceAnswer)>,
 }
 
 impl AnswerSource for Telling {
@@ -132,14 +132,14 @@ fn short_in(given: &Option<Result<Raced<()>, RaceFault>>) -> Option<Short> {
 // What a source tells, and the ticks at which the race is polled.
 #[derive(Clone, Copy)]
 struct Case {
-    six: Option<(u64, Told)>,
-    four: Option<(u64, Told)>,
+    six: Option<(u64, SourceAnswer)>,
+    four: Option<(u64, SourceAnswer)>,
     ticks: [u64; 6],
 }
 
 // The outcomes of the race: the IPv6 address fails after 2, the IPv4 address succeeds after 10.
-fn script() -> Given {
-    Given {
+fn script() -> PlannedRace {
+    PlannedRace {
         limit: 1_000,
         floor: None,
         has_second: false,
@@ -162,7 +162,7 @@ fn run_by(
     alloc: Global,
     solo: &Solo,
     timeline: &Timeline,
-    given: &Given,
+    given: &PlannedRace,
     case: Case,
 ) -> Result<Option<Short>, Fail> {
     let unanswered = unanswered(alloc, given)?;
@@ -200,8 +200,8 @@ fn late_answer_takes_part(rt: HostRuntime) -> Result<(), Fail> {
     let solo = Solo::new(&rt, Doorbell::spinning())?;
     let alloc: Global = rt.alloc();
     let within = Case {
-        six: Some((33, Told::One(V6_A))),
-        four: Some((4, Told::One(V4_A))),
+        six: Some((33, SourceAnswer::One(V6_A))),
+        four: Some((4, SourceAnswer::One(V4_A))),
         ticks: [0, 4, 33, 35, 283, 293],
     };
     let won = Short {
@@ -215,8 +215,8 @@ fn late_answer_takes_part(rt: HostRuntime) -> Result<(), Fail> {
     assert_eq!(rt; run(alloc, &solo, within)?, Some(won));
     // It comes at the tick of a success of the other family, and is recorded.
     let at_success = Case {
-        six: Some((64, Told::One(V6_A))),
-        four: Some((4, Told::One(V4_A))),
+        six: Some((64, SourceAnswer::One(V6_A))),
+        four: Some((4, SourceAnswer::One(V4_A))),
         ticks: [0, 4, 54, 64, 64, 64],
     };
     let first = Short {
@@ -246,8 +246,8 @@ fn late_answer_takes_its_turn(rt: HostRuntime) -> Result<(), Fail> {
     let solo = Solo::new(&rt, Doorbell::spinning())?;
     let alloc: Global = rt.alloc();
     let behind = Case {
-        six: Some((4, Told::Mixed)),
-        four: Some((30, Told::One(V4_A))),
+        six: Some((4, SourceAnswer::Mixed)),
+        four: Some((30, SourceAnswer::One(V4_A))),
         ticks: [0, 4, 6, 30, 254, 264],
     };
     let second = Short {
@@ -268,8 +268,8 @@ fn answers_count_from_their_turn(rt: HostRuntime) -> Result<(), Fail> {
     let solo = Solo::new(&rt, Doorbell::spinning())?;
     let alloc: Global = rt.alloc();
     let slept = Case {
-        six: Some((33, Told::One(V6_A))),
-        four: Some((4, Told::One(V4_A))),
+        six: Some((33, SourceAnswer::One(V6_A))),
+        four: Some((4, SourceAnswer::One(V4_A))),
         ticks: [0, 100, 102, 350, 360, 360],
     };
     let won = Short {
@@ -290,8 +290,8 @@ fn answers_at_the_limit(rt: HostRuntime) -> Result<(), Fail> {
     let solo = Solo::new(&rt, Doorbell::spinning())?;
     let alloc: Global = rt.alloc();
     let at = Case {
-        six: Some((1_000, Told::One(V6_A))),
-        four: Some((1_001, Told::One(V4_A))),
+        six: Some((1_000, SourceAnswer::One(V6_A))),
+        four: Some((1_001, SourceAnswer::One(V4_A))),
         ticks: [0, 1_000, 1_000, 1_000, 1_000, 1_000],
     };
     let limit = Short {
@@ -323,8 +323,8 @@ fn told_addresses_are_cleaned(rt: HostRuntime) -> Result<(), Fail> {
     let solo = Solo::new(&rt, Doorbell::spinning())?;
     let alloc: Global = rt.alloc();
     let nothing = Case {
-        six: Some((5, Told::Nothing)),
-        four: Some((7, Told::One(V6_A))),
+        six: Some((5, SourceAnswer::Nothing)),
+        four: Some((7, SourceAnswer::One(V6_A))),
         ticks: [0, 5, 7, 7, 7, 7],
     };
     let exhausted = Short {
@@ -337,8 +337,8 @@ fn told_addresses_are_cleaned(rt: HostRuntime) -> Result<(), Fail> {
     };
     assert_eq!(rt; run(alloc, &solo, nothing)?, Some(exhausted));
     let mixed = Case {
-        six: Some((0, Told::Mixed)),
-        four: Some((0, Told::Mixed)),
+        six: Some((0, SourceAnswer::Mixed)),
+        four: Some((0, SourceAnswer::Mixed)),
         ticks: [0, 2, 250, 260, 260, 260],
     };
     let won = Short {
@@ -351,7 +351,7 @@ fn told_addresses_are_cleaned(rt: HostRuntime) -> Result<(), Fail> {
     };
     assert_eq!(rt; run(alloc, &solo, mixed)?, Some(won));
     let many = Case {
-        six: Some((0, Told::Many)),
+        six: Some((0, SourceAnswer::Many)),
         ..mixed
     };
     assert_eq!(rt;

@@ -1,6 +1,6 @@
 // One attempt at a time: what it comes to by the rules of a race.
 
-use crate::homes::{Given, race};
+use crate::homes::{PlannedRace, race};
 use he_plan::{Fate, Plan, plan};
 use he_race::run_attempt;
 use he_timeline::{Outcome, Timeline};
@@ -11,13 +11,13 @@ use std::test::Fail;
 /// A race, the place of an attempt, and what becomes of it.
 #[derive(Clone, Copy)]
 struct Case {
-    given: Given,
+    given: PlannedRace,
     place: usize,
     fate: Fate,
 }
 
-const fn plain(limit: u64, v6: Option<Outcome>, v4: Option<Outcome>) -> Given {
-    Given {
+const fn plain(limit: u64, v6: Option<Outcome>, v4: Option<Outcome>) -> PlannedRace {
+    PlannedRace {
         limit,
         floor: None,
         has_second: false,
@@ -33,7 +33,7 @@ fn cases() -> [Case; 9] {
     let tie = plain(30_000, Some(Outcome::Ok(300)), Some(Outcome::Ok(50)));
     let fails = plain(30_000, Some(Outcome::Fail(5)), Some(Outcome::Fail(5)));
     let silent = plain(30_000, None, None);
-    let paused = Given {
+    let paused = PlannedRace {
         limit: 30_000,
         floor: None,
         has_second: false,
@@ -42,7 +42,7 @@ fn cases() -> [Case; 9] {
         v4: None,
         pause: Some((30, 400)),
     };
-    let slept = Given {
+    let slept = PlannedRace {
         pause: Some((320, 500)),
         ..paused
     };

@@ -50,7 +50,7 @@ fn host(alloc: Global) -> Result<Host, Fail> {
 /// A race whose answers come at these ticks, with these outcomes of its two addresses, and maybe with a floor and with
 /// a second IPv6 address, which is silent.
 #[derive(Clone, Copy)]
-pub struct Given {
+pub struct PlannedRace {
     pub limit: u64,
     pub floor: Option<u64>,
     pub has_second: bool,
@@ -69,7 +69,7 @@ pub struct Known {
     pub succeeds: Ip,
 }
 
-fn fill(builder: &mut TimelineBuilder, given: &Given) -> Result<(), Fail> {
+fn fill(builder: &mut TimelineBuilder, given: &PlannedRace) -> Result<(), Fail> {
     let count = if given.has_second { 2 } else { 1 };
     builder.answer(Family::V6, given.answers.0, &[V6_A, V6_B][..count])?;
     builder.answer(Family::V4, given.answers.1, &[V4_A])?;
@@ -95,7 +95,7 @@ fn empty(alloc: Global, settings: Settings, host: Host) -> Result<TimelineBuilde
     }
 }
 
-fn settings(given: &Given) -> Result<Settings, Range> {
+fn settings(given: &PlannedRace) -> Result<Settings, Range> {
     let settings = Settings::new(50, 250, 1, given.limit)?;
     match given.floor {
         Some(floor) => settings.with_floor(floor),
@@ -126,14 +126,14 @@ fn finished(builder: TimelineBuilder, filled: Result<(), Fail>) -> Result<Timeli
     }
 }
 
-pub fn race(alloc: Global, given: &Given) -> Result<Timeline, Fail> {
+pub fn race(alloc: Global, given: &PlannedRace) -> Result<Timeline, Fail> {
     let mut builder = empty(alloc, settings(given)?, host(alloc)?)?;
     let filled = fill(&mut builder, given);
     finished(builder, filled)
 }
 
 /// The same race with neither answers nor outcomes.
-pub fn unanswered(alloc: Global, given: &Given) -> Result<Timeline, Fail> {
+pub fn unanswered(alloc: Global, given: &PlannedRace) -> Result<Timeline, Fail> {
     Ok(empty(alloc, settings(given)?, host(alloc)?)?.finish())
 }
 
@@ -144,8 +144,8 @@ pub fn known_race(alloc: Global, known: &Known) -> Result<Timeline, Fail> {
 }
 
 /// The first race: its IPv6 address succeeds after 35, and the IPv4 address does what is given.
-pub fn first_race(v4: Option<Outcome>) -> Given {
-    Given {
+pub fn first_race(v4: Option<Outcome>) -> PlannedRace {
+    PlannedRace {
         limit: 30_000,
         floor: None,
         has_second: false,

@@ -3,7 +3,7 @@
 
 ghost use Rattle.std.specs.Prelude.{◌≤◌};
 
-use crate::homes::{Given, V4_A, V6_A, first_race, race};
+use crate::homes::{PlannedRace, V4_A, V6_A, first_race, race};
 use futures::Future;
 use futures::task::{Context, Doorbell, Poll, Solo};
 use he_addr::Ip;
@@ -256,7 +256,7 @@ fn tickers_that_misbehave(rt: HostRuntime) -> Result<(), Fail> {
 }
 
 // The race over a wheel, with a connector that cannot begin at the first `faulty` places.
-fn by_wheel(alloc: Global, solo: &Solo, given: &Given, faulty: usize) -> Result<Seen, Fail> {
+fn by_wheel(alloc: Global, solo: &Solo, given: &PlannedRace, faulty: usize) -> Result<Seen, Fail> {
     let timeline = race(alloc, given)?;
     let seen = seen_at(alloc, solo, &timeline, faulty);
     drop(timeline);
@@ -304,7 +304,7 @@ fn attempts_that_cannot_begin_fail(rt: HostRuntime) -> Result<(), Fail> {
 fn pause_over_the_start_is_recorded(rt: HostRuntime) -> Result<(), Fail> {
     let solo = Solo::new(&rt, Doorbell::spinning())?;
     let alloc: Global = rt.alloc();
-    let given = Given {
+    let given = PlannedRace {
         limit: 30_000,
         floor: None,
         has_second: false,
@@ -328,10 +328,10 @@ fn pause_over_the_start_is_recorded(rt: HostRuntime) -> Result<(), Fail> {
 
 // A race with this floor, both answers at 20 and these failures, and what is seen of it: the second attempt starts at
 // a tick and fails 5 ticks later, where the race ends unless it is told otherwise.
-fn by_floor(floor: u64, v6: u64, start: u64) -> (Given, Short)
+fn by_floor(floor: u64, v6: u64, start: u64) -> (PlannedRace, Short)
     requires { start ≤ 270 }
 {
-    let given = Given {
+    let given = PlannedRace {
         limit: 30_000,
         floor: Some(floor),
         has_second: false,
@@ -354,14 +354,14 @@ fn by_floor(floor: u64, v6: u64, start: u64) -> (Given, Short)
 
 // With a floor a start waits for it, for the first attempt's failure at 25, 30, 80 or 320, and for no more than the
 // attempt delay; a pause moves it; and the first attempt may run, so that only the attempt delay counts.
-fn floors() -> [(Given, Short); 6] {
+fn floors() -> [(PlannedRace, Short); 6] {
     let (plain, seen) = by_floor(100, 5, 120);
     let (late, exhausted) = by_floor(10, 300, 270);
     let late_end = Short {
         result: Outcome3::Exhausted(320),
         ..exhausted
     };
-    let paused = Given {
+    let paused = PlannedRace {
         pause: Some((100, 200)),
         ..plain
     };
@@ -372,7 +372,7 @@ fn floors() -> [(Given, Short); 6] {
         pause: Some((120, 200)),
         ..seen
     };
-    let running = Given {
+    let running = PlannedRace {
         limit: 1_000,
         floor: Some(10),
         has_second: true,

@@ -1,6 +1,6 @@
 // A ticker over a race that sleeps from 30 to 399.
 
-use crate::homes::{Given, race};
+use crate::homes::{PlannedRace, race};
 use futures::task::{Doorbell, Solo};
 use he_race::{Ticker, WheelTicker};
 use he_timeline::Timeline;
@@ -47,7 +47,7 @@ fn ticker_goes_where_it_was_asked(rt: HostRuntime) -> Result<(), Fail> {
     let alloc: Global = rt.alloc();
     let timeline = race(
         alloc,
-        &Given {
+        &PlannedRace {
             limit: 30_000,
             floor: None,
             has_second: false,

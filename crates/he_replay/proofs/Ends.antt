@@ -20,13 +20,13 @@ use Rattle.he_replay.specs.Output.{TextRelation}
 use Rattle.he_replay.specs.Rounds.{EndsWithFault, GoesOn, HasTold, IsAt, IsFaultPast, PutsAny, PutsRound}
 use Rattle.he_replay.specs.Stream.{PutsOutput, Streams, TellsSome}
 use Rattle.he_replay.proofs.Further.{last_output, not_broken, one_more_round, round_failed, round_on, some_told, told_output}
-use Rattle.he_replay.proofs.Told.{none_told}
+use Rattle.he_replay.proofs.RoundEnd.{none_told}
 
 -- a fault that is handed on
-pub ends_handed : (IsText : TextRelation) (Gave : List ℕ → Bool → Type 0) (Taken Whole Part Put : List ℕ → Type 0) (result : Result (Unit {0}) StreamFault) (fault : StreamFault)
-    → IsErr result × IsErrAnd result (λ f. f ≡ fault) → Streams IsText Gave Taken Whole Part Put (Err fault) → Streams IsText Gave Taken Whole Part Put result
-ends_handed IsText Gave Taken Whole Part Put (Ok done) fault told ends = absurd told.1
-ends_handed IsText Gave Taken Whole Part Put (Err found) fault told ends = subst (λ (f : StreamFault). Streams IsText Gave Taken Whole Part Put (Err f)) (sym told.1) ends
+pub ends_handed : (IsText : TextRelation) (Gave : List ℕ → Bool → Type 0) (Taken Whole RoundScope Put : List ℕ → Type 0) (result : Result (Unit {0}) StreamFault) (fault : StreamFault)
+    → IsErr result × IsErrAnd result (λ f. f ≡ fault) → Streams IsText Gave Taken Whole RoundScope Put (Err fault) → Streams IsText Gave Taken Whole RoundScope Put result
+ends_handed IsText Gave Taken Whole RoundScope Put (Ok done) fault told ends = absurd told.1
+ends_handed IsText Gave Taken Whole RoundScope Put (Err found) fault told ends = subst (λ (f : StreamFault). Streams IsText Gave Taken Whole RoundScope Put (Err f)) (sym told.1) ends
 
 -- an input that ended goes on no more
 not_open : (is_broken : Bool) → ending_of is_broken ≡ endings.Open → ⊥

@@ -16,7 +16,7 @@ use Rattle.he_inputs.proofs.RaceReadingLaws.{line_count-append}
 use Rattle.std.specs.Result.{IsErr, IsErrAnd}
 use Rattle.he_inputs.specs.declared.stream_fault.StreamFault.{StreamFault}
 use Rattle.he_inputs.specs.declared.stream_fault.StreamFault.TheVariants as faults
-use Rattle.he_replay.specs.declared.rounds.Told.{Told}
+use Rattle.he_replay.specs.declared.rounds.RoundEnd.{RoundEnd}
 use Rattle.he_replay.specs.Output.{AreTold, IsOutput, TextRelation}
 use Rattle.he_replay.specs.Rounds.{GoesOn, HasTold, IsAt, IsFaultPast, PutsRound, PutsTold}
 use Rattle.he_replay.specs.Stream.{TellsSome}
@@ -116,7 +116,7 @@ not_broken bytes reader is = no_break reader.races reader.lines (drop reader.end
 
 -- how a round ends of which so much was told, by how the text was put
 module _ {S : Type 0} (IsText : TextRelation) (contents : S → Option (List ℕ)) (puts : S → Put → S → Type 0) (flushes : S → Flushed → S → Type 0)
-    (ending : Ending) (bytes : List ℕ) (from : RaceReader) (kept text : List ℕ) (told : Told) (has : HasTold IsText bytes from.races from.lines text told.reader)
+    (ending : Ending) (bytes : List ℕ) (from : RaceReader) (kept text : List ℕ) (told : RoundEnd) (has : HasTold IsText bytes from.races from.lines text told.reader)
     (is : ((ending ≡ endings.Open) × (told.fault ≡ None)) ⊎ IsFaultPast ending bytes told.reader told.fault) (first last : S)
   where
     past : (fault : InputFault) → told.fault ≡ Some fault → IsFaultPast ending bytes told.reader (Some fault)

@@ -5,4 +5,4 @@ pub mod Known
 pub mod Moved
 pub mod OneOutput
 pub mod RaceTexts
-pub mod Told
+pub mod RoundEnd

@@ -61,8 +61,8 @@ module _
         → IsOutput (IsTextWith content changes) input is_broken text fault → IsOutput (IsTextWith content changes) input is_broken other other_fault → (text ≡ other) × (fault ≡ other_fault)
     one_output content changes input is_broken text other fault other_fault x y =
         let same = one_input input is_broken x.races y.races fault other_fault x.has y.has in
-        let Told : List Race → Type 0 = λ races. AreTold (IsTextWith content changes) 1 1 races x.has.before text in (
+        let RoundEnd : List Race → Type 0 = λ races. AreTold (IsTextWith content changes) 1 1 races x.has.before text in (
           one_told (IsTextWith content changes) (λ number line race. one_text content number line (changed changes race)) one_race_first 1 1 y.races x.has.before x.has.rest y.has.before y.has.rest text other
-              (sym x.has.parts ∙ y.has.parts) (subst Told same.0 x.told) y.told,
+              (sym x.has.parts ∙ y.has.parts) (subst RoundEnd same.0 x.told) y.told,
           same.1,
         )

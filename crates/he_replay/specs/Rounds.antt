@@ -15,12 +15,12 @@ use Rattle.he_words.specs.Ranges.{most_races}
 use Rattle.he_inputs.specs.RaceReading.{MayFollow}
 use Rattle.he_inputs.specs.declared.stream_fault.StreamFault.{StreamFault}
 use Rattle.he_inputs.specs.declared.stream_fault.StreamFault.TheVariants as faults
-use Rattle.he_replay.specs.declared.race_texts.Asked.{Asked}
-use Rattle.he_replay.specs.declared.rounds.Told.{Told}
+use Rattle.he_replay.specs.declared.race_texts.TextRequest.{TextRequest}
+use Rattle.he_replay.specs.declared.rounds.RoundEnd.{RoundEnd}
 use Rattle.he_replay.specs.Output.{AreTold, IsTextWith, TextRelation}
 
 -- the text of what is asked for of the race
-abbrev pub IsAsked : Asked → ℕ → ℕ → List ℕ → Race → Type 0
+abbrev pub IsAsked : TextRequest → ℕ → ℕ → List ℕ → Race → Type 0
 IsAsked asked = IsTextWith asked.content asked.changes
 
 -- a text that is such was appended
@@ -50,7 +50,7 @@ TellsOn IsText bytes begun old new reader =
     (races lines : ℕ) → HasTold IsText bytes races lines old begun → HasTold IsText bytes races lines new reader
 
 -- races more were told, and what is wrong behind them, if that is known
-pub record Tells (IsText : TextRelation) (ending : Ending) (bytes : List ℕ) (begun : RaceReader) (old new : List ℕ) (told : Told) : Type 0 where
+pub record Tells (IsText : TextRelation) (ending : Ending) (bytes : List ℕ) (begun : RaceReader) (old new : List ℕ) (told : RoundEnd) : Type 0 where
   pub on : TellsOn IsText bytes begun old new told.reader
   pub fault_is : ((ending ≡ endings.Open) × (told.fault ≡ None)) ⊎ IsFaultPast ending bytes told.reader told.fault
 
@@ -60,7 +60,7 @@ PutsAny contents puts flushes ending text first last =
     PutsWhole contents puts flushes first last text ⊎ ((ending ≡ endings.Open) × (text ≡ []) × (first ≡ last))
 
 -- how the text of what was told is put: what is wrong with the input is told behind it
-abbrev pub PutsTold : {S : Type 0} → (S → Option (List ℕ)) → (S → Put → S → Type 0) → (S → Flushed → S → Type 0) → Ending → Told → List ℕ → S → S → Result RaceReader StreamFault → Type 0
+abbrev pub PutsTold : {S : Type 0} → (S → Option (List ℕ)) → (S → Put → S → Type 0) → (S → Flushed → S → Type 0) → Ending → RoundEnd → List ℕ → S → S → Result RaceReader StreamFault → Type 0
 PutsTold contents puts flushes ending told text first last (Ok reader) =
     (reader ≡ told.reader) × (told.fault ≡ None) × PutsAny contents puts flushes ending text first last
 PutsTold contents puts flushes ending told text first last (Err (faults.Text fault)) =

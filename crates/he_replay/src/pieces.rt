@@ -10,8 +10,8 @@ ghost use Rattle.he_replay.specs.Pieces.{ArePieces, IsAnywhere, IsPiece, MayTake
 ghost use Rattle.he_replay.specs.Rounds.{HasTold, IsAsked, TellsOn};
 
 use crate::limits::{LEAST_WORKERS, MOST_PIECES, MOST_RACES, MOST_WORKERS, PIECE_BYTES, RACE_END};
-use crate::race_texts::Asked;
-use crate::rounds::{Part, tell_races};
+use crate::race_texts::TextRequest;
+use crate::rounds::{RoundScope, tell_races};
 use he_board::{Board, Pass};
 use he_inputs::{Ending, RaceReader};
 use memchr::memmem;
@@ -44,7 +44,7 @@ pub(crate) fn tell_pieces<R: Threads + Sync, A: Allocator + Copy + Send + Sync>(
     bytes: &[u8],
     count: usize,
     workers: u16,
-    asked: &Asked,
+    asked: &TextRequest,
 ) -> Result<Vec<Piece<A>, A>, AllocError>
     requires some { LEAST_WORKERS ≤ workers }
     requires few { workers ≤ MOST_WORKERS }
@@ -66,7 +66,7 @@ fn run_workers<R: Threads + Sync, A: Allocator + Copy + Send + Sync>(
     pass: Pass,
     count: usize,
     workers: u16,
-    asked: &Asked,
+    asked: &TextRequest,
 ) -> Result<Vec<Piece<A>, A>, AllocError>
     requires { MayTake board.now pass count workers }
     ensures { IfOk result (λ pieces. ArePieces (IsAsked asked.now) bytes.now pieces.items) }
@@ -93,7 +93,7 @@ fn run_halves<R: Threads + Sync, A: Allocator + Copy + Send + Sync>(
     q: Pass,
     far: u16,
     count: usize,
-    asked: &Asked,
+    asked: &TextRequest,
 ) -> (
     Result<Vec<Piece<A>, A>, AllocError>,
     Result<Vec<Piece<A>, A>, AllocError>,
@@ -121,7 +121,7 @@ fn run_halves<R: Threads + Sync, A: Allocator + Copy + Send + Sync>(
 // What workers of both numbers told.
 fn join_halves<A: Allocator>(
     bytes: &[u8],
-    asked: &Asked,
+    asked: &TextRequest,
     left: Vec<Piece<A>, A>,
     right: Vec<Piece<A>, A>,
 ) -> Result<Vec<Piece<A>, A>, AllocError>
@@ -142,7 +142,7 @@ fn run_worker<A: Allocator + Copy>(
     board: &Board<A>,
     pass: Pass,
     count: usize,
-    asked: &Asked,
+    asked: &TextRequest,
 ) -> Result<Vec<Piece<A>, A>, AllocError>
     requires own { IsPassOf board.now pass }
     requires jobs { count ≤ jobs_of board.now }
@@ -164,7 +164,7 @@ fn tell_piece<A: Allocator + Copy>(
     bytes: &[u8],
     number: usize,
     count: usize,
-    asked: &Asked,
+    asked: &TextRequest,
 ) -> Result<Piece<A>, AllocError>
     requires { number < count }
     ensures { IfOk result (λ piece. IsPiece (IsAsked asked.now) bytes.now piece.from piece.text.items piece.reader) }
@@ -200,7 +200,7 @@ fn tell_range<A: Allocator + Copy>(
     bytes: &[u8],
     from: usize,
     end: usize,
-    asked: &Asked,
+    asked: &TextRequest,
     text: &mut Vec<u8, A>,
 ) -> Result<RaceReader, AllocError>
     requires from { from ≤ length bytes.now }
@@ -211,7 +211,7 @@ fn tell_range<A: Allocator + Copy>(
     if end <= from {
         return Ok(RaceReader::START);
     }
-    let part = Part {
+    let part = RoundScope {
         begun: RaceReader::START,
         reach: end - from,
         ending: Ending::Open,
@@ -224,7 +224,7 @@ fn tell_range<A: Allocator + Copy>(
 // begin, as long as each is races to its end and all of them together are few enough.
 pub(crate) fn join_pieces<A: Allocator>(
     bytes: &[u8],
-    asked: &Asked,
+    asked: &TextRequest,
     reader: RaceReader,
     pieces: &[Piece<A>],
     text: &mut Vec<u8, A>,
@@ -248,7 +248,7 @@ pub(crate) fn join_pieces<A: Allocator>(
 // Appends the text of each piece that begins where those end that were appended before.
 fn join_some<A: Allocator>(
     bytes: &[u8],
-    asked: &Asked,
+    asked: &TextRequest,
     before: RaceReader,
     pieces: &[Piece<A>],
     text: &mut Vec<u8, A>,

@@ -59,16 +59,16 @@ impl Content {
 
 /// What is asked for of each race of an input.
 #[derive(Clone, Copy)]
-pub struct Asked {
+pub struct TextRequest {
     /// What is written of it.
     pub content: Content,
     /// The settings with which it is taken in place of its own.
     pub changes: Changes,
 }
 
-impl Asked {
+impl TextRequest {
     /// This, of each race as it stands.
-    pub fn of(content: Content) -> Asked
+    pub fn of(content: Content) -> TextRequest
         ensures { result ≡ record {
           content = content;
           changes = record {
@@ -81,7 +81,7 @@ impl Asked {
           };
         } }
     {
-        Asked {
+        TextRequest {
             content,
             changes: Changes::none(),
         }

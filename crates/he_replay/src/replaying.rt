@@ -5,7 +5,7 @@ ghost use Rattle.he_stream.specs.Output.{PutsAndEnds, PutsInRounds, PutsRoundsPa
 ghost use Rattle.he_replay.specs.Stream.{Replays};
 
 use crate::limits::{LEAST_WORKERS, MOST_WORKERS};
-use crate::race_texts::Asked;
+use crate::race_texts::TextRequest;
 use crate::streaming::stream_races;
 use he_inputs::StreamFault;
 use he_stream::{InputStream, OutputStream};
@@ -49,7 +49,7 @@ pub fn replay<
 >(
     rt: &R,
     alloc: A,
-    asked: Asked,
+    asked: TextRequest,
     workers: u16,
     input: &mut I,
     output: &mut O,

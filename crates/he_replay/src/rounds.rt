@@ -6,7 +6,7 @@ ghost use Rattle.he_inputs.specs.RaceReading.{IsWithin};
 ghost use Rattle.he_replay.specs.Rounds.{HasTold, IsAsked, PutsRound, PutsTold, Tells};
 
 use crate::limits::{ARENA_BYTES, MOST_RACES};
-use crate::race_texts::Asked;
+use crate::race_texts::TextRequest;
 use bumpalo::Bump;
 use he_inputs::{Ending, InputFault, RaceReader, RaceReaderFault, StreamFault};
 use he_stream::{OutputStream, write_whole};
@@ -44,7 +44,7 @@ impl<A: Allocator> Held<A> {
 
 // What is asked of some bytes of an input.
 #[derive(Clone, Copy)]
-pub(crate) struct Part {
+pub(crate) struct RoundScope {
     // How far the reader of them has come, whose races are told already.
     pub(crate) begun: RaceReader,
     // How far races are looked for: none is read that begins there or behind it, unless nothing follows the bytes, or
@@ -54,7 +54,7 @@ pub(crate) struct Part {
     pub(crate) ending: Ending,
 }
 
-impl Part {
+impl RoundScope {
     // Whether the reader goes on that has come so far.
     fn goes_on(&self, reader: RaceReader) -> bool
         ensures { result ≡ false → self.now.ending ≡ endings.Open }
@@ -65,7 +65,7 @@ impl Part {
 
 // What was told of some bytes.
 #[derive(Clone, Copy)]
-pub(crate) struct Told {
+pub(crate) struct RoundEnd {
     // How far the reader came.
     pub(crate) reader: RaceReader,
     // What is wrong with the input behind that.
@@ -79,8 +79,8 @@ pub(crate) struct Told {
 pub(crate) fn put_round<A: Allocator + Copy, O: OutputStream>(
     alloc: A,
     held: &mut Held<A>,
-    part: Part,
-    asked: &Asked,
+    part: RoundScope,
+    asked: &TextRequest,
     text: &mut Vec<u8, A>,
     output: &mut O,
 ) -> Result<(), StreamFault>
@@ -110,7 +110,7 @@ pub(crate) fn put_round<A: Allocator + Copy, O: OutputStream>(
 // is wrong and there is no text, nothing is put.
 fn put_told<O: OutputStream>(
     ending: Ending,
-    told: Told,
+    told: RoundEnd,
     text: &[u8],
     output: &mut O,
 ) -> Result<RaceReader, StreamFault>
@@ -141,10 +141,10 @@ fn forget<A: Allocator>(bytes: &mut Vec<u8, A>, end: usize, filled: usize)
 pub(crate) fn tell_races<A: Allocator + Copy>(
     alloc: A,
     bytes: &[u8],
-    part: Part,
-    asked: &Asked,
+    part: RoundScope,
+    asked: &TextRequest,
     text: &mut Vec<u8, A>,
-) -> Result<Told, AllocError>
+) -> Result<RoundEnd, AllocError>
     requires { IsWithin bytes.now part.begun }
     ensures { IfOk result (Tells (IsAsked asked.now) part.ending bytes.now part.begun text.old.items text.new.items) }
 {
@@ -157,7 +157,7 @@ pub(crate) fn tell_races<A: Allocator + Copy>(
             Ok(Some(race)) => asked.write(&arena, race, number, line, text)?,
             Ok(None) => break,
             Err(RaceReaderFault::Input(fault)) => {
-                return Ok(Told {
+                return Ok(RoundEnd {
                     reader,
                     fault: Some(fault),
                 });
@@ -167,7 +167,7 @@ pub(crate) fn tell_races<A: Allocator + Copy>(
         // An arena that can't be reset is no fault: it grows.
         let _ = arena.reset();
     }
-    Ok(Told {
+    Ok(RoundEnd {
         reader,
         fault: None,
     })

@@ -7,7 +7,7 @@ ghost use Rattle.he_replay.specs.Rounds.{HasTold, IsAsked};
 
 use crate::limits::{LEAST_WORKERS, MOST_WORKERS, PIECES_OF_A_WORKER};
 use crate::pieces::{join_pieces, piece_count, tell_pieces};
-use crate::race_texts::Asked;
+use crate::race_texts::TextRequest;
 use crate::rounds::Held;
 use he_inputs::RaceReader;
 use std::alloc::{AllocError, Allocator};
@@ -20,7 +20,7 @@ pub(crate) fn begin_shared<R: Threads + Sync, A: Allocator + Copy + Send + Sync>
     held: &Held<A>,
     count: usize,
     workers: u16,
-    asked: &Asked,
+    asked: &TextRequest,
     text: &mut Vec<u8, A>,
 ) -> Result<RaceReader, AllocError>
     requires anywhere { LEAST_WORKERS < workers → IsAnywhere (IsAsked asked.now) }

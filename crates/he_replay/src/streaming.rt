@@ -14,8 +14,8 @@ ghost use Rattle.he_replay.specs.Stream.{Streams};
 use crate::limits::{
     FIRST_ROOM, LEAST_WORKERS, MOST_ROOM, MOST_WORKERS, RACE_END, SHARED_ROOM, TRIED_BYTES,
 };
-use crate::race_texts::Asked;
-use crate::rounds::{Held, Part, put_round};
+use crate::race_texts::TextRequest;
+use crate::rounds::{Held, RoundScope, put_round};
 use crate::sharing::begin_shared;
 use he_inputs::{Ending, RaceReader, StreamFault};
 use he_stream::limits::MOST_READS;
@@ -35,7 +35,7 @@ pub(crate) fn stream_races<
     rt: &R,
     alloc: A,
     workers: u16,
-    asked: &Asked,
+    asked: &TextRequest,
     input: &mut I,
     output: &mut O,
 ) -> Result<(), StreamFault>
@@ -98,7 +98,7 @@ fn tell_held<A: Allocator + Copy, O: OutputStream>(
     held: &mut Held<A>,
     count: usize,
     begun: RaceReader,
-    asked: &Asked,
+    asked: &TextRequest,
     text: &mut Vec<u8, A>,
     output: &mut O,
 ) -> Result<(), StreamFault>
@@ -123,7 +123,7 @@ fn tell_held<A: Allocator + Copy, O: OutputStream>(
     if reach == 0 {
         return Ok(());
     }
-    let part = Part {
+    let part = RoundScope {
         begun,
         reach,
         ending: Ending::Open,
@@ -136,7 +136,7 @@ fn end_held<A: Allocator + Copy, O: OutputStream>(
     alloc: A,
     held: &mut Held<A>,
     is_broken: bool,
-    asked: &Asked,
+    asked: &TextRequest,
     text: &mut Vec<u8, A>,
     output: &mut O,
 ) -> Result<(), StreamFault>
@@ -148,7 +148,7 @@ fn end_held<A: Allocator + Copy, O: OutputStream>(
         (take held.new.filled held.new.bytes.items) held.new.reader output.old output.new result }
 {
     text.clear();
-    let part = Part {
+    let part = RoundScope {
         begun: held.reader,
         reach: held.filled,
         ending: Ending::of(is_broken),

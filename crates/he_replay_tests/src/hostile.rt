@@ -1,7 +1,7 @@
 // Replays, orders and explanations of texts that break off, over readers and writers that fail.
 
 use he_inputs::StreamFault;
-use he_replay::{Asked, Content, replay};
+use he_replay::{Content, TextRequest, replay};
 use he_select::PolicyFault;
 use he_stream::{FromReader, InputStream, ToWriter};
 use he_words::{TextFault, TextKind};
@@ -55,7 +55,7 @@ pub fn run_over<R: Threads + Sync, A: Allocator + Copy + Send + Sync, I: InputSt
     input: &mut I,
     output: &mut ToWriter<FakeWriter>,
 ) -> Result<(), StreamFault> {
-    replay(rt, alloc, Asked::of(content), 4, input, output)
+    replay(rt, alloc, TextRequest::of(content), 4, input, output)
 }
 
 // Whether the call over the reader and the writer answers this, has written this, and has flushed so often.

@@ -4,7 +4,7 @@ ghost use Rattle.std.specs.Prelude.{◌≤◌};
 
 use he_inputs::StreamFault;
 use he_replay::limits::{PIECE_BYTES, PIECES_OF_A_WORKER};
-use he_replay::{Asked, Content, replay};
+use he_replay::{Content, TextRequest, replay};
 use he_stream::{FromReader, ToWriter};
 use he_words::{TextFault, TextKind};
 use refusing::{Refusing, each_growth_refused};
@@ -96,7 +96,7 @@ fn replayed<R: Threads + Sync>(
     let result = replay(
         rt,
         alloc,
-        Asked::of(Content::Transcript),
+        TextRequest::of(Content::Transcript),
         workers,
         &mut input,
         &mut output,
@@ -131,7 +131,7 @@ fn is_right<R: Threads + Sync>(
     let result = replay(
         rt,
         heap,
-        Asked::of(Content::Transcript),
+        TextRequest::of(Content::Transcript),
         2,
         &mut input,
         &mut output,

@@ -1,11 +1,11 @@
 -- What the lines of a story are made of.
 use Rattle.std.specs.Prelude.{ℕ, ◌+◌, ◌-◌, ◌==◌, ◌++◌, if◌then◌else◌, Bool, List, [], ◌∷◌, length, decimal, zero, suc}
 use Rattle.he_addr.specs.Printing.{printed}
-use Rattle.he_story.specs.declared.parts.Part.{Part}
-use Rattle.he_story.specs.declared.parts.Part.TheVariants as parts
+use Rattle.he_story.specs.declared.parts.LinePart.{LinePart}
+use Rattle.he_story.specs.declared.parts.LinePart.TheVariants as parts
 
 -- a place is told counted from 1
-abbrev pub part_text : Part → List ℕ
+abbrev pub part_text : LinePart → List ℕ
 part_text (parts.Words words) = words.now
 part_text (parts.Number n) = decimal n
 part_text (parts.Place place) = decimal (place + 1)

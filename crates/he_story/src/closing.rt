@@ -8,7 +8,7 @@ ghost use Rattle.he_timeline.specs.Timeline.{is_of};
 ghost use Rattle.he_explain.specs.Events.{end_event};
 ghost use Rattle.he_story.specs.Closing.{answer_text, closing_text, first_of, gap_text, missing_text, name_of, seen_text};
 
-use crate::parts::{Part, write_parts};
+use crate::parts::{LinePart, write_parts};
 use he_addr::{Family, Ip, Memory};
 use he_explain::end_tick;
 use he_plan::{Line, Transcript};
@@ -57,23 +57,23 @@ fn write_gap<A: Allocator + Copy>(
 ) -> Result<(), Memory>
     ensures { OnOk result (text.new.items ≡ text.old.items ++ gap_text family seen first) }
 {
-    let name = Part::Words(name_of(family));
+    let name = LinePart::Words(name_of(family));
     match first {
         Some(line) if seen < line.tick => write_parts(
             &[
-                Part::Number(line.tick - seen),
-                Part::Words(b" ms passed between the "),
+                LinePart::Number(line.tick - seen),
+                LinePart::Words(b" ms passed between the "),
                 name,
-                Part::Words(b" answer and the first attempt at one of its addresses\n"),
+                LinePart::Words(b" answer and the first attempt at one of its addresses\n"),
             ],
             text,
         ),
         Some(_) => Ok(()),
         None => write_parts(
             &[
-                Part::Words(b"no address of the "),
+                LinePart::Words(b"no address of the "),
                 name,
-                Part::Words(b" answer was tried\n"),
+                LinePart::Words(b" answer was tried\n"),
             ],
             text,
         ),
@@ -92,14 +92,14 @@ fn write_seen<A: Allocator + Copy>(
     ensures { OnOk result (text.new.items ≡ text.old.items ++ seen_text family end lines.now seen ips.now) }
 {
     if end < seen {
-        let name = Part::Words(name_of(family));
+        let name = LinePart::Words(name_of(family));
         return write_parts(
             &[
-                Part::Words(b"the "),
+                LinePart::Words(b"the "),
                 name,
-                Part::Words(b" answer came at "),
-                Part::Number(seen),
-                Part::Words(b" ms, after the end\n"),
+                LinePart::Words(b" answer came at "),
+                LinePart::Number(seen),
+                LinePart::Words(b" ms, after the end\n"),
             ],
             text,
         );
@@ -114,9 +114,13 @@ fn write_seen<A: Allocator + Copy>(
 fn write_missing<A: Allocator + Copy>(family: Family, text: &mut Vec<u8, A>) -> Result<(), Memory>
     ensures { OnOk result (text.new.items ≡ text.old.items ++ missing_text family) }
 {
-    let name = Part::Words(name_of(family));
+    let name = LinePart::Words(name_of(family));
     write_parts(
-        &[Part::Words(b"no "), name, Part::Words(b" answer came\n")],
+        &[
+            LinePart::Words(b"no "),
+            name,
+            LinePart::Words(b" answer came\n"),
+        ],
         text,
     )
 }

@@ -7,7 +7,7 @@ ghost use Rattle.he_story.specs.Beginning.{begins_unfailing, is_failure};
 ghost use Rattle.he_story.specs.Floor.{ends_sooner, floor_text, floored, setting_text, with_floor_text};
 
 use crate::heading::write_ending_of;
-use crate::parts::{Part, write_parts, write_words};
+use crate::parts::{LinePart, write_parts, write_words};
 use he_addr::Memory;
 use he_explain::end_tick;
 use he_plan::{Line, Transcript, transcript_of};
@@ -80,9 +80,9 @@ fn write_setting<A: Allocator + Copy>(text: &mut Vec<u8, A>) -> Result<(), Memor
 {
     write_parts(
         &[
-            Part::Words(b"with `set floor "),
-            Part::Number(MIN_FLOOR),
-            Part::Words(b"`: "),
+            LinePart::Words(b"with `set floor "),
+            LinePart::Number(MIN_FLOOR),
+            LinePart::Words(b"`: "),
         ],
         text,
     )

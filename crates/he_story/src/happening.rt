@@ -10,7 +10,7 @@ ghost use Rattle.he_explain.specs.Reasons.{all_attributes_of};
 ghost use Rattle.he_story.specs.Happening.{answer_of, answered_text, became_text, cause_text, event_line, events_text, happening_text, held_text, kind_text, listed_text, other_of, other_text, start_text, still_missing, taken, tick_width, turn_text};
 
 use crate::parts::{
-    Part, unless, width_of, write_aligned, write_counted, write_parts, write_words,
+    LinePart, unless, width_of, write_aligned, write_counted, write_parts, write_words,
 };
 use he_addr::{Family, Memory};
 use he_explain::{
@@ -31,27 +31,27 @@ fn write_cause<A: Allocator + Copy>(cause: Cause, text: &mut Vec<u8, A>) -> Resu
         Cause::ResolutionDelay => write_words(b"the wait for the AAAA answer is over", text),
         Cause::AttemptDelay(place, delay) => write_parts(
             &[
-                Part::Number(delay),
-                Part::Words(b" ms after the start of attempt "),
-                Part::Place(place),
+                LinePart::Number(delay),
+                LinePart::Words(b" ms after the start of attempt "),
+                LinePart::Place(place),
             ],
             text,
         ),
         Cause::Floor(place, floor) => write_parts(
             &[
-                Part::Words(b"all before have failed, and the floor of "),
-                Part::Number(floor),
-                Part::Words(b" ms after attempt "),
-                Part::Place(place),
-                Part::Words(b" is over"),
+                LinePart::Words(b"all before have failed, and the floor of "),
+                LinePart::Number(floor),
+                LinePart::Words(b" ms after attempt "),
+                LinePart::Place(place),
+                LinePart::Words(b" is over"),
             ],
             text,
         ),
         Cause::LastFailure(tick) => write_parts(
             &[
-                Part::Words(b"all before have failed, the last one at "),
-                Part::Number(tick),
-                Part::Words(b" ms"),
+                LinePart::Words(b"all before have failed, the last one at "),
+                LinePart::Number(tick),
+                LinePart::Words(b" ms"),
             ],
             text,
         ),
@@ -96,12 +96,12 @@ fn write_listed<A: Allocator + Copy>(
     }
     write_parts(
         &[
-            Part::Words(b"; number "),
-            Part::Place(listed.place),
-            Part::Words(b" of "),
-            Part::Number(listed.count as u64),
-            Part::Words(b" known"),
-            Part::Words(turn_text(listed.turn, family)),
+            LinePart::Words(b"; number "),
+            LinePart::Place(listed.place),
+            LinePart::Words(b" of "),
+            LinePart::Number(listed.count as u64),
+            LinePart::Words(b" known"),
+            LinePart::Words(turn_text(listed.turn, family)),
         ],
         text,
     )
@@ -113,11 +113,11 @@ fn write_start<A: Allocator + Copy>(start: Start, text: &mut Vec<u8, A>) -> Resu
 {
     write_parts(
         &[
-            Part::Words(b"attempt "),
-            Part::Place(start.place),
-            Part::Words(b" to "),
-            Part::Address(start.ip),
-            Part::Words(b": "),
+            LinePart::Words(b"attempt "),
+            LinePart::Place(start.place),
+            LinePart::Words(b" to "),
+            LinePart::Address(start.ip),
+            LinePart::Words(b": "),
         ],
         text,
     )?;
@@ -148,11 +148,11 @@ fn write_became<A: Allocator + Copy>(
 {
     write_parts(
         &[
-            Part::Words(b"attempt "),
-            Part::Place(place),
-            Part::Words(what),
-            Part::Number(taken(lines, place, tick)),
-            Part::Words(b" ms"),
+            LinePart::Words(b"attempt "),
+            LinePart::Place(place),
+            LinePart::Words(what),
+            LinePart::Number(taken(lines, place, tick)),
+            LinePart::Words(b" ms"),
         ],
         text,
     )
@@ -271,7 +271,11 @@ fn write_until<'t, A: Allocator + Copy>(
     ensures { OnOk result (text.new.items ≡ text.old.items ++ concat (before.now ∷ decimal end ∷ behind.now ∷ [])) }
 {
     write_parts(
-        &[Part::Words(before), Part::Number(end), Part::Words(behind)],
+        &[
+            LinePart::Words(before),
+            LinePart::Number(end),
+            LinePart::Words(behind),
+        ],
         text,
     )
 }

@@ -3,7 +3,7 @@
 ghost use Rattle.std.specs.Prelude.{◌≡◌, ◌++◌, option_map, OnOk};
 ghost use Rattle.he_story.specs.Heading.{ending_text, heading_text, not_connected_text, won_text};
 
-use crate::parts::{Part, unless, write_counted, write_parts, write_words};
+use crate::parts::{LinePart, unless, write_counted, write_parts, write_words};
 use he_addr::Memory;
 use he_plan::{Line, Outcome3, Transcript};
 use std::alloc::Allocator;
@@ -22,14 +22,14 @@ fn write_won<A: Allocator + Copy>(
     };
     write_parts(
         &[
-            Part::Words(b"connected to "),
-            Part::Address(line.ip),
-            Part::Words(b" after "),
-            Part::Number(tick),
-            Part::Words(b" ms, by attempt "),
-            Part::Place(line.place),
-            Part::Words(b" of "),
-            Part::Number(count as u64),
+            LinePart::Words(b"connected to "),
+            LinePart::Address(line.ip),
+            LinePart::Words(b" after "),
+            LinePart::Number(tick),
+            LinePart::Words(b" ms, by attempt "),
+            LinePart::Place(line.place),
+            LinePart::Words(b" of "),
+            LinePart::Number(count as u64),
         ],
         text,
     )
@@ -45,7 +45,11 @@ fn write_not_connected<'t, A: Allocator + Copy>(
 ) -> Result<(), Memory>
     ensures { OnOk result (text.new.items ≡ text.old.items ++ not_connected_text how.now tick between.now count) }
 {
-    let parts = [Part::Words(how), Part::Number(tick), Part::Words(between)];
+    let parts = [
+        LinePart::Words(how),
+        LinePart::Number(tick),
+        LinePart::Words(between),
+    ];
     write_parts(&parts, text)?;
     write_counted(count, b" attempt", b" attempts", text)
 }
@@ -93,12 +97,12 @@ pub(crate) fn write_heading<A: Allocator + Copy, B: Allocator>(
     let gap = unless(number == 1, b"\n");
     write_parts(
         &[
-            Part::Words(gap),
-            Part::Words(b"race "),
-            Part::Number(number as u64),
-            Part::Words(b", line "),
-            Part::Number(line),
-            Part::Words(b": "),
+            LinePart::Words(gap),
+            LinePart::Words(b"race "),
+            LinePart::Number(number as u64),
+            LinePart::Words(b", line "),
+            LinePart::Number(line),
+            LinePart::Words(b": "),
         ],
         text,
     )?;

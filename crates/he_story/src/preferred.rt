@@ -6,7 +6,7 @@ ghost use Rattle.he_select.specs.Attributes.{rule_between};
 ghost use Rattle.he_explain.specs.Reasons.{of_source, all_attributes_of};
 ghost use Rattle.he_story.specs.Preferred.{address_line, address_lines, behind_text, is_routed, kind_text, listed_text, preferred_text, reached_text, reason_text, rtts_text, title_text, unlike_text, values_text};
 
-use crate::parts::{Part, width_of, write_aligned, write_parts, write_words};
+use crate::parts::{LinePart, width_of, write_aligned, write_parts, write_words};
 use he_addr::{Family, Ip, Memory};
 use he_select::{DestinationAttributes, DestinationRule, LabelledSource, Route};
 use he_timeline::Timeline;
@@ -48,7 +48,10 @@ fn write_reached<A: Allocator + Copy>(
 {
     match source {
         Some(labelled) => write_parts(
-            &[Part::Words(b" from "), Part::Address(labelled.source.ip)],
+            &[
+                LinePart::Words(b" from "),
+                LinePart::Address(labelled.source.ip),
+            ],
             text,
         ),
         None if is_routed(routes, ip) => write_words(b", not reachable: no source address", text),
@@ -68,11 +71,11 @@ fn write_values<'t, A: Allocator + Copy>(
 {
     write_parts(
         &[
-            Part::Words(name),
-            Part::Number(later),
-            Part::Words(b", the one before "),
-            Part::Number(earlier),
-            Part::Words(rule),
+            LinePart::Words(name),
+            LinePart::Number(later),
+            LinePart::Words(b", the one before "),
+            LinePart::Number(earlier),
+            LinePart::Words(rule),
         ],
         text,
     )
@@ -90,11 +93,11 @@ fn write_unlike<'t, A: Allocator + Copy>(
 {
     write_parts(
         &[
-            Part::Words(name),
-            Part::Number(later),
-            Part::Words(b", its source "),
-            Part::Number(source),
-            Part::Words(rule),
+            LinePart::Words(name),
+            LinePart::Number(later),
+            LinePart::Words(b", its source "),
+            LinePart::Number(source),
+            LinePart::Words(rule),
         ],
         text,
     )
@@ -107,22 +110,22 @@ fn write_rtts<A: Allocator + Copy>(
 ) -> Result<(), Memory>
     ensures { OnOk result (text.new.items ≡ text.old.items ++ rtts_text later earlier) }
 {
-    let end = Part::Words(b" ms (RFC 8305 section 4)");
+    let end = LinePart::Words(b" ms (RFC 8305 section 4)");
     match (later, earlier) {
         (Some(later), Some(earlier)) => write_parts(
             &[
-                Part::Words(b"; round trip time "),
-                Part::Number(later),
-                Part::Words(b" ms, the one before "),
-                Part::Number(earlier),
+                LinePart::Words(b"; round trip time "),
+                LinePart::Number(later),
+                LinePart::Words(b" ms, the one before "),
+                LinePart::Number(earlier),
                 end,
             ],
             text,
         ),
         (None, Some(earlier)) => write_parts(
             &[
-                Part::Words(b"; round trip time unknown, the one before "),
-                Part::Number(earlier),
+                LinePart::Words(b"; round trip time unknown, the one before "),
+                LinePart::Number(earlier),
                 end,
             ],
             text,
@@ -227,7 +230,11 @@ fn write_address<A: Allocator + Copy>(
     let kind = kind_text(ip);
     write_aligned(width, number, text)?;
     write_parts(
-        &[Part::Words(b". "), Part::Address(ip), Part::Words(kind)],
+        &[
+            LinePart::Words(b". "),
+            LinePart::Address(ip),
+            LinePart::Words(kind),
+        ],
         text,
     )?;
     write_reached(routes, ip, attributes.source, text)?;

@@ -43,7 +43,7 @@ pub fn read_input<S: InputStream, A: Allocator>(
 
 /// What an input gave.
 #[derive(Drop)]
-pub struct Given<A: Allocator = Global> {
+pub struct WholeInput<A: Allocator = Global> {
     /// All of its bytes.
     pub bytes: Vec<u8, A>,
     /// Whether it broke off behind them.
@@ -59,16 +59,16 @@ pub struct Given<A: Allocator = Global> {
 pub fn take_input<S: InputStream, A: Allocator>(
     alloc: A,
     input: &mut S,
-) -> Result<Given<A>, AllocError>
+) -> Result<WholeInput<A>, AllocError>
     ensures { IfOk result (λ given. Gives S.remaining S.takes input.old input.new given.bytes.items given.is_broken) }
 {
     let mut bytes = Vec::new(alloc);
     match read_input(input, &mut bytes) {
-        Ok(()) => Ok(Given {
+        Ok(()) => Ok(WholeInput {
             bytes,
             is_broken: false,
         }),
-        Err(ReadFault::Failed | ReadFault::Bound) => Ok(Given {
+        Err(ReadFault::Failed | ReadFault::Bound) => Ok(WholeInput {
             bytes,
             is_broken: true,
         }),

@@ -26,7 +26,7 @@ pub mod writer;
 
 pub use answer::{Flushed, Put, Taken};
 pub use fault::{ReadFault, WriteFault};
-pub use input::{Given, read_input, take_input, take_piece};
+pub use input::{WholeInput, read_input, take_input, take_piece};
 pub use output::{finish_output, write_output, write_whole};
 pub use reader::FromReader;
 pub use stream::{InputStream, OutputStream};

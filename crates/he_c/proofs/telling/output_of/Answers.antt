@@ -1,6 +1,6 @@
 use Rattle.he_inputs.specs.RaceReading.{PassesRace}
 use Rattle.he_c.specs.Outputs.{IsTextOf}
-use Rattle.he_c.proofs.Told.{end_told, fault_told, one_more_told}
+use Rattle.he_c.proofs.CallDetails.{end_told, fault_told, one_more_told}
 use Rattle.he_c.proofs.telling.output_of.Goals as goal
 
 pub loop-race-preserved : goal.loop-race-preserved

@@ -3,7 +3,7 @@ use Rattle.std.proofs.lemmas.List.Elements.{All-get_or}
 use Rattle.he_words.specs.Ranges.{most_races}
 use Rattle.he_replay.specs.Rounds.{IsAsked, HasTold}
 use Rattle.he_replay.specs.Pieces.{IsPiece}
-use Rattle.he_replay.proofs.Told.{more_told, told_lines}
+use Rattle.he_replay.proofs.RoundEnd.{more_told, told_lines}
 use Rattle.he_replay.proofs.pieces.join_some.Goals as goal
 use Rattle.he_replay.proofs.pieces.join_some.Goals.{then-piece-begun+then-piece-room+in_ok-extend_from_slice, else-piece-begun}
 
@@ -26,7 +26,7 @@ loop-piece-preserved g c =
           let left = before.0.room in
           let beyond = here.told.within in
           let lines = told_lines (IsAsked c.args.asked.now) (drop piece.from bytes) piece.text.items 0 0 piece.reader here.told in
-          let Told : ℕ → Type 0 = λ (from : ℕ). HasTold (IsAsked c.args.asked.now) (drop from bytes) 0 0 piece.text.items piece.reader in
+          let RoundEnd : ℕ → Type 0 = λ (from : ℕ). HasTold (IsAsked c.args.asked.now) (drop from bytes) 0 0 piece.text.items piece.reader in
           let joined : w.extend_from_slice.new.self.items ≡ c.loop-piece.text.items ++ piece.text.items = w.in_ok-extend_from_slice.ensures.items ∙ ap (λ (xs : List ℕ). c.loop-piece.text.items ++ xs) w.deref.ensures.value in
           let most : c.loop-piece.begun.races + piece.reader.races ≤ most_races = omega (arith, room, few) in
           rw w.text-is (rw w.begun-is (
@@ -36,7 +36,7 @@ loop-piece-preserved g c =
               room = omega (arith, left, lines, beyond, next, place, length-drop {A = ℕ});
             },
             λ races lines told. subst (λ (text : List ℕ). HasTold (IsAsked c.args.asked.now) bytes races lines text _) (sym joined)
-                (more_told (IsAsked c.args.asked.now) c.requires.anywhere bytes c.loop-piece.text.items piece.text.items races lines c.loop-piece.begun piece.reader _ (before.1 races lines told) (subst Told next here.told) refl most),
+                (more_told (IsAsked c.args.asked.now) c.requires.anywhere bytes c.loop-piece.text.items piece.text.items races lines c.loop-piece.begun piece.reader _ (before.1 races lines told) (subst RoundEnd next here.told) refl most),
           ))
       | else-piece-begun w ↦ rw w.text-is (rw w.begun-is before)
     ]

@@ -3,7 +3,7 @@ use Rattle.he_inputs.specs.declared.race_reader.Ending.TheVariants as endings
 use Rattle.he_inputs.specs.RaceReading.{IsWithin}
 use Rattle.he_replay.specs.Rounds.{IsAsked, IsFaultPast, PutsTold}
 use Rattle.he_replay.proofs.Further.{round_ends, round_goes}
-use Rattle.he_replay.proofs.Told.{told_by, told_lines, within_told}
+use Rattle.he_replay.proofs.RoundEnd.{told_by, told_lines, within_told}
 use Rattle.he_replay.proofs.rounds.put_round.Goals as goal
 
 pub tell_races-requires : goal.tell_races-requires

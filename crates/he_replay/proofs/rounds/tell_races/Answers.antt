@@ -1,6 +1,6 @@
 use Rattle.he_inputs.specs.RaceReading.{PassesRace}
 use Rattle.he_replay.specs.Rounds.{IsAsked}
-use Rattle.he_replay.proofs.Told.{one_more_told}
+use Rattle.he_replay.proofs.RoundEnd.{one_more_told}
 use Rattle.he_replay.proofs.rounds.tell_races.Goals as goal
 
 pub loop-part-preserved : goal.loop-part-preserved

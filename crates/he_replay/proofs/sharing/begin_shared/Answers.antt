@@ -1,5 +1,5 @@
 use Rattle.he_replay.specs.Rounds.{IsAsked}
-use Rattle.he_replay.proofs.Told.{none_told}
+use Rattle.he_replay.proofs.RoundEnd.{none_told}
 use Rattle.he_replay.proofs.sharing.begin_shared.Goals as goal
 
 pub returns-then-enough-eq-LEAST_WORKERS : goal.returns-then-enough-eq-LEAST_WORKERS

@@ -1,5 +1,5 @@
 use Rattle.he_replay.specs.Rounds.{IsAsked}
-use Rattle.he_replay.proofs.Told.{none_told}
+use Rattle.he_replay.proofs.RoundEnd.{none_told}
 use Rattle.he_replay.proofs.streaming.end_held.Goals as goal
 
 pub put_round-requires-clause-begun : goal.put_round-requires-clause-begun

@@ -1,6 +1,6 @@
 use Rattle.std.proofs.Common.{IsPermutation, List, subst, ℕ}
 use Rattle.he_compare.proofs.Counting.{ended}
-use Rattle.he_compare.proofs.told.Told.end.Goals as goal
+use Rattle.he_compare.proofs.told.ComparedRaces.end.Goals as goal
 
 pub returns : goal.returns
 returns g c =

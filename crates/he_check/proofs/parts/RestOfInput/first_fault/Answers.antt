@@ -5,7 +5,7 @@ use Rattle.he_inputs.specs.declared.race_reader.RaceReader.{RaceReader}
 use Rattle.he_inputs.specs.declared.race_reader.RaceReaderFault.TheVariants as readers
 use Rattle.he_inputs.proofs.RaceReadingLaws.{passes_on}
 use Rattle.he_check.proofs.FaultParts.{first_found, none_found}
-use Rattle.he_check.proofs.parts.Part.first_fault.Goals as goal
+use Rattle.he_check.proofs.parts.RestOfInput.first_fault.Goals as goal
 
 pub loop-race-preserved : goal.loop-race-preserved
 loop-race-preserved g c =

@@ -2,7 +2,7 @@ use Rattle.std.proofs.Common.{◌∙◌, ap}
 use Rattle.he_plan.specs.declared.transcript.Outcome3.{Outcome3}
 use Rattle.he_compare.specs.Verdicts.{verdict_of}
 use Rattle.he_compare.proofs.Counting.{told_on}
-use Rattle.he_compare.proofs.told.Told.add.Goals as goal
+use Rattle.he_compare.proofs.told.ComparedRaces.add.Goals as goal
 
 pub returns : goal.returns
 returns g c =

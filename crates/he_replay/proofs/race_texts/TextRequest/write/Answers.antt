@@ -1,4 +1,4 @@
-use Rattle.he_replay.proofs.race_texts.Asked.write.Goals as goal
+use Rattle.he_replay.proofs.race_texts.TextRequest.write.Goals as goal
 
 pub returns : goal.returns
 returns g c = rw c.with_changes-timeline.ensures at c.append.ensures

@@ -11,7 +11,7 @@ use Rattle.he_inputs.specs.Inputs.{line_count}
 use Rattle.he_words.specs.Ranges.{most_races}
 use Rattle.he_inputs.specs.RaceReading.{IsWithin, PassesRace}
 use Rattle.he_inputs.proofs.RaceReadingLaws.{line_count-append}
-use Rattle.he_replay.specs.declared.rounds.Told.{Told}
+use Rattle.he_replay.specs.declared.rounds.RoundEnd.{RoundEnd}
 use Rattle.he_replay.specs.Output.{AreTold, TextRelation}
 use Rattle.he_replay.specs.Pieces.{IsAnywhere}
 use Rattle.he_replay.specs.Rounds.{HasTold, Tells, TellsOn, WritesText}
@@ -71,7 +71,7 @@ pub more_told : (IsText : TextRelation) → IsAnywhere IsText → (bytes text ot
     → HasTold IsText (drop reader.end bytes) 0 0 other piece → next ≡ record { end = reader.end + piece.end; races = reader.races + piece.races; lines = reader.lines + piece.lines }
     → reader.races + piece.races ≤ most_races → HasTold IsText bytes races lines (text ++ other) next
 more_told IsText anywhere bytes text other races lines reader piece next told on joined few =
-    let Told : RaceReader → Type 0 = HasTold IsText bytes races lines (text ++ other) in
+    let RoundEnd : RaceReader → Type 0 = HasTold IsText bytes races lines (text ++ other) in
     let front = take reader.end bytes in
     let behind = take piece.end (drop reader.end bytes) in
     let split : take (reader.end + piece.end) bytes ≡ front ++ behind = take-add reader.end piece.end bytes in
@@ -85,7 +85,7 @@ more_told IsText anywhere bytes text other races lines reader piece next told on
     let lined = told.lined in
     let lined_on = on.lined in
     let moved = told_anywhere IsText anywhere _ _ (races + 1 + length told.races) (lines + 1 + line_count front) on.races behind other on.told in
-    subst Told (sym joined) (record {
+    subst RoundEnd (sym joined) (record {
       races = told.races ++ on.races;
       within = omega (arith, length-drop {A = ℕ});
       told = subst Are (sym split) (AreTold-append IsText _ _ told.races front text told.told on.races behind other moved);
@@ -112,7 +112,7 @@ longer_told IsText bytes text size races lines reader told =
     }
 
 -- where the reader stopped behind what was told
-pub told_by : (IsText : TextRelation) (ending : Ending) (bytes same old new : List ℕ) (races lines : ℕ) (begun reader : RaceReader) (told : Told) → same ≡ bytes
+pub told_by : (IsText : TextRelation) (ending : Ending) (bytes same old new : List ℕ) (races lines : ℕ) (begun reader : RaceReader) (told : RoundEnd) → same ≡ bytes
     → HasTold IsText bytes races lines old begun → Tells IsText ending same begun old new told → reader ≡ told.reader → HasTold IsText bytes races lines new reader
 told_by IsText ending bytes same old new races lines begun reader told is before tells stopped =
     let On : List ℕ → Type 0 = λ b. TellsOn IsText b begun old new told.reader in

@@ -1,7 +1,7 @@
 use Rattle.std.proofs.Common.{◌+◌, ◌∙◌, refl, sym}
 use Rattle.std.proofs.lemmas.List.{take_rest}
 use Rattle.he_check.proofs.NextRaces.{next_found, none_left, one_searched}
-use Rattle.he_check.proofs.parts.Part.next_race.Goals as goal
+use Rattle.he_check.proofs.parts.RestOfInput.next_race.Goals as goal
 
 pub returns-then-begins_race : goal.returns-then-begins_race
 returns-then-begins_race c =
