@@ -14,6 +14,7 @@ pub(crate) use answers::{AnswerLine, address, answer, connect, listed, round_tri
 use he_timeline::limits::{MAX_PAUSE_END, MAX_TICK};
 use he_words::limits::MIN_PAUSE_END;
 use he_words::{Name, TextKind};
+use numbers::number;
 pub(crate) use selection::{route, row, source};
 
 // set NAME N
