@@ -5,6 +5,7 @@ use Rattle.he_addr.specs.declared.ip.Family.{Family}
 use Rattle.he_addr.specs.declared.ip.Family.TheVariants as families
 use Rattle.he_addr.specs.declared.ip.Ip.{Ip}
 use Rattle.he_addr.specs.Ip.{is_usable}
+use Rattle.he_addr.specs.Text.{SpellsNumber, Spells, SpellsSource, SpellsPrefix}
 use Rattle.he_select.specs.declared.host.Source.{Source}
 use Rattle.he_select.specs.declared.host.Route.{Route}
 use Rattle.he_timeline.specs.Race.{Race}
