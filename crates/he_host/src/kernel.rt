@@ -61,18 +61,15 @@ fn is_broadcast<R: Net>(rt: &R, ip: Ip) -> bool {
     }
 }
 
-// Whether the address is on a network of this length: the network has a broadcast address, and for others of it the
-// kernel takes this address.
+// Whether the address is on a network of this length: the network has a broadcast address, and for the last of its other
+// addresses, which each network with that broadcast address holds, the kernel takes this one.
 fn is_on_network<R: Net>(rt: &R, address: u32, len: u8) -> bool {
     let hosts = u32::MAX >> len.min(LONGEST_NETWORK);
-    let network = address & !hosts;
-    let other = if address == network | 1 {
-        network | 2
-    } else {
-        network | 1
-    };
-    address | hosts != address
-        && is_broadcast(rt, Ip::V4(address | hosts))
+    let broadcast = address | hosts;
+    let last = broadcast & !1;
+    let other = if last == address { last ^ 3 } else { last };
+    address != broadcast
+        && is_broadcast(rt, Ip::V4(broadcast))
         && ask_source(rt, Ip::V4(other)) == Some(Ip::V4(address))
 }
 
