@@ -1,12 +1,10 @@
 //! The sources that the kernel takes, beside those that the lines of the host say.
 
 use he_addr::{Ip, Memory, write_ip};
+use he_host::kernel::ask_source;
 use he_plan::Line;
 use he_timeline::Timeline;
-use std::net::{IpAddr, Ipv4Addr, Ipv6Addr, Net, UdpSocket};
-
-// The port of a connect that sends nothing: the discard service.
-const ANY_PORT: u16 = 9;
+use std::net::Net;
 
 /// Appends a line for each address that was tried and that the kernel reaches from another source than the lines of
 /// the host say, as `he: 2001:db8::1 is reached from 2001:db8:5::23, and not from 2001:db8:5::7`.
@@ -43,24 +41,4 @@ fn write_other_source(ip: Ip, said: Ip, taken: Ip, out: &mut Vec<u8>) -> Result<
     write_ip(said, out)?;
     out.push(b'\n')?;
     Ok(())
-}
-
-// The source that the kernel takes for an address. To connect a datagram socket sends nothing.
-fn ask_source<R: Net>(rt: &R, ip: Ip) -> Option<Ip> {
-    let (any, to) = match ip {
-        Ip::V4(bits) => (
-            IpAddr::V4(Ipv4Addr::UNSPECIFIED),
-            IpAddr::V4(Ipv4Addr::from_bits(bits)),
-        ),
-        Ip::V6(bits) => (
-            IpAddr::V6(Ipv6Addr::UNSPECIFIED),
-            IpAddr::V6(Ipv6Addr::from_bits(bits)),
-        ),
-    };
-    let socket = UdpSocket::bind(rt, (any, 0u16)).ok()?;
-    socket.connect((to, ANY_PORT)).ok()?;
-    match socket.local_addr().ok()?.ip() {
-        IpAddr::V4(source) => Some(Ip::V4(source.to_bits())),
-        IpAddr::V6(source) => Some(Ip::V6(source.to_bits())),
-    }
 }

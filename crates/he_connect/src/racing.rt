@@ -3,7 +3,7 @@ ghost use Rattle.std.specs.Prelude.{◌≡◌, IfOk, IfErr, is_some};
 ghost use Rattle.he_write.specs.Written.{timeline_text};
 ghost use Rattle.he_connect.specs.Connects.{IsBefore, IsExplained, IsRun, RunsFrom};
 
-use crate::asked::Asked;
+use crate::asked::{Asked, Lines};
 use crate::fault::ConnectFault;
 use crate::kernel::write_other_sources;
 use crate::lines::read_lines_of;
@@ -63,7 +63,7 @@ where
     ensures race { IfOk result (λ run. IsRun asked.now.settings asked.now.families run.text.items (is_some run.winner)) }
     ensures fault { IfErr result IsBefore }
 {
-    let lines = read_lines_of(rt, alloc, asked.lines)?;
+    let lines = read_lines_of(rt, alloc, asked.lines, asked.host)?;
     let start = start_race(alloc, asked.settings, asked.families, &lines)?;
     let run = run_from(rt, alloc, asked, &start, faults);
     drop(start);
@@ -166,7 +166,7 @@ fn texts_of<R: Net>(
     let mut text = Vec::new(alloc);
     write_timeline(&raced.recorded, &mut text)?;
     let mut told = explain(alloc, asked.explains, &raced.recorded)?;
-    if asked.tells_steps {
+    if asked.tells_steps || asked.lines == Lines::Machine {
         write_other_sources(rt, &raced.recorded, raced.transcript.attempts(), &mut told)?;
     }
     if raced.winner.is_none() && nameless.is_none() {

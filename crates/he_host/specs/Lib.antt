@@ -10,5 +10,6 @@ pub mod Lines
 pub mod Parts
 pub mod Placing
 pub mod Sysfs
+pub mod Ways
 pub mod Whole
 pub mod Written

@@ -158,7 +158,7 @@ fn make_host<A: Allocator + Copy>(sources: Vec<Source, A>, routes: Vec<Route, A>
 
 // The host that keeps of these sources and routes what there is place for. What is kept is a host's, so that nothing
 // but memory is refused.
-fn keep<A: Allocator + Copy>(
+pub(crate) fn keep<A: Allocator + Copy>(
     alloc: A,
     turn: &[FoundSource],
     routes: &[FoundRoute],

@@ -11,6 +11,8 @@ pub enum File {
     Ipv6Route,
     /// `/proc/net/route`
     Ipv4Route,
+    /// No file: what the kernel answers.
+    Kernel,
 }
 
 /// Why a line is left out.

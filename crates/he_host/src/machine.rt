@@ -5,25 +5,28 @@
 use crate::fib_trie::{OwnAddress, read_own_addresses};
 use crate::found::FoundRoute;
 use crate::host::{Files, FoundHost, find_host, find_routes};
+use crate::if_inet6::{make_source, read_address_line};
 use crate::interface::{Interface, Link};
+use crate::kernel::{ask_len, ask_source, ask_way};
 use crate::left_out::Why;
 use crate::lines::read_lines;
 use crate::parts::field;
 use crate::placing::{Around, Asked, find_connected, make_v4_source};
-use crate::remarks::{is_elsewhere, write_guess, write_remarks};
+use crate::remarks::{is_elsewhere, write_guess, write_remarks, write_unsaid, write_unseen_tables};
 use crate::sysfs::{Sysfs, make_link};
+use crate::ways::{TakenSource, Way, find_host_to, find_unsaid};
 use crate::writing::write_host;
 use he_addr::prefix::V6_BITS;
 use he_addr::{Ip, Memory};
-use he_select::{Route, Source};
+use he_select::{Policy, Route, Source};
 use std::alloc::{AllocError, AllocFailed, AllocGlobal, Global};
-use std::net::{IpAddr, Ipv4Addr, Net, UdpSocket};
+use std::net::Net;
 use std::rt::Files as FileSystem;
 use std::{fs, io};
 use thiserror::Error;
 
-// The port of a connect that sends nothing: the discard service.
-const ANY_PORT: u16 = 9;
+// The place of an interface's name in a line of `/proc/net/if_inet6`.
+const NAME: usize = 5;
 
 /// Why the lines of this machine aren't written.
 #[derive(Clone, Copy, Debug, PartialEq, Eq, Error)]
@@ -119,18 +122,6 @@ fn read_interfaces<R: FileSystem + AllocGlobal>(rt: &R) -> Result<Vec<Named>, Ma
     Ok(interfaces)
 }
 
-// The source that the kernel takes for a destination. To connect a datagram socket sends nothing.
-fn ask_source<R: Net>(rt: &R, destination: u32) -> Option<Ip> {
-    let socket = UdpSocket::bind(rt, (Ipv4Addr::UNSPECIFIED, 0u16)).ok()?;
-    socket
-        .connect((Ipv4Addr::from(destination), ANY_PORT))
-        .ok()?;
-    match socket.local_addr().ok()?.ip() {
-        IpAddr::V4(ip) => Some(Ip::V4(u32::from(ip))),
-        IpAddr::V6(_) => None,
-    }
-}
-
 // An IPv4 address to which the route leads: the first one behind that of the network, where it has more than one.
 fn destination_of(route: Route) -> Option<u32> {
     if !route.prefix.is_v4() {
@@ -147,7 +138,7 @@ fn destination_of(route: Route) -> Option<u32> {
 // The source that the kernel takes for the destinations of a route, with the route's interface.
 fn ask_route<R: Net>(rt: &R, found: FoundRoute) -> Option<Asked> {
     let metered = found.read.ok()?;
-    let ip = ask_source(rt, destination_of(metered.route)?)?;
+    let ip = ask_source(rt, Ip::V4(destination_of(metered.route)?))?;
     Some(Asked {
         ip,
         interface: metered.route.interface,
@@ -186,7 +177,10 @@ fn ask<R: Net + AllocGlobal>(
 // Whether the kernel takes the address for others of its connected route: then it is on the interface of that route.
 fn is_taken<R: Net>(rt: &R, ip: Ip, route: Route) -> bool {
     match destination_of(route) {
-        Some(other) => Ip::V4(other) != ip && ask_source(rt, other) == Some(ip),
+        Some(other) => {
+            let other = Ip::V4(other);
+            other != ip && ask_source(rt, other) == Some(ip)
+        }
         None => false,
     }
 }
@@ -272,5 +266,123 @@ pub fn write_machine<R: FileSystem + Net + AllocGlobal>(
     let found = ask_host(rt, files, &interfaces, remarks)?;
     write_host(&found.host, lines)?;
     write_remarks(rt.alloc(), files, &found.left_out, remarks)?;
+    write_unseen_tables(rt.alloc(), files.fib_trie, remarks)?;
+    Ok(())
+}
+
+// The name of the interface in a line of `/proc/net/if_inet6`.
+fn interface_in<'t>(line: &'t [u8]) -> Option<&'t str> {
+    std::str::from_utf8(field(line, NAME)?).ok()
+}
+
+// What a line of `/proc/net/if_inet6` says of this address, which counts as on an interface of this number; None where
+// the line is of another one.
+fn read_v6_taken<R: FileSystem + AllocGlobal>(
+    rt: &R,
+    line: &[u8],
+    ip: u128,
+    interface: u16,
+) -> Result<Option<TakenSource>, MachineFault> {
+    let Some(read) = read_address_line(line) else {
+        return Ok(None);
+    };
+    let Some(name) = interface_in(line) else {
+        return Ok(None);
+    };
+    if read.number != ip {
+        return Ok(None);
+    }
+    let mut link = read_link_of(rt, name)?;
+    link.number = interface;
+    match make_source(read, Some(link)) {
+        Ok(source) => Ok(Some(TakenSource {
+            source,
+            tunnel: link.tunnel,
+        })),
+        Err(_) => Ok(None),
+    }
+}
+
+// What `/proc/net/if_inet6` says of an IPv6 address of this host; where it says nothing, the address alone.
+fn find_v6_taken<R: FileSystem + AllocGlobal>(
+    rt: &R,
+    if_inet6: &[u8],
+    ip: u128,
+    interface: u16,
+) -> Result<TakenSource, MachineFault> {
+    for line in read_lines(rt.alloc(), if_inet6)?.iter() {
+        if let Some(taken) = read_v6_taken(rt, line.text, ip, interface)? {
+            return Ok(taken);
+        }
+    }
+    Ok(taken_alone(Ip::V6(ip), V6_BITS, interface))
+}
+
+fn taken_alone(ip: Ip, plen: u8, interface: u16) -> TakenSource {
+    TakenSource {
+        source: Source {
+            ip,
+            plen,
+            interface,
+            deprecated: false,
+            temporary: false,
+        },
+        tunnel: false,
+    }
+}
+
+// The sources that the kernel takes, each once, in the order of the destinations. Each counts as on an interface of its
+// own, numbered from 1: Linux tells no interface of an IPv4 address, and the rules ask only whether two are the same.
+fn find_taken<R: FileSystem + Net + AllocGlobal>(
+    rt: &R,
+    ways: &[Way],
+) -> Result<Vec<TakenSource>, MachineFault> {
+    let if_inet6 = read_if_there(rt, "/proc/net/if_inet6")?;
+    let mut taken = Vec::new(rt.alloc());
+    let mut interface: u16 = 0;
+    for way in ways {
+        let Some(ip) = way.from else {
+            continue;
+        };
+        if is_taken_already(&taken, ip) {
+            continue;
+        }
+        interface = interface.saturating_add(1);
+        taken.push(match ip {
+            Ip::V4(bits) => taken_alone(ip, ask_len(rt, bits), interface),
+            Ip::V6(bits) => find_v6_taken(rt, &if_inet6, bits, interface)?,
+        })?;
+    }
+    Ok(taken)
+}
+
+fn is_taken_already(taken: &[TakenSource], ip: Ip) -> bool {
+    taken.iter().any(|one| one.source.ip == ip)
+}
+
+/// Appends the lines by which the rules take, for each of these destinations, the source that the kernel takes
+/// ([`find_host_to`]), and a line for each destination of which lines can't say it. It reads no routes, however many
+/// there are: the kernel is asked.
+///
+/// # Errors
+///
+/// [`MachineFault::Memory`]: an allocation was refused.
+pub fn write_machine_to<R: FileSystem + Net + AllocGlobal>(
+    rt: &R,
+    destinations: &[Ip],
+    lines: &mut Vec<u8>,
+    remarks: &mut Vec<u8>,
+) -> Result<(), MachineFault> {
+    let mut ways = Vec::new(rt.alloc());
+    for to in destinations {
+        ways.push(ask_way(rt, *to))?;
+    }
+    let taken = find_taken(rt, &ways)?;
+    let found = find_host_to(rt.alloc(), &taken, &ways)?;
+    write_host(&found.host, lines)?;
+    let policy = Policy::standard(rt.alloc())?;
+    for way in find_unsaid(rt.alloc(), &found.host, &policy, &ways)?.iter() {
+        write_unsaid(*way, remarks)?;
+    }
     Ok(())
 }

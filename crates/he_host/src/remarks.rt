@@ -8,7 +8,9 @@ use crate::ipv4_route::{read_mask, read_v4_line};
 use crate::ipv6_route::read_route_line;
 use crate::left_out::{File, LeftOut, Why};
 use crate::lines::{Line, read_lines};
+use crate::parts::field;
 use crate::placing::holds;
+use crate::ways::Way;
 use he_addr::prefix::MAPPED_LEN;
 use he_addr::{Ip, Memory, Prefix, write_ip, write_number, write_prefix};
 use he_select::Source;
@@ -20,6 +22,7 @@ fn file_name(file: File) -> &'static [u8] {
         File::FibTrie => b"/proc/net/fib_trie",
         File::Ipv6Route => b"/proc/net/ipv6_route",
         File::Ipv4Route => b"/proc/net/route",
+        File::Kernel => b"the kernel's answer",
     }
 }
 
@@ -109,6 +112,7 @@ impl<'t, A: Allocator + Copy> Read<'t, A> {
             File::FibTrie => Some(Subject::Address(find_address(&self.own, left.line)?)),
             File::Ipv6Route => v6_subject(line_at(&self.ipv6_route, left.line)?),
             File::Ipv4Route => v4_subject(line_at(&self.route, left.line)?),
+            File::Kernel => None,
         }
     }
 }
@@ -201,6 +205,59 @@ pub fn write_guess<A: Allocator + Copy>(
         b", since its network is on that one and on another, and nothing tells more\n",
         out,
     )
+}
+
+/// Appends the line for a destination for which the rules take another source than the kernel, whatever lines there are.
+///
+/// # Errors
+///
+/// [`Memory`]: an allocation was refused; a part of the line may be there.
+pub fn write_unsaid<A: Allocator + Copy>(way: Way, out: &mut Vec<u8, A>) -> Result<(), Memory> {
+    write_word(b"he: ", out)?;
+    write_ip(way.to, out)?;
+    match way.from {
+        Some(from) => {
+            write_word(b" is reached from ", out)?;
+            write_ip(from, out)?;
+        }
+        None => write_word(b" is not reached", out)?,
+    }
+    write_word(b", which source and route lines cannot say\n", out)
+}
+
+// The number of a table with which its part of `/proc/net/fib_trie` begins, as in `Id 51820:`; None in other lines,
+// those of the tables `main` and `local` among them.
+fn table_of<'t>(line: &'t [u8]) -> Option<&'t [u8]> {
+    if field(line, 0)? != b"Id".as_slice() {
+        return None;
+    }
+    let number = field(line, 1)?;
+    let end = number.iter().position(|byte| *byte == b':')?;
+    Some(&number[..end])
+}
+
+/// Appends a line for each table of IPv4 routes beside `main` and `local`, which rules of policy routing may use: Linux
+/// tells its routes in no file.
+///
+/// # Errors
+///
+/// [`Memory`]: an allocation was refused; a part of the lines may be there.
+pub fn write_unseen_tables<A: Allocator + Copy>(
+    alloc: A,
+    fib_trie: &[u8],
+    out: &mut Vec<u8, A>,
+) -> Result<(), Memory> {
+    for line in read_lines(alloc, fib_trie)?.iter() {
+        if let Some(table) = table_of(line.text) {
+            write_word(b"he: not seen: the IPv4 routes of table ", out)?;
+            write_word(table, out)?;
+            write_word(
+                b", which `ip rule` may use: /proc/net/route has the main table alone\n",
+                out,
+            )?;
+        }
+    }
+    Ok(())
 }
 
 /// Appends a line for each line of the files that is left out and that a person may miss: not those for the kernel's

@@ -1,0 +1,56 @@
+-- The host by which the rules take the sources that the kernel takes (RFC 6724 section 5).
+use Rattle.std.specs.Prelude.{Bool, true, false, not, List, find, Option, Some, None, Result, Ok, Err, option_map}
+use Rattle.he_addr.specs.declared.ip.Ip.{Ip}
+use Rattle.he_addr.specs.Ip.{mapped_of, same_ip}
+use Rattle.he_select.specs.declared.policy.Row.{Row}
+use Rattle.he_select.specs.Hosts.{HostLists}
+use Rattle.he_select.specs.Selection.{selection_input, source_of}
+use Rattle.he_host.specs.declared.found.FoundRoute.{FoundRoute}
+use Rattle.he_host.specs.declared.found.FoundSource.{FoundSource}
+use Rattle.he_host.specs.declared.found.Metered.{Metered}
+use Rattle.he_host.specs.declared.left_out.File.TheVariants as files
+use Rattle.he_host.specs.declared.left_out.Why.{Why}
+use Rattle.he_host.specs.declared.left_out.Why.TheVariants as whys
+use Rattle.he_host.specs.declared.ways.TakenSource.{TakenSource}
+use Rattle.he_host.specs.declared.ways.Way.{Way}
+
+-- what is known of a source
+abbrev pub own_of : Ip → List TakenSource → Option TakenSource
+own_of ip own = find (λ one. same_ip one.source.ip ip) own
+
+-- a source of its own
+abbrev pub found_own_source : TakenSource → FoundSource
+found_own_source taken = record { file = files.Kernel; line = 0; read = Ok taken.source }
+
+-- the route to one address alone, over the interface of the source
+abbrev pub route_over : Ip → TakenSource → Metered
+route_over to taken = record {
+  route = record { prefix = record { bits = mapped_of to; len = 128 }; interface = taken.source.interface; tunnel = taken.tunnel };
+  metric = 0;
+  connected = false;
+  carrier = true;
+}
+
+abbrev pub route_of_own : Ip → Option TakenSource → Result Metered Why
+route_of_own to None = Err whys.Unconnected
+route_of_own to (Some taken) = Ok (route_over to taken)
+
+abbrev pub route_from : List TakenSource → Ip → Option Ip → Result Metered Why
+route_from own to None = Err whys.Unreachable
+route_from own to (Some from) = route_of_own to (own_of from own)
+
+-- the route of a destination; none where the kernel has no way
+unfoldable pub way_route : List TakenSource → Way → Result Metered Why
+way_route own way = route_from own way.to way.from
+
+abbrev pub found_way : List TakenSource → Way → FoundRoute
+found_way own way = record { file = files.Kernel; line = 0; read = way_route own way }
+
+abbrev pub same_source : Option Ip → Option Ip → Bool
+same_source (Some said) (Some taken) = same_ip said taken
+same_source None None = true
+same_source said taken = false
+
+-- the rules take another source than the kernel
+abbrev pub is_unsaid : List Row → HostLists → Way → Bool
+is_unsaid rows host way = not (same_source (option_map (λ source. source.ip) (source_of (selection_input rows host) way.to)) way.from)

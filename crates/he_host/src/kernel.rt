@@ -1,0 +1,86 @@
+// What the kernel answers of sources. To connect a datagram socket sends nothing.
+//
+// Proved is that it is safe and ends; what the system answers is in no contract.
+
+use crate::ways::Way;
+use he_addr::Ip;
+use he_addr::prefix::V4_BITS;
+use std::io::ErrorKind;
+use std::net::{IpAddr, Ipv4Addr, Ipv6Addr, Net, SocketAddr, UdpSocket};
+
+// The port of a connect that sends nothing: the discard service.
+const ANY_PORT: u16 = 9;
+
+// The longest prefix of a network that has a broadcast address (RFC 3021).
+const LONGEST_NETWORK: u8 = 30;
+
+fn socket_address(ip: Ip) -> SocketAddr {
+    let ip = match ip {
+        Ip::V4(bits) => IpAddr::V4(Ipv4Addr::from_bits(bits)),
+        Ip::V6(bits) => IpAddr::V6(Ipv6Addr::from_bits(bits)),
+    };
+    SocketAddr::new(ip, ANY_PORT)
+}
+
+fn any_of(ip: Ip) -> IpAddr {
+    match ip {
+        Ip::V4(_) => IpAddr::V4(Ipv4Addr::UNSPECIFIED),
+        Ip::V6(_) => IpAddr::V6(Ipv6Addr::UNSPECIFIED),
+    }
+}
+
+/// The source that the kernel takes for an address; `None` where it has no way to it.
+pub fn ask_source<R: Net>(rt: &R, ip: Ip) -> Option<Ip> {
+    let socket = UdpSocket::bind(rt, (any_of(ip), 0u16)).ok()?;
+    socket.connect(socket_address(ip)).ok()?;
+    match socket.local_addr().ok()?.ip() {
+        IpAddr::V4(source) => Some(Ip::V4(source.to_bits())),
+        IpAddr::V6(source) => Some(Ip::V6(source.to_bits())),
+    }
+}
+
+/// What the kernel answers for a destination.
+pub fn ask_way<R: Net>(rt: &R, to: Ip) -> Way {
+    Way {
+        to,
+        from: ask_source(rt, to),
+    }
+}
+
+// Whether it is the broadcast address of a network of this host: the kernel connects to one only where that is asked
+// for, and a route that prohibits an address does so all the same.
+fn is_broadcast<R: Net>(rt: &R, ip: Ip) -> bool {
+    let Ok(socket) = UdpSocket::bind(rt, (any_of(ip), 0u16)) else {
+        return false;
+    };
+    match socket.connect(socket_address(ip)) {
+        Err(error) if error.kind() == ErrorKind::PermissionDenied => {
+            socket.set_broadcast(true).is_ok() && socket.connect(socket_address(ip)).is_ok()
+        }
+        _ => false,
+    }
+}
+
+// Whether the address is on a network of this length: the network has a broadcast address, and for the last of its other
+// addresses, which each network with that broadcast address holds, the kernel takes this one.
+fn is_on_network<R: Net>(rt: &R, address: u32, len: u8) -> bool {
+    let hosts = u32::MAX >> len.min(LONGEST_NETWORK);
+    let broadcast = address | hosts;
+    let last = broadcast & !1;
+    let other = if last == address { last ^ 3 } else { last };
+    address != broadcast
+        && is_broadcast(rt, Ip::V4(broadcast))
+        && ask_source(rt, Ip::V4(other)) == Some(Ip::V4(address))
+}
+
+/// The length of the prefix that an IPv4 address of this host shares with its link: that of the longest network that
+/// has a broadcast address and for which the kernel takes the address; 32 where there is none.
+pub fn ask_len<R: Net>(rt: &R, address: u32) -> u8 {
+    for less in 0..LONGEST_NETWORK {
+        let len = LONGEST_NETWORK - less;
+        if is_on_network(rt, address, len) {
+            return len;
+        }
+    }
+    V4_BITS
+}

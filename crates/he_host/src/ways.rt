@@ -1,0 +1,166 @@
+// The host by which the rules take the sources that the kernel takes: what it answers for destinations, as lines.
+
+ghost use Rattle.std.specs.Prelude.{◌≡◌, filter, map, not, IfOk};
+ghost use Rattle.he_host.specs.Ways.{found_own_source, found_way, is_unsaid, own_of, same_source, way_route};
+ghost use Rattle.he_host.specs.Whole.{HasKept};
+
+use crate::found::{FoundRoute, FoundSource, Metered};
+use crate::host::{FoundHost, keep};
+use crate::left_out::{File, Why};
+use he_addr::prefix::V6_BITS;
+use he_addr::{Ip, Memory, Prefix};
+use he_select::{Host, Policy, Route, Source};
+use std::alloc::Allocator;
+
+/// A source that the kernel takes, with what the rules look at of it.
+#[derive(Clone, Copy, Debug, PartialEq, Eq)]
+pub struct TakenSource {
+    pub source: Source,
+    /// Its interface encapsulates.
+    pub tunnel: bool,
+}
+
+/// What the kernel answers for a destination.
+#[derive(Clone, Copy, Debug, PartialEq, Eq)]
+pub struct Way {
+    /// The destination.
+    pub to: Ip,
+    /// The source that the kernel takes; `None` where there is no way.
+    pub from: Option<Ip>,
+}
+
+// What is known of a source.
+fn find_own(own: &[TakenSource], ip: Ip) -> Option<TakenSource>
+    ensures { result ≡ own_of ip own.now }
+{
+    for one in own {
+        if one.source.ip == ip {
+            return Some(*one);
+        }
+    }
+    None
+}
+
+// The route of a destination alone, over the interface of the source that the kernel takes.
+#[tactic(auto, unfolding(crate::specs::Ways::way_route))]
+fn way_route(own: &[TakenSource], way: Way) -> Result<Metered, Why>
+    ensures { result ≡ way_route own.now way }
+{
+    let Some(from) = way.from else {
+        return Err(Why::Unreachable);
+    };
+    let Some(taken) = find_own(own, from) else {
+        return Err(Why::Unconnected);
+    };
+    let Some(prefix) = Prefix::try_new(way.to.mapped(), V6_BITS) else {
+        return Err(Why::Unclear);
+    };
+    let route = Route {
+        prefix,
+        interface: taken.source.interface,
+        tunnel: taken.tunnel,
+    };
+    Ok(Metered {
+        route,
+        metric: 0,
+        connected: false,
+        carrier: true,
+    })
+}
+
+fn find_sources<A: Allocator + Copy>(
+    alloc: A,
+    own: &[TakenSource],
+) -> Result<Vec<FoundSource, A>, Memory>
+    ensures { IfOk result (λ found. found.items ≡ map found_own_source own.now) }
+{
+    let mut found = Vec::new(alloc);
+    for taken in own {
+        found.push(FoundSource {
+            file: File::Kernel,
+            line: 0,
+            read: Ok(taken.source),
+        })?;
+    }
+    Ok(found)
+}
+
+fn find_ways<A: Allocator + Copy>(
+    alloc: A,
+    own: &[TakenSource],
+    ways: &[Way],
+) -> Result<Vec<FoundRoute, A>, Memory>
+    ensures { IfOk result (λ found. found.items ≡ map (found_way own.now) ways.now) }
+{
+    let mut found = Vec::new(alloc);
+    for way in ways {
+        found.push(FoundRoute {
+            file: File::Kernel,
+            line: 0,
+            read: way_route(own, *way),
+        })?;
+    }
+    Ok(found)
+}
+
+/// The host that has these sources, and for each destination to which there is a way a route of its own, over the
+/// interface of the source that the kernel takes: 64 of each at most, those that are first.
+///
+/// Where each source has an interface of its own, so that rule 5 of RFC 6724 section 5 prefers it to each other one,
+/// the rules take the kernel's source for each destination, unless one of rules 1 to 3 prefers another one.
+/// [`find_unsaid`] tells which these are.
+///
+/// # Errors
+///
+/// [`Memory`]: an allocation was refused.
+pub fn find_host_to<A: Allocator + Copy>(
+    alloc: A,
+    own: &[TakenSource],
+    ways: &[Way],
+) -> Result<FoundHost<A>, Memory>
+    ensures { IfOk result (λ found. HasKept (map found_own_source own.now) (map (found_way own.now) ways.now) found.host found.left_out.items) }
+{
+    let sources = find_sources(alloc, own)?;
+    let routes = find_ways(alloc, own, ways)?;
+    keep(alloc, &sources, &routes)
+}
+
+// Whether the rules take another source for the destination than the kernel.
+fn is_unsaid<A: Allocator, B: Allocator>(host: &Host<A>, policy: &Policy<B>, way: Way) -> bool
+    ensures { result ≡ is_unsaid policy.now host.now way }
+{
+    !is_same(host.source(policy, way.to), way.from)
+}
+
+fn is_same(said: Option<Ip>, taken: Option<Ip>) -> bool
+    ensures { result ≡ same_source said taken }
+{
+    match (said, taken) {
+        (Some(said), Some(taken)) => said == taken,
+        (None, None) => true,
+        _ => false,
+    }
+}
+
+/// The destinations for which the rules take another source of the host than the kernel, or for which just one of the
+/// two says that there is a way.
+///
+/// # Errors
+///
+/// [`Memory`]: an allocation was refused.
+pub fn find_unsaid<A: Allocator + Copy, B: Allocator, C: Allocator>(
+    alloc: A,
+    host: &Host<B>,
+    policy: &Policy<C>,
+    ways: &[Way],
+) -> Result<Vec<Way, A>, Memory>
+    ensures { IfOk result (λ unsaid. unsaid.items ≡ filter (is_unsaid policy.now host.now) ways.now) }
+{
+    let mut unsaid = Vec::new(alloc);
+    for way in ways {
+        if is_unsaid(host, policy, *way) {
+            unsaid.push(*way)?;
+        }
+    }
+    Ok(unsaid)
+}
