@@ -1,44 +1,55 @@
 # What a newcomer needs. README.md and CONTRIBUTING.md say what each is for and how long it takes.
-.PHONY: help race test edits install install-library library deb examples documents explained page hostile cost refused hosts captures live names connect fuzz manual kit program
+.PHONY: help race test edits build install build-library install-library library deb examples documents explained page hostile cost refused hosts captures live names connect fuzz manual kit program
 
 PREFIX ?= /usr/local
+DESTDIR ?=
+TO = $(DESTDIR)$(PREFIX)
+LIBRARY = crates/he_c/out/libhe_c.a
 RACE ?= crates/cases/data/ipv6-late-but-within-delay-leads.timeline
 HE ?= crates/he_tool/out/he_tool
 CASES ?= crates/cases/out/cases
 SECONDS ?= 60
 SEED ?= 1
 
+define HELP
+make race                  replays an example race, with the program unproved: the fastest way to see a transcript
+make race RACE=FILE        replays the races of a file the same way
+make test                  the gate (proves every crate, tries the wrong edits, runs the tests), and then tries the
+                           built program as a whole: all of examples to fuzz below, in three minutes
+make edits                 tries the wrong edits that the gate leaves out: each must be refused
+make build                 proves and builds the program, and tells of each crate when it is proved
+make install PREFIX=DIR    puts the program at DIR/bin/he, its manual page, completions and licence below
+                           DIR/share, all of it below DESTDIR where that is given; builds it first where that was
+                           not done
+make deb HE=FILE           makes he.deb, a Debian package of a built program
+make build-library         proves and builds the library for C
+make install-library PREFIX=DIR
+                           puts the library at DIR/lib, its header at DIR/include; builds it first where that was
+                           not done
+make library HE=FILE       proves and builds the library for C and the examples in C and Python, and tries them,
+                           beside a built program
+make examples HE=FILE      runs a built program over all examples
+make documents HE=FILE     runs the command lines of the documents, and compares what stands below them
+make hostile HE=FILE       runs a built program over streams that fail, open pipes, too little memory
+make cost HE=FILE          bounds what a built program takes for a text of some megabytes: time and memory
+make refused HE=FILE       refuses each allocation of a built program in turn, also of a live race, and those of
+                           the races that the crate cases runs
+make hosts HE=FILE         tries tools/host-lines on recorded hosts, has a built program read its lines,
+                           and tries the command line of tools/race-text
+make captures HE=FILE      tries tools/from-capture and tools/compare-done on packet captures; needs tshark
+make live HE=FILE          runs live races of a built program, and looks from the other side at what it did
+make names HE=FILE         looks names up by a built program, from name servers of its own, right ones and wrong ones
+make connect HE=FILE       connects by a built program in full: transfers of 100 MB, 1,000 connections under faults
+make fuzz SECONDS=60 SEED=1 HE=FILE
+                           compares a built program with a plain reading of the rules, on texts that are drawn
+make explained HE=FILE     compares what a built program explains with its transcripts and orders
+make page HE=FILE          reads pages that a built program draws as a browser would
+make manual HE=FILE        compares the help of a built program with its manual page and its completions
+endef
+export HELP
+
 help:
-	@echo 'make race                  replays an example race, with the program unproved: the fastest way to see a transcript'
-	@echo 'make race RACE=FILE        replays the races of a file the same way'
-	@echo 'make test                  the gate (proves every crate, tries the wrong edits, runs the tests), and then tries the'
-	@echo '                           built program as a whole: all of examples to fuzz below, in three minutes'
-	@echo 'make edits                 tries the wrong edits that the gate leaves out: each must be refused'
-	@echo 'make install PREFIX=DIR    proves and builds the program, and puts it at DIR/bin/he, its manual page,'
-	@echo '                           completions and licence below DIR/share'
-	@echo 'make deb HE=FILE           makes he.deb, a Debian package of a built program'
-	@echo 'make install-library PREFIX=DIR'
-	@echo '                           proves and builds the library for C, and puts it at DIR/lib, its header at'
-	@echo '                           DIR/include'
-	@echo 'make library HE=FILE       proves and builds the library for C and the examples in C and Python, and tries them,'
-	@echo '                           beside a built program'
-	@echo 'make examples HE=FILE      runs a built program over all examples'
-	@echo 'make documents HE=FILE     runs the command lines of the documents, and compares what stands below them'
-	@echo 'make hostile HE=FILE       runs a built program over streams that fail, open pipes, too little memory'
-	@echo 'make cost HE=FILE          bounds what a built program takes for a text of some megabytes: time and memory'
-	@echo 'make refused HE=FILE       refuses each allocation of a built program in turn, also of a live race, and those of'
-	@echo '                           the races that the crate cases runs'
-	@echo 'make hosts HE=FILE         tries tools/host-lines on recorded hosts, has a built program read its lines,'
-	@echo '                           and tries the command line of tools/race-text'
-	@echo 'make captures HE=FILE      tries tools/from-capture and tools/compare-done on packet captures; needs tshark'
-	@echo 'make live HE=FILE          runs live races of a built program, and looks from the other side at what it did'
-	@echo 'make names HE=FILE         looks names up by a built program, from name servers of its own, right ones and wrong ones'
-	@echo 'make connect HE=FILE       connects by a built program in full: transfers of 100 MB, 1,000 connections under faults'
-	@echo 'make fuzz SECONDS=60 SEED=1 HE=FILE'
-	@echo '                           compares a built program with a plain reading of the rules, on texts that are drawn'
-	@echo 'make explained HE=FILE     compares what a built program explains with its transcripts and orders'
-	@echo 'make page HE=FILE          reads pages that a built program draws as a browser would'
-	@echo 'make manual HE=FILE        compares the help of a built program with its manual page and its completions'
+	@trap '' PIPE; printf '%s\n' "$$HELP" 2> /dev/null || true
 
 # What a target needs, each told in one line where it lacks.
 kit:
@@ -59,24 +70,34 @@ test: kit
 edits: kit
 	scripts/edits $(CRATES)
 
-install: kit
-	cd crates/he_tool && rt run -- --version
-	install -D -m 755 crates/he_tool/out/he_tool $(PREFIX)/bin/he
-	install -D -m 644 docs/he.1 $(PREFIX)/share/man/man1/he.1
-	install -D -m 644 completions/he.bash $(PREFIX)/share/bash-completion/completions/he
-	install -D -m 644 completions/_he $(PREFIX)/share/zsh/site-functions/_he
-	install -D -m 644 completions/he.fish $(PREFIX)/share/fish/vendor_completions.d/he.fish
-	install -D -m 644 LICENSE $(PREFIX)/share/doc/he/LICENSE
+build: kit
+	scripts/build he_tool run
+
+# Copies alone, so that it may run as root after a build as the user.
+install: | $(HE)
+	install -D -m 755 '$(HE)' '$(TO)/bin/he'
+	install -D -m 644 docs/he.1 '$(TO)/share/man/man1/he.1'
+	install -D -m 644 completions/he.bash '$(TO)/share/bash-completion/completions/he'
+	install -D -m 644 completions/_he '$(TO)/share/zsh/site-functions/_he'
+	install -D -m 644 completions/he.fish '$(TO)/share/fish/vendor_completions.d/he.fish'
+	install -D -m 644 LICENSE '$(TO)/share/doc/he/LICENSE'
+
+crates/he_tool/out/he_tool:
+	$(MAKE) build
 
 deb: program
 	scripts/make-deb $(HE) he.deb
 
-install-library: kit
-	cd crates/he_c && rt lib
-	scripts/make-library $(abspath $(PREFIX))
+build-library: kit
+	scripts/build he_c lib
 
-library: kit program
-	cd crates/he_c && rt lib
+install-library: | $(LIBRARY)
+	scripts/make-library '$(PREFIX)' '$(DESTDIR)'
+
+$(LIBRARY):
+	$(MAKE) build-library
+
+library: build-library program
 	scripts/c-library $(HE)
 
 examples: program
