@@ -1,6 +1,6 @@
 // Which growth the allocator of tests refuses: exactly the nth, of all threads' together.
 
-use refusing::{MOST_RUNS, Refusing, each_growth_refused};
+use refusing::{MOST_RUNS, Refusing, each_growth_refused, refused_in_turn};
 use std::alloc::AllocError;
 use std::thread;
 
@@ -43,10 +43,37 @@ fn refused_runs(heap: &Refusing, growths: u64, more: u64) -> (u64, u64) {
 // What grows twice is refused twice, what never grows is refused nothing, and what has no last growth answers 0 at the
 // bound. Each time the heap refuses nothing afterwards.
 #[test]
-fn refused_in_turn(rt: HostRuntime) {
+fn each_growth(rt: HostRuntime) {
     let heap = Refusing::new(rt.alloc());
     for (growths, more, wanted) in [(2, 0, (2, 3)), (0, 0, (0, 1)), (1, 1, (0, MOST_RUNS))] {
         assert!(rt; refused_runs(&heap, growths, more) == wanted);
+        assert!(rt; grow(&heap) && !heap.has_refused());
+    }
+}
+
+// Grows so often, up to the growth that is refused. What it says of it all, where nothing was refused.
+fn grow_in_turn(heap: &Refusing, growths: u64, told: Option<bool>) -> Option<bool> {
+    for _ in 0..growths {
+        if !grow(heap) {
+            return None;
+        }
+    }
+    told
+}
+
+// The growths of what is right are counted. What is wrong, or says that memory was refused where none was, is told.
+#[test]
+fn in_turn(rt: HostRuntime) {
+    let heap = Refusing::new(rt.alloc());
+    for (growths, told, wanted) in [
+        (2, Some(true), Some(2)),
+        (0, Some(true), Some(0)),
+        (2, Some(false), None),
+        (2, None, None),
+        (MOST_RUNS, Some(true), None),
+    ] {
+        let refused = refused_in_turn(&heap, || grow_in_turn(&heap, growths, told));
+        assert!(rt; refused == wanted, "{growths}");
         assert!(rt; grow(&heap) && !heap.has_refused());
     }
 }

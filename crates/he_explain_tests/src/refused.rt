@@ -7,7 +7,7 @@ use he_explain::write_explanation;
 use he_reading::read_race;
 use he_timeline::Timeline;
 use he_words::TextKind;
-use refusing::{MOST_RUNS, Refusing};
+use refusing::{Refusing, refused_in_turn};
 
 // Whether what is written of this race is what is wanted; none where memory was refused.
 fn is_written<'h>(heap: &'h Refusing, race: &Timeline<&'h Refusing>, wanted: &str) -> Option<bool> {
@@ -33,30 +33,11 @@ fn is_right(heap: &Refusing, text: &str, wanted: &str) -> Option<bool> {
     }
 }
 
-// How many growths were refused one after the other, up to the first run that is granted all; none if a run wrote
-// something else, or wrote nothing though all was granted.
-fn refused_in_turn(heap: &Refusing, text: &str, wanted: &str) -> u64 {
-    for nth in 1..=MOST_RUNS {
-        heap.refuse(nth);
-        let is_well = match is_right(heap, text, wanted) {
-            Some(is_right) => is_right,
-            None => heap.has_refused(),
-        };
-        if !is_well {
-            return 0;
-        }
-        if !heap.has_refused() {
-            return nth - 1;
-        }
-    }
-    0
-}
-
 #[test]
 fn explanations(rt: HostRuntime) {
     let heap = Refusing::new(rt.alloc());
     for (text, wanted) in &RACES {
-        let refused = refused_in_turn(&heap, text, wanted);
+        let refused = refused_in_turn(&heap, || is_right(&heap, text, wanted)).unwrap_or(0);
         assert!(rt; refused > 0, "{text}");
     }
 }

@@ -4,7 +4,7 @@ use crate::hosts::{HostKind, builder};
 use he_addr::{Family, Ip, Memory};
 use he_plan::{Attempt, Line, Transcript, interlace, plan, transcript_of};
 use he_timeline::{BuildFault, Outcome, Settings, Timeline, TimelineBuilder};
-use refusing::{MOST_RUNS, Refusing};
+use refusing::{Refusing, refused_in_turn};
 use std::mem::drop;
 
 // 2001:db8:1::1 and 2001:db8:1::2
@@ -47,28 +47,18 @@ fn begun(heap: &Refusing) -> Option<TimelineBuilder<&Refusing>> {
     builder(heap, settings, HostKind::Usual)
 }
 
-// The timeline of the calls; the growth of this number is refused once its builder has begun.
-fn built(heap: &Refusing, nth: u64) -> Option<Timeline<&Refusing>> {
-    heap.refuse(0);
+// The timeline of the calls, and whether each was taken; none where memory was refused before the first of them.
+fn built(heap: &Refusing) -> Option<(Timeline<&Refusing>, bool)> {
     let mut builder = begun(heap)?;
-    heap.refuse(nth);
-    if make_from(&mut builder, 0) {
-        Some(builder.finish())
-    } else {
-        drop(builder);
-        None
-    }
+    let is_made = make_from(&mut builder, 0);
+    Some((builder.finish(), is_made))
 }
 
-fn is_built<'h>(heap: &'h Refusing, nth: u64, wanted: &Timeline<&'h Refusing>) -> bool {
-    match built(heap, nth) {
-        Some(timeline) => {
-            let is_wanted = timeline == *wanted;
-            drop(timeline);
-            is_wanted
-        }
-        None => false,
-    }
+fn is_built<'h>(heap: &'h Refusing, wanted: &Timeline<&'h Refusing>) -> Option<bool> {
+    let (timeline, is_made) = built(heap)?;
+    let is_wanted = is_made && timeline == *wanted;
+    drop(timeline);
+    Some(is_wanted)
 }
 
 fn is_copied<'h>(heap: &'h Refusing, wanted: &Timeline<&'h Refusing>) -> Result<bool, Memory> {
@@ -162,30 +152,22 @@ fn are_answered<'h>(
     true
 }
 
-// How many growths were refused one after the other, with all well each time.
-fn refused_in_turn<'h>(
+// Whether all is well; none where memory was refused before the first call.
+fn is_well<'h>(
     heap: &'h Refusing,
     wanted: &Timeline<&'h Refusing>,
     transcript: &Transcript<&'h Refusing>,
-) -> Option<u64> {
-    for nth in 1..=MOST_RUNS {
-        if !is_built(heap, nth, wanted) || !are_answered(heap, wanted, transcript) {
-            return None;
-        }
-        if !heap.has_refused() {
-            return Some(nth.saturating_sub(1));
-        }
-    }
-    None
+) -> Option<bool> {
+    Some(is_built(heap, wanted)? && are_answered(heap, wanted, transcript))
 }
 
 fn refused_over<'h>(heap: &'h Refusing, wanted: &Timeline<&'h Refusing>) -> Option<u64> {
     let transcript = transcript_of(heap, wanted).ok()?;
-    refused_in_turn(heap, wanted, &transcript)
+    refused_in_turn(heap, || is_well(heap, wanted, &transcript))
 }
 
 fn refused(heap: &Refusing) -> Option<u64> {
-    let wanted = built(heap, 0)?;
+    let (wanted, _) = built(heap)?;
     let refused = refused_over(heap, &wanted);
     drop(wanted);
     refused

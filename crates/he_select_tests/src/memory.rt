@@ -8,7 +8,7 @@ use crate::hosts::{V4, V6, route, source};
 use crate::known::all_usable as all_known_usable;
 use he_addr::Ip;
 use he_select::{Host, Known, Policy, Route, Source, order, order_known_with_attributes};
-use refusing::{MOST_RUNS, Refusing};
+use refusing::{Refusing, refused_in_turn};
 use std::mem::drop;
 
 fn all_usable(addresses: &[Ip]) -> bool
@@ -132,25 +132,6 @@ fn is_well(heap: &Refusing, sources: &[Source], routes: &[Route]) -> Option<bool
     is_well
 }
 
-// How many growths were refused one after the other, up to the first run that is granted all; none if a run wasn't
-// well, or answered Memory though all was granted.
-fn refused_in_turn(heap: &Refusing, sources: &[Source], routes: &[Route]) -> u64 {
-    for nth in 1..=MOST_RUNS {
-        heap.refuse(nth);
-        let is_right = match is_well(heap, sources, routes) {
-            Some(is_well) => is_well,
-            None => heap.has_refused(),
-        };
-        if !is_right {
-            return 0;
-        }
-        if !heap.has_refused() {
-            return nth - 1;
-        }
-    }
-    0
-}
-
 #[test]
 fn refused_growths(rt: HostRuntime) {
     let heap = Refusing::new(rt.alloc());
@@ -167,8 +148,8 @@ fn refused_growths(rt: HostRuntime) {
         source(Ip::V4(0x0a00_0007), 24, 2),
     ];
     let refused = match (route("::/0", 1), route("0.0.0.0/0", 1)) {
-        (Some(v6), Some(v4)) => refused_in_turn(&heap, &sources, &[v6, v4]),
-        _ => 0,
+        (Some(v6), Some(v4)) => refused_in_turn(&heap, || is_well(&heap, &sources, &[v6, v4])),
+        _ => None,
     };
-    assert!(rt; refused > 0);
+    assert!(rt; refused.unwrap_or(0) > 0);
 }

@@ -3,7 +3,7 @@
 
 use he_select::PolicyFault;
 use he_text::{Ending, InputFault, RaceReader, RaceReaderFault, TextKind};
-use refusing::{MOST_RUNS, Refusing};
+use refusing::{Refusing, refused_in_turn};
 use std::mem::drop;
 
 // A race of 156 bytes.
@@ -182,36 +182,22 @@ fn told_of(heap: &Refusing, bytes: &[u8], ending: Ending) -> Told {
     }
 }
 
-// Whether what is told of the row is what is wanted, or want of memory where a growth was refused.
-fn is_well(heap: &Refusing, row: &Row) -> bool {
+// Whether what is told of the row is what is wanted; none where memory was refused.
+fn is_right(heap: &Refusing, row: &Row) -> Option<bool> {
     let (text, bytes, ending, wanted) = row;
-    let Some(part) = text.get(..*bytes) else {
-        return false;
-    };
-    let told = told_of(heap, part, *ending);
-    told == *wanted || heap.has_refused() && told == Told::Memory
-}
-
-// How many growths of the row were refused one after the other, up to the first run that is granted all; None if a run
-// told something else.
-fn refused_in_turn(heap: &Refusing, row: &Row) -> Option<u64> {
-    for nth in 1..=MOST_RUNS {
-        heap.refuse(nth);
-        if !is_well(heap, row) {
-            return None;
-        }
-        if !heap.has_refused() {
-            return Some(nth - 1);
-        }
+    let told = told_of(heap, text.get(..*bytes)?, *ending);
+    if told == Told::Memory {
+        None
+    } else {
+        Some(told == *wanted)
     }
-    None
 }
 
 // How many growths of all rows were refused; none if a run told something else.
 fn refused_in_all(heap: &Refusing) -> u64 {
     let mut refused: u64 = 0;
     for row in &ROWS {
-        match refused_in_turn(heap, row) {
+        match refused_in_turn(heap, || is_right(heap, row)) {
             Some(more) => refused = refused.saturating_add(more),
             None => return 0,
         }

@@ -7,7 +7,7 @@ use he_text::{
     NotOneRace, TextKind, read_one_race, read_race, write_order, write_timeline, write_transcript,
 };
 use he_timeline::Timeline;
-use refusing::{MOST_RUNS, Refusing, each_growth_refused};
+use refusing::{Refusing, each_growth_refused, refused_in_turn};
 use std::test::Fail;
 
 // A race with all kinds of lines, as it is written, and behind it its order and its transcript. For 2001:db8:1::1 and
@@ -160,25 +160,6 @@ fn is_right(heap: &Refusing, text: &str, wanted: &str) -> Option<bool> {
     }
 }
 
-// How many growths were refused one after the other, up to the first run that is granted all; none if a run wrote
-// something else, or wrote nothing though all was granted.
-fn refused_in_turn(heap: &Refusing, text: &str, wanted: &str) -> u64 {
-    for nth in 1..=MOST_RUNS {
-        heap.refuse(nth);
-        let is_well = match is_right(heap, text, wanted) {
-            Some(is_right) => is_right,
-            None => heap.has_refused(),
-        };
-        if !is_well {
-            return 0;
-        }
-        if !heap.has_refused() {
-            return nth - 1;
-        }
-    }
-    0
-}
-
 #[test]
 fn races(rt: HostRuntime) {
     let heap = Refusing::new(rt.alloc());
@@ -188,7 +169,7 @@ fn races(rt: HostRuntime) {
         (SECOND, SECOND),
         (SHORT_SECOND, SHORT_WRITTEN),
     ] {
-        let refused = refused_in_turn(&heap, text, wanted);
+        let refused = refused_in_turn(&heap, || is_right(&heap, text, wanted)).unwrap_or(0);
         assert!(rt; refused > 0, "{text}");
     }
 }
@@ -197,7 +178,7 @@ fn races(rt: HostRuntime) {
 static ONE_RACE: [(&str, Option<NotOneRace>); 2] = [
     (SHORT, None),
     (
-        "race 1\nset limit 9\nend\nrace 1\nend\n",
+        "race 1\naaaa 20 2001:db8:1::1\nend\nrace 1\nend\n",
         Some(NotOneRace::Count),
     ),
 ];

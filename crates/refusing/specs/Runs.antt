@@ -1,4 +1,4 @@
-use Rattle.std.specs.Prelude.{◌≡◌, ℕ, ◌<◌, zero, suc}
+use Rattle.std.specs.Prelude.{◌≡◌, ℕ, ◌<◌, zero, suc, Bool, true, Option, IfSome}
 
 -- so many steps, one after another, lead from the first state to the last
 abbrev pub Leads : {S : Type 0} → (S → S → Type 0) → ℕ → S → S → Type 0
@@ -11,3 +11,7 @@ pub record RanMoreThan {S : Type 0} (step : S → S → Type 0) (least : ℕ) (f
   pub last : S
   pub more : least < times
   pub leads : Leads step times first last
+
+-- a run that answered that what it made is right, or nothing of it
+abbrev pub RanWell : {S : Type 0} → (S → Option Bool → S → Type 0) → S → S → Type 0
+RanWell step state next = (answer : Option Bool) × step state answer next × IfSome answer (λ is_right. is_right ≡ true)

@@ -19,17 +19,12 @@
 //! ```
 //!
 //! The closure makes what it changes anew in each run, on the heap, and what it only reads is made before, on
-//! `rt.alloc()`, where nothing is refused. It is proved with no proof file and no clause. Where the closure form does
-//! not fit, as for a `?`, write the loop out:
+//! `rt.alloc()`, where nothing is refused. It is proved with no proof file and no clause. What needs a `?` stands in a
+//! function of its own, which answers whether all is right, or `None` where memory was refused:
 //!
 //! ```text
-//! for nth in 1..=MOST_RUNS {
-//!     heap.refuse(nth);
-//!     ..
-//!     if !heap.has_refused() {
-//!         break;
-//!     }
-//! }
+//! let refused = refused_in_turn(&heap, || is_written(&heap, address, expected));
+//! assert!(rt; refused.unwrap_or(0) > 0);
 //! ```
 //!
 //! A `&Refusing<Global>` is `Allocator + Copy + Send + Sync`, so threads may share it: of all their growths one is
@@ -37,7 +32,8 @@
 //! finds by itself, from `proofs/heap/RefusingAllocator/TheSendSync`.
 //!
 //! Proved: what `Allocator` asks, so that a granted block is the inner allocator's, and each block goes back to it;
-//! and that `each_growth_refused` runs the closure more often than it says. Which growth is refused stands in an
+//! and that the closure is run more often than `each_growth_refused` and `refused_in_turn` say, each run of the second
+//! being right or refused. Which growth is refused stands in an
 //! atomic word, of which no contract can speak, so that is tested only, in the crate `he_board_tests`.
 #![tactic(auto)]
 
@@ -46,4 +42,4 @@ mod heap;
 mod runs;
 
 pub use heap::Refusing;
-pub use runs::{MOST_RUNS, each_growth_refused};
+pub use runs::{MOST_RUNS, each_growth_refused, refused_in_turn};

@@ -1,17 +1,15 @@
-//! Prints what files of hosts and of resolver settings say, and of names beside them.
-//!
-//! A recording `NAME`, in the folder in which it is started, is `NAME.hosts`, `NAME.resolv` and `NAME.names`, a name a
-//! line. Nothing is proved of this program but that it is safe and ends.
-#![tactic(auto)]
+// What files of hosts and of resolver settings say, and of names beside them.
+//
+// A recording `NAME` is `NAME.hosts`, `NAME.resolv` and `NAME.names`, a name a line.
 
+use crate::files::read;
 use he_addr::{Family, Memory, write_ip, write_number};
 use he_names::{
     Found, names_to_ask, read_attempts, read_hosts, read_ndots, read_search, read_servers,
     read_timeout,
 };
 use std::alloc::Global;
-use std::io::Write;
-use std::{fs, io};
+use std::io::{self, Write};
 
 const NAMES: [&str; 3] = ["bare", "edge", "plain"];
 
@@ -23,16 +21,11 @@ struct Files<'t> {
     names: &'t [u8],
 }
 
-fn main(rt: HostRuntime) -> io::Result<()> {
+pub(crate) fn show_names(rt: &HostRuntime) -> io::Result<()> {
     for name in &NAMES {
-        show(&rt, name)?;
+        show(rt, name)?;
     }
     Ok(())
-}
-
-fn read(rt: &HostRuntime, name: &str, file: &str) -> io::Result<Vec<u8>> {
-    let path = format!(in rt.alloc(); "{name}.{file}")?;
-    fs::read(rt, path.as_str())
 }
 
 fn show(rt: &HostRuntime, name: &str) -> io::Result<()> {

@@ -1,10 +1,10 @@
-//! Prints the host of each recording of the folder in which it is started, and what is left out of it.
-//!
-//! A recording `NAME` is `NAME.if_inet6`, `NAME.fib_trie`, `NAME.ipv6_route` and `NAME.route`, as `/proc/net` has
-//! them, and `NAME.interfaces`, a line for each interface: its name, `ifindex`, `flags`, `carrier` and `type` of
-//! `/sys/class/net`. Nothing is proved of this program but that it is safe and ends.
-#![tactic(auto)]
+// The host of each recording of a machine, and what is left out of it.
+//
+// A recording `NAME` is `NAME.if_inet6`, `NAME.fib_trie`, `NAME.ipv6_route` and `NAME.route`, as `/proc/net` has them,
+// and `NAME.interfaces`, a line for each interface: its name, `ifindex`, `flags`, `carrier` and `type` of
+// `/sys/class/net`.
 
+use crate::files::read;
 use he_host::host::{Files, find_host, find_routes};
 use he_host::interface::Interface;
 use he_host::lines::read_lines;
@@ -14,21 +14,15 @@ use he_host::remarks::write_remarks;
 use he_host::sysfs::{Sysfs, make_link};
 use he_host::writing::write_host;
 use std::alloc::Global;
-use std::io::Write;
-use std::{fs, io};
+use std::io::{self, Write};
 
 const NAMES: [&str; 6] = ["edge", "loopback", "machine", "mixed", "none", "vpn"];
 
-fn main(rt: HostRuntime) -> io::Result<()> {
+pub(crate) fn show_hosts(rt: &HostRuntime) -> io::Result<()> {
     for name in &NAMES {
-        show(&rt, name)?;
+        show(rt, name)?;
     }
     Ok(())
-}
-
-fn read(rt: &HostRuntime, name: &str, file: &str) -> io::Result<Vec<u8>> {
-    let path = format!(in rt.alloc(); "{name}.{file}")?;
-    fs::read(rt, path.as_str())
 }
 
 // The interface of a line of a recording.
