@@ -1,12 +1,11 @@
 // Explanations that are written with each growth refused in turn: what is refused is told as want of memory, and what
 // isn't writes the same as ever.
 
-use crate::races::RACES;
+use crate::explanations::RACES;
 use he_addr::Memory;
 use he_explain::write_explanation;
-use he_reading::read_race;
+use he_text::{TextKind, read_race};
 use he_timeline::Timeline;
-use he_words::TextKind;
 use refusing::{Refusing, refused_in_turn};
 
 // Whether what is written of this race is what is wanted; none where memory was refused.

@@ -1,0 +1,12 @@
+//! Tests that no file of races can hold: of `he_text` timelines written and texts that may go on, of `he_text` and
+//! `he_explain` want of memory. What is read, written and explained is tried by examples, `crates/cases/data`.
+#![tactic(auto)]
+
+#[cfg(test)]
+mod explained;
+#[cfg(test)]
+mod explanations;
+#[cfg(test)]
+mod race_reader;
+#[cfg(test)]
+mod written;
