@@ -2,9 +2,10 @@
 //
 // A recording `NAME` is `NAME.if_inet6`, `NAME.fib_trie`, `NAME.ipv6_route` and `NAME.route`, as `/proc/net` has them,
 // and `NAME.interfaces`, a line for each interface: its name, `ifindex`, `flags`, `carrier` and `type` of
-// `/sys/class/net`.
+// `/sys/class/net`. A recording of the kernel's answers is `NAME.ways`.
 
 use crate::files::read;
+use crate::ways;
 use he_host::host::{Files, find_host, find_routes};
 use he_host::interface::Interface;
 use he_host::lines::read_lines;
@@ -18,9 +19,15 @@ use std::io::{self, Write};
 
 const NAMES: [&str; 6] = ["edge", "loopback", "machine", "mixed", "none", "vpn"];
 
+const WAYS: [&str; 3] = ["split", "early", "shared"];
+
 pub(crate) fn show_hosts(rt: &HostRuntime) -> io::Result<()> {
     for name in &NAMES {
         show(rt, name)?;
+    }
+    for name in &WAYS {
+        let recording = read(rt, name, "ways")?;
+        tell(rt, name, ways::written(rt.alloc(), &recording))?;
     }
     Ok(())
 }
@@ -50,7 +57,11 @@ fn show(rt: &HostRuntime, name: &str) -> io::Result<()> {
         ipv6_route: &ipv6_route,
         route: &route,
     };
-    match written(rt.alloc(), &told, files) {
+    tell(rt, name, written(rt.alloc(), &told, files))
+}
+
+fn tell(rt: &HostRuntime, name: &str, text: Option<Vec<u8>>) -> io::Result<()> {
+    match text {
         Some(text) => {
             println!(rt; "{name}")?;
             rt.stdout().write_all(&text)

@@ -7,6 +7,7 @@
 mod files;
 mod hosts;
 mod names;
+mod ways;
 
 fn main(rt: HostRuntime) -> std::io::Result<()> {
     hosts::show_hosts(&rt)?;

@@ -1,3 +1,4 @@
 pub mod Cutting
 pub mod HexBounds
 pub mod Kept
+pub mod OwnInterfaces

@@ -7,6 +7,7 @@ pub mod Interfaces
 pub mod Ipv4Route
 pub mod Ipv6Route
 pub mod Lines
+pub mod OwnInterfaces
 pub mod Parts
 pub mod Placing
 pub mod Sysfs

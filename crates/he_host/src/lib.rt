@@ -14,7 +14,9 @@
 //!
 //! Proved, whatever the kernel answers: [`ways::find_host_to`] gives the host with the kernel's sources and a route for
 //! each destination that leads over its source's interface, and [`ways::find_unsaid`] tells just those destinations for
-//! which the rules of he_select take another source of it than the kernel (`specs/Ways`).
+//! which the rules of he_select take another source of it than the kernel (`specs/Ways`). A source that is alone on the
+//! interface of a destination's route is the destination's, unless one of rules 1 to 3 of RFC 6724 section 5 prefers
+//! another ([`laws::own_interface_decides`], `specs/OwnInterfaces`): so each source of a way has an interface of its own.
 //!
 //! Not proved: that no fault is answered where memory suffices (no step of the code answers one of its own); what
 //! `machine` and `kernel` ask of the system, and what the lines that tell what is left out or a guess say. IPv6 routes
@@ -32,6 +34,7 @@ pub mod interface;
 pub mod ipv4_route;
 pub mod ipv6_route;
 pub mod kernel;
+pub mod laws;
 pub mod left_out;
 pub mod lines;
 pub mod machine;
