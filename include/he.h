@@ -68,7 +68,9 @@ enum he_kind {
     HE_UNFINISHED = 9,        /* the text ends inside a race */
     HE_NO_DEFAULT_ROW = 10,   /* the policy table has no ::/0 */
     HE_NO_MAPPED_ROW = 11,    /* the policy table has no ::ffff:0:0/96 */
-    HE_SHARED_PRECEDENCE = 12 /* a row inside ::ffff:0:0/96 has the precedence of one outside */
+    HE_SHARED_PRECEDENCE = 12, /* a row inside ::ffff:0:0/96 has the precedence of one outside */
+    HE_OTHER_POLICY = 13,     /* another fault of the policy table, of none that there is today */
+    HE_MEMORY = 14            /* malloc refused while the line was read */
 };
 
 /* What is told of a call, besides its answer. */

@@ -12,7 +12,7 @@ use crate::parts::field;
 use crate::placing::holds;
 use crate::ways::Way;
 use he_addr::prefix::MAPPED_LEN;
-use he_addr::{Ip, Memory, Prefix, write_ip, write_number, write_prefix};
+use he_addr::{Ip, Memory, Prefix, read_number, write_ip, write_number, write_prefix};
 use he_select::Source;
 use std::alloc::Allocator;
 
@@ -227,13 +227,13 @@ pub fn write_unsaid<A: Allocator + Copy>(way: Way, out: &mut Vec<u8, A>) -> Resu
 
 // The number of a table with which its part of `/proc/net/fib_trie` begins, as in `Id 51820:`; None in other lines,
 // those of the tables `main` and `local` among them.
-fn table_of<'t>(line: &'t [u8]) -> Option<&'t [u8]> {
+fn table_of(line: &[u8]) -> Option<u64> {
     if field(line, 0)? != b"Id".as_slice() {
         return None;
     }
     let number = field(line, 1)?;
     let end = number.iter().position(|byte| *byte == b':')?;
-    Some(&number[..end])
+    read_number(&number[..end])
 }
 
 /// Appends a line for each table of IPv4 routes beside `main` and `local`, which rules of policy routing may use: Linux
@@ -250,7 +250,7 @@ pub fn write_unseen_tables<A: Allocator + Copy>(
     for line in read_lines(alloc, fib_trie)?.iter() {
         if let Some(table) = table_of(line.text) {
             write_word(b"he: not seen: the IPv4 routes of table ", out)?;
-            write_word(table, out)?;
+            write_number(table, out)?;
             write_word(
                 b", which `ip rule` may use: /proc/net/route has the main table alone\n",
                 out,
