@@ -43,7 +43,7 @@ abbrev pub SomeGiven : List ℕ → Bool → Type 0
 SomeGiven bytes is_broken = ⊤
 
 -- what was taken from the input, what was put into the output, and that the end that is told is that of both ways
-abbrev pub RelaysStandard : (List ℕ → Bool → Type 0) → (List ℕ → Type 0) → (List ℕ → Type 0) → (List ℕ → Type 0) → Type 0 → Bool → Result (Unit {0}) RelayFault → Type 0
+unfoldable pub RelaysStandard : (List ℕ → Bool → Type 0) → (List ℕ → Type 0) → (List ℕ → Type 0) → (List ℕ → Type 0) → Type 0 → Bool → Result (Unit {0}) RelayFault → Type 0
 RelaysStandard Gives GivesSoFar Put PutPart Kept is_terminal result =
     ((result ≡ Err faults.Memory) × Kept)
     ⊎ ((sent : Result (Unit {0}) PumpFault) × (received : Result (Unit {0}) PumpFault)

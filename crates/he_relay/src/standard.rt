@@ -28,6 +28,7 @@ use std::thread::Threads;
 /// - `Unread` where the remote had ended its way, and the input gave nothing for as long as it was waited for, and is
 ///   no terminal.
 /// - `Memory` before anything was taken.
+#[tactic(auto, unfolding(crate::specs::Relays::RelaysStandard))]
 pub fn relay_standard<R: Threads, I: InputStream, O: OutputStream + Send>(
     rt: &R,
     alloc: Global,
