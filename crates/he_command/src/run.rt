@@ -21,7 +21,7 @@ use he_host::machine::write_machine;
 use he_inputs::StreamFault;
 use he_live::{FailedAttempt, LiveFault, Told, first_local, live, write_failures};
 use he_plan::Outcome3;
-use he_resolver::{Choice, TellFault, write_names};
+use he_resolver::{Choice, TellFault, Wanted, write_names};
 use he_stream::{FromReader, InputStream, OutputStream, ToWriter, write_whole};
 use he_timeline::{Changes, Settings};
 use std::alloc::Global;
@@ -239,7 +239,14 @@ where
     ensures { RunsNames O.OutputStream resolver output.old output.new result }
 {
     match resolver {
-        Some(choice) => report_names(write_names(rt, alloc, output, host, choice), host, faults),
+        Some(choice) => {
+            let wanted = Wanted {
+                host,
+                only: None,
+                choice,
+            };
+            report_names(write_names(rt, alloc, output, wanted), host, faults)
+        }
         None => refuse_option(OptionFault::Resolver, faults),
     }
 }

@@ -11,6 +11,16 @@ pub enum Families {
     Only(Family),
 }
 
+impl Families {
+    /// The family that is tried alone, if one is.
+    pub fn only(self) -> Option<Family> {
+        match self {
+            Families::Both => None,
+            Families::Only(family) => Some(family),
+        }
+    }
+}
+
 /// Where the `source`, `route` and `policy` lines of a race come from.
 #[derive(Clone, Copy, Debug, PartialEq, Eq)]
 pub enum Lines<'a> {

@@ -13,7 +13,7 @@ use crate::telling::Telling;
 use crate::tried::write_tried;
 use he_live::{Steps, resolving_race_on};
 use he_race::Raced;
-use he_resolver::{Lookup, NamesFault, SystemResolver};
+use he_resolver::{Lookup, NamesFault, SystemResolver, Wanted};
 use he_story::write_story;
 use he_timeline::Timeline;
 use he_write::write_timeline;
@@ -118,8 +118,13 @@ where
     ensures fault { IfErr result IsBefore }
 {
     let (reactor, timers) = (handle.reactor(), handle.time());
-    let lookup = Lookup::new(rt, alloc, reactor, timers, asked.host, asked.resolver)?;
-    Ok(HostAnswers::new(rt, alloc, timers, lookup, why)?)
+    let wanted = Wanted {
+        host: asked.host,
+        only: asked.families.only(),
+        choice: asked.resolver,
+    };
+    let lookup = Lookup::new(rt, alloc, reactor, timers, wanted)?;
+    Ok(HostAnswers::new(alloc, lookup, why))
 }
 
 // What is told of the race, with its connection.

@@ -22,7 +22,7 @@ use Rattle.he_dns.proofs.Numerals.{allowed, bind_some, not_refused, some_same, w
 use Rattle.he_dns.proofs.RecordLaws.{entries_found, entries_stand}
 
 -- the header
-header_stands : (m : List ℕ) (h : Header) → header_at m ≡ Some h → IsHeader m h.id h.flags h.questions h.answers
+pub header_stands : (m : List ℕ) (h : Header) → header_at m ≡ Some h → IsHeader m h.id h.flags h.questions h.answers
 unfolding header_at
 header_stands m h is =
     let whole = not_refused _ _ h is in
@@ -39,7 +39,7 @@ header_stands m h is =
       answers_word = word_stands m 6 answers.0 answers.1;
     })
 
-header_found : (m : List ℕ) (h : Header) → IsHeader m h.id h.flags h.questions h.answers → header_at m ≡ Some h
+pub header_found : (m : List ℕ) (h : Header) → IsHeader m h.id h.flags h.questions h.answers → header_at m ≡ Some h
 unfolding header_at
 header_found m h is =
     let whole = le-ltb (length m) 12 is.whole in

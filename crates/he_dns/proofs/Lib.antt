@@ -6,3 +6,4 @@ mod NameLaws
 mod Named
 mod Numerals
 mod RecordLaws
+mod ServerLaws

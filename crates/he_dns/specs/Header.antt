@@ -1,5 +1,5 @@
 -- Headers of messages (RFC 1035 section 4.1.1) and their first question (section 4.1.2).
-use Rattle.std.specs.Prelude.{◌≡◌, ℕ, ◌+◌, ◌/◌, ◌%◌, ◌^◌, ◌≤◌, ◌==◌, List, Option, Some, None, IsTrue, length, if◌then◌else◌}
+use Rattle.std.specs.Prelude.{◌≡◌, ℕ, ◌+◌, ◌/◌, ◌%◌, ◌^◌, ◌≤◌, ◌==◌, ◌&&◌, ◌≢◌, Bool, List, Option, Some, None, IsTrue, length, if◌then◌else◌}
 use Rattle.he_addr.specs.declared.ip.Family.{Family}
 use Rattle.he_dns.specs.declared.fault.AnswerFault.{AnswerFault}
 use Rattle.he_dns.specs.declared.fault.AnswerFault.TheVariants as faults
@@ -51,3 +51,32 @@ code_fault code = if code == 0 then None
 
 abbrev pub flags_fault : ℕ → Option AnswerFault
 flags_fault flags = if tc_of flags == 1 then Some faults.Truncated else code_fault (rcode_of flags)
+
+-- the bits that say whether the server is an authority for the name (AA), and whether it asks other servers (RA)
+abbrev pub aa_of : ℕ → ℕ
+aa_of flags = flags / 2 ^ 10 % 2
+
+abbrev pub ra_of : ℕ → ℕ
+ra_of flags = flags / 2 ^ 7 % 2
+
+abbrev pub is_lame_by : ℕ → Bool
+is_lame_by flags = aa_of flags == 0 && ra_of flags == 0
+
+-- the server that sent the message neither is an authority nor asks others
+pub record IsLame (message : List ℕ) : Type 0 where
+  pub id : ℕ
+  pub flags : ℕ
+  pub questions : ℕ
+  pub answers : ℕ
+  pub header : IsHeader message id flags questions answers
+  pub lame : IsTrue (is_lame_by flags)
+
+-- A response to the query with this id that repeats no question, and whose code says neither that all is well nor that there
+-- is no such name: the server refuses.
+pub record IsRefusal (message : List ℕ) (id code : ℕ) : Type 0 where
+  pub flags : ℕ
+  pub answers : ℕ
+  pub header : IsHeader message id flags 0 answers
+  pub standard : qr_and_opcode_of flags ≡ 16
+  pub says : code ≡ rcode_of flags
+  pub fails : (code ≢ 0) × (code ≢ 3)

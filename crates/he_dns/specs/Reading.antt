@@ -1,6 +1,6 @@
 -- Mirrors the code: what the readers answer, as functions on lists. What stands in a message is said in `Names`, `Header`,
 -- `Records`, `Chains` and `Answers`.
-use Rattle.std.specs.Prelude.{◌≡◌, ℕ, zero, suc, ◌+◌, ◌-◌, ◌*◌, ◌<◌, ◌/◌, ◌==◌, ◌&&◌, Bool, List, [], ◌∷◌, ◌++◌, Option, Some, None, Result, Ok, Err, length, slice_index, slice_range, take, drop, nat_lt, nat_le, if◌then◌else◌}
+use Rattle.std.specs.Prelude.{◌≡◌, ℕ, zero, suc, ◌+◌, ◌-◌, ◌*◌, ◌<◌, ◌/◌, ◌%◌, ◌==◌, ◌&&◌, Bool, List, [], ◌∷◌, ◌++◌, Option, Some, None, Result, Ok, Err, length, slice_index, slice_range, take, drop, nat_lt, nat_le, false, not, if◌then◌else◌}
 use Rattle.std.specs.Int.{w32, w128, from_be_bytes}
 use Rattle.std.specs.Option.{option_and_then, option_map, option_map_or, option_or, unwrap_or}
 use Rattle.he_addr.specs.declared.ip.Family.{Family}
@@ -19,7 +19,7 @@ use Rattle.he_dns.specs.declared.parts.Part.{Part}
 use Rattle.he_dns.specs.declared.parts.Part.TheVariants.{Root, Label, Pointer}
 use Rattle.he_dns.specs.declared.records.Record.{Record}
 use Rattle.he_dns.specs.Chains.{addresses_of, alias_of}
-use Rattle.he_dns.specs.Header.{flags_fault}
+use Rattle.he_dns.specs.Header.{flags_fault, is_lame_by}
 use Rattle.he_dns.specs.Names.{is_same}
 use Rattle.he_dns.specs.Numbers.{class_in, type_cname, type_of}
 
@@ -86,6 +86,17 @@ header_at message = if nat_lt (length message) 12 then None
 
 abbrev pub responds : Header → ℕ → Bool
 responds header id = header.id == id && header.flags / 2048 == 16 && header.questions == 1
+
+abbrev pub refusal_of : Header → ℕ → Option ℕ
+refusal_of header id =
+    if ((header.id == id && header.flags / 2048 == 16) && header.questions == 0) && not (header.flags % 16 == 0) && not (header.flags % 16 == 3)
+    then Some (header.flags % 16) else None
+
+unfoldable pub refusal_in : List ℕ → ℕ → Option ℕ
+refusal_in message id = header_at message >>= λ header. refusal_of header id
+
+unfoldable pub lame_in : List ℕ → Bool
+lame_in message = option_map_or (λ header. is_lame_by header.flags) (header_at message) false
 
 unfoldable pub behind_question : List ℕ → List ℕ → Family → Option ℕ
 behind_question message name family = name_at message 12 >>= λ asked. word_at message asked.1 >>= λ kind. word_at message (asked.1 + 2) >>= λ class.

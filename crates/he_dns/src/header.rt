@@ -2,8 +2,8 @@
 
 ghost use Rattle.std.specs.Prelude.{◌≡◌, Ok, Err};
 ghost use Rattle.std.specs.Option.{option_map_or};
-ghost use Rattle.he_dns.specs.Header.{flags_fault};
-ghost use Rattle.he_dns.specs.Reading.{header_at, responds};
+ghost use Rattle.he_dns.specs.Header.{flags_fault, is_lame_by};
+ghost use Rattle.he_dns.specs.Reading.{header_at, refusal_of, responds};
 
 use crate::fault::AnswerFault;
 use crate::limits::HEADER_LEN;
@@ -43,6 +43,26 @@ impl Header {
         ensures { result ≡ responds self id }
     {
         self.id == id && self.flags >> 11 == 0b1_0000 && self.questions == 1
+    }
+
+    // The code by which a server refuses the query with this id, where it repeats no question.
+    pub(crate) fn refusal(self, id: u16) -> Option<u8>
+        ensures { result ≡ refusal_of self id }
+    {
+        let code = self.flags % 16;
+        let is_ours = self.id == id && self.flags >> 11 == 0b1_0000;
+        if is_ours && self.questions == 0 && code != 0 && code != 3 {
+            Some(code as u8)
+        } else {
+            None
+        }
+    }
+
+    // Whether the server neither is an authority (AA) nor follows names itself (RA).
+    pub(crate) fn is_lame(self) -> bool
+        ensures { result ≡ is_lame_by self.flags }
+    {
+        (self.flags >> 10) % 2 == 0 && (self.flags >> 7) % 2 == 0
     }
 
     // How many records the answer section has.

@@ -16,6 +16,8 @@
 //!   are those of the name at the end of the chain of aliases (`specs/Chains.antt`). A fault is the message's, and no
 //!   message that answers addresses has one.
 //!
+//! [`read_refusal`] and [`is_lame`] tell what a message says of the server that sent it (`specs/Header.antt`).
+//!
 //! `specs/Reading.antt` mirrors the code, for the proofs.
 //!
 //! Only tested: that memory which is granted suffices.
@@ -34,6 +36,7 @@ mod parts;
 mod queries;
 mod question;
 mod records;
+mod server;
 #[cfg(test)]
 mod tests;
 mod words;
@@ -42,3 +45,4 @@ pub use answer::read_answer;
 pub use fault::{AnswerFault, NameFault};
 pub use name::Name;
 pub use queries::write_query;
+pub use server::{is_lame, read_refusal};

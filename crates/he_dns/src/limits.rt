@@ -29,3 +29,6 @@ pub(crate) const TYPE_AAAA: u16 = 28;
 
 // CLASS of the Internet (RFC 1035 section 3.2.4).
 pub(crate) const CLASS_IN: u16 = 1;
+
+// The low octet of TYPE of a record that offers room for longer datagrams (RFC 6891 section 6.1.1).
+pub(crate) const TYPE_OPT: u8 = 41;

@@ -2,9 +2,9 @@
 
 ghost use Rattle.std.specs.Prelude.{◌≡◌, ◌++◌, IfOk, OnOk};
 ghost use Rattle.std.specs.Int.{to_be_bytes, w16};
-ghost use Rattle.he_dns.specs.Queries.{query_of};
+ghost use Rattle.he_dns.specs.Queries.{additional_of, arcount_of, query_of};
 
-use crate::limits::CLASS_IN;
+use crate::limits::{CLASS_IN, TYPE_OPT};
 use crate::name::Name;
 use crate::question::type_of;
 use he_addr::{Family, Memory};
@@ -21,22 +21,47 @@ fn append_word<A: Allocator>(word: u16, out: &mut Vec<u8, A>) -> Result<(), Memo
 }
 
 /// A query for the addresses of one family of a host (RFC 1035 section 4.1; RFC 3596 for IPv6): a header with this id
-/// and RD set, and one question with the name, the type and class IN.
+/// and RD set, one question with the name, the type and class IN, and, where a room is offered, a record that tells the
+/// server that a datagram of its answer may have so many bytes (RFC 6891 section 6.1).
 pub fn write_query<A: Allocator + Copy, B: Allocator>(
     alloc: A,
     id: u16,
     name: &Name<B>,
     family: Family,
+    room: Option<u16>,
 ) -> Result<Vec<u8, A>, Memory>
-    ensures { IfOk result (λ query. query.items ≡ query_of id name.now.octets family) }
+    ensures { IfOk result (λ query. query.items ≡ query_of id name.now.octets family room) }
 {
     let mut query = Vec::new(alloc);
     append_word(id, &mut query)?;
     append_word(RECURSION_DESIRED, &mut query)?;
-    query.extend_from_slice(&[0, 1, 0, 0, 0, 0, 0, 0])?;
+    query.extend_from_slice(&[0, 1, 0, 0, 0, 0])?;
+    append_word(arcount_of(room), &mut query)?;
     query.extend_from_slice(name.octets())?;
     query.push(0)?;
     append_word(type_of(family), &mut query)?;
     append_word(CLASS_IN, &mut query)?;
+    append_additional(room, &mut query)?;
     Ok(query)
+}
+
+// How many records the additional section has.
+fn arcount_of(room: Option<u16>) -> u16
+    ensures { result ≡ arcount_of room }
+{
+    match room {
+        Some(_) => 1,
+        None => 0,
+    }
+}
+
+fn append_additional<A: Allocator>(room: Option<u16>, out: &mut Vec<u8, A>) -> Result<(), Memory>
+    ensures { OnOk result (out.new.items ≡ out.old.items ++ additional_of room) }
+{
+    if let Some(room) = room {
+        out.extend_from_slice(&[0, 0, TYPE_OPT])?;
+        append_word(room, out)?;
+        out.extend_from_slice(&[0; 6])?;
+    }
+    Ok(())
 }

@@ -134,7 +134,7 @@ fn name_fault(alloc: Global, text: &[u8]) -> Option<NameFault> {
 #[test]
 fn a_query_has_these_bytes(rt: HostRuntime) -> Result<(), Fail> {
     let name = Name::read(rt.alloc(), b"example.org")?;
-    let query = write_query(rt.alloc(), 0x1234, &name, Family::V4)?;
+    let query = write_query(rt.alloc(), 0x1234, &name, Family::V4, None)?;
     assert!(rt; query.as_slice() == QUERY_A);
     Ok(())
 }
@@ -177,7 +177,7 @@ fn a_suffix_is_appended(rt: HostRuntime) -> Result<(), Fail> {
     let host = Name::read(rt.alloc(), b"example")?;
     let suffix = Name::read(rt.alloc(), b"org")?;
     let name = host.with_suffix(rt.alloc(), &suffix)?;
-    let query = write_query(rt.alloc(), 0x1234, &name, Family::V4)?;
+    let query = write_query(rt.alloc(), 0x1234, &name, Family::V4, None)?;
     assert!(rt; query.as_slice() == QUERY_A);
     assert!(rt; name.dots() == 1 && !name.is_absolute());
     Ok(())

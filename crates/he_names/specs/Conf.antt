@@ -47,8 +47,12 @@ domains_of (keyword ∷ domain ∷ domains) = if bytes_eq keyword (codes "search
 domains_of _ = []
 
 -- the last search list of the file
+abbrev pub last_search : List ℕ → List (List ℕ)
+last_search text = last_of [] (filter (λ domains. nat_lt 0 (length domains)) (map domains_of (entries_of text)))
+
+-- the domains that are asked: the first 32 of it
 abbrev pub search_in : List ℕ → List (List ℕ)
-search_in text = last_of [] (filter (λ domains. nat_lt 0 (length domains)) (map domains_of (entries_of text)))
+search_in text = take 32 (last_search text)
 
 -- ---- numbers
 

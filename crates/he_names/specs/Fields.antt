@@ -7,9 +7,9 @@ use Rattle.std.specs.Borrow.{Bor}
 abbrev pub texts : List (Bor (List ℕ)) → List (List ℕ)
 texts references = map (λ reference. reference.now) references
 
--- a space or a tab
+-- a space, a tab, or a carriage return, which may stand before a line feed
 abbrev pub is_blank : ℕ → Bool
-is_blank byte = (byte == 32) || (byte == 9)
+is_blank byte = ((byte == 32) || (byte == 9)) || (byte == 13)
 
 -- the lines, parted by line feeds
 abbrev pub lines_of : List ℕ → List (List ℕ)

@@ -4,12 +4,12 @@ ghost use Rattle.std.specs.Prelude.{◌≡◌, IfOk, codes};
 ghost use Rattle.std.specs.Option.{option_to_list};
 ghost use Rattle.std.specs.Str.{bytes_eq};
 ghost use Rattle.he_names.specs.Fields.{texts};
-ghost use Rattle.he_names.specs.Conf.{domains_of, entry_of, last_of, number_behind, numbers_behind, numbers_in, numbers_of, option_in, search_in, server_of, servers_in};
+ghost use Rattle.he_names.specs.Conf.{domains_of, entry_of, last_of, last_search, number_behind, numbers_behind, numbers_in, numbers_of, option_in, search_in, server_of, servers_in};
 
 use crate::fields::{fields, is_blank, lines};
 use crate::limits::{
     DEFAULT_ATTEMPTS, DEFAULT_NDOTS, DEFAULT_TIMEOUT, LEAST_ATTEMPTS, LEAST_TIMEOUT, MOST_ATTEMPTS,
-    MOST_NDOTS, MOST_SERVERS, MOST_TIMEOUT,
+    MOST_DOMAINS, MOST_NDOTS, MOST_SERVERS, MOST_TIMEOUT,
 };
 use he_addr::{Ip, Memory, read_ip, read_number};
 use std::alloc::{AllocError, Allocator};
@@ -40,7 +40,8 @@ pub fn read_servers<A: Allocator + Copy>(alloc: A, text: &[u8]) -> Result<Vec<Ip
     Ok(servers)
 }
 
-/// The search list of a file of resolver settings: the last `search` or `domain` line of the file counts.
+/// The search list of a file of resolver settings: the last `search` or `domain` line of the file counts, and of it the
+/// first 32 domains.
 ///
 /// # Errors
 ///
@@ -50,6 +51,18 @@ pub fn read_search<'t, A: Allocator + Copy>(
     text: &'t [u8],
 ) -> Result<Vec<&'t [u8], A>, Memory>
     ensures { IfOk result (λ domains. texts domains.items ≡ search_in text.now) }
+{
+    let mut search = last_search(alloc, text)?;
+    search.truncate(MOST_DOMAINS);
+    Ok(search)
+}
+
+// All of the last search list.
+fn last_search<'t, A: Allocator + Copy>(
+    alloc: A,
+    text: &'t [u8],
+) -> Result<Vec<&'t [u8], A>, Memory>
+    ensures { IfOk result (λ domains. texts domains.items ≡ last_search text.now) }
 {
     let lines = lines(alloc, text)?;
     let mut search = Vec::new(alloc);

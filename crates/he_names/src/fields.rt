@@ -10,7 +10,7 @@ const LINE_END: u8 = b'\n';
 pub(crate) fn is_blank(byte: u8) -> bool
     ensures { result ≡ is_blank byte }
 {
-    byte == b' ' || byte == b'\t'
+    byte == b' ' || byte == b'\t' || byte == b'\r'
 }
 
 // The lines of a text.

@@ -3,6 +3,9 @@
 /// The most name servers of the file of settings that are asked (resolver(5), MAXNS).
 pub const MOST_SERVERS: usize = 3;
 
+/// The most domains of a search list.
+pub const MOST_DOMAINS: usize = 32;
+
 /// The dots that a name has to have to be asked for as it is first: the default, and the most.
 pub const DEFAULT_NDOTS: u64 = 1;
 

@@ -5,7 +5,7 @@ use Rattle.std.proofs.Math.Seq.{take-length}
 use Rattle.std.proofs.lemmas.List.{get_or-set_same, length-set}
 use Rattle.std.proofs.lemmas.List.Elements.{All-push, All-weaker}
 use Rattle.std.proofs.lemmas.Option.{slice_get-get_or}
-use Rattle.futures.specs.Task.{Keeps, Lasting}
+use Rattle.futures.specs.Task.{Covers, Keeps, Lasting}
 use Rattle.futures.specs.declared.task.context.Context.{Context}
 use Rattle.futures.specs.declared.task.Poll.{Poll}
 use Rattle.futures.specs.declared.task.Poll.TheVariants.{Ready, Pending}
@@ -28,7 +28,7 @@ use Rattle.he_race.specs.declared.live.Live.{Live}
 use Rattle.he_race.specs.declared.live.Unfinished.{Unfinished}
 use Rattle.he_race.specs.declared.trial.Trial.{Ghosts as TrialOf}
 use Rattle.he_race.specs.Attempt.{Begins}
-use Rattle.he_race.specs.Heard.{HearsFrom, HearsOf, with_told}
+use Rattle.he_race.specs.Heard.{HearsFrom, HearsOf, IsSilent, with_told}
 use Rattle.he_race.specs.Listening.{AllListen, HeardListens, Listens, ListensFor, RaceHears, RaceListens, SourceListens, TurnHears, TurnListens}
 use Rattle.he_race.specs.Polling.{AllListenAfter, EndsWith, GoesOn, HeardListensAfter, LeftBy, PollsAt, TurnHearsAfter, TurnListensAfter, TurnsFrom}
 use Rattle.he_race.specs.Recording.{slept}
@@ -120,6 +120,10 @@ pub answered-family : {A E : Type 0} (r : Result A E) (race new : Race) (family 
 answered-family (Err e) race new family reply X h = tt
 answered-family (Ok x) race new family reply X h = subst (λ (z : Race). IfNone (reply_of z family) X) (sym h) (answered race family reply X)
 
+pub on_ok : {A E : Type 0} (r : Result A E) (X : Type 0) → X → OnOk r X
+on_ok (Err e) X x = tt
+on_ok (Ok a) X x = x
+
 pub if-none : {A : Type 0} (o : Option A) (X : Type 0) → X → IfNone o X
 if-none None X x = x
 if-none (Some a) X x = tt
@@ -149,19 +153,35 @@ module _ {S : Type 0} (source : SourceOf S) where
   if_none_kept old new s family None keeps h = listens_for_kept old new s family keeps h
   if_none_kept old new s family (Some reply) keeps h = tt
 
+  if_none_on : (X Y : Type 0) (o : Option Reply) → (X → Y) → IfNone o X → IfNone o Y
+  if_none_on X Y None f x = f x
+  if_none_on X Y (Some reply) f x = tt
+
+  -- a family of which nothing more is told stays so
+  silent_on : (s s' : S) (family other : Family) (now : ℕ) (told : Option (List Ip)) → source.hears s family now told s' → IsSilent source.hears s other → IsSilent source.hears s' other
+  silent_on s s' family other now told step silent = record { at = λ polls. (silent.at ((family, now) ∷ polls) told s' step).1 }
+
+  -- a poll for one family leaves the source listening for the other one
+  pub listens_on : (cx cx' : Context) (s s' : S) (family : Family) (now : ℕ) (told : Option (List Ip)) → source.hears s family now told s'
+      → ((other : Family) → (other ≡ family → ⊥) → Covers cx (source.needs s other) → Covers cx' (source.needs s' other))
+      → (other : Family) → (other ≡ family → ⊥) → ListensFor source cx s other → ListensFor source cx' s' other
+  listens_on cx cx' s s' family now told step waits other distinct (inl covers) = inl (waits other distinct covers)
+  listens_on cx cx' s s' family now told step waits other distinct (inr silent) = inr (silent_on s s' family other now told step silent)
+
   -- both families were heard, one after the other
-  pub both-listen : {A E : Type 0} (cx cx' : Context) (s between s' : S) (race half new : Race) (now : ℕ) (r : Result A E) → HearsOf source.hears s race families.V6 now between half → OnOk r (HearsOf source.hears between half families.V4 now s' new) → Keeps cx cx' → IfNone (reply_of half families.V6) (ListensFor source cx between families.V6) → OnOk r (IfNone (reply_of new families.V4) (ListensFor source cx' s' families.V4)) → OnOk r (SourceListens source cx' s race now s' new)
-  both-listen cx cx' s between s' race half new now (Err e) six four keeps h k = tt
-  both-listen cx cx' s between s' race half new now (Ok x) six four keeps h k = record {
+  pub both-listen : {A E : Type 0} (cx cx' : Context) (s between s' : S) (race half new : Race) (now : ℕ) (r : Result A E) → HearsOf source.hears s race families.V6 now between half → OnOk r (HearsOf source.hears between half families.V4 now s' new) → Keeps cx cx' → IfNone (reply_of half families.V6) (ListensFor source cx between families.V6) → OnOk r (IfNone (reply_of new families.V4) (ListensFor source cx' s' families.V4))
+      → OnOk r ((other : Family) → (other ≡ families.V4 → ⊥) → ListensFor source cx between other → ListensFor source cx' s' other) → OnOk r (SourceListens source cx' s race now s' new)
+  both-listen cx cx' s between s' race half new now (Err e) six four keeps h k others = tt
+  both-listen cx cx' s between s' race half new now (Ok x) six four keeps h k others = record {
     hears = record { between = between; half = half; six = six; four = four };
-    six = subst (λ (o : Option Reply). IfNone o (ListensFor source cx' between families.V6)) (sym (four_keeps between s' half new now four)) (if_none_kept cx cx' between families.V6 half.aaaa keeps h);
+    six = subst (λ (o : Option Reply). IfNone o (ListensFor source cx' s' families.V6)) (sym (four_keeps between s' half new now four)) (if_none_on (ListensFor source cx between families.V6) (ListensFor source cx' s' families.V6) half.aaaa (others families.V6 (λ e. cc)) h);
     four = k;
   }
 
   source_kept : (old new : Context) (s : S) (race : Race) (now : ℕ) (s' : S) (heard : Race) → Keeps old new → SourceListens source old s race now s' heard → SourceListens source new s race now s' heard
   source_kept old new s race now s' heard keeps h = record {
     hears = h.hears;
-    six = if_none_kept old new h.hears.between families.V6 heard.aaaa keeps h.six;
+    six = if_none_kept old new s' families.V6 heard.aaaa keeps h.six;
     four = if_none_kept old new s' families.V4 heard.a keeps h.four;
   }
 

@@ -46,10 +46,10 @@ module _ {S : Type 0} (source : SourceOf S) where
   ListensFor cx s family = Covers cx (source.needs s family) ⊎ IsSilent source.hears s family
 
   -- in a turn at the tick the source is heard, and then listens for each family that still has no answer, in the state
-  -- in which the poll for that family left it
+  -- that is left
   pub record SourceListens (cx : Context) (s : S) (race : Race) (now : ℕ) (s' : S) (heard : Race) : Type 0 where
     pub hears : Hears source.hears s race now s' heard
-    pub six : IfNone heard.aaaa (ListensFor cx hears.between families.V6)
+    pub six : IfNone heard.aaaa (ListensFor cx s' families.V6)
     pub four : IfNone heard.a (ListensFor cx s' families.V4)
 
   -- and the race that goes on has the answers that were heard

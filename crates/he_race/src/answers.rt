@@ -17,7 +17,8 @@ use he_addr::{Family, Ip};
 ///
 /// A poll that is pending owes one of two: it has registered in `cx` at each source that it waits for (`needs`), so
 /// that the task is polled again once something happened, and registered or yielded there where it states none; or no
-/// later poll for this family tells anything.
+/// later poll for this family tells anything. A poll for one family leaves the other one registered too, for all that
+/// the source then waits for to answer for it.
 pub trait AnswerSource: Drop {
     // Holds of each source that it waits for, to answer for the family.
     ghost needs: { Self → Family → ℕ → Type 0 } = { λ _ _ _. ⊥ };
@@ -33,6 +34,7 @@ pub trait AnswerSource: Drop {
         ensures pending { OnPending result (hears self.old family now None self.new) }
         ensures ready { IfReady result (λ ips. hears self.old family now (Some ips.items) self.new) }
         ensures waits { OnPending result (Covers cx.new (needs self.new family) ⊎ IsSilent hears self.new family) }
+        ensures other { (other : Family) → (other ≡ family → ⊥) → Covers cx.old (needs self.old other) → Covers cx.new (needs self.new other) }
         ensures kept { Keeps cx.old cx.new };
 }
 

@@ -59,6 +59,8 @@ impl Recorder {
             self.new.recorded) }
         ensures waits { OnOk result (IfNone (reply_of self.new.recorded family)
             (ListensFor S.AnswerSource cx.new source.new family)) }
+        ensures other { OnOk result ((other : _) → (other ≡ family → ⊥)
+            → ListensFor S.AnswerSource cx.old source.old other → ListensFor S.AnswerSource cx.new source.new other) }
         ensures attempts { OnOk result (self.new.underway.attempts ≡ self.old.underway.attempts) }
         ensures turn { OnOk result (InTurn self.new.recorded now self.new.underway.attempts false) }
         ensures underway { OnOk result (IsUnderway self.new.recorded self.new.underway) }

@@ -1,4 +1,5 @@
-pub mod Asked
+pub mod Faults
 pub mod Known
+pub mod Needs
 pub mod Replies
 pub mod Told

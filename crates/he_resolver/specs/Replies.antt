@@ -1,31 +1,52 @@
 -- What a message comes to that may answer a question, by what he_dns says of it.
-use Rattle.std.specs.Prelude.{◌≡◌, ◌<◌, ◌⊎◌, ℕ, List, [], Option, Some, None, length}
+use Rattle.std.specs.Prelude.{◌≡◌, ◌<◌, ◌⊎◌, ◌==◌, ℕ, List, [], Option, Some, None, length, if◌then◌else◌}
 use Rattle.he_addr.specs.declared.ip.Family.{Family}
 use Rattle.he_addr.specs.declared.ip.Ip.{Ip}
 use Rattle.he_dns.specs.declared.fault.AnswerFault.{AnswerFault}
 use Rattle.he_dns.specs.declared.fault.AnswerFault.TheVariants as answers
 use Rattle.he_dns.specs.Answers.{Answers, HasFault}
+use Rattle.he_dns.specs.Header.{IsLame, IsRefusal}
+use Rattle.he_resolver.specs.declared.failure.Failure.{Failure}
+use Rattle.he_resolver.specs.declared.failure.Failure.TheVariants as failures
 use Rattle.he_resolver.specs.declared.replies.Reply.{Reply}
 use Rattle.he_resolver.specs.declared.replies.Reply.TheVariants as replies
-use Rattle.he_resolver.specs.declared.fault.NamesFault.TheVariants as faults
 
--- a message of another question, or none, is passed over; one that is cut off is asked for again; there is no such name; else
--- the server failed
-abbrev pub fault_reply : AnswerFault → Option Reply
-fault_reply answers.NotOurs = None
-fault_reply answers.Truncated = Some replies.Truncated
-fault_reply answers.NoSuchName = Some (replies.Fault faults.NoSuchName)
-fault_reply answers.Memory = Some (replies.Fault faults.Memory)
-fault_reply fault = Some (replies.Fault faults.ServerFailure)
+-- the failure that a response code tells (RFC 1035 section 4.1.1)
+abbrev pub failure_of : ℕ → Failure
+failure_of code = if code == 1 then failures.FormatError
+    else if code == 2 then failures.ServerFailure
+    else if code == 4 then failures.NotImplemented
+    else if code == 5 then failures.Refused
+    else failures.Code code
 
--- the addresses; or that there are none
-abbrev pub TellsAddresses : List Ip → Option Reply → Type 0
-TellsAddresses ips (Some (replies.Addresses told)) = (told.items ≡ ips) × (0 < length ips)
-TellsAddresses ips (Some (replies.Fault fault)) = (ips ≡ []) × (fault ≡ faults.NoAddress)
-TellsAddresses ips other = ⊥
+-- one that is cut off is asked for again; there is no such name; else the server failed
+abbrev pub fault_reply : AnswerFault → Reply
+fault_reply answers.Truncated = replies.Truncated
+fault_reply answers.NoSuchName = replies.NoSuchName
+fault_reply answers.Memory = replies.Memory
+fault_reply answers.ServerFailure = replies.Failure failures.ServerFailure
+fault_reply answers.Refused = replies.Failure failures.Refused
+fault_reply (answers.OtherCode code) = replies.Failure (failure_of code)
+fault_reply fault = replies.Failure failures.Malformed
+
+-- the addresses; or that there are none, unless the server is lame
+abbrev pub TellsAddresses : List ℕ → List Ip → Reply → Type 0
+TellsAddresses message ips (replies.Addresses told) = (told.items ≡ ips) × (0 < length ips)
+TellsAddresses message ips replies.NoAddress = (ips ≡ []) × (IsLame message → ⊥)
+TellsAddresses message ips (replies.Failure failure) = (ips ≡ []) × IsLame message × (failure ≡ failures.Lame)
+TellsAddresses message ips other = ⊥
+
+-- a message of another question, or none, is passed over, unless the server refuses without its question
+abbrev pub StrangeReply : List ℕ → ℕ → Option Reply → Type 0
+StrangeReply message id None = (code : ℕ) → IsRefusal message id code → ⊥
+StrangeReply message id (Some reply) = (code : ℕ) × IsRefusal message id code × (reply ≡ replies.Failure (failure_of code))
+
+abbrev pub FaultReply : List ℕ → ℕ → AnswerFault → Option Reply → Type 0
+FaultReply message id answers.NotOurs reply = StrangeReply message id reply
+FaultReply message id fault reply = reply ≡ Some (fault_reply fault)
 
 -- the message answers addresses, or has a fault
 abbrev pub ComesTo : List ℕ → ℕ → List ℕ → Family → Option Reply → Type 0
 ComesTo message id name family reply =
-    ((ips : List Ip) × Answers message id name family ips × TellsAddresses ips reply)
-    ⊎ ((fault : AnswerFault) × HasFault message id name family fault × (reply ≡ fault_reply fault))
+    ((ips : List Ip) × (told : Reply) × Answers message id name family ips × TellsAddresses message ips told × (reply ≡ Some told))
+    ⊎ ((fault : AnswerFault) × HasFault message id name family fault × FaultReply message id fault reply)

@@ -1,9 +1,7 @@
 // What is asked for a host, and of whom.
 
-ghost use Rattle.std.specs.Prelude.{◌≡◌, ◌*◌, IfOk, codes};
-ghost use Rattle.std.specs.Duration.{as_nanos};
+ghost use Rattle.std.specs.Prelude.{◌≡◌, ◌*◌, IfOk, codes, slice_get};
 ghost use Rattle.he_names.specs.Conf.{option_in};
-ghost use Rattle.he_resolver.specs.Asked.{server_of_try};
 
 use crate::choice::{Choice, server_at};
 use crate::fault::NamesFault;
@@ -11,16 +9,14 @@ use he_dns::{Name, NameFault};
 use he_names::{names_to_ask, read_attempts, read_ndots, read_search, read_servers, read_timeout};
 use std::alloc::Global;
 use std::net::SocketAddr;
-use std::time::Duration;
 
-// What a resolver asks: the names in their order, until one has an address; the servers in their order, each until
-// `timeout`, and all of them `attempts` times.
+// What a resolver asks: the names in their order, until one has an address; the servers in their order, and how many
+// times a query is sent to each.
 #[derive(Drop)]
 pub(crate) struct Asked {
     names: Vec<Name>,
     servers: Vec<SocketAddr>,
-    timeout: Duration,
-    attempts: usize,
+    sends: u64,
 }
 
 impl Asked {
@@ -33,19 +29,18 @@ impl Asked {
         place.saturating_add(1) >= self.names.len()
     }
 
-    // The server of this try, where there are so many.
-    pub(crate) fn server(&self, tries: usize) -> Option<SocketAddr>
-        ensures { result ≡ server_of_try self.now.servers.items self.now.attempts tries }
+    // The server at this place, where there are so many.
+    pub(crate) fn server(&self, place: usize) -> Option<SocketAddr>
+        ensures { result ≡ slice_get self.now.servers.items place }
     {
-        let servers = self.servers.as_slice();
-        if servers.is_empty() || tries / servers.len() >= self.attempts {
-            return None;
-        }
-        servers.get(tries % servers.len()).copied()
+        self.servers.get(place).copied()
     }
 
-    pub(crate) fn timeout(&self) -> Duration {
-        self.timeout
+    // How many times a query is sent to a server, a second apart. Behind the last one a second is waited too.
+    pub(crate) fn sends(&self) -> u64
+        ensures { result ≡ self.now.sends }
+    {
+        self.sends
     }
 }
 
@@ -56,14 +51,12 @@ pub(crate) fn asked_in(
     settings: &[u8],
     choice: Choice,
 ) -> Result<Asked, NamesFault>
-    ensures timeout { IfOk result (λ asked. as_nanos asked.timeout ≡ option_in (codes "timeout:") 1 5 30 settings.now * 1_000_000_000) }
-    ensures attempts { IfOk result (λ asked. asked.attempts ≡ option_in (codes "attempts:") 1 2 5 settings.now) }
+    ensures sends { IfOk result (λ asked. asked.sends ≡ option_in (codes "timeout:") 1 5 30 settings.now * option_in (codes "attempts:") 1 2 5 settings.now) }
 {
     Ok(Asked {
         names: names_of(alloc, host, settings)?,
         servers: servers_of(alloc, settings, choice)?,
-        timeout: Duration::from_secs(read_timeout(alloc, settings)?),
-        attempts: read_attempts(alloc, settings)? as usize,
+        sends: read_timeout(alloc, settings)?.saturating_mul(read_attempts(alloc, settings)?),
     })
 }
 

@@ -1,77 +1,84 @@
-// What one family asks: the servers in turn, until one of them tells.
+// What one family asks: the servers in their order, beside one another, until one of them tells.
 
-ghost use Rattle.futures.specs.Poll.{OnPending};
-ghost use Rattle.futures.specs.Task.{IsArmed, Keeps};
+ghost use Rattle.std.specs.Prelude.{◌≡◌, ◌<◌, ◌||◌, is_some, vec_len};
+ghost use Rattle.futures.specs.Poll.{IfReady, OnPending};
+ghost use Rattle.futures.specs.Task.{Covers, IsArmed, Keeps};
+ghost use Rattle.he_resolver.specs.Needs.{IsTold, Listens, any_needs, asking_needs, next_needs};
 
-use crate::datagrams::Datagrams;
 use crate::fault::NamesFault;
-use crate::limits::MOST_STEPS;
-use crate::replies::{Question, Reply};
+use crate::limits::{ALONE, MOST_STEPS};
+use crate::query::Query;
+use crate::replies::Question;
 use crate::setup::Setup;
-use crate::streams::StreamQuery;
-use futures::Future;
 use futures::task::{Context, Poll};
 use he_addr::{Family, Ip};
-use he_dns::Name;
 use std::alloc::Global;
-use std::mem::replace;
+use std::mem::drop;
 use std::net::{Net, SocketAddr};
 use std::random::RandomSource;
 use std::time::Clock;
 use tokio::time::Sleep;
 
-// A query that is under way.
+// When the next server is asked.
 #[derive(Drop)]
-enum Query {
-    Datagrams(Datagrams),
-    Stream(StreamQuery),
-}
-
-impl Query {
-    fn poll_reply(
-        &mut self,
-        alloc: Global,
-        question: Question<'_>,
-        cx: &mut Context<'_>,
-    ) -> Poll<Reply>
-        ensures kept { Keeps cx.old cx.new }
-    {
-        match self {
-            Query::Datagrams(query) => query.poll_reply(alloc, question, cx),
-            Query::Stream(query) => query.poll_reply(question, cx),
-        }
-    }
-}
-
-// A query, the server that it goes to, and the time until which it is waited for.
-#[derive(Drop)]
-struct Try {
-    query: Query,
-    server: SocketAddr,
-    timer: Sleep,
+pub(crate) enum Next {
+    Now,
+    After(Sleep),
+    // There is no other.
+    Never,
 }
 
 // One family's part of a name: what was told, or how far the asking is.
 #[derive(Drop)]
 pub(crate) struct Asking {
     family: Family,
-    // How many tries were begun.
-    tries: usize,
-    current: Option<Try>,
-    // Why the last try gave nothing.
-    lack: NamesFault,
+    // The queries that are waited for.
+    queries: Vec<Query>,
+    // How many servers were asked.
+    begun: usize,
+    next: Next,
+    // Why the first server that failed told nothing.
+    lack: Option<NamesFault>,
     told: Option<Result<Vec<Ip>, NamesFault>>,
+    // Whether no other name can change what is told.
+    is_settled: bool,
 }
 
 impl Asking {
-    pub(crate) fn new(family: Family) -> Asking {
+    // Of a family that isn't wanted that is told and settled at once.
+    pub(crate) fn new(alloc: Global, family: Family, is_wanted: bool) -> Asking {
         Asking {
             family,
-            tries: 0,
-            current: None,
-            lack: NamesFault::NoAnswer,
-            told: None,
+            queries: Vec::new(alloc),
+            begun: 0,
+            next: Next::Now,
+            lack: None,
+            told: if is_wanted {
+                None
+            } else {
+                Some(Err(NamesFault::NotAsked))
+            },
+            is_settled: !is_wanted,
         }
+    }
+
+    // Asks for another name, unless it is settled what is told.
+    pub(crate) fn start_again(&mut self)
+        ensures { self.new.is_settled ≡ self.old.is_settled }
+    {
+        if !self.is_settled {
+            self.queries.clear();
+            self.begun = 0;
+            self.next = Next::Now;
+            self.lack = None;
+            self.told = None;
+        }
+    }
+
+    pub(crate) fn is_told(&self) -> bool
+        ensures { result ≡ is_some self.now.told }
+    {
+        self.told.is_some()
     }
 
     // Whether it was told of addresses.
@@ -87,13 +94,33 @@ impl Asking {
         }
     }
 
-    // The addresses, or why there are none. They are given away: from then on there are none.
-    pub(crate) fn give(&mut self, alloc: Global) -> Result<Vec<Ip>, NamesFault> {
-        match &mut self.told {
-            Some(Ok(ips)) => Ok(replace(ips, Vec::new(alloc))),
-            Some(Err(fault)) => Err(*fault),
-            None => Err(self.lack),
-        }
+    // The addresses, or why there are none, once that was told.
+    pub(crate) fn told(&self) -> Option<&Result<Vec<Ip>, NamesFault>> {
+        self.told.as_ref()
+    }
+
+    // Whether nothing can change what is told.
+    pub(crate) fn is_settled(&self) -> bool
+        ensures { result ≡ self.now.is_settled }
+    {
+        self.is_settled
+    }
+
+    // Notes that nothing can change it, where that is so.
+    pub(crate) fn settle(&mut self, is_final: bool)
+        ensures { self.new ≡ record self.old { is_settled = self.old.is_settled || is_final } }
+    {
+        self.is_settled = self.is_settled || is_final;
+    }
+
+    // Ends the asking, which was told this.
+    pub(crate) fn tell(&mut self, told: Result<Vec<Ip>, NamesFault>)
+        ensures told { IsTold self.new }
+        ensures settled { self.new.is_settled ≡ self.old.is_settled }
+    {
+        self.queries.clear();
+        self.next = Next::Never;
+        self.told = Some(told);
     }
 
     // Asks for the name at this place. Ready once it is told what addresses the family has, or why none.
@@ -103,144 +130,151 @@ impl Asking {
         place: usize,
         cx: &mut Context<'_>,
     ) -> Poll<()>
-        ensures armed { OnPending result (IsArmed cx.new) }
+        ensures listens { Listens cx.new self.new }
+        ensures settled { self.new.is_settled ≡ self.old.is_settled }
         ensures kept { Keeps cx.old cx.new }
     {
         let Some(name) = setup.asked.name(place) else {
-            self.told = Some(Err(self.lack));
+            self.tell(Err(NamesFault::NoAnswer));
             return Poll::Ready(());
+        };
+        let question = Question {
+            name,
+            family: self.family,
         };
         for _ in 0..MOST_STEPS {
             if self.told.is_some() {
                 return Poll::Ready(());
             }
-            if let Poll::Pending = self.poll_try(setup, name, cx) {
+            if let Poll::Pending = self.step(setup, question, cx) {
                 return Poll::Pending;
             }
         }
         cx.yield_now()
     }
 
-    // One step: begins a try, or looks what became of it.
-    fn poll_try<R: Net + RandomSource + Clock>(
+    // One step: asks the next server where that is due, or looks what became of the queries.
+    #[tactic(auto, unfolding(crate::specs::Needs::asking_needs))]
+    fn step<R: Net + RandomSource + Clock>(
         &mut self,
         setup: &Setup<'_, R>,
-        name: &Name,
+        question: Question<'_>,
         cx: &mut Context<'_>,
     ) -> Poll<()>
-        ensures armed { OnPending result (IsArmed cx.new) }
+        ensures waits { OnPending result (Covers cx.new (asking_needs self.new)) }
+        ensures settled { self.new.is_settled ≡ self.old.is_settled }
         ensures kept { Keeps cx.old cx.new }
     {
-        let question = Question {
-            name,
-            family: self.family,
-        };
-        let Some(current) = &mut self.current else {
-            self.begin(setup, question);
+        if self.queries.is_empty() || self.next.is_now() {
+            self.ask_next(setup, question);
             return Poll::Ready(());
-        };
-        match current.query.poll_reply(setup.alloc, question, cx) {
-            Poll::Ready(reply) => {
-                self.take(reply, setup, question);
+        }
+        match poll_any(&mut self.queries, setup, question, cx) {
+            Poll::Ready((at, answer)) => {
+                drop(self.queries.remove(at));
+                self.take(answer);
                 Poll::Ready(())
             }
-            Poll::Pending => match current.timer.poll(cx) {
+            Poll::Pending => match self.next.poll_due(cx) {
                 Poll::Pending => Poll::Pending,
-                Poll::Ready(_) => {
-                    self.fail(NamesFault::NoAnswer);
+                Poll::Ready(()) => {
+                    self.next = Next::Now;
                     Poll::Ready(())
                 }
             },
         }
     }
 
-    // Asks the next server, over UDP; where each was asked as often as the settings say, it is told that none gave
-    // an address.
-    fn begin<R: Net + RandomSource + Clock>(
+    // Asks the next server, beside those that are waited for. Where there is none and none is waited for, it is told
+    // that none tells anything.
+    fn ask_next<R: Net + RandomSource + Clock>(
         &mut self,
         setup: &Setup<'_, R>,
         question: Question<'_>,
-    ) {
-        let Some(server) = setup.asked.server(self.tries) else {
-            self.told = Some(Err(self.lack));
+    )
+        ensures settled { self.new.is_settled ≡ self.old.is_settled }
+    {
+        let Some(server) = setup.asked.server(self.begun) else {
+            self.next = Next::Never;
+            if self.queries.is_empty() {
+                self.tell(Err(self.lack.unwrap_or(NamesFault::NoAnswer)));
+            }
             return;
         };
-        self.tries = self.tries.saturating_add(1);
-        match Datagrams::send(setup.rt, setup.alloc, setup.reactor, server, question) {
-            Ok(query) => self.wait(setup, server, Query::Datagrams(query)),
-            Err(fault) => self.fail(sent_fault(fault)),
+        self.begun = self.begun.saturating_add(1);
+        if let Err(fault) = self.ask(setup, server, question) {
+            self.take(Err(fault));
         }
     }
 
-    fn wait<R: Clock>(&mut self, setup: &Setup<'_, R>, server: SocketAddr, query: Query) {
-        match setup.timers.sleep(setup.rt, setup.asked.timeout()) {
-            Ok(timer) => {
-                self.current = Some(Try {
-                    query,
-                    server,
-                    timer,
-                });
-            }
-            Err(error) => self.fail(NamesFault::from(error)),
-        }
-    }
-
-    fn fail(&mut self, lack: NamesFault) {
-        self.lack = lack;
-        self.current = None;
+    fn ask<R: Net + RandomSource + Clock>(
+        &mut self,
+        setup: &Setup<'_, R>,
+        server: SocketAddr,
+        question: Question<'_>,
+    ) -> Result<(), NamesFault>
+        ensures settled { self.new.is_settled ≡ self.old.is_settled }
+    {
+        let query = Query::begin(setup, server, question)?;
+        self.queries.push(query)?;
+        self.next = Next::After(setup.sleep(ALONE)?);
+        Ok(())
     }
 
     // Takes what a server told: that there is no such name or no address is an answer, where a server fails the next
     // one is asked.
-    fn take<R: Net + RandomSource + Clock>(
-        &mut self,
-        reply: Reply,
-        setup: &Setup<'_, R>,
-        question: Question<'_>,
-    ) {
-        match reply {
-            Reply::Addresses(ips) => self.told = Some(Ok(ips)),
-            Reply::Truncated => self.ask_again(setup, question),
-            Reply::Fault(fault) if is_answer(fault) => self.told = Some(Err(fault)),
-            Reply::Fault(fault) => self.fail(fault),
-        }
-    }
-
-    // Asks the same server over TCP. A message that is cut off there is no answer.
-    fn ask_again<R: Net + RandomSource + Clock>(
-        &mut self,
-        setup: &Setup<'_, R>,
-        question: Question<'_>,
-    ) {
-        let server = match &self.current {
-            Some(
-                Try {
-                    query: Query::Datagrams(_),
-                    server,
-                    ..
-                },
-            ) => *server,
-            _ => return self.fail(NamesFault::ServerFailure),
-        };
-        match StreamQuery::begin(setup.rt, setup.alloc, setup.reactor, server, question) {
-            Ok(query) => self.wait(setup, server, Query::Stream(query)),
-            Err(fault) => self.fail(sent_fault(fault)),
+    fn take(&mut self, answer: Result<Vec<Ip>, NamesFault>)
+        ensures settled { self.new.is_settled ≡ self.old.is_settled }
+    {
+        match answer {
+            Err(fault) if fault.is_of_server() => {
+                self.lack = Some(self.lack.unwrap_or(fault));
+                self.next = Next::Now;
+            }
+            told => self.tell(told),
         }
     }
 }
 
-// Whether a fault is what the name has, whichever server is asked.
-fn is_answer(fault: NamesFault) -> bool {
-    matches!(
-        fault,
-        NamesFault::NoSuchName | NamesFault::NoAddress | NamesFault::Memory
-    )
+impl Next {
+    fn is_now(&self) -> bool {
+        matches!(self, Next::Now)
+    }
+
+    // Ready once the next server is to be asked.
+    fn poll_due(&mut self, cx: &mut Context<'_>) -> Poll<()>
+        requires armed { IsArmed cx.old }
+        ensures waits { OnPending result (Covers cx.new (next_needs self.new)) }
+        ensures kept { Keeps cx.old cx.new }
+    {
+        match self {
+            Next::Now => Poll::Ready(()),
+            Next::Never => Poll::Pending,
+            Next::After(timer) => match timer.poll_elapsed(cx) {
+                Poll::Pending => Poll::Pending,
+                Poll::Ready(_) => Poll::Ready(()),
+            },
+        }
+    }
 }
 
-// A query that can't be sent isn't answered.
-fn sent_fault(fault: NamesFault) -> NamesFault {
-    match fault {
-        NamesFault::Memory => NamesFault::Memory,
-        _ => NamesFault::NoAnswer,
+// Polls each query in turn, up to the first that has an answer: its place, and the answer.
+fn poll_any<R: Net + RandomSource + Clock>(
+    queries: &mut Vec<Query>,
+    setup: &Setup<'_, R>,
+    question: Question<'_>,
+    cx: &mut Context<'_>,
+) -> Poll<(usize, Result<Vec<Ip>, NamesFault>)>
+    requires some { 0 < vec_len queries.old }
+    ensures within { IfReady result (λ (at, answer). at < vec_len queries.new) }
+    ensures waits { OnPending result (Covers cx.new (any_needs queries.new.items)) }
+    ensures len { vec_len queries.new ≡ vec_len queries.old }
+    ensures kept { Keeps cx.old cx.new }
+{
+    for at in 0..queries.len() {
+        if let Poll::Ready(answer) = queries[at].poll_answer(setup, question, cx) {
+            return Poll::Ready((at, answer));
+        }
     }
+    Poll::Pending
 }

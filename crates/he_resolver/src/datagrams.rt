@@ -1,10 +1,15 @@
 // A query over UDP (RFC 1035 section 4.2.1).
 
-ghost use Rattle.futures.specs.Task.{Keeps};
+ghost use Rattle.std.specs.Prelude.{◌≡◌};
+ghost use Rattle.futures.specs.Poll.{OnPending};
+ghost use Rattle.futures.specs.Task.{Covers, Keeps};
+ghost use Rattle.tokio.specs.Net.{stream_readable};
 
+use crate::failure::Failure;
 use crate::fault::NamesFault;
 use crate::limits::{DATAGRAM_ROOM, DATAGRAMS_IN_A_ROW};
 use crate::replies::{Question, Reply, read_reply};
+use crate::setup::Setup;
 use futures::task::{Context, Poll};
 use he_dns::write_query;
 use std::alloc::Global;
@@ -13,37 +18,44 @@ use std::net::{Net, SocketAddr, UdpSocket};
 use std::os::fd::OwnedFd;
 use std::random::RandomSource;
 use tokio::net::TcpStream;
-use tokio::reactor::Handle;
 
 // A query that was sent, and the socket at which its answer comes.
 #[derive(Drop)]
 pub(crate) struct Datagrams {
     socket: TcpStream,
     id: u16,
+    query: Vec<u8>,
     room: Vec<u8>,
 }
 
 impl Datagrams {
-    // Sends the query from a port that the kernel chooses. The socket is connected, so no datagram of another peer is
-    // seen. The event loop has no UDP of its own: its stream reads by `recv`, which serves a connected socket as well.
+    // Sends the query from a port that the kernel chooses; None where there is no way to the server. The socket is
+    // connected, so no datagram of another peer is seen. The event loop has no UDP of its own: its stream reads by
+    // `recv` and writes by `send`, which serve a connected socket as well.
     pub(crate) fn send<R: Net + RandomSource>(
-        rt: &R,
-        alloc: Global,
-        reactor: &Handle,
+        setup: &Setup<'_, R>,
         server: SocketAddr,
         question: Question<'_>,
-    ) -> Result<Datagrams, NamesFault> {
-        let id = random_id(rt)?;
-        let query = write_query(alloc, id, question.name, question.family)?;
-        let socket = UdpSocket::bind(rt, unspecified(server))?;
-        socket.connect(server)?;
-        socket.send(&query)?;
+        room: Option<u16>,
+    ) -> Result<Option<Datagrams>, NamesFault> {
+        let id = random_id(setup.rt)?;
+        let query = write_query(setup.alloc, id, question.name, question.family, room)?;
+        let socket = UdpSocket::bind(setup.rt, unspecified(server))?;
+        if socket.connect(server).is_err() || socket.send(&query).is_err() {
+            return Ok(None);
+        }
         let socket = std::net::TcpStream::from(OwnedFd::from(socket));
-        Ok(Datagrams {
-            socket: TcpStream::from_std(socket, reactor)?,
+        Ok(Some(Datagrams {
+            socket: TcpStream::from_std(socket, setup.reactor)?,
             id,
-            room: vec![in alloc; 0; DATAGRAM_ROOM]?,
-        })
+            query,
+            room: vec![in setup.alloc; 0; DATAGRAM_ROOM]?,
+        }))
+    }
+
+    // Sends the same query again. One that can't be sent is as one that is lost.
+    pub(crate) fn send_again(&self) {
+        let _ = self.socket.try_write(&self.query);
     }
 
     // What the server told. Any other datagram is passed over, and looked behind at once: one event may stand for
@@ -54,6 +66,7 @@ impl Datagrams {
         question: Question<'_>,
         cx: &mut Context<'_>,
     ) -> Poll<Reply>
+        ensures waits { OnPending result (Covers cx.new (λ s. s ≡ stream_readable self.new.socket)) }
         ensures kept { Keeps cx.old cx.new }
     {
         for _ in 0..DATAGRAMS_IN_A_ROW {
@@ -69,7 +82,7 @@ impl Datagrams {
                         Poll::Ready(_) => {}
                     }
                 }
-                Err(_) => return Poll::Ready(Reply::Fault(NamesFault::NoAnswer)),
+                Err(_) => return Poll::Ready(Reply::Failure(Failure::Unreachable)),
             }
         }
         cx.yield_now()

@@ -1,14 +1,21 @@
 //! Why a name has no addresses.
 
 ghost use Rattle.std.specs.Prelude.{◌≡◌, ◌⊎◌};
-ghost use Rattle.he_resolver.specs.declared.fault.NamesFault.TheVariants.{Memory, Runtime};
+ghost use Rattle.he_resolver.specs.Faults.{first_of, is_of_server, rank_of};
+ghost use Rattle.he_resolver.specs.declared.fault.NamesFault.TheVariants.{Files, Memory, Runtime};
 ghost use Rattle.he_resolver.specs.declared.fault.TellFault.TheVariants.{Names, Write};
 
+use crate::failure::ServerFault;
 use he_dns::NameFault;
 use he_stream::WriteFault;
 use std::alloc::{AllocError, AllocFailed};
 use std::io;
 use thiserror::Error;
+
+// The numbers that Linux gives to too many open files, of the machine and of the process.
+const ENFILE: i32 = 23;
+
+const EMFILE: i32 = 24;
 
 /// Why a name has no addresses.
 #[derive(Clone, Copy, Debug, PartialEq, Eq, Error)]
@@ -22,15 +29,21 @@ pub enum NamesFault {
     /// There is no such name (RFC 1035 section 4.1.1, RCODE 3).
     #[error("no such name")]
     NoSuchName,
-    /// No name server answered in time.
+    /// No name server answered in its time.
     #[error("no name server answers")]
     NoAnswer,
-    /// The name servers failed, refused, or answered what can't be read.
-    #[error("the name servers failed")]
-    ServerFailure,
+    /// No name server told anything of the name, and this is the first of those that failed.
+    #[error("name server {0}")]
+    Server(ServerFault),
+    /// The family is not asked for.
+    #[error("not asked")]
+    NotAsked,
     /// The system's resolver has no address of the name.
     #[error("the system's resolver has no address")]
     System,
+    /// The process or the machine has as many files open as it may.
+    #[error("too many open files")]
+    Files,
     /// The event loop could not be made or failed, or the clock did.
     #[error("cannot run the sockets")]
     Runtime,
@@ -42,7 +55,38 @@ pub enum NamesFault {
 impl NamesFault {
     /// Whether the host is what the fault is about, so that a line that tells the fault is to name it.
     pub fn is_of_host(self) -> bool {
-        !matches!(self, NamesFault::Runtime | NamesFault::Memory)
+        !matches!(
+            self,
+            NamesFault::Files | NamesFault::Runtime | NamesFault::Memory
+        )
+    }
+
+    /// Whether a name server said that there is nothing.
+    pub fn is_absence(self) -> bool {
+        matches!(self, NamesFault::NoSuchName | NamesFault::NoAddress)
+    }
+
+    // Whether another name server may still tell more.
+    pub(crate) fn is_of_server(self) -> bool
+        ensures { result ≡ is_of_server self }
+    {
+        matches!(self, NamesFault::NoAnswer | NamesFault::Server(_))
+    }
+
+    // How early the fault is told where the families differ: that of the lesser number.
+    fn rank(self) -> u8
+        ensures { result ≡ rank_of self }
+    {
+        match self {
+            NamesFault::Memory => 0,
+            NamesFault::Files | NamesFault::Runtime => 1,
+            NamesFault::Name(_) | NamesFault::System => 2,
+            NamesFault::NoSuchName => 3,
+            NamesFault::NoAnswer => 4,
+            NamesFault::Server(_) => 5,
+            NamesFault::NoAddress => 6,
+            NamesFault::NotAsked => 7,
+        }
     }
 }
 
@@ -63,9 +107,12 @@ impl<T: Drop> From<AllocFailed<T>> for NamesFault {
 }
 
 impl From<io::Error> for NamesFault {
-    ghost from_gives = { λ _ fault. (fault ≡ Runtime) ⊎ (fault ≡ Memory) };
+    ghost from_gives = { λ _ fault. (fault ≡ Files) ⊎ (fault ≡ Runtime) ⊎ (fault ≡ Memory) };
 
     fn from(error: io::Error) -> NamesFault {
+        if let Some(EMFILE | ENFILE) = error.raw_os_error() {
+            return NamesFault::Files;
+        }
         match error.kind() {
             io::ErrorKind::OutOfMemory => NamesFault::Memory,
             _ => NamesFault::Runtime,
@@ -110,21 +157,11 @@ impl From<WriteFault> for TellFault {
     }
 }
 
-// The faults in the order in which they are told where the families differ. That there is no such name holds for both.
-const FAULTS: [NamesFault; 5] = [
-    NamesFault::Memory,
-    NamesFault::NoSuchName,
-    NamesFault::NoAnswer,
-    NamesFault::ServerFailure,
-    NamesFault::NoAddress,
-];
-
-/// Which fault is told where neither family has an address: of IPv6 and of IPv4.
-pub fn first_fault(v6: NamesFault, v4: NamesFault) -> NamesFault {
-    for fault in FAULTS {
-        if v6 == fault || v4 == fault {
-            return fault;
-        }
-    }
-    v4
+/// Which fault is told where neither family has an address, of that of IPv6 and that of IPv4: want of memory or of files
+/// first; that there is no such name, which holds for both families; then that no server answered, that one failed,
+/// and that there is no address.
+pub fn first_fault(v6: NamesFault, v4: NamesFault) -> NamesFault
+    ensures { result ≡ first_of v6 v4 }
+{
+    if v6.rank() <= v4.rank() { v6 } else { v4 }
 }

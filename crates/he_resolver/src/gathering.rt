@@ -1,7 +1,8 @@
 // Both answers of a host, each with the tick at which it came.
 
-ghost use Rattle.futures.specs.Poll.{OnPending};
-ghost use Rattle.futures.specs.Task.{IsArmed, Keeps};
+ghost use Rattle.std.specs.Prelude.{◌≡◌, ◌≢◌, ◌&&◌, is_some};
+ghost use Rattle.futures.specs.Task.{Keeps};
+ghost use Rattle.he_resolver.specs.Needs.{IsHeard, gathering_needs, told_of};
 
 use crate::fault::{NamesFault, first_fault};
 use crate::lookup::Lookup;
@@ -16,7 +17,7 @@ use std::time::{Clock, Instant};
 
 // What a family was told, and the milliseconds since the first poll at which that came.
 #[derive(Drop)]
-struct Told {
+pub(crate) struct Told {
     tick: u64,
     answer: Result<Vec<Ip>, NamesFault>,
 }
@@ -55,14 +56,44 @@ impl<'h, R: Net + RandomSource + Clock> Gathering<'h, R> {
         millis.min(u128::from(u64::MAX)) as u64
     }
 
-    // What the family is told in a poll at this tick.
-    fn poll_told(&mut self, family: Family, tick: u64, cx: &mut Context<'_>) -> Poll<Told>
-        ensures armed { OnPending result (IsArmed cx.new) }
+    // Polls for the family, where it isn't told, and notes what it is told at this tick.
+    fn poll_for(&mut self, family: Family, tick: u64, cx: &mut Context<'_>)
+        ensures own { IsHeard cx.new self.new family }
+        ensures other { (other : _) → other ≢ family → IsHeard cx.old self.old other → IsHeard cx.new self.new other }
         ensures kept { Keeps cx.old cx.new }
     {
-        match self.lookup.poll_answer(family, cx) {
-            Poll::Pending => Poll::Pending,
-            Poll::Ready(answer) => Poll::Ready(Told { tick, answer }),
+        if self.is_told(family) {
+            return;
+        }
+        if let Poll::Ready(answer) = self.lookup.poll_answer(family, cx) {
+            let told = Some(Told { tick, answer });
+            match family {
+                Family::V6 => self.v6 = told,
+                Family::V4 => self.v4 = told,
+            }
+        }
+    }
+
+    fn is_told(&self, family: Family) -> bool
+        ensures { result ≡ is_some (told_of self.now family) }
+    {
+        match family {
+            Family::V6 => self.v6.is_some(),
+            Family::V4 => self.v4.is_some(),
+        }
+    }
+
+    fn are_told(&self) -> bool
+        ensures { result ≡ (is_some self.now.v6 && is_some self.now.v4) }
+    {
+        self.v6.is_some() && self.v4.is_some()
+    }
+
+    // Both answers; or, where neither family has an address, why. They are given away.
+    fn join(&mut self) -> Result<Found, NamesFault> {
+        match (self.v6.take(), self.v4.take()) {
+            (Some(v6), Some(v4)) => join(self.alloc, v6, v4),
+            _ => Err(NamesFault::NoAnswer),
         }
     }
 }
@@ -70,35 +101,20 @@ impl<'h, R: Net + RandomSource + Clock> Gathering<'h, R> {
 impl<R: Net + RandomSource + Clock> Future for Gathering<'_, R> {
     type Output = Result<Found, NamesFault>;
 
+    ghost needs = { gathering_needs };
+
     fn poll(&mut self, cx: &mut Context<'_>) -> Poll<Result<Found, NamesFault>> {
         let tick = self.tick();
-        let v6 = match self.v6.take() {
-            Some(told) => Poll::Ready(told),
-            None => self.poll_told(Family::V6, tick, cx),
-        };
-        let v4 = match self.v4.take() {
-            Some(told) => Poll::Ready(told),
-            None => self.poll_told(Family::V4, tick, cx),
-        };
-        match (v6, v4) {
-            (Poll::Ready(v6), Poll::Ready(v4)) => Poll::Ready(join(self.alloc, v6, v4)),
-            (v6, v4) => {
-                self.v6 = ready(v6);
-                self.v4 = ready(v4);
-                Poll::Pending
-            }
+        self.poll_for(Family::V6, tick, cx);
+        self.poll_for(Family::V4, tick, cx);
+        if self.are_told() {
+            Poll::Ready(self.join())
+        } else {
+            Poll::Pending
         }
     }
 }
 
-fn ready(told: Poll<Told>) -> Option<Told> {
-    match told {
-        Poll::Ready(told) => Some(told),
-        Poll::Pending => None,
-    }
-}
-
-// Both answers; or, where neither family has an address, why.
 fn join(alloc: Global, v6: Told, v4: Told) -> Result<Found, NamesFault> {
     if let (Err(six), Err(four)) = (&v6.answer, &v4.answer) {
         return Err(first_fault(*six, *four));

@@ -9,25 +9,32 @@
 //!
 //! An address is its own answer, and a name that the file of hosts has an address of isn't asked for. Any other is
 //! asked for as resolver(5) has it: the names in the order that `search` and `ndots` give, each until one has an
-//! address of either family; of each the servers in turn, until one answers, each given `timeout` seconds, all of them
-//! `attempts` times. Not read are the environment, the host's own name, scopes of addresses, and other modules than
-//! files and DNS: for those there is the system's resolver ([`system`]).
+//! address of either family; that there is no such name is said of both (RFC 8020). A name server that has not
+//! answered for 250 milliseconds is not waited for alone: the next one is asked beside it, at once where a server
+//! fails, and the first that tells counts, whichever it is. To each the query is sent once a second, `timeout` times
+//! `attempts` times; none answers only where each had that time. A server fails that can't be reached, whose code is
+//! neither 0 nor 3, whose answer can't be read, or that is lame: it tells no address, is no authority, and asks no
+//! other. Not read are the environment, the host's own name, scopes of addresses, and other modules than files and
+//! DNS: for those there is the system's resolver ([`system`]).
 //!
 //! A query has a random id and a port that the kernel chooses, and its socket is connected, so what another peer sends
-//! is not seen. A response with another id or another question is passed over. One that is cut off is asked for over
-//! TCP.
+//! is not seen. A response with another id or another question is passed over, also over TCP. One that is cut off is
+//! asked for over TCP. A datagram of the answer may have 1,232 bytes (RFC 6891); a server that can't read that is asked
+//! again without it.
 //!
 //! What the contracts say: a family is told addresses of its own, none twice, at most 256; where a poll is pending, it
-//! is woken again; [`write_names`] writes the two lines, and after any fault but `Write` nothing; and, of functions
-//! inside, what a message comes to (`specs/Replies`), which server is asked at which try (`specs/Asked`), what the
-//! file of hosts knows (`specs/Known`). Only tested, on loopback: that queries leave, when, to whom, and what becomes
-//! of answers.
+//! has registered at every socket and timer that the family waits for, and where it settles what the other family is
+//! told, the task is polled again (`specs/Needs`); [`write_names`] writes the two lines, and after any fault but `Write`
+//! nothing; and, of functions inside, what a message comes to (`specs/Replies`), behind which faults another server is
+//! asked and which fault is told (`specs/Faults`), what the file of hosts knows (`specs/Known`). Only tested, on
+//! loopback: that queries leave, when, to whom, and what becomes of answers.
 #![tactic(auto)]
 
 mod asked;
 mod asking;
 pub mod choice;
 mod datagrams;
+pub mod failure;
 pub mod fault;
 mod files;
 mod gathering;
@@ -35,6 +42,7 @@ mod known;
 pub mod limits;
 pub mod lookup;
 pub mod naming;
+mod query;
 mod replies;
 mod resolver;
 mod setup;
@@ -42,7 +50,8 @@ mod streams;
 pub mod system;
 
 pub use choice::Choice;
+pub use failure::{Failure, ServerFault};
 pub use fault::{NamesFault, TellFault, first_fault};
-pub use lookup::Lookup;
+pub use lookup::{Lookup, Wanted};
 pub use naming::write_names;
 pub use system::SystemResolver;

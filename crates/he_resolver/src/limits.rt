@@ -3,8 +3,17 @@
 /// The port of a name server (RFC 1035 section 4.2).
 pub const SERVER_PORT: u16 = 53;
 
-/// The bytes that a datagram of a name server may have. A server sends at most 512 to one that doesn't ask for more
-/// (RFC 1035 section 4.2.1), and a longer one is cut off here.
+/// How many milliseconds a name server is waited for alone: then the next one is asked beside it.
+pub const ALONE: u64 = 250;
+
+/// After how many milliseconds without an answer a query is sent again.
+pub const AGAIN: u64 = 1_000;
+
+/// The bytes that a server is told a datagram may have (RFC 6891 section 6.2.3): one of so many is not cut up on any
+/// link that carries IPv6.
+pub const OFFERED_ROOM: u16 = 1_232;
+
+/// The bytes of a datagram that are read: more than are offered, for a server that sends more.
 pub const DATAGRAM_ROOM: usize = 4_096;
 
 /// The most datagrams that are looked at in a row before other work has its turn.

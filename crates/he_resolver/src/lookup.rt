@@ -1,9 +1,10 @@
 //! A look-up of a host's addresses that is polled, as a race polls it.
 
-ghost use Rattle.std.specs.Prelude.{IfOk};
+ghost use Rattle.std.specs.Prelude.{◌≢◌, IfOk};
 ghost use Rattle.futures.specs.Poll.{IfReady, OnPending};
-ghost use Rattle.futures.specs.Task.{IsArmed, Keeps};
+ghost use Rattle.futures.specs.Task.{Covers, Keeps};
 ghost use Rattle.he_names.specs.Answers.{IsAnswer};
+ghost use Rattle.he_resolver.specs.Needs.{lookup_needs};
 
 use crate::asked::asked_in;
 use crate::choice::Choice;
@@ -11,6 +12,7 @@ use crate::fault::NamesFault;
 use crate::files::{HOSTS, SETTINGS, read_file};
 use crate::known::known_in;
 use crate::resolver::Resolver;
+use crate::setup::Setup;
 use crate::system::{SystemQuery, SystemResolver};
 use futures::task::{Context, Poll};
 use he_addr::{Family, Ip};
@@ -23,6 +25,17 @@ use std::thread::Threads;
 use std::time::Clock;
 use tokio::reactor::Handle;
 
+/// What a look-up is to find.
+#[derive(Clone, Copy)]
+pub struct Wanted<'a> {
+    /// A name or an address.
+    pub host: &'a str,
+    /// The family that is asked for alone; both are where there is none.
+    pub only: Option<Family>,
+    /// Which resolver is asked.
+    pub choice: Choice,
+}
+
 /// Finds the addresses of a host, and tells each family's as soon as they are known: a resolver for a race that runs
 /// (RFC 8305 section 3).
 #[derive(Drop)]
@@ -33,7 +46,7 @@ pub struct Lookup<'h, R> {
 
 // Where the addresses come from.
 #[derive(Drop)]
-enum Source<'h, R> {
+pub(crate) enum Source<'h, R> {
     Known(Result<Vec<Ip>, NamesFault>),
     Servers(Resolver<'h, R>),
     System(SystemQuery),
@@ -51,57 +64,69 @@ impl<'h, R: Net + RandomSource + Clock> Lookup<'h, R> {
         alloc: Global,
         reactor: &'h Handle,
         timers: &'h tokio::time::Handle,
-        host: &str,
-        choice: Choice,
+        wanted: Wanted<'_>,
     ) -> Result<Lookup<'h, R>, NamesFault>
     where
         R: Files + AllocGlobal + SystemResolver + Threads + Copy + Send + 'static,
     {
-        if let Choice::System = choice {
-            let source = Source::System(SystemQuery::begin(*rt, alloc, host)?);
+        if let Choice::System = wanted.choice {
+            let source = Source::System(SystemQuery::begin(*rt, alloc, wanted.host)?);
             return Ok(Lookup { alloc, source });
         }
+        let host = wanted.host.as_bytes();
         let hosts = read_file(rt, alloc, HOSTS)?;
-        if let Some(known) = known_in(alloc, host.as_bytes(), &hosts)? {
+        if let Some(known) = known_in(alloc, host, &hosts)? {
             let source = Source::Known(Ok(known));
             return Ok(Lookup { alloc, source });
         }
         let settings = read_file(rt, alloc, SETTINGS)?;
-        let asked = asked_in(alloc, host.as_bytes(), &settings, choice)?;
-        let source = Source::Servers(Resolver::new(rt, alloc, reactor, timers, asked));
+        let asked = asked_in(alloc, host, &settings, wanted.choice)?;
+        let setup = Setup {
+            rt,
+            alloc,
+            reactor,
+            timers,
+            asked,
+        };
+        let source = Source::Servers(Resolver::new(setup, wanted.only));
         Ok(Lookup { alloc, source })
     }
 
     /// The addresses of the family, each once and at most 256, or why it has none. Each family is to be polled until
     /// it is told, and not after that.
     ///
-    /// Both families are asked for at the first poll, that of IPv6 first. Each server has its time for an answer, and
-    /// is asked a number of times, by the file of resolver settings; after that no server answers. The system's
-    /// resolver has its own time, and tells both families at once.
+    /// Both families are asked for at the first poll, that of IPv6 first. The name servers are asked beside one another,
+    /// each [`ALONE`](crate::limits::ALONE) milliseconds behind the one before it or as soon as that has failed, and the
+    /// first that tells counts. To each the query is sent once a second, `timeout` times `attempts` times by the file of
+    /// resolver settings. The system's resolver has its own time, and tells both families at once.
+    ///
+    /// A poll may settle what the other family is told: then it has the task polled again.
     ///
     /// # Errors
     ///
-    /// `NoSuchName`, `NoAddress`, `NoAnswer`, `ServerFailure`, `System`; `Runtime`, `Memory`.
+    /// `NoSuchName`, `NoAddress`, `NoAnswer`, `Server`, `NotAsked`, `System`; `Files`, `Runtime`, `Memory`.
     pub fn poll_answer(
         &mut self,
         family: Family,
         cx: &mut Context<'_>,
     ) -> Poll<Result<Vec<Ip>, NamesFault>>
         ensures answer { IfReady result (λ told. IfOk told (λ ips. IsAnswer family ips.items)) }
-        ensures armed { OnPending result (IsArmed cx.new) }
+        ensures waits { OnPending result (Covers cx.new (lookup_needs self.new family)) }
+        ensures other { (other : _) → other ≢ family → Covers cx.old (lookup_needs self.old other) → Covers cx.new (lookup_needs self.new other) }
         ensures kept { Keeps cx.old cx.new }
     {
         match &mut self.source {
             Source::Known(found) => Poll::Ready(answer_of(self.alloc, family, found)),
-            Source::Servers(resolver) => match resolver.poll_answer(family, cx) {
+            Source::Servers(resolver) => match resolver.poll_settled(family, cx) {
                 Poll::Pending => Poll::Pending,
-                Poll::Ready(found) => Poll::Ready(answer_of(self.alloc, family, &found)),
+                Poll::Ready(()) => Poll::Ready(resolver.answer(family)),
             },
             Source::System(query) => match query.poll_found(cx) {
                 Poll::Pending => Poll::Pending,
                 Poll::Ready(found) => {
                     let answer = answer_of(self.alloc, family, &found);
                     self.source = Source::Known(found);
+                    let _: Poll<()> = cx.yield_now();
                     Poll::Ready(answer)
                 }
             },

@@ -4,10 +4,9 @@ ghost use Rattle.std.specs.Prelude.{◌≡◌, IfOk};
 ghost use Rattle.he_stream.specs.Output.{PutsPart, PutsWhole};
 ghost use Rattle.he_resolver.specs.Told.{IsNamesText, TellsNames};
 
-use crate::choice::Choice;
 use crate::fault::{NamesFault, TellFault};
 use crate::gathering::Gathering;
-use crate::lookup::Lookup;
+use crate::lookup::{Lookup, Wanted};
 use crate::system::SystemResolver;
 use he_names::Found;
 use he_stream::{OutputStream, write_whole};
@@ -25,15 +24,14 @@ use tokio::runtime::LocalRuntime;
 ///
 /// # Errors
 ///
-/// `Names` where the host has no address of either family (`NoSuchName`, `NoAddress`, `NoAnswer`, `ServerFailure`,
-/// `System`), is no host name (`Name`), or could not be asked for (`Runtime`, `Memory`): then nothing was written.
-/// After `Write` a first part was.
+/// `Names` where the host has no address of either family (`NoSuchName`, `NoAddress`, `NoAnswer`, `Server`, `System`),
+/// is no host name (`Name`), or could not be asked for (`Files`, `Runtime`, `Memory`): then nothing was written. After
+/// `Write` a first part was.
 pub fn write_names<R, O>(
     rt: &R,
     alloc: Global,
     output: &mut O,
-    host: &str,
-    choice: Choice,
+    wanted: Wanted<'_>,
 ) -> Result<(), TellFault>
 where
     R: Wait + Clock + RandomSource + AllocGlobal + Net + Files + Threads,
@@ -42,7 +40,7 @@ where
     ensures { TellsNames (PutsWhole O.contents O.puts O.flushes output.old output.new)
         (PutsPart O.contents O.puts O.flushes output.old output.new) (output.new ≡ output.old) result }
 {
-    let found = find(rt, alloc, host, choice)?;
+    let found = find(rt, alloc, wanted)?;
     let text = text_of(alloc, &found)?;
     write_whole(output, text.as_slice())?;
     Ok(())
@@ -58,14 +56,14 @@ fn text_of(alloc: Global, found: &Found) -> Result<Vec<u8>, NamesFault>
 }
 
 // Asks, and waits for both answers.
-fn find<R>(rt: &R, alloc: Global, host: &str, choice: Choice) -> Result<Found, NamesFault>
+fn find<R>(rt: &R, alloc: Global, wanted: Wanted<'_>) -> Result<Found, NamesFault>
 where
     R: Wait + Clock + RandomSource + AllocGlobal + Net + Files + Threads,
     R: SystemResolver + Copy + Send + 'static,
 {
     let mut runtime = LocalRuntime::new(rt)?;
     let handle = runtime.handle().clone()?;
-    let lookup = Lookup::new(rt, alloc, handle.reactor(), handle.time(), host, choice)?;
+    let lookup = Lookup::new(rt, alloc, handle.reactor(), handle.time(), wanted)?;
     let gathering = Gathering::new(rt, alloc, lookup);
     runtime.block_on(rt, gathering)?
 }

@@ -1,11 +1,11 @@
 // What the messages of a name server come to.
 
-ghost use Rattle.std.specs.Prelude.{◌≡◌, Some};
-ghost use Rattle.he_resolver.specs.Replies.{ComesTo, TellsAddresses, fault_reply};
+ghost use Rattle.std.specs.Prelude.{◌≡◌};
+ghost use Rattle.he_resolver.specs.Replies.{ComesTo, TellsAddresses, failure_of, fault_reply};
 
-use crate::fault::NamesFault;
+use crate::failure::Failure;
 use he_addr::{Family, Ip};
-use he_dns::{AnswerFault, Name, read_answer};
+use he_dns::{AnswerFault, Name, is_lame, read_answer, read_refusal};
 use std::alloc::Global;
 
 // What is asked of a name server.
@@ -19,9 +19,12 @@ pub(crate) struct Question<'n> {
 #[derive(Drop)]
 pub(crate) enum Reply {
     Addresses(Vec<Ip>),
+    NoAddress,
+    NoSuchName,
     // Cut off: to be asked again over TCP.
     Truncated,
-    Fault(NamesFault),
+    Failure(Failure),
+    Memory,
 }
 
 // What a message tells; None where it is no response to the question.
@@ -34,28 +37,51 @@ pub(crate) fn read_reply(
     ensures { ComesTo message.now id question.entry.name.now.octets question.entry.family result }
 {
     match read_answer(alloc, message, id, question.name, question.family) {
-        Ok(ips) => Some(reply_of(ips)),
-        Err(fault) => fault_reply(fault),
+        Ok(ips) => Some(reply_of(message, ips)),
+        Err(AnswerFault::NotOurs) => {
+            let code = read_refusal(message, id)?;
+            Some(Reply::Failure(failure_of(code)))
+        }
+        Err(fault) => Some(fault_reply(fault)),
     }
 }
 
-fn reply_of(ips: Vec<Ip>) -> Reply
-    ensures { TellsAddresses ips.items (Some result) }
+fn reply_of(message: &[u8], ips: Vec<Ip>) -> Reply
+    ensures { TellsAddresses message.now ips.items result }
 {
-    if ips.is_empty() {
-        return Reply::Fault(NamesFault::NoAddress);
+    if !ips.is_empty() {
+        return Reply::Addresses(ips);
     }
-    Reply::Addresses(ips)
+    if is_lame(message) {
+        Reply::Failure(Failure::Lame)
+    } else {
+        Reply::NoAddress
+    }
 }
 
-fn fault_reply(fault: AnswerFault) -> Option<Reply>
+fn fault_reply(fault: AnswerFault) -> Reply
     ensures { result ≡ fault_reply fault }
 {
     match fault {
-        AnswerFault::NotOurs => None,
-        AnswerFault::Truncated => Some(Reply::Truncated),
-        AnswerFault::NoSuchName => Some(Reply::Fault(NamesFault::NoSuchName)),
-        AnswerFault::Memory => Some(Reply::Fault(NamesFault::Memory)),
-        _ => Some(Reply::Fault(NamesFault::ServerFailure)),
+        AnswerFault::Truncated => Reply::Truncated,
+        AnswerFault::NoSuchName => Reply::NoSuchName,
+        AnswerFault::Memory => Reply::Memory,
+        AnswerFault::ServerFailure => Reply::Failure(Failure::ServerFailure),
+        AnswerFault::Refused => Reply::Failure(Failure::Refused),
+        AnswerFault::OtherCode(code) => Reply::Failure(failure_of(code)),
+        _ => Reply::Failure(Failure::Malformed),
+    }
+}
+
+// The failure that a response code tells.
+fn failure_of(code: u8) -> Failure
+    ensures { result ≡ failure_of code }
+{
+    match code {
+        1 => Failure::FormatError,
+        2 => Failure::ServerFailure,
+        4 => Failure::NotImplemented,
+        5 => Failure::Refused,
+        code => Failure::Code(code),
     }
 }

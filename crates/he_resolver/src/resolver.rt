@@ -1,24 +1,25 @@
 // Name servers that are asked for a host.
 
+ghost use Rattle.std.specs.Prelude.{IfOk, ◌≡◌, ◌⊎◌, ◌&&◌, ⊤, true, false, is_some, not};
 ghost use Rattle.futures.specs.Poll.{OnPending};
-ghost use Rattle.futures.specs.Task.{IsArmed, Keeps};
+ghost use Rattle.futures.specs.Task.{Covers, Keeps};
+ghost use Rattle.he_names.specs.Answers.{IsAnswer};
+ghost use Rattle.he_resolver.specs.Needs.{IsTold, asking_of, is_settled, names_needs, other_of, resolver_needs};
 
-use crate::asked::Asked;
 use crate::asking::Asking;
 use crate::fault::NamesFault;
 use crate::limits::MOST_STEPS;
 use crate::setup::Setup;
 use futures::task::{Context, Poll};
 use he_addr::{Family, Ip};
-use std::alloc::Global;
+use he_names::clean_of;
 use std::net::Net;
 use std::random::RandomSource;
 use std::time::Clock;
-use tokio::reactor::Handle;
 
-// Asks name servers for both families of a host at once, and tells each family's addresses as they come.
+// Asks name servers for the families of a host at once, and tells each family's addresses as they come.
 //
-// Both queries leave at the first poll, that for IPv6 first. Where neither family has an address of a name, the next
+// The queries leave at the first poll, that for IPv6 first. Where neither family has an address of a name, the next
 // name is asked for: so a family without one is told at once only where no other name can follow.
 #[derive(Drop)]
 pub(crate) struct Resolver<'h, R> {
@@ -30,80 +31,98 @@ pub(crate) struct Resolver<'h, R> {
 }
 
 impl<'h, R: Net + RandomSource + Clock> Resolver<'h, R> {
-    // Nothing is sent before the first poll.
-    pub(crate) fn new(
-        rt: &'h R,
-        alloc: Global,
-        reactor: &'h Handle,
-        timers: &'h tokio::time::Handle,
-        asked: Asked,
-    ) -> Resolver<'h, R> {
+    // Nothing is sent before the first poll. Where one family alone is wanted, the other isn't asked for.
+    pub(crate) fn new(setup: Setup<'h, R>, only: Option<Family>) -> Resolver<'h, R> {
         Resolver {
-            setup: Setup {
-                rt,
-                alloc,
-                reactor,
-                timers,
-                asked,
-            },
             place: 0,
-            v6: Asking::new(Family::V6),
-            v4: Asking::new(Family::V4),
+            v6: Asking::new(setup.alloc, Family::V6, only != Some(Family::V4)),
+            v4: Asking::new(setup.alloc, Family::V4, only != Some(Family::V6)),
+            setup,
         }
     }
 
-    // The addresses of the family as soon as they are known; or why there are none. They are told once: after that
-    // there are none.
-    pub(crate) fn poll_answer(
-        &mut self,
-        family: Family,
-        cx: &mut Context<'_>,
-    ) -> Poll<Result<Vec<Ip>, NamesFault>>
-        ensures armed { OnPending result (IsArmed cx.new) }
+    // Ready once it is settled what the family is told. Both families go on, whichever is polled for; where that
+    // settles what the other one is told, the task is woken, so that it polls for the other one.
+    pub(crate) fn poll_settled(&mut self, family: Family, cx: &mut Context<'_>) -> Poll<()>
+        ensures waits { OnPending result (Covers cx.new (resolver_needs self.new family)) }
+        ensures other { Covers cx.old (resolver_needs self.old (other_of family)) → Covers cx.new (resolver_needs self.new (other_of family)) }
         ensures kept { Keeps cx.old cx.new }
     {
-        match self.poll_names(cx) {
-            Poll::Pending if !self.is_settled(family) => Poll::Pending,
-            _ => Poll::Ready(self.give(family)),
+        let other = other_of(family);
+        let was_settled = self.is_settled(other);
+        let is_over = self.poll_names(cx);
+        self.settle(is_over);
+        wake_if(self.is_settled(other), was_settled, cx);
+        if self.is_settled(family) {
+            Poll::Ready(())
+        } else {
+            Poll::Pending
         }
     }
 
-    // Goes on as far as it goes; ready where no more is asked.
-    fn poll_names(&mut self, cx: &mut Context<'_>) -> Poll<()>
-        ensures armed { OnPending result (IsArmed cx.new) }
+    // The addresses of the family, each once and at most 256, or why there are none, once that is settled.
+    pub(crate) fn answer(&self, family: Family) -> Result<Vec<Ip>, NamesFault>
+        ensures { IfOk result (λ ips. IsAnswer family ips.items) }
+    {
+        match self.asking(family).told() {
+            Some(Ok(ips)) => Ok(clean_of(self.setup.alloc, family, ips)?),
+            Some(Err(fault)) => Err(*fault),
+            None => Err(NamesFault::NoAnswer),
+        }
+    }
+
+    fn asking(&self, family: Family) -> &Asking
+        ensures { result.now ≡ asking_of self.now family }
+    {
+        match family {
+            Family::V6 => &self.v6,
+            Family::V4 => &self.v4,
+        }
+    }
+
+    fn is_settled(&self, family: Family) -> bool
+        ensures { result ≡ is_settled self.now family }
+    {
+        self.asking(family).is_settled()
+    }
+
+    // Goes on as far as it goes. Whether no more is asked.
+    fn poll_names(&mut self, cx: &mut Context<'_>) -> bool
+        ensures waits { result ≡ false → Covers cx.new (names_needs self.new) }
+        ensures settled { (family : _) → is_settled self.new family ≡ is_settled self.old family }
         ensures kept { Keeps cx.old cx.new }
     {
         for _ in 0..MOST_STEPS {
-            if let Poll::Pending = self.poll_sides(cx) {
-                return Poll::Pending;
+            if !self.poll_name(cx) {
+                return false;
             }
             if !self.goes_on() {
-                return Poll::Ready(());
+                return true;
             }
             self.place = self.place.saturating_add(1);
-            self.v6 = Asking::new(Family::V6);
-            self.v4 = Asking::new(Family::V4);
+            self.v6.start_again();
+            self.v4.start_again();
         }
-        cx.yield_now()
+        let _: Poll<()> = cx.yield_now();
+        false
     }
 
-    // Both families go on with the name; ready where both are told.
-    fn poll_sides(&mut self, cx: &mut Context<'_>) -> Poll<()>
-        ensures armed { OnPending result (IsArmed cx.new) }
+    // Both families go on with the name. Whether both are told.
+    fn poll_name(&mut self, cx: &mut Context<'_>) -> bool
+        ensures waits { result ≡ false → Covers cx.new (names_needs self.new) }
+        ensures settled { (family : _) → is_settled self.new family ≡ is_settled self.old family }
         ensures kept { Keeps cx.old cx.new }
     {
-        let v6 = self.v6.poll(&self.setup, self.place, cx);
-        let v4 = self.v4.poll(&self.setup, self.place, cx);
-        match (v6, v4) {
-            (Poll::Ready(()), Poll::Ready(())) => Poll::Ready(()),
-            _ => Poll::Pending,
-        }
+        let _: Poll<()> = self.v6.poll(&self.setup, self.place, cx);
+        let _: Poll<()> = self.v4.poll(&self.setup, self.place, cx);
+        share_absence(&mut self.v6, &mut self.v4);
+        are_told(&self.v6, &self.v4)
     }
 
     // Whether the next name is asked for: neither family has an address of this one, and a server said so of one.
     fn goes_on(&self) -> bool {
         match (self.v6.lack(), self.v4.lack()) {
-            (Some(v6), Some(v4)) => !self.is_last() && (is_absence(v6) || is_absence(v4)),
+            (Some(v6), Some(v4)) => !self.is_last() && (v6.is_absence() || v4.is_absence()),
             _ => false,
         }
     }
@@ -112,25 +131,64 @@ impl<'h, R: Net + RandomSource + Clock> Resolver<'h, R> {
         self.setup.asked.is_last(self.place)
     }
 
-    // Whether nothing that is still asked can change what the family is told.
-    fn is_settled(&self, family: Family) -> bool {
-        let (own, other) = match family {
-            Family::V6 => (&self.v6, &self.v4),
-            Family::V4 => (&self.v4, &self.v6),
-        };
-        own.has_found() || (own.lack().is_some() && (self.is_last() || other.has_found()))
-    }
-
-    fn give(&mut self, family: Family) -> Result<Vec<Ip>, NamesFault> {
-        let alloc = self.setup.alloc;
-        match family {
-            Family::V6 => self.v6.give(alloc),
-            Family::V4 => self.v4.give(alloc),
-        }
+    // Settles the families of which nothing that is still asked can change what they are told: both, where no more is
+    // asked.
+    fn settle(&mut self, is_over: bool)
+        ensures over { is_over ≡ true → (family : _) → is_settled self.new family ≡ true }
+        ensures kept { (family : _) → is_settled self.old family ≡ true → is_settled self.new family ≡ true }
+        ensures six { self.new.v6 ≡ record self.old.v6 { is_settled = self.new.v6.is_settled } }
+        ensures four { self.new.v4 ≡ record self.old.v4 { is_settled = self.new.v4.is_settled } }
+    {
+        let is_last = self.is_last();
+        let v6 = is_over || can_settle(&self.v6, &self.v4, is_last);
+        let v4 = is_over || can_settle(&self.v4, &self.v6, is_last);
+        self.v6.settle(v6);
+        self.v4.settle(v4);
     }
 }
 
-// Whether a server said that there is nothing.
-fn is_absence(fault: NamesFault) -> bool {
-    matches!(fault, NamesFault::NoSuchName | NamesFault::NoAddress)
+// Has the task polled again, where it is so now, and was not before.
+fn wake_if(is: bool, was: bool, cx: &mut Context<'_>)
+    ensures woken { (is && not was) ≡ true → Covers cx.new (λ _. ⊤) }
+    ensures kept { Keeps cx.old cx.new }
+{
+    if is && !was {
+        let _: Poll<()> = cx.yield_now();
+    }
+}
+
+fn other_of(family: Family) -> Family
+    ensures { result ≡ other_of family }
+{
+    match family {
+        Family::V6 => Family::V4,
+        Family::V4 => Family::V6,
+    }
+}
+
+fn are_told(v6: &Asking, v4: &Asking) -> bool
+    ensures { result ≡ (is_some v6.now.told && is_some v4.now.told) }
+{
+    v6.is_told() && v4.is_told()
+}
+
+// Whether no other answer and no other name can change what a family is told: it has addresses; or it has none, and
+// the other has some, or there is no other name.
+fn can_settle(own: &Asking, other: &Asking, is_last: bool) -> bool {
+    own.has_found() || (own.lack().is_some() && (is_last || other.has_found()))
+}
+
+// That there is no such name is said of both families (RFC 8020 section 2).
+fn share_absence(v6: &mut Asking, v4: &mut Asking)
+    ensures six { (v6.new ≡ v6.old) ⊎ IsTold v6.new }
+    ensures four { (v4.new ≡ v4.old) ⊎ IsTold v4.new }
+    ensures six_settled { v6.new.is_settled ≡ v6.old.is_settled }
+    ensures four_settled { v4.new.is_settled ≡ v4.old.is_settled }
+{
+    if v6.lack() == Some(NamesFault::NoSuchName) && !v4.is_told() {
+        v4.tell(Err(NamesFault::NoSuchName));
+    }
+    if v4.lack() == Some(NamesFault::NoSuchName) && !v6.is_told() {
+        v6.tell(Err(NamesFault::NoSuchName));
+    }
 }

@@ -2,7 +2,10 @@
 
 use crate::asked::Asked;
 use std::alloc::Global;
+use std::io;
+use std::time::{Clock, Duration};
 use tokio::reactor::Handle;
+use tokio::time::Sleep;
 
 // The machine, the memory, the event loop, and what is asked.
 #[derive(Drop)]
@@ -12,4 +15,11 @@ pub(crate) struct Setup<'h, R> {
     pub(crate) reactor: &'h Handle,
     pub(crate) timers: &'h tokio::time::Handle,
     pub(crate) asked: Asked,
+}
+
+impl<R: Clock> Setup<'_, R> {
+    // A timer that ends after so many milliseconds.
+    pub(crate) fn sleep(&self, millis: u64) -> io::Result<Sleep> {
+        self.timers.sleep(self.rt, Duration::from_millis(millis))
+    }
 }

@@ -1,10 +1,16 @@
 // A query over TCP (RFC 1035 section 4.2.2): each message stands behind its length in two bytes.
 
-ghost use Rattle.futures.specs.Task.{Keeps};
+ghost use Rattle.std.specs.Prelude.{◌≡◌};
+ghost use Rattle.futures.specs.Poll.{OnPending};
+ghost use Rattle.futures.specs.Task.{Covers, Keeps};
+ghost use Rattle.he_resolver.specs.Needs.{CoversWait, stage_needs};
 
 use crate::datagrams::random_id;
+use crate::failure::Failure;
 use crate::fault::NamesFault;
+use crate::limits::MOST_STEPS;
 use crate::replies::{Question, Reply, read_reply};
+use crate::setup::Setup;
 use futures::Future;
 use futures::task::{Context, Poll};
 use he_dns::write_query;
@@ -16,11 +22,10 @@ use std::net::{Net, SocketAddr};
 use std::random::RandomSource;
 use tokio::io::{ReadExact, WriteAll, read_exact, write_all};
 use tokio::net::{ConnectFuture, TcpStream};
-use tokio::reactor::Handle;
 
 // How far a query is.
 #[derive(Drop)]
-enum Stage {
+pub(crate) enum Stage {
     Connecting(ConnectFuture, Vec<u8>),
     Sending(WriteAll<TcpStream, Cursor<Vec<u8>>>),
     Length(ReadExact<TcpStream>),
@@ -28,70 +33,63 @@ enum Stage {
     Over,
 }
 
-// The most stages that one poll goes through.
-const STAGES: usize = 4;
-
 // The bytes of a message's length.
 const LENGTH_LEN: usize = 2;
 
 #[derive(Drop)]
 pub(crate) struct StreamQuery {
-    alloc: Global,
     stage: Stage,
     id: u16,
 }
 
 impl StreamQuery {
     pub(crate) fn begin<R: Net + RandomSource>(
-        rt: &R,
-        alloc: Global,
-        reactor: &Handle,
+        setup: &Setup<'_, R>,
         server: SocketAddr,
         question: Question<'_>,
+        room: Option<u16>,
     ) -> Result<StreamQuery, NamesFault> {
-        let id = random_id(rt)?;
-        let message = write_query(alloc, id, question.name, question.family)?;
+        let id = random_id(setup.rt)?;
+        let message = write_query(setup.alloc, id, question.name, question.family, room)?;
         let Ok(len) = u16::try_from(message.len()) else {
-            return Err(NamesFault::ServerFailure);
+            return Err(NamesFault::Runtime);
         };
-        let mut request = Vec::from_slice(alloc, &len.to_be_bytes())?;
+        let mut request = Vec::from_slice(setup.alloc, &len.to_be_bytes())?;
         request.extend_from_slice(&message)?;
-        let connecting = TcpStream::connect(rt, server, reactor);
+        let connecting = TcpStream::connect(setup.rt, server, setup.reactor);
         Ok(StreamQuery {
-            alloc,
             stage: Stage::Connecting(connecting, request),
             id,
         })
     }
 
-    // What the server told.
-    pub(crate) fn poll_reply(&mut self, question: Question<'_>, cx: &mut Context<'_>) -> Poll<Reply>
+    // What the server told. A message that is no response to the question is passed over, as over UDP.
+    pub(crate) fn poll_reply(
+        &mut self,
+        alloc: Global,
+        question: Question<'_>,
+        cx: &mut Context<'_>,
+    ) -> Poll<Reply>
+        ensures waits { OnPending result (Covers cx.new (stage_needs self.new.stage)) }
         ensures kept { Keeps cx.old cx.new }
     {
-        match self.poll_message(cx) {
-            Poll::Pending => Poll::Pending,
-            Poll::Ready(Err(error)) => Poll::Ready(Reply::Fault(fault_of(error))),
-            Poll::Ready(Ok(message)) => Poll::Ready(
-                match read_reply(self.alloc, &message, self.id, question) {
-                    Some(reply) => reply,
-                    None => Reply::Fault(NamesFault::ServerFailure),
-                },
-            ),
-        }
-    }
-
-    // The message behind its length.
-    fn poll_message(&mut self, cx: &mut Context<'_>) -> Poll<io::Result<Vec<u8>>>
-        ensures kept { Keeps cx.old cx.new }
-    {
-        for _ in 0..STAGES {
-            match replace(&mut self.stage, Stage::Over).step(self.alloc, cx) {
+        for _ in 0..MOST_STEPS {
+            match replace(&mut self.stage, Stage::Over).step(alloc, cx) {
                 Step::Waits(stage) => {
                     self.stage = stage;
                     return Poll::Pending;
                 }
                 Step::Goes(stage) => self.stage = stage,
-                Step::Ends(message) => return Poll::Ready(message),
+                Step::Ends(error) => return Poll::Ready(reply_of(error)),
+                Step::Came(stream, message) => {
+                    if let Some(reply) = read_reply(alloc, &message, self.id, question) {
+                        return Poll::Ready(reply);
+                    }
+                    match fill(alloc, stream, LENGTH_LEN) {
+                        Ok(reading) => self.stage = Stage::Length(reading),
+                        Err(error) => return Poll::Ready(reply_of(error)),
+                    }
+                }
             }
         }
         cx.yield_now()
@@ -100,25 +98,16 @@ impl StreamQuery {
 
 // What a poll of a stage comes to.
 #[derive(Drop)]
-enum Step {
+pub(crate) enum Step {
     Waits(Stage),
     Goes(Stage),
-    Ends(io::Result<Vec<u8>>),
+    Came(TcpStream, Vec<u8>),
+    Ends(io::Error),
 }
 
-impl Step {
-    // Goes on to read so many bytes.
-    fn reading(alloc: Global, stream: TcpStream, len: usize, is_message: bool) -> Step {
-        let Ok(room) = vec![in alloc; 0; len] else {
-            return Step::Ends(Err(io::ErrorKind::OutOfMemory.into()));
-        };
-        let reading = read_exact(stream, room);
-        Step::Goes(if is_message {
-            Stage::Message(reading)
-        } else {
-            Stage::Length(reading)
-        })
-    }
+// Reads so many bytes.
+fn fill(alloc: Global, stream: TcpStream, len: usize) -> io::Result<ReadExact<TcpStream>> {
+    Ok(read_exact(stream, vec![in alloc; 0; len]?))
 }
 
 // The length that two bytes tell.
@@ -130,15 +119,16 @@ fn length_of(bytes: &[u8]) -> usize {
 }
 
 // A connection that isn't made or breaks off.
-fn fault_of(error: io::Error) -> NamesFault {
+fn reply_of(error: io::Error) -> Reply {
     match error.kind() {
-        io::ErrorKind::OutOfMemory => NamesFault::Memory,
-        _ => NamesFault::NoAnswer,
+        io::ErrorKind::OutOfMemory => Reply::Memory,
+        _ => Reply::Failure(Failure::Unreachable),
     }
 }
 
 impl Stage {
     fn step(self, alloc: Global, cx: &mut Context<'_>) -> Step
+        ensures waits { CoversWait cx.new result }
         ensures kept { Keeps cx.old cx.new }
     {
         match self {
@@ -148,26 +138,30 @@ impl Stage {
                     stream,
                     Cursor::new(request),
                 ))),
-                Poll::Ready(Err(error)) => Step::Ends(Err(error)),
+                Poll::Ready(Err(error)) => Step::Ends(error),
             },
             Stage::Sending(mut sending) => match sending.poll(cx) {
                 Poll::Pending => Step::Waits(Stage::Sending(sending)),
-                Poll::Ready(Ok((stream, _))) => Step::reading(alloc, stream, LENGTH_LEN, false),
-                Poll::Ready(Err(error)) => Step::Ends(Err(error)),
+                Poll::Ready(Ok((stream, _))) => match fill(alloc, stream, LENGTH_LEN) {
+                    Ok(reading) => Step::Goes(Stage::Length(reading)),
+                    Err(error) => Step::Ends(error),
+                },
+                Poll::Ready(Err(error)) => Step::Ends(error),
             },
             Stage::Length(mut reading) => match reading.poll(cx) {
                 Poll::Pending => Step::Waits(Stage::Length(reading)),
-                Poll::Ready(Ok((stream, len))) => {
-                    Step::reading(alloc, stream, length_of(&len), true)
-                }
-                Poll::Ready(Err(error)) => Step::Ends(Err(error)),
+                Poll::Ready(Ok((stream, len))) => match fill(alloc, stream, length_of(&len)) {
+                    Ok(reading) => Step::Goes(Stage::Message(reading)),
+                    Err(error) => Step::Ends(error),
+                },
+                Poll::Ready(Err(error)) => Step::Ends(error),
             },
             Stage::Message(mut reading) => match reading.poll(cx) {
                 Poll::Pending => Step::Waits(Stage::Message(reading)),
-                Poll::Ready(Ok((_, message))) => Step::Ends(Ok(message)),
-                Poll::Ready(Err(error)) => Step::Ends(Err(error)),
+                Poll::Ready(Ok((stream, message))) => Step::Came(stream, message),
+                Poll::Ready(Err(error)) => Step::Ends(error),
             },
-            Stage::Over => Step::Ends(Err(io::ErrorKind::UnexpectedEof.into())),
+            Stage::Over => Step::Ends(io::ErrorKind::UnexpectedEof.into()),
         }
     }
 }

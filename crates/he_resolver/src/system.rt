@@ -1,7 +1,9 @@
 //! The system's resolver, which is called in a thread.
 
+ghost use Rattle.std.specs.Prelude.{◌≡◌};
+ghost use Rattle.futures.specs.Channel.{completed_source};
 ghost use Rattle.futures.specs.Poll.{OnPending};
-ghost use Rattle.futures.specs.Task.{IsArmed, Keeps};
+ghost use Rattle.futures.specs.Task.{Covers, Keeps};
 
 use crate::fault::NamesFault;
 use futures::Future;
@@ -68,7 +70,7 @@ impl SystemQuery {
 
     // The addresses that the system has of the host, once.
     pub(crate) fn poll_found(&mut self, cx: &mut Context<'_>) -> Poll<Result<Vec<Ip>, NamesFault>>
-        ensures armed { OnPending result (IsArmed cx.new) }
+        ensures waits { OnPending result (Covers cx.new (λ s. s ≡ completed_source self.new.found)) }
         ensures kept { Keeps cx.old cx.new }
     {
         match self.found.poll(cx) {

@@ -1,4 +1,4 @@
-use Rattle.he_race.proofs.Listening.{answered-family, if-none}
+use Rattle.he_race.proofs.Listening.{answered-family, if-none, listens_on, on_ok}
 use Rattle.he_race.proofs.recorder.Recorder.hear_of.Goals as goal
 
 pub returns-in-Pending-clause-waits : goal.returns-in-Pending-clause-waits
@@ -7,3 +7,12 @@ returns-in-Pending-clause-waits g c = if-none _ _ c.in-Pending.ensures.waits
 pub returns-in-Ready-clause-waits : goal.returns-in-Ready-clause-waits
 returns-in-Ready-clause-waits g c =
     answered-family c.answer-in-Ready.result _ _ c.args.family _ _ c.answer-in-Ready.ensures.recorded
+
+pub returns-in-Pending-clause-other : goal.returns-in-Pending-clause-other
+returns-in-Pending-clause-other g c =
+    listens_on g.S.AnswerSource c.args.cx.now c.poll_answer.new.cx c.args.source.now c.poll_answer.new.self c.args.family c.args.now _ c.in-Pending.ensures.pending c.poll_answer.ensures.other
+
+pub returns-in-Ready-clause-other : goal.returns-in-Ready-clause-other
+returns-in-Ready-clause-other g c =
+    on_ok c.answer-in-Ready.result _
+    (listens_on g.S.AnswerSource c.args.cx.now c.poll_answer.new.cx c.args.source.now c.poll_answer.new.self c.args.family c.args.now _ c.in-Ready.ensures.ready c.poll_answer.ensures.other)

@@ -1,5 +1,5 @@
 use Rattle.futures.specs.Task.{Keeps}
-use Rattle.he_resolver.proofs.streams.StreamQuery.poll_message.Given as goal
+use Rattle.he_resolver.proofs.streams.StreamQuery.poll_reply.Given as goal
 
 abbrev pub invariant-loop : goal.invariant-loop
 invariant-loop l = Keeps l.fn.cx l.cx

@@ -1,0 +1,42 @@
+// What the header of a message says of the server that sent it (RFC 1035 section 4.1.1).
+
+ghost use Rattle.std.specs.Prelude.{◌≡◌, true, IfNone, IfSome};
+ghost use Rattle.he_dns.specs.Header.{IsLame, IsRefusal};
+ghost use Rattle.he_dns.specs.Reading.{lame_in, refusal_in};
+
+use crate::header::read_header;
+
+/// The RCODE by which a server refuses the query with this id and repeats no question, as one may that does not read
+/// on: any code but 0 and 3. None for every other message.
+pub fn read_refusal(message: &[u8], id: u16) -> Option<u8>
+    ensures some { IfSome result (IsRefusal message.now id) }
+    ensures none { IfNone result ((code : _) → IsRefusal message.now id code → ⊥) }
+{
+    find_refusal(message, id)
+}
+
+#[tactic(auto, unfolding(crate::specs::Reading::refusal_in))]
+fn find_refusal(message: &[u8], id: u16) -> Option<u8>
+    ensures { result ≡ refusal_in message.now id }
+{
+    read_header(message)?.refusal(id)
+}
+
+/// Whether the server that sent a message can't answer for others: it is no authority for the name (AA), and doesn't
+/// ask other servers (RA). What it says of a name that has no address is no answer.
+pub fn is_lame(message: &[u8]) -> bool
+    ensures lame { result ≡ true → IsLame message.now }
+    ensures able { IsLame message.now → result ≡ true }
+{
+    find_lame(message)
+}
+
+#[tactic(auto, unfolding(crate::specs::Reading::lame_in))]
+fn find_lame(message: &[u8]) -> bool
+    ensures { result ≡ lame_in message.now }
+{
+    match read_header(message) {
+        Some(header) => header.is_lame(),
+        None => false,
+    }
+}

@@ -1,0 +1,10 @@
+use Rattle.std.proofs.Common.{rules}
+use Rattle.he_resolver.proofs.Waits.{listens_kept, names_wait, shared_listens}
+use Rattle.he_resolver.proofs.resolver.Resolver.poll_name.Goals as goal
+
+pub returns-clause-waits : goal.returns-clause-waits
+returns-clause-waits g c = λ pending.
+    names_wait _ _ _
+    (shared_listens _ _ _ c.share_absence.ensures.six (listens_kept _ _ _ c.poll-2.ensures.kept c.poll.ensures.listens))
+    (shared_listens _ _ _ c.share_absence.ensures.four c.poll-2.ensures.listens)
+    (search rules)

@@ -1,0 +1,28 @@
+-- Which fault is told where the families differ, and which faults are of one server alone.
+use Rattle.std.specs.Prelude.{ℕ, Bool, true, false, nat_le, if◌then◌else◌}
+use Rattle.he_resolver.specs.declared.fault.NamesFault.{NamesFault}
+use Rattle.he_resolver.specs.declared.fault.NamesFault.TheVariants as faults
+
+-- another server may tell more
+abbrev pub is_of_server : NamesFault → Bool
+is_of_server faults.NoAnswer = true
+is_of_server (faults.Server fault) = true
+is_of_server fault = false
+
+-- The order in which faults are told: that of the machine first, then what holds for both families, then that no server
+-- answered or that one failed, and what holds for one family last.
+abbrev pub rank_of : NamesFault → ℕ
+rank_of faults.Memory = 0
+rank_of faults.Files = 1
+rank_of faults.Runtime = 1
+rank_of (faults.Name fault) = 2
+rank_of faults.System = 2
+rank_of faults.NoSuchName = 3
+rank_of faults.NoAnswer = 4
+rank_of (faults.Server fault) = 5
+rank_of faults.NoAddress = 6
+rank_of faults.NotAsked = 7
+
+-- of two faults the one that stands first in that order
+abbrev pub first_of : NamesFault → NamesFault → NamesFault
+first_of v6 v4 = if nat_le (rank_of v6) (rank_of v4) then v6 else v4

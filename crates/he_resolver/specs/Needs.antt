@@ -1,0 +1,121 @@
+-- Which sources of events a look-up waits for, of its sockets and its timers. What is settled and not yet told waits for
+-- nothing: every source counts as one of its own, so that only a poll that has asked for another one has registered at all.
+use Rattle.std.specs.Prelude.{ℕ, ◌≡◌, ◌<◌, ◌⊎◌, ⊤, true, false, Bool, List, [], Option, Some, None, IsSomeAnd, is_some, length, slice_index_or}
+use Rattle.futures.specs.Channel.{completed_source}
+use Rattle.futures.specs.Task.{Covers}
+use Rattle.futures.specs.declared.task.context.Context.{Context}
+use Rattle.he_addr.specs.declared.ip.Family.{Family}
+use Rattle.he_addr.specs.declared.ip.Family.TheVariants as families
+use Rattle.tokio.specs.Net.{ConnectNeeds, connect_state, stream_readable, stream_writable}
+use Rattle.tokio.specs.Timers.{sleep_source}
+use Rattle.he_resolver.specs.declared.asking.Asking.{Asking}
+use Rattle.he_resolver.specs.declared.asking.Next.{Next}
+use Rattle.he_resolver.specs.declared.asking.Next.TheVariants.{Now, After, Never}
+use Rattle.he_resolver.specs.declared.gathering.Gathering.{Gathering}
+use Rattle.he_resolver.specs.declared.gathering.Told.{Told}
+use Rattle.he_resolver.specs.declared.lookup.Lookup.{Lookup}
+use Rattle.he_resolver.specs.declared.lookup.Source.{Source}
+use Rattle.he_resolver.specs.declared.lookup.Source.TheVariants as sources
+use Rattle.he_resolver.specs.declared.query.Query.{Query}
+use Rattle.he_resolver.specs.declared.query.Transport.{Transport}
+use Rattle.he_resolver.specs.declared.query.Transport.TheVariants as transports
+use Rattle.he_resolver.specs.declared.resolver.Resolver.{Resolver}
+use Rattle.he_resolver.specs.declared.streams.Stage.{Stage}
+use Rattle.he_resolver.specs.declared.streams.Stage.TheVariants.{Connecting, Sending, Length, Message, Over}
+use Rattle.he_resolver.specs.declared.streams.Step.{Step}
+use Rattle.he_resolver.specs.declared.streams.Step.TheVariants as steps
+
+-- ---- one query
+
+-- over TCP: for the connection, for room to send in, or for what comes
+abbrev pub stage_needs : Stage → ℕ → Type 0
+stage_needs (Connecting connecting request) s = ConnectNeeds (connect_state connecting) s
+stage_needs (Sending sending) s = IsSomeAnd sending.state (λ w. s ≡ stream_writable w.0)
+stage_needs (Length reading) s = IsSomeAnd reading.state (λ r. s ≡ stream_readable r.reader)
+stage_needs (Message reading) s = IsSomeAnd reading.state (λ r. s ≡ stream_readable r.reader)
+stage_needs Over s = ⊥
+
+-- a step that waits has registered for all that its stage waits for
+abbrev pub CoversWait : Context → Step → Type 0
+CoversWait cx (steps.Waits stage) = Covers cx (stage_needs stage)
+CoversWait cx other = ⊤
+
+-- over UDP: for what comes
+abbrev pub transport_needs : Transport → ℕ → Type 0
+transport_needs (transports.Datagrams query) s = s ≡ stream_readable query.socket
+transport_needs (transports.Stream query) s = stage_needs query.stage s
+
+-- and for the time at which it is sent again
+unfoldable pub query_needs : Query → ℕ → Type 0
+query_needs query s = transport_needs query.transport s ⊎ (s ≡ sleep_source query.timer)
+
+-- ---- one family of a name
+
+-- each of the queries
+abbrev pub any_needs : List Query → ℕ → Type 0
+any_needs queries s = (k : ℕ) × (d : Query) × (k < length queries) × query_needs (slice_index_or queries k d) s
+
+-- the time at which the next server is asked; where that is now, all
+abbrev pub next_needs : Next → ℕ → Type 0
+next_needs Now s = ⊤
+next_needs (After timer) s = s ≡ sleep_source timer
+next_needs Never s = ⊥
+
+abbrev pub IsTold : Asking → Type 0
+IsTold asking = is_some asking.told ≡ true
+
+-- Until it is told, a family's part waits for each query and for the next server's time; where it has no query under way it
+-- is to be polled again.
+unfoldable pub asking_needs : Asking → ℕ → Type 0
+asking_needs asking s =
+    (is_some asking.told ≡ false) × ((asking.queries.items ≡ []) ⊎ any_needs asking.queries.items s ⊎ next_needs asking.next s)
+
+-- it is told, or has registered for all that it waits for
+abbrev pub Listens : Context → Asking → Type 0
+Listens cx asking = IsTold asking ⊎ Covers cx (asking_needs asking)
+
+-- ---- both families
+
+abbrev pub other_of : Family → Family
+other_of families.V6 = families.V4
+other_of families.V4 = families.V6
+
+module _ {R : Type 0} where
+  abbrev pub asking_of : Resolver R → Family → Asking
+  asking_of resolver families.V6 = resolver.v6
+  asking_of resolver families.V4 = resolver.v4
+
+  abbrev pub is_settled : Resolver R → Family → Bool
+  is_settled resolver family = (asking_of resolver family).is_settled
+
+  -- both parts of the name
+  abbrev pub names_needs : Resolver R → ℕ → Type 0
+  names_needs resolver s = asking_needs resolver.v6 s ⊎ asking_needs resolver.v4 s
+
+  -- A family of which it is settled what is told is to be polled for. Any other waits for both parts, since what one is told
+  -- may settle the other.
+  abbrev pub resolver_needs : Resolver R → Family → ℕ → Type 0
+  resolver_needs resolver family s = (is_settled resolver family ≡ true) ⊎ names_needs resolver s
+
+  -- a look-up: what is known without asking, or has come, is to be polled for
+  abbrev pub source_needs : Source R → Family → ℕ → Type 0
+  source_needs (sources.Known found) family s = ⊤
+  source_needs (sources.Servers resolver) family s = resolver_needs resolver family s
+  source_needs (sources.System query) family s = s ≡ completed_source query.found
+
+  abbrev pub lookup_needs : Lookup R → Family → ℕ → Type 0
+  lookup_needs lookup family s = source_needs lookup.source family s
+
+  -- what is told of a family so far
+  abbrev pub told_of : Gathering R → Family → Option Told
+  told_of gathering families.V6 = gathering.v6
+  told_of gathering families.V4 = gathering.v4
+
+  -- a look-up of both families: each until it is told
+  abbrev pub gathering_needs : Gathering R → ℕ → Type 0
+  gathering_needs gathering s =
+      (family : Family) × (is_some (told_of gathering family) ≡ false) × lookup_needs gathering.lookup family s
+
+  -- the family is told, or the look-up has registered for all that it waits for
+  abbrev pub IsHeard : Context → Gathering R → Family → Type 0
+  IsHeard cx gathering family = (is_some (told_of gathering family) ≡ true) ⊎ Covers cx (lookup_needs gathering.lookup family)

@@ -1,0 +1,62 @@
+//! How a name server fails.
+
+use crate::limits::SERVER_PORT;
+use std::fmt;
+use std::net::SocketAddr;
+use thiserror::Error;
+
+/// How a name server failed to tell anything of a name.
+#[derive(Clone, Copy, Debug, PartialEq, Eq, Error)]
+pub enum Failure {
+    /// RCODE 1: it could not read the query.
+    #[error("FORMERR")]
+    FormatError,
+    /// RCODE 2: it failed.
+    #[error("SERVFAIL")]
+    ServerFailure,
+    /// RCODE 4: it has no such kind of query.
+    #[error("NOTIMP")]
+    NotImplemented,
+    /// RCODE 5: it refused.
+    #[error("REFUSED")]
+    Refused,
+    /// Another RCODE than 0 to 5.
+    #[error("response code {0}")]
+    Code(u8),
+    /// It told no address, is no authority for the name, and asks no other server.
+    #[error("knows no more than other servers")]
+    Lame,
+    /// What it answered can't be read.
+    #[error("answered what can't be read")]
+    Malformed,
+    /// There is no way to it, or nothing listens there.
+    #[error("cannot be reached")]
+    Unreachable,
+}
+
+/// A name server that failed, and how.
+#[derive(Clone, Copy, PartialEq, Eq)]
+pub struct ServerFault {
+    pub server: SocketAddr,
+    pub failure: Failure,
+}
+
+// The address, with its port where that is not the usual one, and the failure: `192.0.2.1: SERVFAIL`.
+impl fmt::Display for ServerFault {
+    fn fmt<W: fmt::Write>(&self, f: &mut fmt::Formatter<W>) -> fmt::Result {
+        let failure = self.failure;
+        if self.server.port() == SERVER_PORT {
+            let ip = self.server.ip();
+            write!(f, "{ip}: {failure}")
+        } else {
+            let server = self.server;
+            write!(f, "{server}: {failure}")
+        }
+    }
+}
+
+impl fmt::Debug for ServerFault {
+    fn fmt<W: fmt::Write>(&self, f: &mut fmt::Formatter<W>) -> fmt::Result {
+        fmt::Display::fmt(self, f)
+    }
+}

@@ -1,0 +1,180 @@
+// What one name server is asked: over UDP, and over TCP where its answer is cut off (RFC 7766 section 5).
+
+ghost use Rattle.std.specs.Prelude.{◌≡◌};
+ghost use Rattle.futures.specs.Poll.{OnPending};
+ghost use Rattle.futures.specs.Task.{Covers, Keeps};
+ghost use Rattle.he_resolver.specs.Needs.{query_needs, transport_needs};
+
+use crate::datagrams::Datagrams;
+use crate::failure::{Failure, ServerFault};
+use crate::fault::NamesFault;
+use crate::limits::{AGAIN, MOST_STEPS, OFFERED_ROOM};
+use crate::replies::{Question, Reply};
+use crate::setup::Setup;
+use crate::streams::StreamQuery;
+use futures::task::{Context, Poll};
+use he_addr::Ip;
+use std::alloc::Global;
+use std::net::{Net, SocketAddr};
+use std::random::RandomSource;
+use std::time::Clock;
+use tokio::time::Sleep;
+
+#[derive(Drop)]
+pub(crate) enum Transport {
+    Datagrams(Datagrams),
+    Stream(StreamQuery),
+}
+
+impl Transport {
+    fn poll_reply(
+        &mut self,
+        alloc: Global,
+        question: Question<'_>,
+        cx: &mut Context<'_>,
+    ) -> Poll<Reply>
+        ensures waits { OnPending result (Covers cx.new (transport_needs self.new)) }
+        ensures kept { Keeps cx.old cx.new }
+    {
+        match self {
+            Transport::Datagrams(query) => query.poll_reply(alloc, question, cx),
+            Transport::Stream(query) => query.poll_reply(alloc, question, cx),
+        }
+    }
+}
+
+// A query to one name server that is under way.
+#[derive(Drop)]
+pub(crate) struct Query {
+    server: SocketAddr,
+    transport: Transport,
+    // The bytes that a datagram of the answer may have, where the server was told them.
+    room: Option<u16>,
+    // How many times it was sent, or would have been over UDP.
+    sends: u64,
+    // Until it is sent again.
+    timer: Sleep,
+}
+
+impl Query {
+    // Asks the server, over UDP.
+    pub(crate) fn begin<R: Net + RandomSource + Clock>(
+        setup: &Setup<'_, R>,
+        server: SocketAddr,
+        question: Question<'_>,
+    ) -> Result<Query, NamesFault> {
+        let room = Some(OFFERED_ROOM);
+        Ok(Query {
+            server,
+            transport: send(setup, server, question, room)?,
+            room,
+            sends: 1,
+            timer: setup.sleep(AGAIN)?,
+        })
+    }
+
+    // What the server tells of the question, or that it does not in its time.
+    #[tactic(auto, unfolding(crate::specs::Needs::query_needs))]
+    pub(crate) fn poll_answer<R: Net + RandomSource + Clock>(
+        &mut self,
+        setup: &Setup<'_, R>,
+        question: Question<'_>,
+        cx: &mut Context<'_>,
+    ) -> Poll<Result<Vec<Ip>, NamesFault>>
+        ensures waits { OnPending result (Covers cx.new (query_needs self.new)) }
+        ensures kept { Keeps cx.old cx.new }
+    {
+        for _ in 0..MOST_STEPS {
+            match self.transport.poll_reply(setup.alloc, question, cx) {
+                Poll::Ready(reply) => {
+                    if let Some(answer) = self.take(reply, setup, question) {
+                        return Poll::Ready(answer);
+                    }
+                }
+                Poll::Pending => match self.timer.poll_elapsed(cx) {
+                    Poll::Pending => return Poll::Pending,
+                    Poll::Ready(_) => {
+                        if let Err(fault) = self.send_again(setup) {
+                            return Poll::Ready(Err(fault));
+                        }
+                    }
+                },
+            }
+        }
+        cx.yield_now()
+    }
+
+    // Sends the query again, unless it was sent as often as the settings say.
+    fn send_again<R: Clock>(&mut self, setup: &Setup<'_, R>) -> Result<(), NamesFault> {
+        if self.sends >= setup.asked.sends() {
+            return Err(NamesFault::NoAnswer);
+        }
+        self.sends = self.sends.saturating_add(1);
+        self.timer = setup.sleep(AGAIN)?;
+        if let Transport::Datagrams(query) = &self.transport {
+            query.send_again();
+        }
+        Ok(())
+    }
+
+    // What a reply tells; None where it has the server asked in another way.
+    fn take<R: Net + RandomSource>(
+        &mut self,
+        reply: Reply,
+        setup: &Setup<'_, R>,
+        question: Question<'_>,
+    ) -> Option<Result<Vec<Ip>, NamesFault>> {
+        match reply {
+            Reply::Addresses(ips) => Some(Ok(ips)),
+            Reply::NoAddress => Some(Err(NamesFault::NoAddress)),
+            Reply::NoSuchName => Some(Err(NamesFault::NoSuchName)),
+            Reply::Memory => Some(Err(NamesFault::Memory)),
+            Reply::Truncated => self.ask_over_tcp(setup, question).err().map(Err),
+            Reply::Failure(Failure::FormatError) if self.room.is_some() => {
+                self.ask_plainly(setup, question).err().map(Err)
+            }
+            Reply::Failure(failure) => Some(Err(failed(self.server, failure))),
+        }
+    }
+
+    // Asks the same server over TCP. A message that is cut off there is no answer.
+    fn ask_over_tcp<R: Net + RandomSource>(
+        &mut self,
+        setup: &Setup<'_, R>,
+        question: Question<'_>,
+    ) -> Result<(), NamesFault> {
+        if let Transport::Stream(_) = &self.transport {
+            return Err(failed(self.server, Failure::Malformed));
+        }
+        let query = StreamQuery::begin(setup, self.server, question, self.room)?;
+        self.transport = Transport::Stream(query);
+        Ok(())
+    }
+
+    // Asks a server that could not read the query again without the record of RFC 6891 (section 7).
+    fn ask_plainly<R: Net + RandomSource>(
+        &mut self,
+        setup: &Setup<'_, R>,
+        question: Question<'_>,
+    ) -> Result<(), NamesFault> {
+        self.room = None;
+        self.transport = send(setup, self.server, question, None)?;
+        Ok(())
+    }
+}
+
+fn send<R: Net + RandomSource>(
+    setup: &Setup<'_, R>,
+    server: SocketAddr,
+    question: Question<'_>,
+    room: Option<u16>,
+) -> Result<Transport, NamesFault> {
+    match Datagrams::send(setup, server, question, room)? {
+        Some(query) => Ok(Transport::Datagrams(query)),
+        None => Err(failed(server, Failure::Unreachable)),
+    }
+}
+
+fn failed(server: SocketAddr, failure: Failure) -> NamesFault {
+    NamesFault::Server(ServerFault { server, failure })
+}
