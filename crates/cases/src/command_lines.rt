@@ -6,7 +6,7 @@ use crate::glance_rows::GLANCE_ROWS;
 use crate::host_rows::HOST_ROWS;
 use crate::telling_rows::TELLING_ROWS;
 use crate::text_rows::TEXT_ROWS;
-use he_command::{Lender, run_words};
+use he_command::{System, run_words};
 use he_stream::{FromReader, ToWriter};
 use std::alloc::Global;
 use std::io;
@@ -32,16 +32,16 @@ fn writer_of(alloc: Global, streams: Streams) -> FakeWriter {
 }
 
 // Whether the line of this row ends as it must, with a writer of faults that takes so many bytes.
-fn is_right<R>(rt: &HostRuntime, lender: &R, row: &Row, faults_room: usize) -> bool
+fn is_right<R>(rt: &HostRuntime, system: &R, row: &Row, faults_room: usize) -> bool
 where
-    R: Lender,
+    R: System,
 {
     let (words, text, streams, status, output, fault) = row;
     let mut input = FromReader::new(reader_of(text, *streams));
     let mut written = ToWriter::new(writer_of(rt.alloc(), *streams));
     let mut faults = FakeWriter::new(rt.alloc()).with_room(faults_room);
     let got = run_words(
-        lender,
+        system,
         rt.alloc(),
         words,
         &mut input,
@@ -63,32 +63,32 @@ where
 /// # Errors
 ///
 /// A line that cannot be written.
-pub fn run_command_lines<R>(rt: &HostRuntime, lender: &R) -> io::Result<Counts>
+pub fn run_command_lines<R>(rt: &HostRuntime, system: &R) -> io::Result<Counts>
 where
-    R: Lender,
+    R: System,
 {
     let mut counts = Counts { ran: 0, differ: 0 };
-    run_rows(rt, lender, "text", &TEXT_ROWS, &mut counts)?;
-    run_rows(rt, lender, "telling", &TELLING_ROWS, &mut counts)?;
-    run_rows(rt, lender, "glance", &GLANCE_ROWS, &mut counts)?;
-    run_rows(rt, lender, "host", &HOST_ROWS, &mut counts)?;
+    run_rows(rt, system, "text", &TEXT_ROWS, &mut counts)?;
+    run_rows(rt, system, "telling", &TELLING_ROWS, &mut counts)?;
+    run_rows(rt, system, "glance", &GLANCE_ROWS, &mut counts)?;
+    run_rows(rt, system, "host", &HOST_ROWS, &mut counts)?;
     Ok(counts)
 }
 
 fn run_rows<R>(
     rt: &HostRuntime,
-    lender: &R,
+    system: &R,
     table: &str,
     rows: &[Row],
     counts: &mut Counts,
 ) -> io::Result<()>
 where
-    R: Lender,
+    R: System,
 {
     for (at, row) in rows.iter().enumerate() {
         let name = format!(in rt.alloc(); "command line {at} of {table}")?;
         for faults_room in [usize::MAX, 0] {
-            let is_same = is_right(rt, lender, row, faults_room);
+            let is_same = is_right(rt, system, row, faults_room);
             counts.count(rt, name.as_str(), "it ends otherwise", is_same)?;
         }
     }

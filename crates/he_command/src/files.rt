@@ -2,9 +2,9 @@
 ghost use Rattle.std.specs.Prelude.{Some};
 ghost use Rattle.he_command.specs.Texts.{HasTaskWorkers, RunsFile, RunsFiles, RunsTexts, RunsWork};
 
-use crate::lender::Lender;
 use crate::reports::report_in;
 use crate::run::DONE;
+use crate::system::System;
 use crate::tasks::{Work, run_text};
 use he_stream::{FromReader, InputStream, OutputStream};
 use std::alloc::Global;
@@ -27,7 +27,7 @@ pub(crate) fn run_all<R, I, O, F>(
     faults: &mut F,
 ) -> u8
 where
-    R: Lender,
+    R: System,
     I: InputStream,
     O: OutputStream,
     F: Write,
@@ -51,7 +51,7 @@ fn run_files<R, I, O, F>(
     faults: &mut F,
 ) -> u8
 where
-    R: Lender,
+    R: System,
     I: InputStream,
     O: OutputStream,
     F: Write,
@@ -78,7 +78,7 @@ fn run_name<R, I, O, F>(
     faults: &mut F,
 ) -> u8
 where
-    R: Lender,
+    R: System,
     I: InputStream,
     O: OutputStream,
     F: Write,
@@ -105,7 +105,7 @@ fn run_file<R, O, F>(
     faults: &mut F,
 ) -> u8
 where
-    R: Lender,
+    R: System,
     O: OutputStream,
     F: Write,
     requires { HasTaskWorkers work.now.task }

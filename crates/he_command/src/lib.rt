@@ -30,7 +30,6 @@ mod arguments;
 pub mod asking;
 pub mod command;
 mod files;
-pub mod lender;
 pub mod limits;
 mod numbers;
 mod pages;
@@ -38,12 +37,13 @@ pub mod racing;
 mod reports;
 pub mod run;
 mod summing;
+pub mod system;
 mod tasks;
 pub mod texts;
 
 pub use command::{Request, read_words, takes_text};
-pub use lender::{Lender, columns_of};
 pub use run::{
     DONE, FAULT, NO_CONNECTION, USAGE, report, report_not_text, run_line, run_words, tell_waiting,
 };
+pub use system::{System, columns_of};
 pub use texts::{Task, Texts};

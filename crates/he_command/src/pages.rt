@@ -5,9 +5,9 @@ ghost use Rattle.he_command.specs.Pages.{FillsPage, MakesPage};
 ghost use Rattle.he_command.specs.Streams.{IsRefused, TookAll, TookPart};
 
 use crate::arguments::OptionFault;
-use crate::lender::Lender;
 use crate::reports::report_in;
 use crate::run::refuse_option;
+use crate::system::System;
 use crate::tasks::{put_text, run_with_changes};
 use crate::texts::{Texts, alone};
 use he_inputs::StreamFault;
@@ -32,7 +32,7 @@ pub(crate) fn run_page<R, I, O, F>(
     faults: &mut F,
 ) -> u8
 where
-    R: Lender,
+    R: System,
     I: InputStream,
     O: OutputStream,
     F: Write,
@@ -61,7 +61,7 @@ fn make_page<R, I, F>(
     faults: &mut F,
 ) -> u8
 where
-    R: Lender,
+    R: System,
     I: InputStream,
     F: Write,
     ensures { MakesPage I.InputStream ⟦<FromReader<R::File> as InputStream>⟧ ⟦<ToWriter<R::File> as OutputStream>⟧ changes texts.now.files.items input.old input.new result }
@@ -84,7 +84,7 @@ fn fill_file<R, I, F>(
     faults: &mut F,
 ) -> u8
 where
-    R: Lender,
+    R: System,
     I: InputStream,
     F: Write,
     ensures { (opened : ToWriter R.File) × (closed : ToWriter R.File) × FillsPage I.InputStream ⟦<FromReader<R::File> as InputStream>⟧ ⟦<ToWriter<R::File> as OutputStream>⟧ changes texts.now.files.items input.old input.new opened closed result }
@@ -107,7 +107,7 @@ fn fill_page<R, I, O, F>(
     faults: &mut F,
 ) -> u8
 where
-    R: Lender,
+    R: System,
     I: InputStream,
     O: OutputStream,
     F: Write,

@@ -3,8 +3,8 @@ ghost use Rattle.std.specs.Prelude.{◌≡◌};
 ghost use Rattle.he_command.specs.Status.{status_of};
 
 use crate::files::STANDARD_INPUT;
-use crate::lender::Lender;
 use crate::run::{DONE, FAULT, report};
+use crate::system::System;
 use he_check::explain_fault;
 use he_words::TextFault;
 use std::alloc::Global;
@@ -14,7 +14,7 @@ use std::io::{Error, Write};
 
 // Explains a fault of the text of a file. The file is read again: what was read is not kept. Where that can't be, as
 // with standard input, nothing is said; the fault itself stands.
-pub(crate) fn explain_in<R: Lender, F: Write>(
+pub(crate) fn explain_in<R: System, F: Write>(
     rt: &R,
     alloc: Global,
     name: Option<&str>,

@@ -8,11 +8,11 @@ ghost use Rattle.he_command.specs.Streams.{Shows};
 use crate::arguments::OptionFault;
 use crate::asking::Options;
 use crate::command::{Request, read_words};
-use crate::lender::{Lender, columns_of};
 use crate::numbers::{SettingFault, settings_of};
 use crate::pages::run_page;
 use crate::racing::LiveOptions;
 use crate::summing::run_summary;
+use crate::system::{System, columns_of};
 use crate::tasks::run_texts;
 use clap::Error;
 use clap::error::ErrorKind;
@@ -54,7 +54,7 @@ pub fn run_words<'a, R, I, O, F>(
     faults: &mut F,
 ) -> u8
 where
-    R: Lender,
+    R: System,
     I: InputStream,
     O: OutputStream + Send,
     F: Write,
@@ -75,7 +75,7 @@ pub fn run_line<R, I, O, F>(
     faults: &mut F,
 ) -> u8
 where
-    R: Lender,
+    R: System,
     I: InputStream,
     O: OutputStream + Send,
     F: Write,
@@ -98,7 +98,7 @@ fn run_request<R, I, O, F>(
     faults: &mut F,
 ) -> u8
 where
-    R: Lender,
+    R: System,
     I: InputStream,
     O: OutputStream + Send,
     F: Write,
@@ -130,7 +130,7 @@ fn run_live<R, I, O, F>(
     faults: &mut F,
 ) -> u8
 where
-    R: Lender,
+    R: System,
     I: InputStream,
     O: OutputStream,
     F: Write,
@@ -153,7 +153,7 @@ fn run_changed<R, I, O, F>(
     faults: &mut F,
 ) -> u8
 where
-    R: Lender,
+    R: System,
     I: InputStream,
     O: OutputStream,
     F: Write,
@@ -167,7 +167,7 @@ where
 }
 
 // Says why attempts of a live race failed and how it ended, and writes its record to a file where one is named.
-fn report_live<R: Lender, F: Write>(
+fn report_live<R: System, F: Write>(
     rt: &R,
     alloc: Global,
     options: &LiveOptions<'_>,
@@ -186,7 +186,7 @@ fn report_live<R: Lender, F: Write>(
 }
 
 // Writes the record of a race that was run to its file, where one is named.
-fn keep_record<R: Lender>(rt: &R, path: Option<&str>, text: &[u8]) -> Result<(), ConnectFault>
+fn keep_record<R: System>(rt: &R, path: Option<&str>, text: &[u8]) -> Result<(), ConnectFault>
     ensures { OnErr result (IsSome path.entry × (text.now ≢ [])) }
 {
     match path {
@@ -200,7 +200,7 @@ fn keep_record<R: Lender>(rt: &R, path: Option<&str>, text: &[u8]) -> Result<(),
 // Writes the lines of this machine, and what is left out of them.
 fn run_host<R, O, F>(rt: &R, alloc: Global, output: &mut O, faults: &mut F) -> u8
 where
-    R: Lender,
+    R: System,
     O: OutputStream,
     F: Write,
     ensures { Shows O.OutputStream output.old output.new result }
@@ -233,7 +233,7 @@ fn run_names<R, O, F>(
     faults: &mut F,
 ) -> u8
 where
-    R: Lender,
+    R: System,
     O: OutputStream,
     F: Write,
     ensures { RunsNames O.OutputStream resolver output.old output.new result }
@@ -261,7 +261,7 @@ fn run_connect<R, I, O, F>(
     faults: &mut F,
 ) -> u8
 where
-    R: Lender,
+    R: System,
     I: InputStream,
     O: OutputStream + Send,
     F: Write,

@@ -8,10 +8,10 @@ ghost use Rattle.he_command.specs.declared.run.TheConstants.{DONE, FAULT};
 
 use crate::arguments::OptionFault;
 use crate::files::STANDARD_INPUT;
-use crate::lender::Lender;
 use crate::limits::MOST_FILES;
 use crate::reports::{explain_in, report_end_in, report_in, tell_reason};
 use crate::run::{DONE, FAULT, refuse_option, report};
+use crate::system::System;
 use crate::texts::Texts;
 use he_inputs::StreamFault;
 use he_stream::{FromReader, InputStream, OutputStream, write_whole};
@@ -41,7 +41,7 @@ pub(crate) fn run_summary<R, I, O, F>(
     faults: &mut F,
 ) -> u8
 where
-    R: Lender,
+    R: System,
     I: InputStream,
     O: OutputStream,
     F: Write,
@@ -76,7 +76,7 @@ fn sum_up<R, I, O, F>(
     faults: &mut F,
 ) -> u8
 where
-    R: Lender,
+    R: System,
     I: InputStream,
     O: OutputStream,
     F: Write,
@@ -113,7 +113,7 @@ fn add_texts<R, I, F>(
     faults: &mut F,
 ) -> u8
 where
-    R: Lender,
+    R: System,
     I: InputStream,
     F: Write,
     requires { MayAddAll sums.old (length names.now + 1) }
@@ -136,7 +136,7 @@ fn add_files<R, I, F>(
     faults: &mut F,
 ) -> u8
 where
-    R: Lender,
+    R: System,
     I: InputStream,
     F: Write,
     requires { MayAddAll sums.old (length names.now + 1) }
@@ -161,7 +161,7 @@ fn add_name<R, I, F>(
     faults: &mut F,
 ) -> u8
 where
-    R: Lender,
+    R: System,
     I: InputStream,
     F: Write,
     requires { (more : ℕ) × MayAddAll sums.old (more + 1) }
@@ -188,7 +188,7 @@ fn add_file<R, F>(
     faults: &mut F,
 ) -> u8
 where
-    R: Lender,
+    R: System,
     F: Write,
     requires { (more : ℕ) × MayAddAll sums.old (more + 1) }
     ensures done { (opened : FromReader R.File) × (closed : FromReader R.File) × AddsText summing.now.changes (Some name.entry) _ ⟦<FromReader<R::File> as InputStream>⟧ opened closed sums.old sums.new result }
@@ -211,7 +211,7 @@ fn add_text<R, I, F>(
     faults: &mut F,
 ) -> u8
 where
-    R: Lender,
+    R: System,
     I: InputStream,
     F: Write,
     requires { (more : ℕ) × MayAddAll sums.old (more + 1) }

@@ -6,9 +6,9 @@ ghost use Rattle.he_command.specs.Texts.{HasHeading, HasTaskWorkers, LacksHeadin
 
 use crate::arguments::OptionFault;
 use crate::files::run_all;
-use crate::lender::Lender;
 use crate::reports::{explain_in, report_end_in, tell_lines, tell_reason};
 use crate::run::{FAULT, refuse_option};
+use crate::system::System;
 use crate::texts::{Task, Texts, has_headings};
 use he_addr::Memory;
 use he_check::check;
@@ -43,7 +43,7 @@ pub(crate) fn run_texts<R, I, O, F>(
     faults: &mut F,
 ) -> u8
 where
-    R: Lender,
+    R: System,
     I: InputStream,
     O: OutputStream,
     F: Write,
@@ -70,7 +70,7 @@ pub(crate) fn run_with_changes<R, I, O, F>(
     faults: &mut F,
 ) -> u8
 where
-    R: Lender,
+    R: System,
     I: InputStream,
     O: OutputStream,
     F: Write,
@@ -98,7 +98,7 @@ pub(crate) fn run_text<R, I, O, F>(
     faults: &mut F,
 ) -> u8
 where
-    R: Lender,
+    R: System,
     I: InputStream,
     O: OutputStream,
     F: Write,
@@ -137,7 +137,7 @@ fn run_headed<R, I, O>(
     told: &mut Vec<u8>,
 ) -> Result<(), StreamFault>
 where
-    R: Lender,
+    R: System,
     I: InputStream,
     O: OutputStream,
     requires { HasTaskWorkers work.now.task }
@@ -224,7 +224,7 @@ fn run_task<R, I, O>(
     told: &mut Vec<u8>,
 ) -> Result<(), StreamFault>
 where
-    R: Lender,
+    R: System,
     I: InputStream,
     O: OutputStream,
     requires { HasTaskWorkers work.now.task }

@@ -7,7 +7,7 @@ use crate::asked::{Asked, Lines};
 use crate::fault::ConnectFault;
 use crate::kernel::write_other_sources;
 use crate::lines::read_lines_of;
-use crate::source::{HostAnswers, WhyNone};
+use crate::source::{HostAnswers, LookupFaults};
 use crate::start::start_race;
 use crate::telling::Telling;
 use crate::tried::write_tried;
@@ -87,7 +87,7 @@ where
 {
     let mut runtime = LocalRuntime::new(rt)?;
     let handle = runtime.handle().clone()?;
-    let why = WhyNone::new();
+    let why = LookupFaults::new();
     let source = answers_of(rt, alloc, &handle, asked, &why)?;
     let steps = Steps::new(alloc)?;
     let telling = Telling::new(alloc, faults, asked.tells_steps);
@@ -110,7 +110,7 @@ fn answers_of<'h, R>(
     alloc: Global,
     handle: &'h Handle,
     asked: &Asked<'_>,
-    why: &'h WhyNone,
+    why: &'h LookupFaults,
 ) -> Result<HostAnswers<'h, R>, ConnectFault>
 where
     R: Threads + Wait + Clock + RandomSource + AllocGlobal + Net + Files + Sync,

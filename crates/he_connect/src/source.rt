@@ -13,14 +13,14 @@ use std::time::Clock;
 
 // Why each family has no address.
 #[derive(Drop)]
-pub(crate) struct WhyNone {
+pub(crate) struct LookupFaults {
     six: Cell<Option<NamesFault>>,
     four: Cell<Option<NamesFault>>,
 }
 
-impl WhyNone {
-    pub(crate) fn new() -> WhyNone {
-        WhyNone {
+impl LookupFaults {
+    pub(crate) fn new() -> LookupFaults {
+        LookupFaults {
             six: Cell::new(None),
             four: Cell::new(None),
         }
@@ -48,14 +48,14 @@ impl WhyNone {
 pub(crate) struct HostAnswers<'h, R> {
     alloc: Global,
     lookup: Lookup<'h, R>,
-    why: &'h WhyNone,
+    why: &'h LookupFaults,
 }
 
 impl<'h, R> HostAnswers<'h, R> {
     pub(crate) fn new(
         alloc: Global,
         lookup: Lookup<'h, R>,
-        why: &'h WhyNone,
+        why: &'h LookupFaults,
     ) -> HostAnswers<'h, R> {
         HostAnswers { alloc, lookup, why }
     }

@@ -2,7 +2,7 @@
 
 use crate::tried::write_reason;
 use he_addr::{Memory, write_ip, write_number};
-use he_live::{Step, Watcher, What};
+use he_live::{Step, StepKind, Watcher};
 use std::alloc::Global;
 use std::cell::Cell;
 use std::io::Write;
@@ -50,9 +50,9 @@ fn write_step(step: Step, out: &mut Vec<u8>) -> Result<(), Memory> {
     out.extend_from_slice(b" at ")?;
     write_ip(step.ip, out)?;
     match step.what {
-        What::Began => out.extend_from_slice(b" begins")?,
-        What::Connected => out.extend_from_slice(b" connected")?,
-        What::Failed(reason) => {
+        StepKind::Began => out.extend_from_slice(b" begins")?,
+        StepKind::Connected => out.extend_from_slice(b" connected")?,
+        StepKind::Failed(reason) => {
             out.extend_from_slice(b" failed: ")?;
             write_reason(reason, out)?;
         }

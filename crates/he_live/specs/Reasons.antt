@@ -41,7 +41,7 @@ abbrev pub reason_of : Error → Reason
 reason_of error = reason_of_numbered (raw_os_error error) (error_kind error)
 
 -- this host could make no socket, for want of descriptors, memory, buffers or the address family: that says nothing of
--- the address. What a router or a route forbids is no such error: connect(2) gives EACCES and EPERM for both
+-- the address. StepKind a router or a route forbids is no such error: connect(2) gives EACCES and EPERM for both
 abbrev pub is_local : Reason → Bool
 is_local NoFamily = true
 is_local TooManyFiles = true

@@ -66,4 +66,4 @@ pub use fault::LiveFault;
 pub use racing::{live_race, live_race_on, resolving_race_on};
 pub use reason::Reason;
 pub use recording::{Told, live};
-pub use steps::{Quiet, Step, Steps, Watcher, What};
+pub use steps::{Quiet, Step, StepKind, Steps, Watcher};

@@ -9,7 +9,7 @@ use std::rc::Rc;
 
 /// What happened to an attempt.
 #[derive(Clone, Copy, Debug, PartialEq, Eq)]
-pub enum What {
+pub enum StepKind {
     Began,
     Failed(Reason),
     /// The connection was made. Of the attempts that are found so at one tick the first wins.
@@ -25,7 +25,7 @@ pub struct Step {
     pub ip: Ip,
     /// The milliseconds since the race's start.
     pub tick: u64,
-    pub what: What,
+    pub what: StepKind,
 }
 
 /// Who is told the steps of a live race, in order: those of a turn at the turn's end, those of the last turn before
@@ -82,7 +82,7 @@ impl Steps {
         for noted in &self.shared.steps {
             if let Some(step) = noted.get()
                 && step.place == place
-                && let What::Failed(reason) = step.what
+                && let StepKind::Failed(reason) = step.what
             {
                 return reason;
             }

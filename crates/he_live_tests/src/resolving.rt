@@ -6,7 +6,7 @@ use crate::homes::{
 use futures::task::{Context, Poll};
 use he_addr::{Family, Ip};
 use he_inputs::read_one_race;
-use he_live::{Quiet, Reason, Step, Steps, Watcher, What, resolving_race_on};
+use he_live::{Quiet, Reason, Step, StepKind, Steps, Watcher, resolving_race_on};
 use he_race::AnswerSource;
 use std::alloc::Global;
 use std::cell::Cell;
@@ -177,7 +177,7 @@ fn answers_take_part_when_they_come(rt: HostRuntime) -> Result<(), Fail> {
 // Whether the steps that it is told are these, in order.
 #[derive(Drop)]
 struct Expecting<'a> {
-    wanted: &'a [(usize, Ip, What)],
+    wanted: &'a [(usize, Ip, StepKind)],
     count: Cell<usize>,
     are_right: Cell<bool>,
 }
@@ -191,11 +191,11 @@ impl<'a> Watcher for Expecting<'a> {
     }
 }
 
-const TOLD: [(usize, Ip, What); 4] = [
-    (0, LOOPBACK_6, What::Began),
-    (0, LOOPBACK_6, What::Failed(Reason::Refused)),
-    (1, LOOPBACK_4, What::Began),
-    (1, LOOPBACK_4, What::Connected),
+const TOLD: [(usize, Ip, StepKind); 4] = [
+    (0, LOOPBACK_6, StepKind::Began),
+    (0, LOOPBACK_6, StepKind::Failed(Reason::Refused)),
+    (1, LOOPBACK_4, StepKind::Began),
+    (1, LOOPBACK_4, StepKind::Connected),
 ];
 
 // Whether server and winner read what the other wrote, and the winner's read waits.

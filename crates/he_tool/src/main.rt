@@ -6,7 +6,7 @@
 #![tactic(auto)]
 
 use he_command::{
-    Lender, columns_of, read_words, report, report_not_text, run_line, takes_text, tell_waiting,
+    System, columns_of, read_words, report, report_not_text, run_line, takes_text, tell_waiting,
 };
 use he_inputs::StreamFault;
 use he_relay::Waiting;
@@ -21,12 +21,12 @@ fn main(rt: HostRuntime) -> ExitCode {
 
 // Runs the command line that the program was started with, and answers the exit status. The runtime lends threads,
 // sockets and waiting in `main` alone, so `main` hands it on as what lends them too.
-fn run_program<R>(rt: &HostRuntime, lender: &R) -> u8
+fn run_program<R>(rt: &HostRuntime, system: &R) -> u8
 where
-    R: Lender,
+    R: System,
 {
     match words_of(rt) {
-        Ok(words) => run_texts(rt, lender, words.as_slice()),
+        Ok(words) => run_texts(rt, system, words.as_slice()),
         Err(error) if error.kind() == io::ErrorKind::OutOfMemory => report(
             StreamFault::Memory,
             &mut rt.stderr(),
@@ -40,31 +40,31 @@ fn words_of(rt: &HostRuntime) -> io::Result<Vec<String>> {
     Ok(env::args(rt)?.collect(rt.alloc())?)
 }
 
-fn run_texts<R>(rt: &HostRuntime, lender: &R, words: &[String]) -> u8
+fn run_texts<R>(rt: &HostRuntime, system: &R, words: &[String]) -> u8
 where
-    R: Lender,
+    R: System,
 {
     let texts = words
         .iter()
         .map(|word| word.as_str())
         .collect::<Vec<&str>>(rt.alloc());
     match texts {
-        Ok(texts) => run_words_of(rt, lender, texts.as_slice()),
+        Ok(texts) => run_words_of(rt, system, texts.as_slice()),
         Err(_) => report(StreamFault::Memory, &mut rt.stderr()),
     }
 }
 
 // Runs the command line. Where it is to take a text from a terminal, that is told first.
-fn run_words_of<R>(rt: &HostRuntime, lender: &R, words: &[&str]) -> u8
+fn run_words_of<R>(rt: &HostRuntime, system: &R, words: &[&str]) -> u8
 where
-    R: Lender,
+    R: System,
 {
-    let line = read_words(rt.alloc(), words, columns_of(lender));
+    let line = read_words(rt.alloc(), words, columns_of(system));
     if takes_text(&line) && rt.stdin().is_terminal() {
         tell_waiting(&mut rt.stderr());
     }
     run_line(
-        lender,
+        system,
         rt.alloc(),
         line,
         &mut FromReader::new(Waiting::input(rt.stdin())),

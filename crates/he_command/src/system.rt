@@ -13,7 +13,7 @@ use std::time::Clock;
 
 /// Memory, files, the environment, the network and the system's resolver, threads and waiting, a clock and random
 /// numbers.
-pub trait Lender: AllocGlobal
+pub trait System: AllocGlobal
     + Env
     + Files
     + Net
@@ -27,7 +27,7 @@ pub trait Lender: AllocGlobal
     + Sync
     + 'static {}
 
-impl<R> Lender for R
+impl<R> System for R
 where
     R: AllocGlobal
         + Env
@@ -45,7 +45,7 @@ where
 {}
 
 /// The columns of a terminal, as the environment tells: 40 to 1,000, and 80 where it does not.
-pub fn columns_of<R: Lender>(rt: &R) -> u16 {
+pub fn columns_of<R: System>(rt: &R) -> u16 {
     let Ok(text) = env::var(rt, "COLUMNS") else {
         return DEFAULT_WIDTH;
     };
