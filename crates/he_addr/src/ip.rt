@@ -3,8 +3,6 @@
 ghost use Rattle.std.specs.Prelude.{◌≡◌};
 ghost use Rattle.he_addr.specs.Ip.{family_of, mapped_of, scope_of, is_usable, InRange};
 
-use crate::prefix::MAPPED;
-
 /// The scope of link-local and loopback addresses (RFC 6724 section 3.1).
 pub const LINK_LOCAL_SCOPE: u8 = 2;
 
@@ -13,6 +11,9 @@ pub const SITE_LOCAL_SCOPE: u8 = 5;
 
 /// The scope of every other unicast address.
 pub const GLOBAL_SCOPE: u8 = 14;
+
+// The upper 96 bits of an IPv4-mapped address, `::ffff:0:0/96`.
+pub(crate) const MAPPED: u128 = 0xffff;
 
 /// An address family.
 #[derive(Clone, Copy, Debug, PartialEq, Eq)]

@@ -5,7 +5,7 @@ ghost use Rattle.he_addr.specs.Bits.{agrees};
 ghost use Rattle.he_addr.specs.Ip.{family_of, is_v6};
 ghost use Rattle.he_addr.specs.Prefix.{PrefixBits, IsPrefix, contains, is_inside_mapped};
 
-use crate::ip::Ip;
+use crate::ip::{Ip, MAPPED};
 use std::marker::Model;
 
 /// The number of bits of an IPv6 address.
@@ -13,9 +13,6 @@ pub const V6_BITS: u8 = 128;
 
 /// The number of bits of an IPv4 address.
 pub const V4_BITS: u8 = 32;
-
-/// The upper 96 bits of an IPv4-mapped address, `::ffff:0:0/96`.
-pub(crate) const MAPPED: u128 = 0xffff;
 
 /// The length of `::ffff:0:0/96`, the prefix of the mapped IPv4 addresses.
 pub const MAPPED_LEN: u8 = V6_BITS - V4_BITS;

@@ -40,6 +40,7 @@ pub mod planning;
 pub mod race_state;
 mod starts;
 pub mod transcript;
+mod tried;
 mod untried;
 
 pub use attempts::{Attempt, Plan};

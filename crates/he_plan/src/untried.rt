@@ -1,13 +1,14 @@
 // The addresses that a race under way has yet to try.
 
-ghost use Rattle.std.specs.Prelude.{◌≡◌, ◌||◌, ◌<◌, true, false, drop, filter, length, slice_get, Some, OnOk, OnErr};
+ghost use Rattle.std.specs.Prelude.{◌≡◌, ◌||◌, ◌<◌, true, false, not, drop, filter, length, slice_get, Some, OnOk, OnErr};
 ghost use Rattle.he_plan.specs.Attempts.{MayStart, is_untried};
 ghost use Rattle.he_plan.specs.Planning.{IsLater, is_received};
-ghost use Rattle.he_timeline.specs.Race.{reply_of};
+ghost use Rattle.he_timeline.specs.Race.{has_ip, reply_of};
 ghost use Rattle.he_plan.specs.RaceState.{IsAtNext, IsQueue, nothing_received};
 
 use crate::attempts::{Attempt, is_tried};
 use crate::listing::interlaced_list;
+use crate::tried::{FEW, Tried, has, tried_by};
 use he_addr::{Family, Ip, Memory};
 use he_timeline::{Timeline, put};
 use std::alloc::Allocator;
@@ -67,7 +68,7 @@ impl<A: Allocator + Copy> Untried<A> {
             return Ok(());
         }
         let mut ips = interlaced_list(alloc, timeline, &mut self.sorted, v6, v4)?;
-        keep_untried(done, &mut ips);
+        keep_untried(alloc, done, &mut ips)?;
         self.v6 = v6;
         self.v4 = v4;
         put(&mut self.ips, ips);
@@ -96,7 +97,29 @@ impl<A: Allocator> Untried<A> {
     }
 }
 
-fn keep_untried<A: Allocator>(done: &[Attempt], ips: &mut Vec<Ip, A>)
+// Keeps the addresses that no attempt tries.
+fn keep_untried<A: Allocator + Copy>(
+    alloc: A,
+    done: &[Attempt],
+    ips: &mut Vec<Ip, A>,
+) -> Result<(), Memory>
+    ensures { OnOk result (ips.new.items ≡ filter (is_untried done.now) ips.old.items) }
+{
+    if done.len() > FEW {
+        keep_others(&tried_by(alloc, done)?, ips);
+    } else {
+        keep_untried_by_few(done, ips);
+    }
+    Ok(())
+}
+
+fn keep_others<A: Allocator>(tried: &Tried<A>, ips: &mut Vec<Ip, A>)
+    ensures { ips.new.items ≡ filter (λ ip. not (has_ip ip tried.now.keys)) ips.old.items }
+{
+    ips.retain(|ip| !has(tried, *ip));
+}
+
+fn keep_untried_by_few<A: Allocator>(done: &[Attempt], ips: &mut Vec<Ip, A>)
     ensures { ips.new.items ≡ filter (is_untried done.now) ips.old.items }
 {
     ips.retain(|ip| !is_tried(done, *ip));

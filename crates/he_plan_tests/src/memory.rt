@@ -7,7 +7,20 @@ use he_timeline::{BuildFault, Outcome, Settings, Timeline, TimelineBuilder};
 use refusing::{Refusing, refused_in_turn};
 use std::mem::drop;
 
-// 2001:db8:1::1 and 2001:db8:1::2
+// 2001:db8:1::1 and so on: so many that nine are tried before the A answer comes.
+const V6: [Ip; 10] = [
+    V6_A,
+    V6_B,
+    Ip::V6(0x2001_0db8_0001_0000_0000_0000_0000_0003),
+    Ip::V6(0x2001_0db8_0001_0000_0000_0000_0000_0004),
+    Ip::V6(0x2001_0db8_0001_0000_0000_0000_0000_0005),
+    Ip::V6(0x2001_0db8_0001_0000_0000_0000_0000_0006),
+    Ip::V6(0x2001_0db8_0001_0000_0000_0000_0000_0007),
+    Ip::V6(0x2001_0db8_0001_0000_0000_0000_0000_0008),
+    Ip::V6(0x2001_0db8_0001_0000_0000_0000_0000_0009),
+    Ip::V6(0x2001_0db8_0001_0000_0000_0000_0000_000a),
+];
+
 const V6_A: Ip = Ip::V6(0x2001_0db8_0001_0000_0000_0000_0000_0001);
 
 const V6_B: Ip = Ip::V6(0x2001_0db8_0001_0000_0000_0000_0000_0002);
@@ -23,8 +36,8 @@ const RECORD: usize = 4;
 // The call of this number.
 fn make(builder: &mut TimelineBuilder<&Refusing>, number: usize) -> Result<(), BuildFault> {
     match number {
-        0 => builder.answer(Family::V6, 20, &[V6_A, V6_B]),
-        1 => builder.answer(Family::V4, 200, &[V4_A]),
+        0 => builder.answer(Family::V6, 20, &V6),
+        1 => builder.answer(Family::V4, 2_200, &[V4_A]),
         2 => builder.rtt(V6_B, 30),
         3 => builder.used(V4_A),
         4 => builder.outcome(V4_A, Outcome::Ok(30)),

@@ -31,4 +31,4 @@ returns-clause-next g c =
     rw c.put.ensures
     (anew_next c.args.timeline.now c.args.done.now c.args.tick old new c.requires.may_start c.requires.later
     (subst (λ (q : UntriedValues). IsQueue c.args.timeline.now c.args.done.now q) (sym c.self.view_is) c.requires.queue)
-    c.is_included-v6.ensures c.is_included-v4.ensures c.in_ok-ips.ensures.members (rw c.in_ok-ips.ensures.value at c.keep_untried.ensures) c.interlaced_list.ensures.sorted)
+    c.is_included-v6.ensures c.is_included-v4.ensures c.in_ok-ips.ensures.members (rw c.in_ok-ips.ensures.value at c.in_ok-keep_untried.ensures) c.interlaced_list.ensures.sorted)
