@@ -3,7 +3,7 @@ use Rattle.std.proofs.Common.{ℕ, ◌≡◌, ◌==◌, false, List, ◌++◌, l
 use Rattle.std.specs.Prelude.{codes}
 use Rattle.he_compare.specs.Texts.{counted, counts_text, races_text, spread_text}
 use Rattle.he_compare.specs.Verdicts.{greatest, median}
-use Rattle.he_compare.specs.declared.told.Counts.{Counts}
+use Rattle.he_compare.specs.declared.counts.Counts.{Counts}
 
 -- a part, and what is written behind it
 pub behind : (old one new part rest : List ℕ) → one ≡ old ++ part → new ≡ one ++ rest → new ≡ old ++ (part ++ rest)

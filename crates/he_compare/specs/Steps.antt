@@ -10,7 +10,7 @@ use Rattle.he_inputs.specs.declared.race_reader.RaceReaderFault.TheVariants as r
 use Rattle.he_compare.specs.Compared.{AreCompared, HasCompared, IsCompared}
 use Rattle.he_compare.specs.Texts.{Compared, line_text, verdict_on}
 use Rattle.he_compare.specs.Verdicts.{counts_of, difference_of}
-use Rattle.he_compare.specs.declared.told.Counts.{Counts}
+use Rattle.he_compare.specs.declared.counts.Counts.{Counts}
 use Rattle.he_compare.specs.declared.told.ComparedRaces.{ComparedRaces}
 
 -- what is kept of these races

@@ -9,7 +9,7 @@ use Rattle.he_plan.specs.declared.transcript.Line.{Line}
 use Rattle.he_plan.specs.declared.transcript.Outcome3.{Outcome3}
 use Rattle.he_plan.specs.declared.transcript.Outcome3.TheVariants.{Won, Exhausted, Limit}
 use Rattle.he_compare.specs.Verdicts.{counts_of, difference_of, greatest, median, verdict_of}
-use Rattle.he_compare.specs.declared.told.Counts.{Counts}
+use Rattle.he_compare.specs.declared.counts.Counts.{Counts}
 use Rattle.he_compare.specs.declared.verdict.Verdict.{Verdict}
 use Rattle.he_compare.specs.declared.verdict.Verdict.TheVariants.{Sooner, Later, Same, OnlyWith, OnlyWithout, Neither}
 

@@ -2,7 +2,7 @@
 use Rattle.std.specs.Prelude.{ℕ, ◌-◌, ◌+◌, ◌/◌, Bool, true, false, if◌then◌else◌, List, length, count_by, nat_lt, slice_index, Option, Some, None}
 use Rattle.he_plan.specs.declared.transcript.Outcome3.{Outcome3}
 use Rattle.he_plan.specs.declared.transcript.Outcome3.TheVariants.{Won}
-use Rattle.he_compare.specs.declared.told.Counts.{Counts}
+use Rattle.he_compare.specs.declared.counts.Counts.{Counts}
 use Rattle.he_compare.specs.declared.verdict.Verdict.{Verdict}
 use Rattle.he_compare.specs.declared.verdict.Verdict.TheVariants.{Sooner, Later, Same, OnlyWith, OnlyWithout, Neither}
 

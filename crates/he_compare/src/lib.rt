@@ -22,6 +22,7 @@
 #![tactic(auto)]
 
 pub mod comparing;
+mod counts;
 pub mod laws;
 mod lines;
 mod races;

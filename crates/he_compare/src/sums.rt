@@ -4,8 +4,8 @@ ghost use Rattle.std.specs.Ordering.{nat_cmp};
 ghost use Rattle.he_compare.specs.Texts.{counts_text, races_text, spread_text};
 ghost use Rattle.he_compare.specs.Verdicts.{greatest, median};
 
+use crate::counts::Counts;
 use crate::lines::append_number;
-use crate::told::Counts;
 use he_addr::Memory;
 use std::alloc::Allocator;
 

@@ -26,7 +26,6 @@ mod counts;
 mod course;
 mod filled;
 mod json;
-mod races;
 pub mod summary;
 mod tallies;
 mod text;

@@ -3,7 +3,7 @@ use Rattle.he_timeline.specs.Race.{Race}
 use Rattle.he_inputs.proofs.RaceReadingLaws.{none_behind}
 use Rattle.he_summary.specs.Steps.{SumsNext, SumsRace}
 use Rattle.he_summary.proofs.Walked.{handed, stops}
-use Rattle.he_summary.proofs.races.sum_next.Goals as goal
+use Rattle.he_summary.proofs.summary.sum_next.Goals as goal
 
 pub returns-in_err-race : goal.returns-in_err-race
 returns-in_err-race g c =

@@ -1,7 +1,7 @@
 use Rattle.std.proofs.Common.{Bool, Ok, rules, subst}
 use Rattle.he_summary.specs.Steps.{EndsReading, SumsNext}
 use Rattle.he_summary.proofs.Walked.{ends, fails, handed, may_sum, none_walked, one_more}
-use Rattle.he_summary.proofs.races.sum_races.Goals as goal
+use Rattle.he_summary.proofs.summary.sum_races.Goals as goal
 
 pub loop-arena-init : goal.loop-arena-init
 loop-arena-init g c = none_walked c.args.changes c.args.input.now c.args.summary.now (search rules)

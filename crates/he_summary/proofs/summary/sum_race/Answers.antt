@@ -1,5 +1,5 @@
 use Rattle.he_summary.proofs.Walked.{sums_race}
-use Rattle.he_summary.proofs.races.sum_race.Goals as goal
+use Rattle.he_summary.proofs.summary.sum_race.Goals as goal
 
 pub returns : goal.returns
 returns g c =
