@@ -2,7 +2,8 @@
 //!
 //! A recording `NAME` is `NAME.if_inet6`, `NAME.fib_trie`, `NAME.ipv6_route` and `NAME.route`, as `/proc/net` has
 //! them, and `NAME.interfaces`, a line for each interface: its name, `ifindex`, `flags`, `carrier` and `type` of
-//! `/sys/class/net`. A recording of the kernel's answers is `NAME.ways` ([`ways`]). Nothing is proved of this program but that it is safe and ends.
+//! `/sys/class/net`. A recording of the kernel's answers is `NAME.ways` ([`ways`]). Nothing is proved of this program
+//! but that it is safe and ends.
 #![tactic(auto)]
 
 mod ways;
