@@ -17,8 +17,8 @@ Among x (y ∷ ys) = (x ≡ y) ⊎ Among x ys
 abbrev pub early_rules : Ip → List (Rule Source)
 early_rules ip = prefers_same_address ip ∷ prefers_appropriate_scope ip ∷ avoids_deprecated ∷ []
 
--- the route of a destination leads over the interface of a source of its family, which no other source has, and none of
--- the early rules prefers another source to it
+-- the route of a destination leads over the interface of a source of its family, which no other source has, and none
+-- of the early rules prefers another source to it
 pub record IsAloneOnWay (input : SelectionInput) (ip : Ip) (route : Route) (source : Source) : Type 0 where
   pub routed : route_of input ip ≡ Some route
   pub listed : Among source input.sources

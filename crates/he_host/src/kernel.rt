@@ -61,8 +61,8 @@ fn is_broadcast<R: Net>(rt: &R, ip: Ip) -> bool {
     }
 }
 
-// Whether the address is on a network of this length: the network has a broadcast address, and for the last of its other
-// addresses, which each network with that broadcast address holds, the kernel takes this one.
+// Whether the address is on a network of this length: the network has a broadcast address, and for the last of its
+// other addresses, which each network with that broadcast address holds, the kernel takes this one.
 fn is_on_network<R: Net>(rt: &R, address: u32, len: u8) -> bool {
     let hosts = u32::MAX >> len.min(LONGEST_NETWORK);
     let broadcast = address | hosts;

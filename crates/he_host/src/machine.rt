@@ -331,8 +331,9 @@ fn taken_alone(ip: Ip, plen: u8, interface: u16) -> TakenSource {
     }
 }
 
-// The sources that the kernel takes, each once, in the order of the destinations. Each counts as on an interface of its
-// own, numbered from 1: Linux tells no interface of an IPv4 address, and the rules ask only whether two are the same.
+// The sources that the kernel takes, each once, in the order of the destinations. Each counts as on an interface of
+// its own, numbered from 1: Linux tells no interface of an IPv4 address, and the rules ask only whether two are the
+// same.
 fn find_taken<R: FileSystem + Net + AllocGlobal>(
     rt: &R,
     ways: &[Way],

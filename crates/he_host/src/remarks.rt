@@ -207,7 +207,8 @@ pub fn write_guess<A: Allocator + Copy>(
     )
 }
 
-/// Appends the line for a destination for which the rules take another source than the kernel, whatever lines there are.
+/// Appends the line for a destination for which the rules take another source than the kernel, whatever lines there
+/// are.
 ///
 /// # Errors
 ///
@@ -236,8 +237,8 @@ fn table_of(line: &[u8]) -> Option<u64> {
     read_number(&number[..end])
 }
 
-/// Appends a line for each table of IPv4 routes beside `main` and `local`, which rules of policy routing may use: Linux
-/// tells its routes in no file.
+/// Appends a line for each table of IPv4 routes beside `main` and `local`, which rules of policy routing may use:
+/// Linux tells its routes in no file.
 ///
 /// # Errors
 ///

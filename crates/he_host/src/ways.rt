@@ -118,7 +118,8 @@ pub fn find_host_to<A: Allocator + Copy>(
     own: &[TakenSource],
     ways: &[Way],
 ) -> Result<FoundHost<A>, Memory>
-    ensures { IfOk result (λ found. HasKept (map found_own_source own.now) (map (found_way own.now) ways.now) found.host found.left_out.items) }
+    ensures { IfOk result (λ found. HasKept (map found_own_source own.now) (map (found_way own.now) ways.now)
+        found.host found.left_out.items) }
 {
     let sources = find_sources(alloc, own)?;
     let routes = find_ways(alloc, own, ways)?;

@@ -25,7 +25,8 @@ pub enum Reason {
     TooManyFilesInSystem,
     OutOfMemory,
     NoBuffers,
-    /// A filter or a route forbids it, of a router on the way or of this host: the system's errors for both are the same.
+    /// A filter or a route forbids it, of a router on the way or of this host: the system's errors for both are the
+    /// same.
     Prohibited,
     /// Another one, by the system's number; 0 where it has none.
     Other(u32),
