@@ -37,8 +37,8 @@ pub record FindsWrong (Given : List ℕ → Bool → Type 0) (fault : StreamFaul
   pub given : Given input is_broken
   pub wrong : IsWrong input is_broken fault
 
--- Given: what the input gave, and whether it broke off after that; Whole and RestOfInput: the text of which all was put into
--- the output and then flushed, or a first part until that failed; Kept: nothing was put into the output
+-- Given: what the input gave, and whether it broke off after that; Whole and RestOfInput: the text of which all was
+-- put into the output and then flushed, or a first part until that failed; Kept: nothing was put into the output
 abbrev pub Checks : (List ℕ → Bool → Type 0) → (List ℕ → Type 0) → (List ℕ → Type 0) → Type 0 → Result (Unit {0}) StreamFault → Type 0
 Checks Given Whole RestOfInput Kept (Ok done) = (checked : Checked) × FindsRight Given checked × Whole (report_text checked)
 Checks Given Whole RestOfInput Kept (Err (Text fault)) = FindsWrong Given (Text fault) × Kept

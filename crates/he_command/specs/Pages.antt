@@ -16,8 +16,8 @@ use Rattle.he_command.specs.declared.texts.Task.TheVariants.{Write}
 abbrev pub page_task : Task
 page_task = Write Section 1
 
--- the head was put, and behind it what is written of the texts; or a first part of the head, or nothing for want of memory, and
--- then nothing was read
+-- the head was put, and behind it what is written of the texts; or a first part of the head, or nothing for want of
+-- memory, and then nothing was read
 abbrev pub FillsPage : {I F P : Type 0} → inputs.Ghosts I → inputs.Ghosts F → outputs.Ghosts P → ChangeValues → List (Bor (List ℕ)) → I → I → P → P → ℕ → Type 0
 FillsPage {I} {F} {P} input file page changes files first last before after status =
     ((between : P) × TookAll page before between head_text

@@ -32,7 +32,8 @@ where
     O: OutputStream,
     F: Write,
     requires { HasTaskWorkers work.now.task }
-    ensures { RunsTexts (RunsWork O.OutputStream work.now) I.InputStream ⟦<FromReader<R::File> as InputStream>⟧ names.now input.old input.new output.old output.new result }
+    ensures { RunsTexts (RunsWork O.OutputStream work.now) I.InputStream ⟦<FromReader<R::File> as InputStream>⟧
+        names.now input.old input.new output.old output.new result }
 {
     if names.is_empty() {
         run_text(rt, alloc, work, None, input, output, faults)
@@ -83,7 +84,8 @@ where
     O: OutputStream,
     F: Write,
     requires { HasTaskWorkers work.now.task }
-    ensures { RunsFile (RunsWork O.OutputStream work.now) I.InputStream ⟦<FromReader<R::File> as InputStream>⟧ name.entry input.old input.new output.old output.new result }
+    ensures { RunsFile (RunsWork O.OutputStream work.now) I.InputStream ⟦<FromReader<R::File> as InputStream>⟧
+        name.entry input.old input.new output.old output.new result }
 {
     if name == STANDARD_INPUT {
         return run_text(rt, alloc, work, Some(name), input, output, faults);
@@ -109,7 +111,9 @@ where
     O: OutputStream,
     F: Write,
     requires { HasTaskWorkers work.now.task }
-    ensures { (opened : FromReader R.File) × (closed : FromReader R.File) × RunsWork O.OutputStream work.now (Some name.entry) _ ⟦<FromReader<R::File> as InputStream>⟧ opened closed output.old output.new result }
+    ensures { (opened : FromReader R.File) × (closed : FromReader R.File)
+        × RunsWork O.OutputStream work.now (Some name.entry) _ ⟦<FromReader<R::File> as InputStream>⟧ opened closed
+        output.old output.new result }
 {
     let mut input = FromReader::new(file);
     let status = run_text(rt, alloc, work, Some(name), &mut input, output, faults);

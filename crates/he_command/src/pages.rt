@@ -64,7 +64,8 @@ where
     R: System,
     I: InputStream,
     F: Write,
-    ensures { MakesPage I.InputStream ⟦<FromReader<R::File> as InputStream>⟧ ⟦<ToWriter<R::File> as OutputStream>⟧ changes texts.now.files.items input.old input.new result }
+    ensures { MakesPage I.InputStream ⟦<FromReader<R::File> as InputStream>⟧ ⟦<ToWriter<R::File> as OutputStream>⟧
+        changes texts.now.files.items input.old input.new result }
 {
     match fs::create(rt, path) {
         Ok(file) => fill_file(rt, alloc, path, changes, file, texts, input, faults),
@@ -87,7 +88,9 @@ where
     R: System,
     I: InputStream,
     F: Write,
-    ensures { (opened : ToWriter R.File) × (closed : ToWriter R.File) × FillsPage I.InputStream ⟦<FromReader<R::File> as InputStream>⟧ ⟦<ToWriter<R::File> as OutputStream>⟧ changes texts.now.files.items input.old input.new opened closed result }
+    ensures { (opened : ToWriter R.File) × (closed : ToWriter R.File)
+        × FillsPage I.InputStream ⟦<FromReader<R::File> as InputStream>⟧ ⟦<ToWriter<R::File> as OutputStream>⟧ changes
+        texts.now.files.items input.old input.new opened closed result }
 {
     let mut page = ToWriter::new(file);
     let status = fill_page(rt, alloc, path, changes, texts, input, &mut page, faults);
@@ -111,7 +114,8 @@ where
     I: InputStream,
     O: OutputStream,
     F: Write,
-    ensures { FillsPage I.InputStream ⟦<FromReader<R::File> as InputStream>⟧ O.OutputStream changes texts.now.files.items input.old input.new page.old page.new result }
+    ensures { FillsPage I.InputStream ⟦<FromReader<R::File> as InputStream>⟧ O.OutputStream changes
+        texts.now.files.items input.old input.new page.old page.new result }
 {
     let task = alone(Content::Section);
     match put_head(alloc, page) {

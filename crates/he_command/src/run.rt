@@ -80,7 +80,8 @@ where
     O: OutputStream + Send,
     F: Write,
     requires { IfOk line IsRequest }
-    ensures { RunsLine I.InputStream ⟦<FromReader<R::File> as InputStream>⟧ ⟦<ToWriter<R::File> as OutputStream>⟧ O.OutputStream line.entry input.old input.new output.old output.new result }
+    ensures { RunsLine I.InputStream ⟦<FromReader<R::File> as InputStream>⟧ ⟦<ToWriter<R::File> as OutputStream>⟧
+        O.OutputStream line.entry input.old input.new output.old output.new result }
 {
     match line {
         Ok(request) => run_request(rt, alloc, request, input, output, faults),
@@ -103,7 +104,8 @@ where
     O: OutputStream + Send,
     F: Write,
     requires { IsRequest request }
-    ensures { RunsRequest I.InputStream ⟦<FromReader<R::File> as InputStream>⟧ ⟦<ToWriter<R::File> as OutputStream>⟧ O.OutputStream request.entry input.old input.new output.old output.new result }
+    ensures { RunsRequest I.InputStream ⟦<FromReader<R::File> as InputStream>⟧ ⟦<ToWriter<R::File> as OutputStream>⟧
+        O.OutputStream request.entry input.old input.new output.old output.new result }
 {
     match request {
         Request::Texts(task, texts) => run_texts(rt, alloc, task, &texts, input, output, faults),
@@ -157,7 +159,8 @@ where
     I: InputStream,
     O: OutputStream,
     F: Write,
-    ensures { RunsRace I.InputStream O.OutputStream options.now changes input.old input.new output.old output.new result }
+    ensures { RunsRace I.InputStream O.OutputStream options.now changes input.old input.new output.old output.new
+        result }
 {
     let mut told = Told::new(alloc);
     let end = live(rt, alloc, input, output, options.port, changes, &mut told);
@@ -298,7 +301,8 @@ where
 }
 
 fn settings_asked(options: &Options<'_>) -> Result<Settings, SettingFault>
-    ensures { MatchResult options.now.changes (λ changes. result ≡ Ok (connect_settings changes)) (λ fault. result ≡ Err fault) }
+    ensures { MatchResult options.now.changes (λ changes. result ≡ Ok (connect_settings changes)) (λ fault. result
+        ≡ Err fault) }
 {
     settings_of(options.changes?).ok_or(SettingFault::Form)
 }

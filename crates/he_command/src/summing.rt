@@ -117,7 +117,8 @@ where
     I: InputStream,
     F: Write,
     requires { MayAddAll sums.old (length names.now + 1) }
-    ensures { RunsTexts (AddsText summing.now.changes) I.InputStream ⟦<FromReader<R::File> as InputStream>⟧ names.now input.old input.new sums.old sums.new result }
+    ensures { RunsTexts (AddsText summing.now.changes) I.InputStream ⟦<FromReader<R::File> as InputStream>⟧ names.now
+        input.old input.new sums.old sums.new result }
 {
     if names.is_empty() {
         add_text(rt, alloc, summing, None, input, sums, faults)
@@ -140,7 +141,8 @@ where
     I: InputStream,
     F: Write,
     requires { MayAddAll sums.old (length names.now + 1) }
-    ensures { RunsFiles (RunsFile (AddsText summing.now.changes) I.InputStream ⟦<FromReader<R::File> as InputStream>⟧) names.now input.old input.new sums.old sums.new result }
+    ensures { RunsFiles (RunsFile (AddsText summing.now.changes) I.InputStream ⟦<FromReader<R::File> as InputStream>⟧)
+        names.now input.old input.new sums.old sums.new result }
 {
     let Some((name, more)) = names.split_first() else {
         return DONE;
@@ -165,7 +167,8 @@ where
     I: InputStream,
     F: Write,
     requires { (more : ℕ) × MayAddAll sums.old (more + 1) }
-    ensures done { RunsFile (AddsText summing.now.changes) I.InputStream ⟦<FromReader<R::File> as InputStream>⟧ name.entry input.old input.new sums.old sums.new result }
+    ensures done { RunsFile (AddsText summing.now.changes) I.InputStream ⟦<FromReader<R::File> as InputStream>⟧
+        name.entry input.old input.new sums.old sums.new result }
     ensures more { result ≡ DONE → (more : ℕ) → MayAddAll sums.old (more + 1) → MayAddAll sums.new more }
 {
     if name == STANDARD_INPUT {
@@ -191,7 +194,9 @@ where
     R: System,
     F: Write,
     requires { (more : ℕ) × MayAddAll sums.old (more + 1) }
-    ensures done { (opened : FromReader R.File) × (closed : FromReader R.File) × AddsText summing.now.changes (Some name.entry) _ ⟦<FromReader<R::File> as InputStream>⟧ opened closed sums.old sums.new result }
+    ensures done { (opened : FromReader R.File) × (closed : FromReader R.File)
+        × AddsText summing.now.changes (Some name.entry) _ ⟦<FromReader<R::File> as InputStream>⟧ opened closed
+        sums.old sums.new result }
     ensures more { result ≡ DONE → (more : ℕ) → MayAddAll sums.old (more + 1) → MayAddAll sums.new more }
 {
     let mut input = FromReader::new(file);

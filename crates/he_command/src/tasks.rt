@@ -75,7 +75,9 @@ where
     O: OutputStream,
     F: Write,
     requires { HasTaskWorkers task }
-    ensures { RunsTexts (RunsText O.OutputStream task changes (has_headings texts.now.files.items)) I.InputStream ⟦<FromReader<R::File> as InputStream>⟧ texts.now.files.items input.old input.new output.old output.new result }
+    ensures { RunsTexts (RunsText O.OutputStream task changes
+        (has_headings texts.now.files.items)) I.InputStream ⟦<FromReader<R::File> as InputStream>⟧
+        texts.now.files.items input.old input.new output.old output.new result }
 {
     let files = texts.files.as_slice();
     let work = Work {
@@ -103,7 +105,8 @@ where
     O: OutputStream,
     F: Write,
     requires { HasTaskWorkers work.now.task }
-    ensures { RunsWork O.OutputStream work.now name.entry _ I.InputStream input.old input.new output.old output.new result }
+    ensures { RunsWork O.OutputStream work.now name.entry _ I.InputStream input.old input.new output.old output.new
+        result }
 {
     let mut told = Vec::new(alloc);
     let end = run_headed(rt, alloc, work, name, input, output, &mut told);
@@ -141,7 +144,8 @@ where
     I: InputStream,
     O: OutputStream,
     requires { HasTaskWorkers work.now.task }
-    ensures { RunsHeaded I.InputStream O.OutputStream work.now.task work.now.changes (heading work.now.task work.now.has_headings name.entry) input.old input.new output.old output.new result }
+    ensures { RunsHeaded I.InputStream O.OutputStream work.now.task work.now.changes
+        (heading work.now.task work.now.has_headings name.entry) input.old input.new output.old output.new result }
 {
     put_heading(alloc, work, name, output)?;
     run_task(rt, alloc, work, input, output, told)
@@ -154,8 +158,10 @@ fn put_heading<O: OutputStream>(
     name: Option<&str>,
     output: &mut O,
 ) -> Result<(), StreamFault>
-    ensures ok { OnOk result (HasHeading O.OutputStream (heading work.now.task work.now.has_headings name.entry) output.old output.new) }
-    ensures err { OnErr result (LacksHeading O.OutputStream (heading work.now.task work.now.has_headings name.entry) output.old output.new) }
+    ensures ok { OnOk result (HasHeading O.OutputStream (heading work.now.task work.now.has_headings name.entry)
+        output.old output.new) }
+    ensures err { OnErr result (LacksHeading O.OutputStream (heading work.now.task work.now.has_headings name.entry)
+        output.old output.new) }
 {
     match name {
         Some(name) if work.has_headings => put_name(alloc, work.task, name, output),
@@ -228,7 +234,8 @@ where
     I: InputStream,
     O: OutputStream,
     requires { HasTaskWorkers work.now.task }
-    ensures { RunsTask I.InputStream O.OutputStream work.now.task work.now.changes input.old input.new output.old output.new result }
+    ensures { RunsTask I.InputStream O.OutputStream work.now.task work.now.changes input.old input.new output.old
+        output.new result }
 {
     match work.task {
         Task::Write { content, workers } => {

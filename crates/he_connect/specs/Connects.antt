@@ -21,8 +21,8 @@ abbrev pub IsBefore : ConnectFault → Type 0
 IsBefore (faults.Relay fault) = ⊥
 IsBefore fault = Unit {0}
 
--- a race that began so was run: its record keeps what it began with and replays, and the text is that of the record. It
--- was won, or not
+-- a race that began so was run: its record keeps what it began with and replays, and the text is that of the record.
+-- It was won, or not
 pub record RunsFrom (start : Race) (text : List ℕ) (won : Bool) : Type 0 where
   pub recorded : Race
   pub kept : KeepsGiven start recorded

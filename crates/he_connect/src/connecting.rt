@@ -32,9 +32,9 @@ pub enum Ended {
 
 /// Makes the connection, as RFC 8305 says, and puts what the input gives into it, and what it gives into the output.
 ///
-/// The input is to be standard input (`he_relay::relay_standard`). The record is written to its file before anything is
-/// relayed, also where nothing connected. What is told of the race goes to `faults`, and what cannot be written there
-/// is passed over.
+/// The input is to be standard input (`he_relay::relay_standard`). The record is written to its file before anything
+/// is relayed, also where nothing connected. What is told of the race goes to `faults`, and what cannot be written
+/// there is passed over.
 ///
 /// # Errors
 ///

@@ -60,7 +60,8 @@ where
     F: Write,
     R: Threads + Wait + Clock + RandomSource + AllocGlobal + Net + Files + Sync,
     R: SystemResolver + Copy + Send + 'static,
-    ensures race { IfOk result (λ run. IsRun asked.now.settings asked.now.families run.text.items (is_some run.winner)) }
+    ensures race { IfOk result (λ run. IsRun asked.now.settings asked.now.families run.text.items
+        (is_some run.winner)) }
     ensures fault { IfErr result IsBefore }
 {
     let lines = read_lines_of(rt, alloc, asked.lines, asked.host)?;

@@ -43,7 +43,8 @@ fn start_with(
     families: Families,
     base: &Timeline,
 ) -> Result<Timeline, ConnectFault>
-    ensures race { IfOk result (λ race. race ≡ with_families families (empty_race settings base.now.policy base.now.host)) }
+    ensures race { IfOk result (λ race. race ≡ with_families families
+        (empty_race settings base.now.policy base.now.host)) }
     ensures fault { IfErr result IsBefore }
 {
     let policy = base.policy().copy(alloc)?;

@@ -34,7 +34,8 @@ last_label text h =
     let past = ltb-false first (length text) (missed (ltb first (length text)) first (sym h)) in
     slice_split_none (λ b. eqb b 46) text (λ k d below. fails_before_first (λ b. eqb b 46) text k d (omega arith))
 
--- what is known of a text while its labels are read: those to come have the whole's first fault, and give the rest of its octets
+-- what is known of a text while its labels are read: those to come have the whole's first fault, and give the rest of
+-- its octets
 pub record AreLeft (items rest body : List ℕ) : Type 0 where
   pub fault : labels_fault (labels_of rest) ≡ labels_fault (labels_of body)
   pub octets : items ++ labels_octets (labels_of rest) ≡ labels_octets (labels_of body)

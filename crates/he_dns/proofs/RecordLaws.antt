@@ -1,4 +1,5 @@
--- The records that are read from a message are those that stand there, and the other way round; likewise what they say.
+-- The records that are read from a message are those that stand there, and the other way round; likewise what they
+-- say.
 use Rattle.std.proofs.Common.{◌≡◌, ℕ, zero, suc, ◌+◌, ◌≤◌, Bool, true, false, cond, ltb, eqb, List, [], ◌∷◌, Option, Some, None, length, slice_range, refl, sym, ◌∙◌, ap, subst, arith, inl, inr}
 use Rattle.std.specs.Int.{w32, w128, from_be_bytes}
 use Rattle.std.specs.Option.{option_map}

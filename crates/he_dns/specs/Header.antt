@@ -34,8 +34,8 @@ pub record Asks (message : List ℕ) (name : List ℕ) (family : Family) (end : 
   pub class : IsWordAt message (after + 2) class_in
   pub ends : end ≡ after + 4
 
--- A response to our query: the same id, QR 1 and OPCODE 0 (a standard query), and one question, which is ours. With its flags,
--- the number of its answer records, and where they begin.
+-- A response to our query: the same id, QR 1 and OPCODE 0 (a standard query), and one question, which is ours. With
+-- its flags, the number of its answer records, and where they begin.
 pub record Responds (message : List ℕ) (id : ℕ) (name : List ℕ) (family : Family) (flags answers at : ℕ) : Type 0 where
   pub header : IsHeader message id flags 1 answers
   pub standard : qr_and_opcode_of flags ≡ 16
@@ -71,8 +71,8 @@ pub record IsLame (message : List ℕ) : Type 0 where
   pub header : IsHeader message id flags questions answers
   pub lame : IsTrue (is_lame_by flags)
 
--- A response to the query with this id that repeats no question, and whose code says neither that all is well nor that there
--- is no such name: the server refuses.
+-- A response to the query with this id that repeats no question, and whose code says neither that all is well nor that
+-- there is no such name: the server refuses.
 pub record IsRefusal (message : List ℕ) (id code : ℕ) : Type 0 where
   pub flags : ℕ
   pub answers : ℕ

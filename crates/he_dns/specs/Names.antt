@@ -1,5 +1,5 @@
--- Names of a message, with compression (RFC 1035 section 4.1.4). A name is the list of its octets without the last one, which
--- is the root's empty label: each label behind the octet that tells its length.
+-- Names of a message, with compression (RFC 1035 section 4.1.4). A name is the list of its octets without the last
+-- one, which is the root's empty label: each label behind the octet that tells its length.
 use Rattle.std.specs.Prelude.{◌≡◌, ℕ, ◌+◌, ◌*◌, ◌<◌, ◌≤◌, Bool, List, [], ◌∷◌, ◌++◌, length, slice_index, take, drop, map}
 use Rattle.std.specs.Char.{to_ascii_lowercase}
 use Rattle.std.specs.Str.{bytes_eq}
@@ -7,16 +7,16 @@ use Rattle.he_dns.specs.declared.parts.Part.{Part}
 use Rattle.he_dns.specs.declared.parts.Part.TheVariants.{Root, Label, Pointer}
 use Rattle.he_dns.specs.Numbers.{max_label, max_name, max_parts}
 
--- What stands at a place of a name: the octet 0; a label of n octets behind the octet n; or two octets whose highest two bits
--- are ones, and whose other bits are the place where the name goes on.
+-- What stands at a place of a name: the octet 0; a label of n octets behind the octet n; or two octets whose highest
+-- two bits are ones, and whose other bits are the place where the name goes on.
 abbrev pub IsPartAt : List ℕ → ℕ → Part → Type 0
 IsPartAt message at Root = (at < length message) × (slice_index message at ≡ 0)
 IsPartAt message at (Label n) = (1 ≤ n) × (n ≤ max_label) × (at + n < length message) × (slice_index message at ≡ n)
 IsPartAt message at (Pointer to) =
     (at + 1 < length message) × (192 ≤ slice_index message at) × (49152 + to ≡ slice_index message at * 256 + slice_index message (at + 1))
 
--- The parts of a name from a place on, up to the root. A label is followed by what stands behind it, a pointer by what stands
--- where it leads to: at an earlier place than `begin`, where the labels before it began.
+-- The parts of a name from a place on, up to the root. A label is followed by what stands behind it, a pointer by what
+-- stands where it leads to: at an earlier place than `begin`, where the labels before it began.
 abbrev pub AreParts : List ℕ → ℕ → ℕ → List Part → Type 0
 AreParts message begin at [] = ⊥
 AreParts message begin at (Root ∷ more) = IsPartAt message at Root × (more ≡ [])
@@ -46,7 +46,7 @@ pub record IsNameAt (message : List ℕ) (at : ℕ) (name : List ℕ) (end : ℕ
   pub short : length name ≤ max_name
   pub ends : end ≡ end_of at parts
 
--- Whether two names are the same: without regard to the case of ASCII letters (RFC 1035 section 2.3.3, RFC 4343). An octet
--- that tells a length is at most 63, and so no letter.
+-- Whether two names are the same: without regard to the case of ASCII letters (RFC 1035 section 2.3.3, RFC 4343). An
+-- octet that tells a length is at most 63, and so no letter.
 abbrev pub is_same : List ℕ → List ℕ → Bool
 is_same name other = bytes_eq (map to_ascii_lowercase name) (map to_ascii_lowercase other)

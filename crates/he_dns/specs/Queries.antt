@@ -12,8 +12,8 @@ recursion_desired = 0x0100
 abbrev pub type_opt : ℕ
 type_opt = 41
 
--- The additional section: none, or a record of that type, with the root's name, the room as its class (section 6.2.3), TTL 0
--- and no RDATA.
+-- The additional section: none, or a record of that type, with the root's name, the room as its class (section 6.2.3),
+-- TTL 0 and no RDATA.
 abbrev pub additional_of : Option ℕ → List ℕ
 additional_of None = []
 additional_of (Some room) = 0 ∷ 0 ∷ type_opt ∷ [] ++ to_be_bytes w16 room ++ 0 ∷ 0 ∷ 0 ∷ 0 ∷ 0 ∷ 0 ∷ []
@@ -22,8 +22,8 @@ abbrev pub arcount_of : Option ℕ → ℕ
 arcount_of None = 0
 arcount_of (Some room) = 1
 
--- The header: ID, the flags, QDCOUNT 1, ANCOUNT and NSCOUNT 0, ARCOUNT (section 4.1.1). The question: QNAME, whose labels the
--- root's empty one follows, QTYPE and QCLASS IN (section 4.1.2). Then the additional section.
+-- The header: ID, the flags, QDCOUNT 1, ANCOUNT and NSCOUNT 0, ARCOUNT (section 4.1.1). The question: QNAME, whose
+-- labels the root's empty one follows, QTYPE and QCLASS IN (section 4.1.2). Then the additional section.
 abbrev pub query_of : ℕ → List ℕ → Family → Option ℕ → List ℕ
 query_of id name family room =
     to_be_bytes w16 id ++ to_be_bytes w16 recursion_desired ++ 0 ∷ 1 ∷ 0 ∷ 0 ∷ 0 ∷ 0 ∷ [] ++ to_be_bytes w16 (arcount_of room)

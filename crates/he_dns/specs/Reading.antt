@@ -1,4 +1,5 @@
--- Mirrors the code: what the readers answer, as functions on lists. What stands in a message is said in `Names`, `Header`,
+-- Mirrors the code: what the readers answer, as functions on lists. What stands in a message is said in `Names`,
+-- `Header`,
 -- `Records`, `Chains` and `Answers`.
 use Rattle.std.specs.Prelude.{◌≡◌, ℕ, zero, suc, ◌+◌, ◌-◌, ◌*◌, ◌<◌, ◌/◌, ◌%◌, ◌==◌, ◌&&◌, Bool, List, [], ◌∷◌, ◌++◌, Option, Some, None, Result, Ok, Err, length, slice_index, slice_range, take, drop, nat_lt, nat_le, false, not, if◌then◌else◌}
 use Rattle.std.specs.Int.{w32, w128, from_be_bytes}

@@ -32,8 +32,9 @@ IsAddress families.V4 octets (V4 n) = (length octets ≡ 4) × (n ≡ from_be_by
 IsAddress families.V6 octets (V6 n) = (length octets ≡ 16) × (n ≡ from_be_bytes w128 octets)
 IsAddress family octets ip = ⊥
 
--- What a record says of its owner: that it is an alias, if it is a CNAME whose RDATA is one name (RFC 1035 section 3.3.1); an
--- address, if it is of the type of the family's addresses, and its RDATA is one; else nothing. Both of class IN.
+-- What a record says of its owner: that it is an alias, if it is a CNAME whose RDATA is one name (RFC 1035 section
+-- 3.3.1); an address, if it is of the type of the family's addresses, and its RDATA is one; else nothing. Both of
+-- class IN.
 abbrev pub Says : List ℕ → Family → Record → Content → Type 0
 Says message family r (Alias target) = (r.class ≡ class_in) × (r.kind ≡ type_cname) × IsNameAt message r.place target (record_end r)
 Says message family r (Address ip) =

@@ -5,8 +5,8 @@ use Rattle.he_dns.specs.declared.fault.NameFault.{NameFault}
 use Rattle.he_dns.specs.declared.fault.NameFault.TheVariants as faults
 use Rattle.he_dns.specs.Numbers.{max_label, max_name}
 
--- what contracts see of a host name: its octets without the root's empty label, and of its text how many dots it has and whether
--- the last byte is one
+-- what contracts see of a host name: its octets without the root's empty label, and of its text how many dots it has
+-- and whether the last byte is one
 pub record HostName : Type 0 where
   pub octets : List ℕ
   pub dots : ℕ

@@ -38,7 +38,9 @@ fn read_section<A: Allocator + Copy>(
     name: &[u8],
     family: Family,
 ) -> Result<Vec<Ip, A>, AnswerFault>
-    ensures { MatchResult result (λ found. section_addresses message.now header at name.now family ≡ Ok found.items) (λ fault. (fault ≡ faults.Memory) ⊎ (section_addresses message.now header at name.now family ≡ Err fault)) }
+    ensures { MatchResult result (λ found. section_addresses message.now header at name.now family
+        ≡ Ok found.items) (λ fault. (fault ≡ faults.Memory) ⊎
+        (section_addresses message.now header at name.now family ≡ Err fault)) }
 {
     let entries = read_entries(alloc, message, at, header.answers(), family)?;
     let host = chain_end(&entries, name)?;
@@ -54,7 +56,8 @@ fn read_addresses<A: Allocator + Copy>(
     name: &[u8],
     family: Family,
 ) -> Result<Vec<Ip, A>, AnswerFault>
-    ensures { MatchResult result (λ found. answer_of message.now id name.now family ≡ Ok found.items) (λ fault. (fault ≡ faults.Memory) ⊎ (answer_of message.now id name.now family ≡ Err fault)) }
+    ensures { MatchResult result (λ found. answer_of message.now id name.now family
+        ≡ Ok found.items) (λ fault. (fault ≡ faults.Memory) ⊎ (answer_of message.now id name.now family ≡ Err fault)) }
 {
     let Some((header, at)) = read_response(message, id, name, family) else {
         return Err(AnswerFault::NotOurs);
@@ -90,7 +93,8 @@ pub fn read_answer<A: Allocator + Copy, B: Allocator>(
 ) -> Result<Vec<Ip, A>, AnswerFault>
     ensures found { IfOk result (λ found. Answers message.now id name.now.octets family found.items) }
     ensures fault { IfErr result (λ fault. HasFault message.now id name.now.octets family fault) }
-    ensures none { IfErr result (λ fault. (fault ≡ faults.Memory → ⊥) → (addresses : List Ip) → Answers message.now id name.now.octets family addresses → ⊥) }
+    ensures none { IfErr result (λ fault. (fault ≡ faults.Memory → ⊥) → (addresses : List Ip)
+        → Answers message.now id name.now.octets family addresses → ⊥) }
 {
     read_addresses(alloc, message, id, name.octets(), family)
 }

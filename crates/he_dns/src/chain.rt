@@ -51,7 +51,8 @@ fn alias_of<'e>(entries: &'e [Entry], name: &[u8]) -> Option<&'e [u8]>
 
 // The name at the end of the chain.
 pub(crate) fn chain_end<'e>(entries: &'e [Entry], name: &'e [u8]) -> Result<&'e [u8], AnswerFault>
-    ensures { MatchResult result (λ host. chain_end 17 entries.now name.now ≡ Ok host.now) (λ fault. chain_end 17 entries.now name.now ≡ Err fault) }
+    ensures { MatchResult result (λ host. chain_end 17 entries.now name.now
+        ≡ Ok host.now) (λ fault. chain_end 17 entries.now name.now ≡ Err fault) }
 {
     let mut current = name;
     'names: for passed in 0..MAX_NAMES {

@@ -94,7 +94,8 @@ pub(crate) fn read_entries<A: Allocator + Copy>(
     count: u16,
     family: Family,
 ) -> Result<Vec<Entry, A>, AnswerFault>
-    ensures { MatchResult result (λ entries. entries_from count message.now family at ≡ Some entries.items) (λ fault. Refuses (entries_from count message.now family at) fault) }
+    ensures { MatchResult result (λ entries. entries_from count message.now family at
+        ≡ Some entries.items) (λ fault. Refuses (entries_from count message.now family at) fault) }
 {
     let mut entries = Vec::new(alloc);
     let mut at = at;

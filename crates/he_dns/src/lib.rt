@@ -1,20 +1,20 @@
-//! Messages of the domain name system (RFC 1035), without sockets: a query for a host's addresses, and the addresses of
-//! an answer.
+//! Messages of the domain name system (RFC 1035), without sockets: a query for a host's addresses, and the addresses
+//! of an answer.
 //!
 //! [`Name::read`] reads a host name, [`write_query`] writes the bytes of a query, and [`read_answer`] answers the
 //! addresses that a message has for the query, through aliases, or the first fault in the order of its checks. What
-//! comes from the network is only read: a message may be any bytes. Names in it are read into fixed places; the entries
-//! of an answer section and the addresses take memory from the allocator that is passed.
+//! comes from the network is only read: a message may be any bytes. Names in it are read into fixed places; the
+//! entries of an answer section and the addresses take memory from the allocator that is passed.
 //!
 //! Proved, for all texts and messages, want of memory aside:
 //!
 //! - a name is what its text spells (`specs/Texts.antt`), and a fault is the text's;
 //! - a query's bytes are the list of `specs/Queries.antt`;
-//! - an answer's addresses are those of `specs/Answers.antt`: the header and the question are a response's to this query
-//!   (`specs/Header.antt`), the answer section is as many records as the header says (`specs/Records.antt`), its names
-//!   are those of RFC 1035 section 4.1.4 with pointers to earlier places alone (`specs/Names.antt`), and the addresses
-//!   are those of the name at the end of the chain of aliases (`specs/Chains.antt`). A fault is the message's, and no
-//!   message that answers addresses has one.
+//! - an answer's addresses are those of `specs/Answers.antt`: the header and the question are a response's to this
+//! query (`specs/Header.antt`), the answer section is as many records as the header says (`specs/Records.antt`), its
+//! names are those of RFC 1035 section 4.1.4 with pointers to earlier places alone (`specs/Names.antt`), and the
+//! addresses are those of the name at the end of the chain of aliases (`specs/Chains.antt`). A fault is the message's,
+//! and no message that answers addresses has one.
 //!
 //! [`read_refusal`] and [`is_lame`] tell what a message says of the server that sent it (`specs/Header.antt`).
 //!

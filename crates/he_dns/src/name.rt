@@ -78,7 +78,8 @@ fn label_fault(label: &[u8]) -> Option<NameFault>
 
 // Appends a label behind its length.
 fn append_label<A: Allocator + Copy>(octets: &mut Vec<u8, A>, label: &[u8]) -> Result<(), NameFault>
-    ensures ok { IfOk result (λ _. (label_fault label.now ≡ None) × (octets.new.items ≡ octets.old.items ++ length label.now ∷ label.now)) }
+    ensures ok { IfOk result (λ _. (label_fault label.now ≡ None)
+        × (octets.new.items ≡ octets.old.items ++ length label.now ∷ label.now)) }
     ensures err { IfErr result (λ fault. (fault ≡ faults.Memory) ⊎ (label_fault label.now ≡ Some fault)) }
 {
     match label_fault(label) {
@@ -102,7 +103,8 @@ fn behind(text: &[u8], at: usize) -> &[u8]
 // The octets of the labels between the dots.
 #[tactic(auto, using(crate::proofs::Labels::left_all, crate::proofs::Labels::left_more, crate::proofs::Labels::wrong_more, crate::proofs::Labels::left_last, crate::proofs::Labels::wrong_last))]
 fn read_labels<A: Allocator + Copy>(alloc: A, body: &[u8]) -> Result<Vec<u8, A>, NameFault>
-    ensures ok { IfOk result (λ octets. (labels_fault (labels_of body.now) ≡ None) × (octets.items ≡ labels_octets (labels_of body.now))) }
+    ensures ok { IfOk result (λ octets. (labels_fault (labels_of body.now) ≡ None)
+        × (octets.items ≡ labels_octets (labels_of body.now))) }
     ensures err { IfErr result (λ fault. (fault ≡ faults.Memory) ⊎ (labels_fault (labels_of body.now) ≡ Some fault)) }
 {
     let mut octets = Vec::new(alloc);
@@ -148,8 +150,10 @@ impl<A: Allocator + Copy> Name<A> {
         alloc: A,
         suffix: &Name<B>,
     ) -> Result<Name<A>, NameFault>
-        ensures ok { IfOk result (λ name. (name.octets ≡ self.now.octets ++ suffix.now.octets) × (name.is_absolute ≡ suffix.now.is_absolute)) }
-        ensures err { IfErr result (λ fault. (fault ≡ faults.Memory) ⊎ ((fault ≡ faults.LongName) × (MAX_NAME < length self.now.octets + length suffix.now.octets))) }
+        ensures ok { IfOk result (λ name. (name.octets ≡ self.now.octets ++ suffix.now.octets)
+            × (name.is_absolute ≡ suffix.now.is_absolute)) }
+        ensures err { IfErr result (λ fault. (fault ≡ faults.Memory) ⊎ ((fault ≡ faults.LongName)
+            × (MAX_NAME < length self.now.octets + length suffix.now.octets))) }
     {
         if self.octets.len() > MAX_NAME || suffix.octets.len() > MAX_NAME - self.octets.len() {
             return Err(NameFault::LongName);

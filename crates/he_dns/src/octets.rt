@@ -37,7 +37,8 @@ impl Octets {
 
     // Appends a part, if there is room for it.
     pub(crate) fn append(&mut self, part: &[u8]) -> Option<()>
-        ensures appended { MatchOption result (MAX_NAME < length self.old + length part.now) (λ _. self.new ≡ self.old ++ part.now) }
+        ensures appended { MatchOption result (MAX_NAME < length self.old + length part.now) (λ _. self.new
+            ≡ self.old ++ part.now) }
         ensures room { MatchOption result (Unit {0}) (λ _. length self.old + length part.now ≤ MAX_NAME) }
     {
         self.octets.try_extend_from_slice(part).ok()

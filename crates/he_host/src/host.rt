@@ -123,7 +123,8 @@ fn find_v4<A: Allocator + Copy>(
     files: Files<'_>,
     around: Around<'_, '_, '_>,
 ) -> Result<Vec<FoundSource, A>, Memory>
-    ensures { IfOk result (λ found. found.items ≡ v4_sources_in files.entry around.entry.interfaces.now around.entry.routes.now around.entry.asked.now) }
+    ensures { IfOk result (λ found. found.items ≡ v4_sources_in files.entry around.entry.interfaces.now
+        around.entry.routes.now around.entry.asked.now) }
 {
     let lines = read_lines(alloc, files.fib_trie)?;
     let addresses = read_own_addresses(alloc, &lines)?;
@@ -185,7 +186,8 @@ pub fn find_host<A: Allocator + Copy>(
     files: Files<'_>,
     around: Around<'_, '_, '_>,
 ) -> Result<FoundHost<A>, Memory>
-    ensures { IfOk result (λ found. IsHostOf files.entry around.entry.interfaces.now around.entry.routes.now around.entry.asked.now found.host found.left_out.items) }
+    ensures { IfOk result (λ found. IsHostOf files.entry around.entry.interfaces.now around.entry.routes.now
+        around.entry.asked.now found.host found.left_out.items) }
 {
     let v6 = find_v6(alloc, files, around.interfaces)?;
     let v4 = find_v4(alloc, files, around)?;

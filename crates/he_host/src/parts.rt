@@ -48,7 +48,8 @@ impl<'t> Parts<'t> {
 
     /// The next part.
     pub fn next(&mut self) -> Option<&'t [u8]>
-        ensures { MatchOption result (parts_left self.old ≡ []) (λ part. parts_left self.old ≡ part.now ∷ parts_left self.new) }
+        ensures { MatchOption result (parts_left self.old ≡ []) (λ part. parts_left self.old
+            ≡ part.now ∷ parts_left self.new) }
     {
         let rest = self.rest?;
         match find(self.cut, rest) {

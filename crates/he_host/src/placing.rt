@@ -190,7 +190,8 @@ pub fn find_v4_sources<A: Allocator + Copy>(
     around: Around<'_, '_, '_>,
     addresses: &[OwnAddress],
 ) -> Result<Vec<FoundSource, A>, Memory>
-    ensures { IfOk result (λ found. found.items ≡ map (found_own around.entry.interfaces.now around.entry.routes.now around.entry.asked.now) addresses.now) }
+    ensures { IfOk result (λ found. found.items ≡ map (found_own around.entry.interfaces.now around.entry.routes.now
+        around.entry.asked.now) addresses.now) }
 {
     let mut found = Vec::new(alloc);
     for address in addresses {

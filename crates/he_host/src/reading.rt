@@ -87,7 +87,8 @@ pub fn find_v6_routes<A: Allocator + Copy>(
     lines: &[Line<'_>],
     found: &mut Vec<FoundRoute, A>,
 ) -> Result<(), Memory>
-    ensures { OnOk result (found.new.items ≡ found.old.items ++ map (found_v6_route interfaces.now) (map plain lines.now)) }
+    ensures { OnOk result (found.new.items ≡ found.old.items ++ map (found_v6_route interfaces.now)
+        (map plain lines.now)) }
 {
     for line in lines {
         found.push(FoundRoute {
@@ -109,7 +110,8 @@ pub fn find_v4_routes<A: Allocator + Copy>(
     lines: &[Line<'_>],
     found: &mut Vec<FoundRoute, A>,
 ) -> Result<(), Memory>
-    ensures { OnOk result (found.new.items ≡ found.old.items ++ map (found_v4_route interfaces.now) (map plain lines.now)) }
+    ensures { OnOk result (found.new.items ≡ found.old.items ++ map (found_v4_route interfaces.now)
+        (map plain lines.now)) }
 {
     for line in lines {
         found.push(FoundRoute {

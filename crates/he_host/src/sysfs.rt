@@ -81,7 +81,8 @@ fn is_tunnel(kind: u64) -> bool
 
 /// What the files of an interface say.
 pub fn make_link(files: Sysfs<'_>) -> Link
-    ensures { result ≡ link_from files.entry.ifindex.now files.entry.flags.now files.entry.carrier.now files.entry.kind.now }
+    ensures { result ≡ link_from files.entry.ifindex.now files.entry.flags.now files.entry.carrier.now
+        files.entry.kind.now }
 {
     let flags = read_flags(files.flags);
     Link {

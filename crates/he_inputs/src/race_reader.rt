@@ -72,8 +72,8 @@ impl RaceReader {
     /// # Errors
     ///
     /// - `Input(Text)` with the fault of the text that follows, its line counted over the whole input from 1. Behind
-    ///   as many races as a text may have (`he_words::limits::MOST_RACES`) that is `TooMany` at the next line, whatever
-    ///   it is. Where the bytes may go on, every input that begins with them has this fault.
+    /// as many races as a text may have (`he_words::limits::MOST_RACES`) that is `TooMany` at the next line, whatever
+    /// it is. Where the bytes may go on, every input that begins with them has this fault.
     /// - `Input(Read)` where the input broke off behind a whole race, or within one that had no fault by then.
     /// - `Memory` where an allocation was refused.
     ///

@@ -19,8 +19,8 @@ use Rattle.he_live.specs.declared.fault.LiveFault.TheVariants as faults
 abbrev pub IsRunFault : LiveFault → Type 0
 IsRunFault fault = (fault ≡ faults.Runtime) ⊎ (fault ≡ faults.Memory)
 
--- the text of a race that was run, what is told of it, and how it ended: the text is a transcript and then the record, which
--- has the race's settings, policy, host, answers and what is known from earlier, and replays to this transcript
+-- the text of a race that was run, what is told of it, and how it ended: the text is a transcript and then the record,
+-- which has the race's settings, policy, host, answers and what is known from earlier, and replays to this transcript
 pub record IsLiveText (race : Race) (text : List ℕ) (told : Told) (result : Outcome3) : Type 0 where
   pub recorded : Race
   pub report : Report
@@ -52,8 +52,8 @@ pub record GivesNone (Given : List ℕ → Bool → Type 0) (why : NotOneRace) :
   pub given : Given input is_broken
   pub none : IsNotOne input is_broken why
 
--- the input is one race, and this is the text of a run of it with the changes of its settings, of which this is told, and
--- which ended so
+-- the input is one race, and this is the text of a run of it with the changes of its settings, of which this is told,
+-- and which ended so
 pub record GivesText (Given : List ℕ → Bool → Type 0) (changes : ChangeValues) (text : List ℕ) (told : Told) (result : Outcome3) : Type 0 where
   pub race : Race
   pub given : GivesOne Given race

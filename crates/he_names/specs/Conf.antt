@@ -1,4 +1,5 @@
--- What a file of resolver settings says (resolver(5)): on each line a keyword, which begins the line, and then its values.
+-- What a file of resolver settings says (resolver(5)): on each line a keyword, which begins the line, and then its
+-- values.
 use Rattle.std.specs.Prelude.{ℕ, List, [], ◌∷◌, Option, None, codes, drop, filter, fold, length, map, max, min, nat_lt, take, if◌then◌else◌}
 use Rattle.std.specs.List.{filter_map, flat_map}
 use Rattle.std.specs.Option.{option_to_list}

@@ -40,8 +40,8 @@ pub fn read_servers<A: Allocator + Copy>(alloc: A, text: &[u8]) -> Result<Vec<Ip
     Ok(servers)
 }
 
-/// The search list of a file of resolver settings: the last `search` or `domain` line of the file counts, and of it the
-/// first 32 domains.
+/// The search list of a file of resolver settings: the last `search` or `domain` line of the file counts, and of it
+/// the first 32 domains.
 ///
 /// # Errors
 ///

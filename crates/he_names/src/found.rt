@@ -9,8 +9,8 @@ use he_addr::{Family, Ip, Memory};
 use std::alloc::{Allocator, Global};
 use std::marker::Model;
 
-/// The addresses of a name that has at least one: of each family those that it has, none of them twice and at most 256,
-/// and the tick at which they came.
+/// The addresses of a name that has at least one: of each family those that it has, none of them twice and at most
+/// 256, and the tick at which they came.
 #[derive(Drop)]
 pub struct Found<A: Allocator = Global> {
     v6_tick: u64,

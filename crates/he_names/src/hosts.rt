@@ -12,9 +12,9 @@ use std::alloc::Allocator;
 
 const COMMENT: u8 = b'#';
 
-/// The addresses of the family that a file of hosts has for a name, line by line (hosts(5)): an address stands first on
-/// its line, then the names that it has, and a number sign begins a comment. Names are compared without case. A line
-/// that is none is passed over, and so is an address with a zone.
+/// The addresses of the family that a file of hosts has for a name, line by line (hosts(5)): an address stands first
+/// on its line, then the names that it has, and a number sign begins a comment. Names are compared without case. A
+/// line that is none is passed over, and so is an address with a zone.
 ///
 /// # Errors
 ///

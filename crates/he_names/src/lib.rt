@@ -4,11 +4,11 @@
 //! Proved, for all bytes:
 //!
 //! - [`read_hosts`]: the addresses that a file of hosts has for a name (`specs/Hosts`).
-//! - [`read_servers`], [`read_search`], [`read_ndots`], [`read_timeout`], [`read_attempts`]: the servers, the search list
-//!   and the numbers of a file of settings, with their defaults and bounds (`specs/Conf`).
+//! - [`read_servers`], [`read_search`], [`read_ndots`], [`read_timeout`], [`read_attempts`]: the servers, the search
+//! list and the numbers of a file of settings, with their defaults and bounds (`specs/Conf`).
 //! - [`names_to_ask`]: which names are asked for a host, and in which order (`specs/Order`).
 //! - [`clean_of`]: a family's addresses, none of them twice, at most 256; [`Found`]: both families' answers, of which
-//!   one has an address, and the two lines of a timeline that tell them (`specs/Answers`).
+//! one has an address, and the two lines of a timeline that tell them (`specs/Answers`).
 //!
 //! Only tested: that a call succeeds where memory is granted.
 #![tactic(auto)]

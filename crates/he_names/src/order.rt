@@ -9,8 +9,8 @@ use std::alloc::Allocator;
 
 const DOT: u8 = b'.';
 
-/// The names that are asked for a host, in their order (resolver(5)): one that a dot ends as it is alone; any other also
-/// in each domain of the search list, before that where it has at least so many dots, else behind it.
+/// The names that are asked for a host, in their order (resolver(5)): one that a dot ends as it is alone; any other
+/// also in each domain of the search list, before that where it has at least so many dots, else behind it.
 ///
 /// # Errors
 ///
@@ -21,7 +21,8 @@ pub fn names_to_ask<A: Allocator + Copy>(
     ndots: u64,
     search: &[&[u8]],
 ) -> Result<Vec<Vec<u8, A>, A>, Memory>
-    ensures { IfOk result (λ names. map (λ name. name.items) names.items ≡ names_of host.now ndots (texts search.now)) }
+    ensures { IfOk result (λ names. map (λ name. name.items) names.items
+        ≡ names_of host.now ndots (texts search.now)) }
 {
     let mut names = Vec::new(alloc);
     if is_absolute(host) {

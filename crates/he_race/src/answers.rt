@@ -34,7 +34,8 @@ pub trait AnswerSource: Drop {
         ensures pending { OnPending result (hears self.old family now None self.new) }
         ensures ready { IfReady result (λ ips. hears self.old family now (Some ips.items) self.new) }
         ensures waits { OnPending result (Covers cx.new (needs self.new family) ⊎ IsSilent hears self.new family) }
-        ensures other { (other : Family) → (other ≡ family → ⊥) → Covers cx.old (needs self.old other) → Covers cx.new (needs self.new other) }
+        ensures other { (other : Family) → (other ≡ family → ⊥) → Covers cx.old (needs self.old other)
+            → Covers cx.new (needs self.new other) }
         ensures kept { Keeps cx.old cx.new };
 }
 

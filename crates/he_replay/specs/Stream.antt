@@ -50,9 +50,9 @@ pub record PutsSome (IsText : TextRelation) (Gave : List ℕ → Bool → Type 0
   pub written : Done text
 
 -- Gave: what the input gave, and whether it broke off after that; Taken: what was taken of an input that was not read
--- further; Whole: the text of which all was put into the output and then flushed; RoundScope: the text of which a first
--- part was put in, until that failed; Put: the text of which all was put in and flushed, or nothing where there is
--- none
+-- further; Whole: the text of which all was put into the output and then flushed; RoundScope: the text of which a
+-- first part was put in, until that failed; Put: the text of which all was put in and flushed, or nothing where there
+-- is none
 abbrev pub Streams : TextRelation → (List ℕ → Bool → Type 0) → (List ℕ → Type 0) → (List ℕ → Type 0) → (List ℕ → Type 0) → (List ℕ → Type 0) → Result (Unit {0}) StreamFault → Type 0
 Streams IsText Gave Taken Whole RoundScope Put (Ok done) = PutsOutput IsText Gave Whole None
 Streams IsText Gave Taken Whole RoundScope Put (Err (Text fault)) =

@@ -41,7 +41,8 @@ settled_needs asking settled s n = n
 same_needs : (old new : Asking) (s : ℕ) → new ≡ record old { is_settled = new.is_settled } → asking_needs new s → asking_needs old s
 same_needs old new s same n = settled_needs old new.is_settled s (subst (λ (a : Asking). asking_needs a s) same n)
 
--- a poll for one family leaves the other one waiting for all that it needs, or woken where it is settled now what it is told
+-- a poll for one family leaves the other one waiting for all that it needs, or woken where it is settled now what it
+-- is told
 pub other_waits : {R : Type 0} (cx cx1 cx2 : Context) (old mid new : Resolver R) (family : Family) (ready : Bool)
     → (ready ≡ false → Covers cx1 (names_needs mid)) → (ready ≡ true → (f : Family) → is_settled new f ≡ true)
     → new.v6 ≡ record mid.v6 { is_settled = new.v6.is_settled } → new.v4 ≡ record mid.v4 { is_settled = new.v4.is_settled }

@@ -9,8 +9,8 @@ is_of_server faults.NoAnswer = true
 is_of_server (faults.Server fault) = true
 is_of_server fault = false
 
--- The order in which faults are told: that of the machine first, then what holds for both families, then that no server
--- answered or that one failed, and what holds for one family last.
+-- The order in which faults are told: that of the machine first, then what holds for both families, then that no
+-- server answered or that one failed, and what holds for one family last.
 abbrev pub rank_of : NamesFault → ℕ
 rank_of faults.Memory = 0
 rank_of faults.Files = 1

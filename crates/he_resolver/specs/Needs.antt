@@ -1,5 +1,6 @@
--- Which sources of events a look-up waits for, of its sockets and its timers. What is settled and not yet told waits for
--- nothing: every source counts as one of its own, so that only a poll that has asked for another one has registered at all.
+-- Which sources of events a look-up waits for, of its sockets and its timers. What is settled and not yet told waits
+-- for nothing: every source counts as one of its own, so that only a poll that has asked for another one has
+-- registered at all.
 use Rattle.std.specs.Prelude.{ℕ, ◌≡◌, ◌<◌, ◌⊎◌, ⊤, true, false, Bool, List, [], Option, Some, None, IsSomeAnd, is_some, length, slice_index_or}
 use Rattle.futures.specs.Channel.{completed_source}
 use Rattle.futures.specs.Task.{Covers}
@@ -64,8 +65,8 @@ next_needs Never s = ⊥
 abbrev pub IsTold : Asking → Type 0
 IsTold asking = is_some asking.told ≡ true
 
--- Until it is told, a family's part waits for each query and for the next server's time; where it has no query under way it
--- is to be polled again.
+-- Until it is told, a family's part waits for each query and for the next server's time; where it has no query under
+-- way it is to be polled again.
 unfoldable pub asking_needs : Asking → ℕ → Type 0
 asking_needs asking s =
     (is_some asking.told ≡ false) × ((asking.queries.items ≡ []) ⊎ any_needs asking.queries.items s ⊎ next_needs asking.next s)
@@ -92,8 +93,8 @@ module _ {R : Type 0} where
   abbrev pub names_needs : Resolver R → ℕ → Type 0
   names_needs resolver s = asking_needs resolver.v6 s ⊎ asking_needs resolver.v4 s
 
-  -- A family of which it is settled what is told is to be polled for. Any other waits for both parts, since what one is told
-  -- may settle the other.
+  -- A family of which it is settled what is told is to be polled for. Any other waits for both parts, since what one
+  -- is told may settle the other.
   abbrev pub resolver_needs : Resolver R → Family → ℕ → Type 0
   resolver_needs resolver family s = (is_settled resolver family ≡ true) ⊎ names_needs resolver s
 

@@ -8,8 +8,8 @@ use Rattle.he_resolver.specs.declared.fault.TellFault.TheVariants as faults
 abbrev pub IsNamesText : List ℕ → Type 0
 IsNamesText text = (found : Answers) × IsFound found × (text ≡ answers_text found)
 
--- Whole and Part: the text of which all was put into the output and then flushed, or a first part until that failed; Kept:
--- nothing was put into the output
+-- Whole and Part: the text of which all was put into the output and then flushed, or a first part until that failed;
+-- Kept: nothing was put into the output
 abbrev pub TellsNames : (List ℕ → Type 0) → (List ℕ → Type 0) → Type 0 → Result (Unit {0}) TellFault → Type 0
 TellsNames Whole Part Kept (Ok done) = (text : List ℕ) × IsNamesText text × Whole text
 TellsNames Whole Part Kept (Err faults.Write) = (text : List ℕ) × IsNamesText text × Part text

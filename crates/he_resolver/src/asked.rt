@@ -51,7 +51,8 @@ pub(crate) fn asked_in(
     settings: &[u8],
     choice: Choice,
 ) -> Result<Asked, NamesFault>
-    ensures sends { IfOk result (λ asked. asked.sends ≡ option_in (codes "timeout:") 1 5 30 settings.now * option_in (codes "attempts:") 1 2 5 settings.now) }
+    ensures sends { IfOk result (λ asked. asked.sends ≡ option_in (codes "timeout:") 1 5 30 settings.now * option_in
+        (codes "attempts:") 1 2 5 settings.now) }
 {
     Ok(Asked {
         names: names_of(alloc, host, settings)?,

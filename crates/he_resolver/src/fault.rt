@@ -157,9 +157,9 @@ impl From<WriteFault> for TellFault {
     }
 }
 
-/// Which fault is told where neither family has an address, of that of IPv6 and that of IPv4: want of memory or of files
-/// first; that there is no such name, which holds for both families; then that no server answered, that one failed,
-/// and that there is no address.
+/// Which fault is told where neither family has an address, of that of IPv6 and that of IPv4: want of memory or of
+/// files first; that there is no such name, which holds for both families; then that no server answered, that one
+/// failed, and that there is no address.
 pub fn first_fault(v6: NamesFault, v4: NamesFault) -> NamesFault
     ensures { result ≡ first_of v6 v4 }
 {

@@ -19,15 +19,15 @@
 //!
 //! A query has a random id and a port that the kernel chooses, and its socket is connected, so what another peer sends
 //! is not seen. A response with another id or another question is passed over, also over TCP. One that is cut off is
-//! asked for over TCP. A datagram of the answer may have 1,232 bytes (RFC 6891); a server that can't read that is asked
-//! again without it.
+//! asked for over TCP. A datagram of the answer may have 1,232 bytes (RFC 6891); a server that can't read that is
+//! asked again without it.
 //!
 //! What the contracts say: a family is told addresses of its own, none twice, at most 256; where a poll is pending, it
 //! has registered at every socket and timer that the family waits for, and where it settles what the other family is
-//! told, the task is polled again (`specs/Needs`); [`write_names`] writes the two lines, and after any fault but `Write`
-//! nothing; and, of functions inside, what a message comes to (`specs/Replies`), behind which faults another server is
-//! asked and which fault is told (`specs/Faults`), what the file of hosts knows (`specs/Known`). Only tested, on
-//! loopback: that queries leave, when, to whom, and what becomes of answers.
+//! told, the task is polled again (`specs/Needs`); [`write_names`] writes the two lines, and after any fault but
+//! `Write` nothing; and, of functions inside, what a message comes to (`specs/Replies`), behind which faults another
+//! server is asked and which fault is told (`specs/Faults`), what the file of hosts knows (`specs/Known`). Only
+//! tested, on loopback: that queries leave, when, to whom, and what becomes of answers.
 #![tactic(auto)]
 
 mod asked;

@@ -95,10 +95,11 @@ impl<'h, R: Net + RandomSource + Clock> Lookup<'h, R> {
     /// The addresses of the family, each once and at most 256, or why it has none. Each family is to be polled until
     /// it is told, and not after that.
     ///
-    /// Both families are asked for at the first poll, that of IPv6 first. The name servers are asked beside one another,
-    /// each [`ALONE`](crate::limits::ALONE) milliseconds behind the one before it or as soon as that has failed, and the
-    /// first that tells counts. To each the query is sent once a second, `timeout` times `attempts` times by the file of
-    /// resolver settings. The system's resolver has its own time, and tells both families at once.
+    /// Both families are asked for at the first poll, that of IPv6 first. The name servers are asked beside one
+    /// another, each [`ALONE`](crate::limits::ALONE) milliseconds behind the one before it or as soon as that has
+    /// failed, and the first that tells counts. To each the query is sent once a second, `timeout` times `attempts`
+    /// times by the file of resolver settings. The system's resolver has its own time, and tells both families at
+    /// once.
     ///
     /// A poll may settle what the other family is told: then it has the task polled again.
     ///
@@ -112,7 +113,8 @@ impl<'h, R: Net + RandomSource + Clock> Lookup<'h, R> {
     ) -> Poll<Result<Vec<Ip>, NamesFault>>
         ensures answer { IfReady result (λ told. IfOk told (λ ips. IsAnswer family ips.items)) }
         ensures waits { OnPending result (Covers cx.new (lookup_needs self.new family)) }
-        ensures other { (other : _) → other ≢ family → Covers cx.old (lookup_needs self.old other) → Covers cx.new (lookup_needs self.new other) }
+        ensures other { (other : _) → other ≢ family → Covers cx.old (lookup_needs self.old other)
+            → Covers cx.new (lookup_needs self.new other) }
         ensures kept { Keeps cx.old cx.new }
     {
         match &mut self.source {

@@ -45,7 +45,8 @@ impl<'h, R: Net + RandomSource + Clock> Resolver<'h, R> {
     // settles what the other one is told, the task is woken, so that it polls for the other one.
     pub(crate) fn poll_settled(&mut self, family: Family, cx: &mut Context<'_>) -> Poll<()>
         ensures waits { OnPending result (Covers cx.new (resolver_needs self.new family)) }
-        ensures other { Covers cx.old (resolver_needs self.old (other_of family)) → Covers cx.new (resolver_needs self.new (other_of family)) }
+        ensures other { Covers cx.old (resolver_needs self.old (other_of family))
+            → Covers cx.new (resolver_needs self.new (other_of family)) }
         ensures kept { Keeps cx.old cx.new }
     {
         let other = other_of(family);

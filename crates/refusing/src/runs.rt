@@ -30,7 +30,8 @@ pub fn each_growth_refused<B: Allocator, F: FnMut()>(heap: &Refusing<B>, mut run
 
 /// The same of a `make` that answers whether what it made is right, or `None` where memory was refused. Answers how
 /// many calls were refused a growth, up to the first that is granted all. `None` if a call made something wrong,
-/// answered `None` though all was granted, or if `MOST_RUNS` calls were refused one. Afterwards `heap` refuses nothing.
+/// answered `None` though all was granted, or if `MOST_RUNS` calls were refused one. Afterwards `heap` refuses
+/// nothing.
 pub fn refused_in_turn<B: Allocator, F: FnMut() -> Option<bool>>(
     heap: &Refusing<B>,
     mut make: F,
