@@ -5,7 +5,7 @@ _he() {
     local commands='replay order explain draw summary compare check live host names connect help' options=
     [ "$COMP_CWORD" -gt 1 ] && command=${COMP_WORDS[1]}
     case $before in
-        --workers | --width | --port | --resolver | --timeout | --set) COMPREPLY=(); return ;;
+        --workers | --width | --port | --resolver | --timeout | --wait | --set) COMPREPLY=(); return ;;
     esac
     case $command in
         '') options="$commands --help --version -h -V" ;;
@@ -19,7 +19,7 @@ _he() {
         live) options='--port --timeout --set --record --must-connect --verbose -v --help -h' ;;
         host) options='--help -h' ;;
         names) options='--resolver --help -h' ;;
-        connect) options='-4 -6 -z --timeout --set --host --resolver --record --explain --verbose -v --help -h' ;;
+        connect) options='-4 -6 -z --timeout --set --wait --host --resolver --record --explain --verbose -v --help -h' ;;
         help) options=$commands ;;
     esac
     mapfile -t COMPREPLY < <(compgen -W "$options" -- "$word")

@@ -39,6 +39,7 @@ complete -c he -n '__fish_seen_subcommand_from connect' -s 6 -d 'IPv6 addresses 
 complete -c he -n '__fish_seen_subcommand_from connect' -s z -d 'End once the connection is made'
 complete -c he -n '__fish_seen_subcommand_from live connect' -l timeout -x -d 'Milliseconds to give up after'
 complete -c he -n '__fish_seen_subcommand_from replay explain draw summary compare live connect' -l set -x -a 'attempt= resolution= count= limit= floor=' -d 'A setting in place of its own'
+complete -c he -n '__fish_seen_subcommand_from connect' -l wait -x -d 'Milliseconds to wait for standard input'
 complete -c he -n '__fish_seen_subcommand_from connect' -l host -r -F -d 'Lines in place of this machine'
 complete -c he -n '__fish_seen_subcommand_from live connect' -l record -r -F -d 'File for the record'
 complete -c he -n '__fish_seen_subcommand_from connect' -l explain -d 'Explain the race on standard error'

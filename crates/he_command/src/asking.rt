@@ -3,10 +3,11 @@ ghost use Rattle.std.specs.Prelude.{◌≤◌};
 ghost use Rattle.he_command.specs.declared.limits.TheConstants.{LEAST_PORT};
 
 use crate::arguments::{file, flag, plain, port, port_of, resolver, resolver_of};
+use crate::limits::MOST_WAIT;
 use crate::numbers::{SettingFault, changes_of, set, timeout};
-use clap::{Arg, ArgMatches, Command};
+use clap::{Arg, ArgMatches, Command, value_parser};
 use he_addr::Family;
-use he_connect::Families;
+use he_connect::{DEFAULT_WAIT, Families};
 use he_resolver::Choice;
 use he_timeline::Changes;
 use std::alloc::{AllocError, Global};
@@ -30,6 +31,9 @@ const TIMEOUT_HELP: &str =
 const SET_HELP: &str =
     "A setting of the race, as attempt=100; else attempt=250, resolution=50, count=1, limit=30000 and floor=10 hold. May be given more than once";
 
+const WAIT_HELP: &str =
+    "How long to wait for standard input once the remote has closed its side, in milliseconds; 500 where it isn't given";
+
 const LINES_HELP: &str = "A file of source, route and policy lines, in place of this machine's own";
 
 const RECORD_HELP: &str = "Writes the race as a timeline text to the file, for `he replay`";
@@ -43,8 +47,8 @@ HOST is looked up, for both families at once, and its addresses are tried as RFC
 says, each a little after the one before; the first connection is kept and the others are
 closed. What standard input has goes into the connection, and what comes from it to
 standard output. The end of standard input ends the sending alone. It ends once the
-remote has ended, and standard input gave nothing for half a second; or once standard
-output takes no more.
+remote has ended, and standard input gave nothing for half a second (--wait); or once
+standard output takes no more.
 
 Examples:
 
@@ -80,6 +84,7 @@ fn args<'a>(alloc: Global) -> Result<Vec<Arg<'a>>, AllocError> {
         flag(alloc, "try", TRY_HELP).short('z'),
         timeout(alloc, TIMEOUT_HELP),
         set(alloc, SET_HELP),
+        wait(alloc),
         file(alloc, "lines", LINES_HELP).long("host"),
         resolver(alloc),
         file(alloc, "record", RECORD_HELP).long("record"),
@@ -95,6 +100,15 @@ fn host<'a>(alloc: Global) -> Arg<'a> {
         .value_name("HOST")
         .required(true)
         .help(HOST_HELP)
+}
+
+// How long standard input is waited for behind the remote's end.
+fn wait<'a>(alloc: Global) -> Arg<'a> {
+    Arg::new(alloc, "wait")
+        .long("wait")
+        .value_name("MS")
+        .value_parser(value_parser!(u32).range(0..=i64::from(MOST_WAIT)))
+        .help(WAIT_HELP)
 }
 
 // Whether IPv6 addresses alone are tried.
@@ -122,6 +136,8 @@ pub struct Options<'a> {
     pub explains: bool,
     pub tells_steps: bool,
     pub only_tries: bool,
+    /// How long standard input is waited for once the remote has ended its way, in milliseconds.
+    pub wait: u32,
 }
 
 // What the line asks for.
@@ -139,6 +155,7 @@ pub(crate) fn options_of<'a>(matches: &ArgMatches<'a>) -> Options<'a>
         explains: matches.get_flag("explain"),
         tells_steps: matches.get_flag("verbose"),
         only_tries: matches.get_flag("try"),
+        wait: matches.get_one::<u32>("wait").unwrap_or(DEFAULT_WAIT),
     }
 }
 

@@ -8,6 +8,9 @@ pub const DEFAULT_WORKERS: u16 = 4;
 /// The least port that a connection can be made to.
 pub const LEAST_PORT: u16 = 1;
 
+/// The longest that standard input is waited for behind the remote's end, in milliseconds.
+pub const MOST_WAIT: u32 = 3_600_000;
+
 /// The most files of a line: more than any system takes.
 pub const MOST_FILES: usize = 4_294_967_296;
 

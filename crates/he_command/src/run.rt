@@ -16,7 +16,7 @@ use crate::system::{System, columns_of};
 use crate::tasks::run_texts;
 use clap::Error;
 use clap::error::ErrorKind;
-use he_connect::{Asked, ConnectFault, DEFAULT_WAIT, Ended, Lines, connect};
+use he_connect::{Asked, ConnectFault, Ended, Lines, connect};
 use he_host::machine::write_machine;
 use he_inputs::StreamFault;
 use he_live::{FailedAttempt, LiveFault, Told, first_local, live, write_failures};
@@ -291,7 +291,7 @@ where
         explains: options.explains,
         tells_steps: options.tells_steps,
         only_tries: options.only_tries,
-        wait: DEFAULT_WAIT,
+        wait: options.wait,
     };
     report_connection(
         connect(rt, alloc, &asked, input, output, faults),
