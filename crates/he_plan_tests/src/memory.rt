@@ -4,7 +4,7 @@ use crate::hosts::{HostKind, builder};
 use he_addr::{Family, Ip, Memory};
 use he_plan::{Attempt, Line, Transcript, interlace, plan, transcript_of};
 use he_timeline::{BuildFault, Outcome, Settings, Timeline, TimelineBuilder};
-use refusing::{Refusing, refused_in_turn};
+use refusing::{MOST_RUNS, Refusing};
 use std::mem::drop;
 
 // 2001:db8:1::1 and so on: so many that nine are tried before the A answer comes.
@@ -174,9 +174,23 @@ fn is_well<'h>(
     Some(is_built(heap, wanted)? && are_answered(heap, wanted, transcript))
 }
 
+// As `refused_in_turn` of `refusing`, to which no closure can be given that borrows a timeline over the heap: the
+// toolchain's borrow checker does not cover one.
 fn refused_over<'h>(heap: &'h Refusing, wanted: &Timeline<&'h Refusing>) -> Option<u64> {
     let transcript = transcript_of(heap, wanted).ok()?;
-    refused_in_turn(heap, || is_well(heap, wanted, &transcript))
+    for refused in 0..MOST_RUNS {
+        heap.refuse(refused + 1);
+        let answer = is_well(heap, wanted, &transcript);
+        let has_refused = heap.has_refused();
+        heap.refuse(0);
+        if !answer.unwrap_or(has_refused) {
+            return None;
+        }
+        if !has_refused {
+            return Some(refused);
+        }
+    }
+    None
 }
 
 fn refused(heap: &Refusing) -> Option<u64> {
