@@ -13,7 +13,8 @@ SEED ?= 1
 
 define HELP
 make race                  replays an example race, with the program unproved: the fastest way to see a transcript
-make race RACE=FILE        replays the races of a file the same way
+make race RACE='FILE ..'   replays the races of files the same way, with one build for all; a program that was built
+                           and proved is taken as it is
 make test                  the gate (proves every crate, tries the wrong edits, runs the tests), and then tries the
                            built program as a whole: all of examples to fuzz below, in three minutes
 make edits                 tries the wrong edits that the gate leaves out: each must be refused
@@ -58,11 +59,14 @@ kit:
 program:
 	@test -x $(HE) || { echo 'make: no program $(HE): make install, and give HE=PREFIX/bin/he' >&2; exit 1; }
 
-race: kit
-	@test -r $(RACE) || { echo 'make: no file $(RACE)' >&2; exit 1; }
-	@echo 'builds the program with nothing proved, and runs it: a minute or two' >&2
-	@log=$$(mktemp); trap 'rm -f $$log' EXIT; \
-	(cd crates/he_tool && rt try -- replay < $(abspath $(RACE)) 2> $$log) || { status=$$?; cat $$log >&2; exit $$status; }
+# Several texts are replayed by one build; a program that was built and proved is taken as it is.
+race:
+	@for file in $(RACE); do test -r "$$file" || { echo "make: no file $$file" >&2; exit 1; }; done
+	@if [ -x '$(HE)' ]; then exec '$(HE)' replay $(RACE); fi; \
+	command -v rt > /dev/null || { echo 'make: no command rt: the kit is not installed, or not on the path' >&2; exit 1; }; \
+	echo 'builds the program with nothing proved, and runs it: a minute or two' >&2; \
+	log=$$(mktemp); trap 'rm -f $$log' EXIT; \
+	(cd crates/he_tool && cat $(abspath $(RACE)) | rt try -- replay 2> $$log) || { status=$$?; cat $$log >&2; exit $$status; }
 
 test: kit
 	scripts/gate
