@@ -10,8 +10,8 @@
 //!   trial.
 //! - [`RaceFuture`] is a race of attempts over a connector and a ticker: a future that gives [`Raced`], the
 //!   transcript of the race, its record as a timeline, and the winner's connection.
-//! - [`ResolvingRace`] is a race whose answers come while it runs, from an [`AnswerSource`]: each turn polls it once for
-//!   each family that has no answer, and what it tells counts as come at the turn's tick.
+//! - [`ResolvingRace`] is a race whose answers come while it runs, from an [`AnswerSource`]: each turn polls it once
+//!   for each family that has no answer, and what it tells counts as come at the turn's tick.
 //! - [`Scripted`] and [`WheelTicker`] are the connector and the ticker of a recorded race, [`race_one`] runs a race
 //!   over them to its transcript, and [`run_attempt`] drives one attempt to its fate.
 //!
@@ -50,11 +50,11 @@
 //! the tick after the last turn. In a turn the race records what it slept, polls each unfinished attempt once,
 //! records those that answered, ends where it is won, exhausted or at its limit, or else begins the attempt that is
 //! due; then it asks the ticker for the least tick at which anything can change. An attempt is due once the Connection
-//! Attempt Delay after the last start has passed, or the floor, where the settings have one and each attempt has failed
-//! by then: those that fail in this turn count.
+//! Attempt Delay after the last start has passed, or the floor, where the settings have one and each attempt has
+//! failed by then: those that fail in this turn count.
 //!
-//! A `ResolvingRace` takes the same turns, and in each of them, behind the pause and before the attempts, polls its source
-//! for each family that has no answer, IPv6 first. Of what the source tells, the family's addresses, each once and at
+//! A `ResolvingRace` takes the same turns, and in each of them, behind the pause and before the attempts, polls its
+//! source for each family that has no answer, IPv6 first. Of what the source tells, the family's addresses, each once and at
 //! most `MAX_ADDRESSES` of them, count as an answer that came at the turn's tick.
 //!
 //! ```text
@@ -96,9 +96,9 @@
 //! - What a `RaceFuture` gives replays, for every connector and ticker: its transcript is the one that the rules of
 //!   a race make of its record; the record has the given settings, policy, host and answers; and there is a winner's
 //!   connection exactly where the race was won (`Replays` in `specs/Turns.antt`).
-//! - What a `ResolvingRace` gives replays likewise, for every source too: the record has the given settings, policy, host
-//!   and history, each given answer, and of the other families what the source told, at the tick of the turn in which it
-//!   did; a family that has an answer isn't polled (`ReplaysGiven` and `HeardAt` in `specs/Resolving.antt`, `Hears` in
+//! - What a `ResolvingRace` gives replays likewise, for every source too: the record has the given settings, policy,
+//!   host and history, each given answer, and of the other families what the source told, at the tick of the turn in
+//!   which it did; a family that has an answer isn't polled (`ReplaysGiven` and `HeardAt` in `specs/Resolving.antt`, `Hears` in
 //!   `specs/Heard.antt`). One more answer changes nothing before its tick (`laws::one_more_answer_above`).
 //! - In a turn each unfinished attempt is polled once, with an answer and a new state that its trial's relation
 //!   allows; how one that answers ended is recorded, with the ticks since its start, and nothing else is; a pause is
