@@ -51,7 +51,8 @@ is_site_local_v6 n = agrees 128 n (0xfec0 * 2 ^ 112) 10
 -- the scope (RFC 6724 section 3.1)
 abbrev pub scope_of : Ip → ℕ
 scope_of (V4 n) = if is_link_local_v4 n then link_local_scope else global_scope
-scope_of (V6 n) = if is_link_local_v6 n then link_local_scope else if is_site_local_v6 n then site_local_scope else global_scope
+scope_of (V6 n) =
+    if is_link_local_v6 n then link_local_scope else if is_site_local_v6 n then site_local_scope else global_scope
 
 -- 224.0.0.0/4 (RFC 5771) and ff00::/8 (RFC 4291 section 2.7)
 abbrev pub is_multicast_v4 : ℕ → Bool

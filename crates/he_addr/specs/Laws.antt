@@ -17,7 +17,8 @@ abbrev pub SpellsOneAddress : Type 0
 SpellsOneAddress = (text : List ℕ) (a b : Ip) → Spells text a → Spells text b → a ≡ b
 
 abbrev pub SpellsOneSource : Type 0
-SpellsOneSource = (text : List ℕ) (a b : Ip) (m n : ℕ) → SpellsSource text a m → SpellsSource text b n → (a ≡ b) × (m ≡ n)
+SpellsOneSource =
+    (text : List ℕ) (a b : Ip) (m n : ℕ) → SpellsSource text a m → SpellsSource text b n → (a ≡ b) × (m ≡ n)
 
 abbrev pub SpellsOnePrefix : Type 0
 SpellsOnePrefix = (text : List ℕ) (p q : PrefixBits) → SpellsPrefix text p → SpellsPrefix text q → p ≡ q
@@ -30,7 +31,9 @@ abbrev pub PrintsOneSource : Type 0
 PrintsOneSource = (ip : Ip) (len : ℕ) (text : List ℕ) → IsPrintedSource ip len text → text ≡ source_text ip len
 
 abbrev pub PrintsOnePrefix : Type 0
-PrintsOnePrefix = (is_dotted : Bool) (prefix : PrefixBits) (text : List ℕ) → IsPrintedPrefix is_dotted prefix text → text ≡ prefix_text is_dotted prefix
+PrintsOnePrefix =
+    (is_dotted : Bool) (prefix : PrefixBits) (text : List ℕ) → IsPrintedPrefix is_dotted prefix text
+    → text ≡ prefix_text is_dotted prefix
 
 -- what is written spells what was written, and is read as it
 abbrev pub NumbersReadBack : Type 0
@@ -40,7 +43,9 @@ abbrev pub AddressesReadBack : Type 0
 AddressesReadBack = (ip : Ip) → InRange ip → Spells (printed ip) ip × (ip_in (printed ip) ≡ Some ip)
 
 abbrev pub SourcesReadBack : Type 0
-SourcesReadBack = (ip : Ip) (len : ℕ) → InRange ip → len ≤ width_of ip → SpellsSource (source_text ip len) ip len × (source_in (source_text ip len) ≡ Some (ip, len))
+SourcesReadBack =
+    (ip : Ip) (len : ℕ) → InRange ip → len ≤ width_of ip → SpellsSource (source_text ip len) ip len
+    × (source_in (source_text ip len) ≡ Some (ip, len))
 
 abbrev pub PrefixesReadBack : Type 0
 PrefixesReadBack = (is_dotted : Bool) (prefix : PrefixBits) → IsPrefix prefix.bits prefix.len
@@ -57,4 +62,6 @@ abbrev pub SourcesAreTokens : Type 0
 SourcesAreTokens = (ip : Ip) (len : ℕ) → InRange ip → len ≤ width_of ip → IsToken prefix_text_len (source_text ip len)
 
 abbrev pub PrefixesAreTokens : Type 0
-PrefixesAreTokens = (is_dotted : Bool) (prefix : PrefixBits) → IsPrefix prefix.bits prefix.len → IsToken prefix_text_len (prefix_text is_dotted prefix)
+PrefixesAreTokens =
+    (is_dotted : Bool) (prefix : PrefixBits) → IsPrefix prefix.bits prefix.len
+    → IsToken prefix_text_len (prefix_text is_dotted prefix)

@@ -55,8 +55,11 @@ IsPrintedSource ip len text = (address : List ℕ) × IsPrinted ip address × (t
 -- the address and the length that are printed for a prefix: in IPv4 form if that is asked for and it is one of IPv4
 -- addresses
 abbrev pub shown_as : Bool → PrefixBits → Ip × ℕ
-shown_as is_dotted prefix = if is_dotted && is_inside_mapped prefix then (V4 (prefix.bits % 2 ^ 32), prefix.len - mapped_len) else (V6 prefix.bits, prefix.len)
+shown_as is_dotted prefix =
+    if is_dotted && is_inside_mapped prefix then (V4 (prefix.bits % 2 ^ 32), prefix.len - mapped_len)
+    else (V6 prefix.bits, prefix.len)
 
 -- the text that is printed for a prefix
 abbrev pub IsPrintedPrefix : Bool → PrefixBits → List ℕ → Type 0
-IsPrintedPrefix is_dotted prefix text = IsPrintedSource (shown_as is_dotted prefix).0 (shown_as is_dotted prefix).1 text
+IsPrintedPrefix is_dotted prefix text =
+    IsPrintedSource (shown_as is_dotted prefix).0 (shown_as is_dotted prefix).1 text

@@ -13,7 +13,9 @@ zeros (g ∷ gs) = if g == 0 then zeros gs + 1 else 0
 
 -- of a run that begins here and the longest one behind it, the longer; this one if they are equally long
 abbrev pub longer : ℕ → ZeroGroups → ZeroGroups
-longer here behind = if nat_le behind.len here then record { start = 0; len = here } else record { start = behind.start + 1; len = behind.len }
+longer here behind =
+    if nat_le behind.len here then record { start = 0; len = here }
+    else record { start = behind.start + 1; len = behind.len }
 
 -- the first of the longest runs of zero groups
 abbrev pub longest : List ℕ → ZeroGroups
@@ -37,4 +39,6 @@ source_text ip len = printed ip ++ 47 ∷ decimal len
 
 -- the text of a prefix, in IPv4 form if that is asked for and it is one of IPv4 addresses
 abbrev pub prefix_text : Bool → PrefixBits → List ℕ
-prefix_text is_dotted prefix = if is_dotted && is_inside_mapped prefix then source_text (V4 (prefix.bits % 2 ^ 32)) (prefix.len - 96) else source_text (V6 prefix.bits) prefix.len
+prefix_text is_dotted prefix =
+    if is_dotted && is_inside_mapped prefix then source_text (V4 (prefix.bits % 2 ^ 32)) (prefix.len - 96)
+    else source_text (V6 prefix.bits) prefix.len

@@ -40,12 +40,17 @@ pub record Lawful (jobs races : ℕ) (words : List ℕ) (views : List View) : Ty
   pub few : races ≤ RACES
   -- the word of a job is 1 where exactly one view has taken it, and 0 where none has and none knows it to be taken;
   -- there is no other case
-  pub job_words : (job : ℕ) → (job < jobs → slice_index words (job_word job) ≡ 1) × TakenOnce views job ⊎ (job < jobs → slice_index words (job_word job) ≡ 0) × IsFree views job
+  pub job_words : (job : ℕ) → (job < jobs → slice_index words (job_word job) ≡ 1) × TakenOnce views job
+      ⊎ (job < jobs → slice_index words (job_word job) ≡ 0) × IsFree views job
   -- the word of a race is one of its offers, or `NO_OFFER` where there is none
-  pub winner_words : (race : ℕ) → race < races → IsOffered views race (slice_index words (winner_word race)) ⊎ (slice_index words (winner_word race) ≡ NO_OFFER) × IsUnoffered views race
+  pub winner_words : (race : ℕ) → race < races → IsOffered views race (slice_index words (winner_word race))
+      ⊎ (slice_index words (winner_word race) ≡ NO_OFFER) × IsUnoffered views race
   -- it is at most each offer and each value looked at
-  pub offers : (race : ℕ) → race < races → EachView views (λ v. (key : ℕ) → Contains v.offers (race, key) → slice_index words (winner_word race) ≤ key)
-  pub looked : (race : ℕ) → race < races → EachView views (λ v. (value : ℕ) → Contains v.looked (race, value) → slice_index words (winner_word race) ≤ value)
+  pub offers : (race : ℕ) → race < races
+      → EachView views (λ v. (key : ℕ) → Contains v.offers (race, key) → slice_index words (winner_word race) ≤ key)
+  pub looked : (race : ℕ) → race < races
+      → EachView views
+      (λ v. (value : ℕ) → Contains v.looked (race, value) → slice_index words (winner_word race) ≤ value)
   pub keys : EachView views (λ v. (race key : ℕ) → Contains v.offers (race, key) → key < NO_OFFER)
   -- no part is lost, and a view without parts is empty
   pub parts : total (λ v. v.parts) views ≡ PARTS

@@ -38,27 +38,62 @@ blank parts = record { parts = parts; taken = []; known = []; offers = []; looke
 
 -- the job is taken by this pass, and so known to be taken
 abbrev pub taking : ℕ → View → View
-taking job v = record { parts = v.parts; taken = v.taken ++ job ∷ []; known = v.known ++ job ∷ []; offers = v.offers; looked = v.looked }
+taking job v =
+    record {
+      parts = v.parts;
+      taken = v.taken ++ job ∷ [];
+      known = v.known ++ job ∷ [];
+      offers = v.offers;
+      looked = v.looked;
+    }
 
 -- the job is known to be taken
 abbrev pub knowing : ℕ → View → View
-knowing job v = record { parts = v.parts; taken = v.taken; known = v.known ++ job ∷ []; offers = v.offers; looked = v.looked }
+knowing job v =
+    record { parts = v.parts; taken = v.taken; known = v.known ++ job ∷ []; offers = v.offers; looked = v.looked }
 
 -- the value of a winner word is looked at
 abbrev pub looking : ℕ → ℕ → View → View
-looking race value v = record { parts = v.parts; taken = v.taken; known = v.known; offers = v.offers; looked = v.looked ++ (race, value) ∷ [] }
+looking race value v =
+    record {
+      parts = v.parts;
+      taken = v.taken;
+      known = v.known;
+      offers = v.offers;
+      looked = v.looked ++ (race, value) ∷ [];
+    }
 
 -- a key is offered to a winner word of this value
 abbrev pub offering : ℕ → ℕ → ℕ → View → View
-offering race key value v = record { parts = v.parts; taken = v.taken; known = v.known; offers = v.offers ++ (race, key) ∷ []; looked = v.looked ++ (race, min value key) ∷ [] }
+offering race key value v =
+    record {
+      parts = v.parts;
+      taken = v.taken;
+      known = v.known;
+      offers = v.offers ++ (race, key) ∷ [];
+      looked = v.looked ++ (race, min value key) ∷ [];
+    }
 
 -- the first pass of a fork, and the second
 abbrev pub kept : View → View
-kept v = record { parts = v.parts - v.parts / 2; taken = v.taken; known = v.known; offers = v.offers; looked = v.looked }
+kept v = record {
+  parts = v.parts - v.parts / 2;
+  taken = v.taken;
+  known = v.known;
+  offers = v.offers;
+  looked = v.looked;
+}
 
 abbrev pub given : View → View
 given v = blank (v.parts / 2)
 
 -- two passes made one
 abbrev pub joined : View → View → View
-joined v w = record { parts = v.parts + w.parts; taken = v.taken ++ w.taken; known = v.known ++ w.known; offers = v.offers ++ w.offers; looked = v.looked ++ w.looked }
+joined v w =
+    record {
+      parts = v.parts + w.parts;
+      taken = v.taken ++ w.taken;
+      known = v.known ++ w.known;
+      offers = v.offers ++ w.offers;
+      looked = v.looked ++ w.looked;
+    }

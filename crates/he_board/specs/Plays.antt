@@ -27,7 +27,8 @@ module _ {S : Type 0} where
 
   abbrev pub winner_loaded : Step S → Me S View → ℕ → Me S View → Type 0
   winner_loaded st m n m' = (race : ℕ) → st.word ≡ winner_word race
-      → (m'.0 ≡ looking race n m.0) × (m'.1 ≡ m.1) × IsAtMostNoted race n m.0 × (m.0.parts ≡ PARTS → IsDecided race n m.0)
+      → (m'.0 ≡ looking race n m.0) × (m'.1 ≡ m.1) × IsAtMostNoted race n m.0
+      × (m.0.parts ≡ PARTS → IsDecided race n m.0)
 
   abbrev pub winner_lowered : Step S → Me S View → ℕ → Me S View → Type 0
   winner_lowered st m n m' = (race : ℕ) → st.word ≡ winner_word race

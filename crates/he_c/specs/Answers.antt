@@ -65,7 +65,8 @@ abbrev pub put_front : List ℕ → List ℕ → List ℕ
 put_front text room = if nat_le (length text) (length room) then text ++ drop (length text) room else room
 
 -- the text was put into the room, and told with its fault
-pub record Leaves (text : List ℕ) (fault : Option InputFault) (old new : List ℕ) (told : CallDetails) (answer : ℕ) : Type 0 where
+pub record Leaves (text : List ℕ) (fault : Option InputFault) (old new : List ℕ) (told : CallDetails)
+    (answer : ℕ) : Type 0 where
   pub put : new ≡ put_front text old
   pub tells : told ≡ told_of text fault
   pub answers : answer ≡ answer_of old text fault

@@ -33,7 +33,8 @@ pub record IsOutput (IsText : List ℕ → Race → Type 0) (input text : List �
   pub told : AreTexts IsText races text
 
 -- what is left of the input's output
-pub record LeavesOutput (IsText : List ℕ → Race → Type 0) (input old new : List ℕ) (told : CallDetails) (answer : ℕ) : Type 0 where
+pub record LeavesOutput (IsText : List ℕ → Race → Type 0) (input old new : List ℕ) (told : CallDetails)
+    (answer : ℕ) : Type 0 where
   pub text : List ℕ
   pub fault : Option InputFault
   pub output : IsOutput IsText input text fault

@@ -28,10 +28,13 @@ bytes_of (families.V6 bits) = to_be_bytes w128 bits
 -- the numbers of an action; what it has not is 0
 abbrev pub ActsAs : Action → StepNumbers → Type 0
 ActsAs (actions.Start place tick ip) step =
-    (step.action ≡ START) × (step.place ≡ place) × (step.tick ≡ tick) × (step.family ≡ family_of ip) × (step.address ≡ bytes_of ip)
+    (step.action ≡ START) × (step.place ≡ place) × (step.tick ≡ tick) × (step.family ≡ family_of ip)
+    × (step.address ≡ bytes_of ip)
 ActsAs (actions.Wait tick) step = (step.action ≡ WAIT) × (step.place ≡ 0) × (step.tick ≡ tick) × (step.family ≡ 0)
-ActsAs (actions.Won place tick) step = (step.action ≡ WON) × (step.place ≡ place) × (step.tick ≡ tick) × (step.family ≡ 0)
-ActsAs (actions.Exhausted tick) step = (step.action ≡ EXHAUSTED) × (step.place ≡ 0) × (step.tick ≡ tick) × (step.family ≡ 0)
+ActsAs (actions.Won place tick) step =
+    (step.action ≡ WON) × (step.place ≡ place) × (step.tick ≡ tick) × (step.family ≡ 0)
+ActsAs (actions.Exhausted tick) step =
+    (step.action ≡ EXHAUSTED) × (step.place ≡ 0) × (step.tick ≡ tick) × (step.family ≡ 0)
 ActsAs (actions.Limit tick) step = (step.action ≡ LIMIT) × (step.place ≡ 0) × (step.tick ≡ tick) × (step.family ≡ 0)
 
 -- the numbers of a pause; both are 0 where there is none
@@ -41,10 +44,19 @@ PausesAs (Some pause) step = (step.pause_from ≡ pause.from) × (step.pause_unt
 
 -- no step is told
 abbrev pub no_step : StepNumbers
-no_step = record { action = 0; family = 0; place = 0; tick = 0; pause_from = 0; pause_until = 0; address = replicate 16 0 }
+no_step = record {
+  action = 0;
+  family = 0;
+  place = 0;
+  tick = 0;
+  pause_from = 0;
+  pause_until = 0;
+  address = replicate 16 0;
+}
 
 -- the numbers are those of the record's step
-pub record LeavesStep (record_text : List ℕ) (started now : ℕ) (numbers : StepNumbers) (told : CallDetails) : Type 0 where
+pub record LeavesStep (record_text : List ℕ) (started now : ℕ) (numbers : StepNumbers)
+    (told : CallDetails) : Type 0 where
   pub step : Step
   pub is : IsStep record_text started now step
   pub pauses : PausesAs step.pause numbers

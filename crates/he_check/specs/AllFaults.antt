@@ -39,11 +39,15 @@ told_at_end false = []
 -- the faults of the parts of a text that stands behind so many lines of an input
 abbrev pub AreFaultsBehind : Bool → ℕ → List ℕ → List InputFault → Type 0
 AreFaultsBehind is_broken lines text [] = (races : List Race) × HasRaces text is_broken races None
-AreFaultsBehind is_broken lines text (Read ∷ faults) = (races : List Race) × HasRaces text is_broken races (Some Read) × (faults ≡ [])
+AreFaultsBehind is_broken lines text (Read ∷ faults) =
+    (races : List Race) × HasRaces text is_broken races (Some Read) × (faults ≡ [])
 AreFaultsBehind is_broken lines text (Text fault ∷ faults) =
-    (races : List Race) × (found : TextFault) × (has : HasRaces text is_broken races (Some (Text found))) × (fault ≡ behind lines found)
+    (races : List Race) × (found : TextFault) × (has : HasRaces text is_broken races (Some (Text found)))
+    × (fault ≡ behind lines found)
     × ((IsLastRace has.rest × (faults ≡ told_at_end is_broken))
-    ⊎ ((at : ℕ) × IsNextRace has.rest at × AreFaultsBehind is_broken (lines + line_count has.before + line_count (take at has.rest)) (drop at has.rest) faults))
+    ⊎ ((at : ℕ) × IsNextRace has.rest at
+    × AreFaultsBehind is_broken (lines + line_count has.before + line_count (take at has.rest))
+    (drop at has.rest) faults))
 
 -- the faults of an input that are told
 abbrev pub AreFaults : List ℕ → Bool → List InputFault → Type 0
@@ -51,7 +55,8 @@ AreFaults input is_broken faults = AreFaultsBehind is_broken 0 input faults
 
 -- he: line N: WORD, and what is said of the fault, which ends in its clause
 abbrev pub fault_text : List ℕ → TextFault → List ℕ → List ℕ
-fault_text input fault said = codes "he: line " ++ (decimal fault.line ++ (codes ": " ++ (said ++ clause_text (hint_of input fault))))
+fault_text input fault said =
+    codes "he: line " ++ (decimal fault.line ++ (codes ": " ++ (said ++ clause_text (hint_of input fault))))
 
 abbrev pub read_text : List ℕ
 read_text = codes "he: cannot read the input" ++ 10 ∷ []
@@ -60,4 +65,5 @@ read_text = codes "he: cannot read the input" ++ 10 ∷ []
 abbrev pub AreSaid : List ℕ → List InputFault → List ℕ → Type 0
 AreSaid input [] text = text ≡ []
 AreSaid input (Read ∷ faults) text = (more : List ℕ) × (text ≡ read_text ++ more) × AreSaid input faults more
-AreSaid input (Text fault ∷ faults) text = (said : List ℕ) × (more : List ℕ) × (text ≡ fault_text input fault said ++ more) × AreSaid input faults more
+AreSaid input (Text fault ∷ faults) text =
+    (said : List ℕ) × (more : List ℕ) × (text ≡ fault_text input fault said ++ more) × AreSaid input faults more

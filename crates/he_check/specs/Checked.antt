@@ -10,7 +10,8 @@ use Rattle.he_check.specs.declared.input.Checked.{Checked}
 -- nothing is wrong with the input, and it has so many races and lines
 abbrev pub IsRight : List ℕ → Bool → Checked → Type 0
 IsRight input is_broken checked =
-    (races : List Race) × HasRaces input is_broken races None × (checked.races ≡ length races) × (checked.lines ≡ line_count input)
+    (races : List Race) × HasRaces input is_broken races None × (checked.races ≡ length races)
+    × (checked.lines ≡ line_count input)
 
 -- the first fault of the input, or memory was refused
 abbrev pub IsWrong : List ℕ → Bool → StreamFault → Type 0

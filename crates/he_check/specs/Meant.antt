@@ -33,7 +33,9 @@ is_ip_word word =
 unfoldable pub is_device : List ℕ → Bool
 is_device word =
     bytes_eq word (codes "lo") || (list_any is_ascii_digit word
-    && (begins (codes "eth") word || (begins (codes "en") word || (begins (codes "wl") word || (begins (codes "wg") word || begins (codes "tun") word)))))
+    && (begins (codes "eth") word
+    || (begins (codes "en") word
+    || (begins (codes "wl") word || (begins (codes "wg") word || begins (codes "tun") word)))))
 
 unfoldable pub as_ip_prints : List ℕ → Option Meant
 as_ip_prints word =
@@ -58,7 +60,8 @@ is_of_name byte = is_ascii_alphanumeric byte || has byte (codes "-_.")
 
 unfoldable pub is_name : List ℕ → Bool
 is_name word =
-    bytes_eq word (codes "localhost") || (has 46 word && (list_any is_ascii_alphabetic word && list_all is_of_name word))
+    bytes_eq word (codes "localhost")
+    || (has 46 word && (list_any is_ascii_alphabetic word && list_all is_of_name word))
 
 -- fe80::1%eth0, [2001:db8::1]:443, 192.0.2.1,192.0.2.2, a name
 unfoldable pub as_address : List ℕ → Option Meant
@@ -75,6 +78,10 @@ meant_of word = option_or (option_or (option_or (as_mark word) (as_ip_prints wor
 -- the first bytes of gzip, of zstd and of xz; of UTF-16, with its mark or with the first letter of `race`
 unfoldable pub input_meant : List ℕ → Option Meant
 input_meant input =
-    if begins (0x1F ∷ 0x8B ∷ []) input || (begins (0x28 ∷ 0xB5 ∷ 0x2F ∷ 0xFD ∷ []) input || begins (0xFD ∷ 0x37 ∷ 0x7A ∷ 0x58 ∷ 0x5A ∷ 0 ∷ []) input) then Some Packed
-    else if begins (0xFF ∷ 0xFE ∷ []) input || (begins (0xFE ∷ 0xFF ∷ []) input || (begins (114 ∷ 0 ∷ []) input || begins (0 ∷ 114 ∷ []) input)) then Some Wide
+    if begins (0x1F ∷ 0x8B ∷ []) input
+    || (begins (0x28 ∷ 0xB5 ∷ 0x2F ∷ 0xFD ∷ []) input || begins (0xFD ∷ 0x37 ∷ 0x7A ∷ 0x58 ∷ 0x5A ∷ 0 ∷ []) input)
+    then Some Packed
+    else if begins (0xFF ∷ 0xFE ∷ []) input
+    || (begins (0xFE ∷ 0xFF ∷ []) input || (begins (114 ∷ 0 ∷ []) input || begins (0 ∷ 114 ∷ []) input))
+    then Some Wide
     else None

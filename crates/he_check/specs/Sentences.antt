@@ -10,17 +10,22 @@ use Rattle.he_check.specs.declared.slips.Warning.{Warning}
 abbrev pub sentence_of : Slip → List ℕ
 sentence_of NoRace = codes "the input has no race: a race begins with the line `race 1` or `race 2`"
 sentence_of NoSource = codes "this race has no source line, so its host reaches no address: write its addresses, as `he host` does for this machine"
-sentence_of IdleFloor = codes "the floor of this race is its attempt delay, so it changes nothing: set a lower one, or none"
+sentence_of IdleFloor =
+    codes "the floor of this race is its attempt delay, so it changes nothing: set a lower one, or none"
 sentence_of (NoAnswer families.V6) = codes "this race has no aaaa line, so it can't be exhausted: for an answer without an address write `aaaa TICK none`"
-sentence_of (NoAnswer families.V4) = codes "this race has no a line, so it can't be exhausted: for an answer without an address write `a TICK none`"
+sentence_of (NoAnswer families.V4) =
+    codes "this race has no a line, so it can't be exhausted: for an answer without an address write `a TICK none`"
 sentence_of (LateAnswer families.V6) = codes "the aaaa answer of this race comes after its limit and is never seen: set a higher limit, or an earlier tick"
-sentence_of (LateAnswer families.V4) = codes "the a answer of this race comes after its limit and is never seen: set a higher limit, or an earlier tick"
+sentence_of (LateAnswer families.V4) =
+    codes "the a answer of this race comes after its limit and is never seen: set a higher limit, or an earlier tick"
 sentence_of (UnusableAnswer families.V6) = codes "no address of this race's aaaa line may be tried, as each is unspecified, multicast or in ::ffff:0:0/96: write others, or `none`"
-sentence_of (UnusableAnswer families.V4) = codes "no address of this race's a line may be tried, as each is unspecified or multicast: write others, or `none`"
+sentence_of (UnusableAnswer families.V4) =
+    codes "no address of this race's a line may be tried, as each is unspecified or multicast: write others, or `none`"
 
 -- he: line N: warning: SENTENCE
 abbrev pub warning_text : Warning → List ℕ
-warning_text warning = codes "he: line " ++ decimal warning.line ++ codes ": warning: " ++ sentence_of warning.slip ++ 10 ∷ []
+warning_text warning =
+    codes "he: line " ++ decimal warning.line ++ codes ": warning: " ++ sentence_of warning.slip ++ 10 ∷ []
 
 abbrev pub meaning_of : Meant → List ℕ
 meaning_of Comment = codes "a text has no comments: leave out `#` and what follows it"
@@ -29,9 +34,11 @@ meaning_of Capitals = codes "words are written in small letters"
 meaning_of Zone = codes "an address has no zone: leave out `%` and what follows it, as source and route lines have the interface's number"
 meaning_of Brackets = codes "an address stands without brackets, and without a port"
 meaning_of Comma = codes "no comma stands between two addresses, but a single space, and none in a number"
-meaning_of Name = codes "names are not looked up here: write the addresses, which `he names NAME` finds, or see `he connect`"
+meaning_of Name =
+    codes "names are not looked up here: write the addresses, which `he names NAME` finds, or see `he connect`"
 meaning_of DefaultRoute = codes "`default` is written as the prefix 0.0.0.0/0 or ::/0"
-meaning_of IpOutput = codes "`ip` prints this: `he host` writes the addresses and routes of this machine as lines of a race"
+meaning_of IpOutput =
+    codes "`ip` prints this: `he host` writes the addresses and routes of this machine as lines of a race"
 meaning_of Device = codes "an interface is its number, which `ip address` prints before its name"
 meaning_of Unit = codes "a number has no unit: times are in milliseconds"
 meaning_of Sign = codes "a number has no sign"

@@ -30,7 +30,8 @@ are_unusable (ip ∷ ips) = not (list_any is_usable (ip ∷ ips))
 abbrev pub answer_slips : Family → ℕ → Option Reply → List Slip
 answer_slips family limit None = NoAnswer family ∷ []
 answer_slips family limit (Some reply) =
-    slip_if (nat_lt limit reply.tick) (LateAnswer family) ++ slip_if (are_unusable reply.addresses) (UnusableAnswer family)
+    slip_if (nat_lt limit reply.tick) (LateAnswer family)
+    ++ slip_if (are_unusable reply.addresses) (UnusableAnswer family)
 
 -- a race without a source stands first; the others in the order of its lines
 abbrev pub slips_of : Race → List Slip

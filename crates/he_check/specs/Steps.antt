@@ -78,7 +78,8 @@ pub record IsNextPart (part next : RestOfInput) : Type 0 where
 
 abbrev pub FindsFirst : Bool → RestOfInput → Option (RestOfInput × InputFault) → Type 0
 FindsFirst is_broken part None = (races : List Race) × HasRaces part.text.now is_broken races None
-FindsFirst is_broken part (Some (faulty, fault)) = IsFirst is_broken part faulty fault × EndsText part.text.now part.lines faulty
+FindsFirst is_broken part (Some (faulty, fault)) =
+    IsFirst is_broken part faulty fault × EndsText part.text.now part.lines faulty
 
 -- the faults of what is left
 abbrev pub AreLeft : Bool → Option RestOfInput → List InputFault → Type 0
@@ -105,7 +106,8 @@ SaysOf false input is_broken (checks.Text fault) old new = EndsInClause input fa
 SaysOf is_all input is_broken fault old new = new ≡ old
 
 -- the first faults of what was left are told, and these parts are left
-pub record HasTold (input : List ℕ) (is_broken : Bool) (old new : Option RestOfInput) (old_text new_text : List ℕ) : Type 0 where
+pub record HasTold (input : List ℕ) (is_broken : Bool) (old new : Option RestOfInput)
+    (old_text new_text : List ℕ) : Type 0 where
   pub faults : List InputFault
   pub text : List ℕ
   pub longer : new_text ≡ old_text ++ text

@@ -21,7 +21,8 @@ counted n one many = decimal n ++ (if n == 1 then one else many)
 -- N races, M lines
 abbrev pub report_text : Checked → List ℕ
 report_text checked =
-    counted checked.races (codes " race, ") (codes " races, ") ++ counted checked.lines (codes " line" ++ 10 ∷ []) (codes " lines" ++ 10 ∷ [])
+    counted checked.races (codes " race, ") (codes " races, ")
+    ++ counted checked.lines (codes " line" ++ 10 ∷ []) (codes " lines" ++ 10 ∷ [])
 
 -- the input was given, whole or up to where it broke off, and nothing is wrong with it: it has so many races and lines
 pub record FindsRight (Given : List ℕ → Bool → Type 0) (checked : Checked) : Type 0 where
@@ -39,11 +40,14 @@ pub record FindsWrong (Given : List ℕ → Bool → Type 0) (fault : StreamFaul
 
 -- Given: what the input gave, and whether it broke off after that; Whole and RestOfInput: the text of which all was
 -- put into the output and then flushed, or a first part until that failed; Kept: nothing was put into the output
-abbrev pub Checks : (List ℕ → Bool → Type 0) → (List ℕ → Type 0) → (List ℕ → Type 0) → Type 0 → Result (Unit {0}) StreamFault → Type 0
-Checks Given Whole RestOfInput Kept (Ok done) = (checked : Checked) × FindsRight Given checked × Whole (report_text checked)
+abbrev pub Checks : (List ℕ → Bool → Type 0) → (List ℕ → Type 0) → (List ℕ → Type 0) → Type 0
+    → Result (Unit {0}) StreamFault → Type 0
+Checks Given Whole RestOfInput Kept (Ok done) =
+    (checked : Checked) × FindsRight Given checked × Whole (report_text checked)
 Checks Given Whole RestOfInput Kept (Err (Text fault)) = FindsWrong Given (Text fault) × Kept
 Checks Given Whole RestOfInput Kept (Err Read) = FindsWrong Given Read × Kept
-Checks Given Whole RestOfInput Kept (Err Write) = (checked : Checked) × FindsRight Given checked × RestOfInput (report_text checked)
+Checks Given Whole RestOfInput Kept (Err Write) =
+    (checked : Checked) × FindsRight Given checked × RestOfInput (report_text checked)
 Checks Given Whole RestOfInput Kept (Err Memory) = Kept
 
 -- the input was given, whole or up to where it broke off, and its warnings are told behind what stood there

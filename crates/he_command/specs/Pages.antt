@@ -18,14 +18,17 @@ page_task = Write Section 1
 
 -- the head was put, and behind it what is written of the texts; or a first part of the head, or nothing for want of
 -- memory, and then nothing was read
-abbrev pub FillsPage : {I F P : Type 0} → inputs.Ghosts I → inputs.Ghosts F → outputs.Ghosts P → ChangeValues → List (Bor (List ℕ)) → I → I → P → P → ℕ → Type 0
+abbrev pub FillsPage : {I F P : Type 0} → inputs.Ghosts I → inputs.Ghosts F → outputs.Ghosts P → ChangeValues
+    → List (Bor (List ℕ)) → I → I → P → P → ℕ → Type 0
 FillsPage {I} {F} {P} input file page changes files first last before after status =
     ((between : P) × TookAll page before between head_text
-    × RunsTexts (RunsText page page_task changes (has_headings files)) input file files first last between after status)
+    × RunsTexts
+    (RunsText page page_task changes (has_headings files)) input file files first last between after status)
     ⊎ ((status ≡ FAULT) × (last ≡ first) × (TookPart page before after head_text ⊎ (after ≡ before)))
 
 -- that was done in a file that was opened for it, or it can't be
-abbrev pub MakesPage : {I F P : Type 0} → inputs.Ghosts I → inputs.Ghosts F → outputs.Ghosts P → ChangeValues → List (Bor (List ℕ)) → I → I → ℕ → Type 0
+abbrev pub MakesPage : {I F P : Type 0} → inputs.Ghosts I → inputs.Ghosts F → outputs.Ghosts P → ChangeValues
+    → List (Bor (List ℕ)) → I → I → ℕ → Type 0
 MakesPage {I} {F} {P} input file page changes files first last status =
     ((opened : P) × (closed : P) × FillsPage input file page changes files first last opened closed status)
     ⊎ ((status ≡ FAULT) × (last ≡ first))

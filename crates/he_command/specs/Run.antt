@@ -41,7 +41,8 @@ abbrev pub IsUsage : ErrorKind → Type 0
 IsUsage kind = (kind ≢ kinds.DisplayHelp) × (kind ≢ kinds.DisplayVersion) × (kind ≢ kinds.OutOfMemory)
 
 -- what comes of a line that asks for no action
-pub record AnswersLine {O : Type 0} (output : outputs.Ghosts O) (kind : ErrorKind) (before after : O) (status : ℕ) : Type 0 where
+pub record AnswersLine {O : Type 0} (output : outputs.Ghosts O) (kind : ErrorKind) (before after : O)
+    (status : ℕ) : Type 0 where
   pub memory : kind ≡ kinds.OutOfMemory → (status ≡ FAULT) × (after ≡ before)
   pub help : IsHelp kind → Shows output before after status
   pub usage : IsUsage kind → (status ≡ USAGE) × (after ≡ before)
@@ -61,7 +62,8 @@ abbrev pub RunsNames : {O : Type 0} → outputs.Ghosts O → Option Choice → O
 RunsNames output None before after status = (status ≡ USAGE) × (after ≡ before)
 RunsNames output (Some choice) before after status =
     (result : Result (Unit {0}) TellFault)
-    × TellsNames (TookAll output before after) (TookPart output before after) (after ≡ before) result × (status ≡ status_of result)
+    × TellsNames (TookAll output before after) (TookPart output before after) (after ≡ before) result
+    × (status ≡ status_of result)
 
 -- the status tells how a live race ended, or that its record could not be written to the file that was named
 abbrev pub TellsRace : LiveOptions → Told → Result Outcome3 LiveFault → ℕ → Type 0
@@ -70,10 +72,12 @@ TellsRace options told result status =
     ⊎ (IsSome options.record × (told.record.items ≢ []) × (status ≡ FAULT))
 
 -- a live race was run with these changes
-abbrev pub RunsRace : {I O : Type 0} → inputs.Ghosts I → outputs.Ghosts O → LiveOptions → ChangeValues → I → I → O → O → ℕ → Type 0
+abbrev pub RunsRace : {I O : Type 0} → inputs.Ghosts I → outputs.Ghosts O → LiveOptions → ChangeValues → I → I → O → O
+    → ℕ → Type 0
 RunsRace input output options changes first last before after status =
     (result : Result Outcome3 LiveFault) × (told : Told)
-    × Lives (Gave input first last) (TookAll output before after) (TookPart output before after) (after ≡ before) changes told result
+    × Lives (Gave input first last) (TookAll output before after) (TookPart output before after)
+    (after ≡ before) changes told result
     × TellsRace options told result status
 
 -- what comes of a live race that is asked for: a setting is none, or out of its range, and the line is refused; or it
@@ -89,13 +93,20 @@ RunsLive input output options first last before after status =
 abbrev pub connect_settings : ChangeValues → SettingValues
 connect_settings given =
     changed_settings given
-    (record { resolution = DEFAULT_RESOLUTION; attempt = DEFAULT_ATTEMPT; count = DEFAULT_COUNT; limit = DEFAULT_LIMIT; floor = Some MIN_FLOOR })
+    (record {
+      resolution = DEFAULT_RESOLUTION;
+      attempt = DEFAULT_ATTEMPT;
+      count = DEFAULT_COUNT;
+      limit = DEFAULT_LIMIT;
+      floor = Some MIN_FLOOR;
+    })
 
 -- a connection with these settings was made and relayed, or not
 abbrev pub RunsConnection : {O : Type 0} → outputs.Ghosts O → Options → SettingValues → O → O → ℕ → Type 0
 RunsConnection output options settings before after status =
     (result : Result Ended ConnectFault)
-    × Connects (Ran settings options.families) (TookRounds output before after) (TookRoundsPart output before after) (after ≡ before) result
+    × Connects (Ran settings options.families) (TookRounds output before after) (TookRoundsPart output before after)
+    (after ≡ before) result
     × (status ≡ status_of_connection result)
 
 -- what comes of a connection that is asked for: an option has no value that it may have, and the line is refused; or
@@ -110,10 +121,13 @@ RunsConnect output options first last before after status =
 
 -- what was asked for was done, and the status tells how that ended; or a setting is none, or out of its range, and the
 -- line is refused. file, page: what is known of the files that are read, and of one that is written
-abbrev pub RunsRequest : {I F P O : Type 0} → inputs.Ghosts I → inputs.Ghosts F → outputs.Ghosts P → outputs.Ghosts O → Request → I → I → O → O → ℕ → Type 0
+abbrev pub RunsRequest : {I F P O : Type 0} → inputs.Ghosts I → inputs.Ghosts F → outputs.Ghosts P → outputs.Ghosts O
+    → Request → I → I → O → O → ℕ → Type 0
 RunsRequest input file page output (Texts task texts) first last before after status =
     MatchResult texts.changes
-    (λ changes. RunsTexts (RunsText output task changes (has_headings texts.files.items)) input file texts.files.items first last before after status)
+    (λ changes. RunsTexts
+    (RunsText output task changes
+    (has_headings texts.files.items)) input file texts.files.items first last before after status)
     (λ _. IsRefused first last before after status)
 RunsRequest input file page output (Page path texts) first last before after status =
     MatchOption path
@@ -125,12 +139,19 @@ RunsRequest input file page output (Summary form texts) first last before after 
     MatchResult texts.changes
     (λ changes. Summarizes input file output form changes texts.files.items first last before after status)
     (λ _. IsRefused first last before after status)
-RunsRequest input file page output (Live options) first last before after status = RunsLive input output options first last before after status
-RunsRequest input file page output Host first last before after status = (last ≡ first) × Shows output before after status
-RunsRequest input file page output (Names host resolver) first last before after status = (last ≡ first) × RunsNames output resolver before after status
-RunsRequest input file page output (Connect options) first last before after status = RunsConnect output options first last before after status
+RunsRequest input file page output (Live options) first last before after status =
+    RunsLive input output options first last before after status
+RunsRequest input file page output Host first last before after status =
+    (last ≡ first) × Shows output before after status
+RunsRequest input file page output (Names host resolver) first last before after status =
+    (last ≡ first) × RunsNames output resolver before after status
+RunsRequest input file page output (Connect options) first last before after status =
+    RunsConnect output options first last before after status
 
 -- what comes of a line: what it asks for was done; or it asks for nothing that is done, and nothing is read
-abbrev pub RunsLine : {I F P O : Type 0} → inputs.Ghosts I → inputs.Ghosts F → outputs.Ghosts P → outputs.Ghosts O → Result Request Error → I → I → O → O → ℕ → Type 0
-RunsLine input file page output (Ok request) first last before after status = RunsRequest input file page output request first last before after status
-RunsLine input file page output (Err error) first last before after status = (last ≡ first) × AnswersLine output (kind_of error) before after status
+abbrev pub RunsLine : {I F P O : Type 0} → inputs.Ghosts I → inputs.Ghosts F → outputs.Ghosts P → outputs.Ghosts O
+    → Result Request Error → I → I → O → O → ℕ → Type 0
+RunsLine input file page output (Ok request) first last before after status =
+    RunsRequest input file page output request first last before after status
+RunsLine input file page output (Err error) first last before after status =
+    (last ≡ first) × AnswersLine output (kind_of error) before after status

@@ -19,13 +19,15 @@ use Rattle.he_command.specs.declared.run.TheConstants.{DONE, FAULT}
 -- so many inputs more can be summed; there are no sums where there was no memory for them
 abbrev pub MayAddAll : Option Sums → ℕ → Type 0
 MayAddAll None inputs = ⊥
-MayAddAll (Some sums) inputs = (races : List Raced) × HasSummed sums races × (length races + most_races * inputs ≤ 2 ^ 50)
+MayAddAll (Some sums) inputs =
+    (races : List Raced) × HasSummed sums races × (length races + most_races * inputs ≤ 2 ^ 50)
 
 -- the races of a text were added, up to its first fault; or there was no memory for them, and there are no sums from
 -- here on
 abbrev pub AddsText : ChangeValues → OfText (Option Sums)
 AddsText changes name I input first last (Some old) (Some new) status =
-    (result : Result (Unit {0}) StreamFault) × Adds changes (Gave input first last) old new result × (result ≢ Err Memory)
+    (result : Result (Unit {0}) StreamFault) × Adds changes (Gave input first last) old new result
+    × (result ≢ Err Memory)
     × (status ≡ status_of result)
 AddsText changes name I input first last (Some old) None status = status ≡ FAULT
 AddsText changes name I input first last None (Some new) status = ⊥
@@ -40,7 +42,8 @@ PutsSummary output form sums before after status =
 
 -- the texts were added up to the first that has a fault, and their summary was put. Adding: what comes of that, by the
 -- sums before and behind it and by the status
-pub record IsSummedUp {O : Type 0} (output : outputs.Ghosts O) (form : Form) (Adding : Option Sums → Option Sums → ℕ → Type 0) (before after : O) (status : ℕ) : Type 0 where
+pub record IsSummedUp {O : Type 0} (output : outputs.Ghosts O) (form : Form)
+    (Adding : Option Sums → Option Sums → ℕ → Type 0) (before after : O) (status : ℕ) : Type 0 where
   pub first : Sums
   pub last : Sums
   pub none : HasSummed first []
@@ -51,12 +54,15 @@ pub record IsSummedUp {O : Type 0} (output : outputs.Ghosts O) (form : Form) (Ad
   pub status_is : ((added ≡ DONE) × (status ≡ put)) ⊎ ((added ≢ DONE) × (status ≡ added))
 
 -- that, or there was no memory
-abbrev pub SumsUp : {O : Type 0} → outputs.Ghosts O → Form → (Option Sums → Option Sums → ℕ → Type 0) → O → O → ℕ → Type 0
+abbrev pub SumsUp : {O : Type 0} → outputs.Ghosts O → Form → (Option Sums → Option Sums → ℕ → Type 0) → O → O → ℕ
+    → Type 0
 SumsUp output form Adding before after status =
     ((status ≡ FAULT) × (after ≡ before)) ⊎ IsSummedUp output form Adding before after status
 
 -- that, or there are too many files, and the line is refused
-abbrev pub Summarizes : {I F O : Type 0} → inputs.Ghosts I → inputs.Ghosts F → outputs.Ghosts O → Form → ChangeValues → List (Bor (List ℕ)) → I → I → O → O → ℕ → Type 0
+abbrev pub Summarizes : {I F O : Type 0} → inputs.Ghosts I → inputs.Ghosts F → outputs.Ghosts O → Form → ChangeValues
+    → List (Bor (List ℕ)) → I → I → O → O → ℕ → Type 0
 Summarizes input file output form changes files first last before after status =
     ((MOST_FILES < length files) × IsRefused first last before after status)
-    ⊎ ((length files ≤ MOST_FILES) × SumsUp output form (RunsTexts (AddsText changes) input file files first last) before after status)
+    ⊎ ((length files ≤ MOST_FILES)
+    × SumsUp output form (RunsTexts (AddsText changes) input file files first last) before after status)

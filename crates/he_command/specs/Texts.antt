@@ -26,12 +26,14 @@ HasTaskWorkers (Check is_all) = Unit {0}
 
 -- what comes of a text, each of whose races has these changes of its settings, where its input went from the first to
 -- the last state, and the output from before to after. That a check tells all faults, or the first, is no part of it
-abbrev pub RunsTask : {I O : Type 0} → inputs.Ghosts I → outputs.Ghosts O → Task → ChangeValues → I → I → O → O → Result (Unit {0}) StreamFault → Type 0
+abbrev pub RunsTask : {I O : Type 0} → inputs.Ghosts I → outputs.Ghosts O → Task → ChangeValues → I → I → O → O
+    → Result (Unit {0}) StreamFault → Type 0
 RunsTask input output (Write content workers) changes first last before after =
     Replays content changes (Gave input first last) (GaveSoFar input first last)
     (TookToTheEnd output before after) (TookRoundsPart output before after) (TookRounds output before after)
 RunsTask input output Compare changes first last before after =
-    Compares changes (Gave input first last) (TookAll output before after) (TookPart output before after) (after ≡ before)
+    Compares changes (Gave input first last) (TookAll output before after) (TookPart output before after)
+    (after ≡ before)
 RunsTask input output (Check is_all) changes first last before after =
     Checks (Gave input first last) (TookAll output before after) (TookPart output before after) (after ≡ before)
 
@@ -75,9 +77,11 @@ LacksHeading output None before after = ⊥
 LacksHeading output (Some text) before after = TookPart output before after text ⊎ (after ≡ before)
 
 -- the task was done behind the heading; or there was a fault in that, and nothing was read
-abbrev pub RunsHeaded : {I O : Type 0} → inputs.Ghosts I → outputs.Ghosts O → Task → ChangeValues → Option (List ℕ) → I → I → O → O → Result (Unit {0}) StreamFault → Type 0
+abbrev pub RunsHeaded : {I O : Type 0} → inputs.Ghosts I → outputs.Ghosts O → Task → ChangeValues → Option (List ℕ) → I
+    → I → O → O → Result (Unit {0}) StreamFault → Type 0
 RunsHeaded {I} {O} input output task changes text first last before after result =
-    ((between : O) × HasHeading output text before between × RunsTask input output task changes first last between after result)
+    ((between : O) × HasHeading output text before between
+    × RunsTask input output task changes first last between after result)
     ⊎ ((fault : StreamFault) × (result ≡ Err fault) × (last ≡ first) × LacksHeading output text before after)
 
 -- what comes of a text that has this name, if it has one, by the states of its input and of what it is worked into,
@@ -89,26 +93,31 @@ OfText S = Option (Bor (List ℕ)) → (I : Type 0) → inputs.Ghosts I → I �
 abbrev pub RunsText : {O : Type 0} → outputs.Ghosts O → Task → ChangeValues → Bool → OfText O
 RunsText output task changes headed name I input first last before after status =
     (result : Result (Unit {0}) StreamFault)
-    × RunsHeaded input output task changes (heading task headed name) first last before after result × (status ≡ status_of result)
+    × RunsHeaded input output task changes (heading task headed name) first last before after result
+    × (status ≡ status_of result)
 
 abbrev pub RunsWork : {O : Type 0} → outputs.Ghosts O → Work → OfText O
 RunsWork output work = RunsText output work.task work.changes work.has_headings
 
 -- what comes of a name: `-` is the input; another is a file, which gave a text, or which can't be opened
-abbrev pub RunsFile : {I F S : Type 0} → OfText S → inputs.Ghosts I → inputs.Ghosts F → Bor (List ℕ) → I → I → S → S → ℕ → Type 0
+abbrev pub RunsFile : {I F S : Type 0} → OfText S → inputs.Ghosts I → inputs.Ghosts F → Bor (List ℕ) → I → I → S → S
+    → ℕ → Type 0
 RunsFile {I} {F} Runs input file name first last before after status =
     ((name.now ≡ codes "-") × Runs (Some name) I input first last before after status)
     ⊎ ((name.now ≢ codes "-") × (last ≡ first)
-    × (((opened : F) × (closed : F) × Runs (Some name) F file opened closed before after status) ⊎ ((after ≡ before) × (status ≡ FAULT))))
+    × (((opened : F) × (closed : F) × Runs (Some name) F file opened closed before after status)
+    ⊎ ((after ≡ before) × (status ≡ FAULT))))
 
 -- what comes of files, one after the other: all was done, or there was a fault in one and those behind it are left out
 abbrev pub RunsFiles : {N I S : Type 0} → (N → I → I → S → S → ℕ → Type 0) → List N → I → I → S → S → ℕ → Type 0
 RunsFiles Runs [] first last before after status = (last ≡ first) × (after ≡ before) × (status ≡ DONE)
 RunsFiles {N} {I} {S} Runs (name ∷ more) first last before after status =
     ((status ≢ DONE) × Runs name first last before after status)
-    ⊎ ((next : I) × (between : S) × Runs name first next before between DONE × RunsFiles Runs more next last between after status)
+    ⊎ ((next : I) × (between : S) × Runs name first next before between DONE
+    × RunsFiles Runs more next last between after status)
 
 -- what comes of the texts that a line names; of that of the input where it names no file
-abbrev pub RunsTexts : {I F S : Type 0} → OfText S → inputs.Ghosts I → inputs.Ghosts F → List (Bor (List ℕ)) → I → I → S → S → ℕ → Type 0
+abbrev pub RunsTexts : {I F S : Type 0} → OfText S → inputs.Ghosts I → inputs.Ghosts F → List (Bor (List ℕ)) → I → I
+    → S → S → ℕ → Type 0
 RunsTexts {I} Runs input file [] = Runs None I input
 RunsTexts Runs input file (name ∷ more) = RunsFiles (RunsFile Runs input file) (name ∷ more)

@@ -21,11 +21,13 @@ abbrev pub AreCompared : ChangeValues → ℕ → ℕ → List Race → List ℕ
 AreCompared changes before lines [] text told = (text ≡ []) × (told ≡ [])
 AreCompared changes before lines (race ∷ races) text told =
     (first : List ℕ) × (more : List ℕ) × (compared : Compared) × (later : List Compared)
-    × (text ≡ first ++ more) × (told ≡ compared ∷ later) × IsRaceText first race × IsCompared changes race (before + 1) (lines + 1) compared
+    × (text ≡ first ++ more) × (told ≡ compared ∷ later) × IsRaceText first race
+    × IsCompared changes race (before + 1) (lines + 1) compared
     × AreCompared changes (before + 1) (lines + line_count first) races more later
 
 -- the races of the input up to its first fault, compared
-pub record HasCompared (changes : ChangeValues) (input : List ℕ) (is_broken : Bool) (fault : Option InputFault) (told : List Compared) : Type 0 where
+pub record HasCompared (changes : ChangeValues) (input : List ℕ) (is_broken : Bool) (fault : Option InputFault)
+    (told : List Compared) : Type 0 where
   pub races : List Race
   pub has : HasRaces input is_broken races fault
   pub front : List ℕ

@@ -32,10 +32,12 @@ pub record MayCount (counts : Counts) : Type 0 where
 -- the race is told behind those that were told before
 abbrev pub TellsRace : {A : Type 0} → ChangeValues → Race → ℕ → ℕ → ComparedRaces A → ComparedRaces A → Type 0
 TellsRace changes race number line old new =
-    (told : List Compared) → HasTold old told → (compared : Compared) × IsCompared changes race number line compared × HasTold new (told ++ compared ∷ [])
+    (told : List Compared) → HasTold old told → (compared : Compared) × IsCompared changes race number line compared
+    × HasTold new (told ++ compared ∷ [])
 
 -- how far the reader has come whose races are told
-pub record HasRead {A : Type 0} (changes : ChangeValues) (input : List ℕ) (reader : RaceReader) (kept : ComparedRaces A) : Type 0 where
+pub record HasRead {A : Type 0} (changes : ChangeValues) (input : List ℕ) (reader : RaceReader)
+    (kept : ComparedRaces A) : Type 0 where
   pub races : List Race
   pub told : List Compared
   pub passed : HasPassed input 0 0 races reader
@@ -45,13 +47,17 @@ pub record HasRead {A : Type 0} (changes : ChangeValues) (input : List ℕ) (rea
   pub has : HasTold kept told
 
 -- how the reading ends
-abbrev pub EndsReading : {A : Type 0} → ChangeValues → List ℕ → Bool → ComparedRaces A → Result (Unit {0}) RaceReaderFault → Type 0
-EndsReading changes input is_broken kept (Ok done) = (told : List Compared) × HasCompared changes input is_broken None told × HasTold kept told
-EndsReading changes input is_broken kept (Err (readers.Input fault)) = (told : List Compared) × HasCompared changes input is_broken (Some fault) told × HasTold kept told
+abbrev pub EndsReading : {A : Type 0} → ChangeValues → List ℕ → Bool → ComparedRaces A
+    → Result (Unit {0}) RaceReaderFault → Type 0
+EndsReading changes input is_broken kept (Ok done) =
+    (told : List Compared) × HasCompared changes input is_broken None told × HasTold kept told
+EndsReading changes input is_broken kept (Err (readers.Input fault)) =
+    (told : List Compared) × HasCompared changes input is_broken (Some fault) told × HasTold kept told
 EndsReading changes input is_broken kept (Err readers.Memory) = ⊤
 
 -- one race more is told, or the reader ends
-abbrev pub TellsNext : {A : Type 0} → ChangeValues → List ℕ → Bool → RaceReader → RaceReader → ComparedRaces A → Result Bool RaceReaderFault → Type 0
+abbrev pub TellsNext : {A : Type 0} → ChangeValues → List ℕ → Bool → RaceReader → RaceReader → ComparedRaces A
+    → Result Bool RaceReaderFault → Type 0
 TellsNext changes input is_broken old new kept (Ok true) = HasRead changes input new kept × (old.end < new.end)
 TellsNext changes input is_broken old new kept (Ok false) = EndsReading changes input is_broken kept (Ok (record {}))
 TellsNext changes input is_broken old new kept (Err fault) = EndsReading changes input is_broken kept (Err fault)

@@ -8,7 +8,8 @@ use Rattle.he_inputs.specs.declared.stream_fault.StreamFault.{StreamFault}
 use Rattle.he_inputs.specs.declared.stream_fault.StreamFault.TheVariants.{Text, Read, Write, Memory}
 
 -- the input was given, whole or up to where it broke off, and this was done with what is told of it, up to this fault
-pub record Tells (changes : ChangeValues) (Given : List ℕ → Bool → Type 0) (Done : List ℕ → Type 0) (fault : Option InputFault) : Type 0 where
+pub record Tells (changes : ChangeValues) (Given : List ℕ → Bool → Type 0) (Done : List ℕ → Type 0)
+    (fault : Option InputFault) : Type 0 where
   pub input : List ℕ
   pub is_broken : Bool
   pub text : List ℕ
@@ -18,7 +19,8 @@ pub record Tells (changes : ChangeValues) (Given : List ℕ → Bool → Type 0)
 
 -- Given: what the input gave, and whether it broke off after that; Whole and Part: the text of which all was put into
 -- the output and then flushed, or a first part until that failed; Kept: nothing was put into the output
-abbrev pub Compares : ChangeValues → (List ℕ → Bool → Type 0) → (List ℕ → Type 0) → (List ℕ → Type 0) → Type 0 → Result (Unit {0}) StreamFault → Type 0
+abbrev pub Compares : ChangeValues → (List ℕ → Bool → Type 0) → (List ℕ → Type 0) → (List ℕ → Type 0) → Type 0
+    → Result (Unit {0}) StreamFault → Type 0
 Compares changes Given Whole Part Kept (Ok done) = Tells changes Given Whole None
 Compares changes Given Whole Part Kept (Err (Text fault)) = Tells changes Given Whole (Some (inputs.Text fault))
 Compares changes Given Whole Part Kept (Err Read) = Tells changes Given Whole (Some inputs.Read)

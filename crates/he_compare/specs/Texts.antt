@@ -31,7 +31,8 @@ by_text (Some ip) = codes " by " ++ printed ip
 
 -- won after TICK ms by ADDRESS, exhausted after TICK ms, or given up at its limit after TICK ms
 abbrev pub ending_text : List Line → Outcome3 → List ℕ
-ending_text lines (Won place tick) = (codes "won after " ++ (decimal tick ++ codes " ms")) ++ by_text (address_at place lines)
+ending_text lines (Won place tick) =
+    (codes "won after " ++ (decimal tick ++ codes " ms")) ++ by_text (address_at place lines)
 ending_text lines (Exhausted tick) = codes "exhausted after " ++ (decimal tick ++ codes " ms")
 ending_text lines (Limit tick) = codes "given up at its limit after " ++ (decimal tick ++ codes " ms")
 
@@ -51,7 +52,8 @@ abbrev pub line_text : Compared → List ℕ
 line_text race =
     codes "race " ++ (decimal race.number ++ (codes ", line " ++ (decimal race.line ++ (codes ": "
     ++ (ending_text race.stands.lines race.stands.result ++ (codes "; with the changes "
-    ++ (ending_text race.changed.lines race.changed.result ++ (codes ", " ++ (verdict_text (verdict_on race) ++ codes "\n")))))))))
+    ++ (ending_text race.changed.lines race.changed.result
+    ++ (codes ", " ++ (verdict_text (verdict_on race) ++ codes "\n")))))))))
 
 abbrev pub races_text : ℕ → List ℕ
 races_text races = decimal races ++ (if races == 1 then codes " race: " else codes " races: ")
@@ -63,19 +65,23 @@ abbrev pub counts_text : Counts → List ℕ
 counts_text counts =
     races_text counts.races
     ++ (counted counts.sooner (codes " sooner, ") ++ (counted counts.later (codes " later, ")
-    ++ (counted counts.same (codes " at the same time, ") ++ (counted counts.only_with (codes " won only with the changes, ")
-    ++ (counted counts.only_without (codes " won only without them, ") ++ counted counts.neither (codes " not won either way"))))))
+    ++ (counted counts.same (codes " at the same time, ")
+    ++ (counted counts.only_with (codes " won only with the changes, ")
+    ++ (counted counts.only_without (codes " won only without them, ")
+    ++ counted counts.neither (codes " not won either way"))))))
 
 -- the median and the greatest of the differences, which are in order
 abbrev pub spread_text : List ℕ → List ℕ
 spread_text sorted =
     if length sorted == 0
     then codes "; no race was won both ways\n"
-    else (codes "; difference where both won: median " ++ counted (median sorted) (codes " ms, greatest ")) ++ counted (greatest sorted) (codes " ms\n")
+    else (codes "; difference where both won: median " ++ counted (median sorted) (codes " ms, greatest "))
+    ++ counted (greatest sorted) (codes " ms\n")
 
 -- a line for each race, in their order, and one with the sums: the differences of the races that are won both ways are
 -- sorted for it
 abbrev pub IsTold : List Compared → List ℕ → Type 0
 IsTold races text =
-    (sorted : List ℕ) × IsPermutation (filter_map difference_of (map verdict_on races)) sorted × IsSorted nat_cmp sorted
+    (sorted : List ℕ) × IsPermutation (filter_map difference_of (map verdict_on races)) sorted
+    × IsSorted nat_cmp sorted
     × (text ≡ flat_map line_text races ++ (counts_text (counts_of (map verdict_on races)) ++ spread_text sorted))

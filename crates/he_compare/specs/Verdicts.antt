@@ -54,7 +54,16 @@ is_neither _ = false
 -- how many races have each verdict
 abbrev pub counts_of : List Verdict → Counts
 counts_of verdicts =
-    record { races = length verdicts; sooner = count_by is_sooner verdicts; later = count_by is_later verdicts; same = count_by is_same verdicts; only_with = count_by is_only_with verdicts; only_without = count_by is_only_without verdicts; neither = count_by is_neither verdicts }
+    record {
+      races = length verdicts;
+      sooner = count_by is_sooner verdicts;
+      later = count_by is_later verdicts;
+      same = count_by is_same verdicts;
+      only_with = count_by is_only_with verdicts;
+      only_without =
+          count_by is_only_without verdicts;
+      neither = count_by is_neither verdicts;
+    }
 
 -- of numbers in order, at least one: the middle one, or, where they are even in number, the middle between the two
 -- middle ones, rounded down

@@ -48,9 +48,11 @@ IsExplained true recorded text = Tells 1 1 recorded [] text
 IsExplained false recorded text = text ≡ []
 
 -- RanTo: a race was run, and won or not; Put, PutPart and Kept as `Relays` has them
-abbrev pub Connects : (Bool → Type 0) → (List ℕ → Type 0) → (List ℕ → Type 0) → Type 0 → Result Ended ConnectFault → Type 0
+abbrev pub Connects : (Bool → Type 0) → (List ℕ → Type 0) → (List ℕ → Type 0) → Type 0 → Result Ended ConnectFault
+    → Type 0
 Connects RanTo Put PutPart Kept (Ok ends.Relayed) = RanTo true × (bytes : List ℕ) × Put bytes
 Connects RanTo Put PutPart Kept (Ok ends.Connected) = RanTo true × Kept
 Connects RanTo Put PutPart Kept (Ok ends.NoConnection) = RanTo false × Kept
 Connects RanTo Put PutPart Kept (Err fault) =
-    (IsBefore fault × Kept) ⊎ ((broken : RelayFault) × (fault ≡ faults.Relay broken) × RanTo true × Relays Put PutPart Kept (Err broken))
+    (IsBefore fault × Kept)
+    ⊎ ((broken : RelayFault) × (fault ≡ faults.Relay broken) × RanTo true × Relays Put PutPart Kept (Err broken))

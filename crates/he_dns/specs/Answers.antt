@@ -32,12 +32,14 @@ IsStranger message id name family = (flags answers at : ℕ) → Responds messag
 -- the response says itself that it has no answer
 abbrev pub Fails : List ℕ → ℕ → List ℕ → Family → AnswerFault → Type 0
 Fails message id name family fault =
-    (flags : ℕ) × (answers : ℕ) × (at : ℕ) × Responds message id name family flags answers at × (flags_fault flags ≡ Some fault)
+    (flags : ℕ) × (answers : ℕ) × (at : ℕ) × Responds message id name family flags answers at
+    × (flags_fault flags ≡ Some fault)
 
 -- it is a response without a fault, and its answer section isn't as many records as the header says
 abbrev pub IsMalformed : List ℕ → ℕ → List ℕ → Family → Type 0
 IsMalformed message id name family =
-    (flags : ℕ) × (answers : ℕ) × (at : ℕ) × Responds message id name family flags answers at × (flags_fault flags ≡ None)
+    (flags : ℕ) × (answers : ℕ) × (at : ℕ) × Responds message id name family flags answers at
+    × (flags_fault flags ≡ None)
     × ((entries : List Entry) → length entries ≡ answers → AreEntries message family at entries → ⊥)
 
 -- more aliases lead on from the name than are followed

@@ -38,7 +38,8 @@ addresses_of entries name = filter_map (address_for name) entries
 -- so many aliases lead from a name to another
 unfoldable pub Leads : List Entry → ℕ → List ℕ → List ℕ → Type 0
 Leads entries zero name other = name ≡ other
-Leads entries (suc count) name other = (target : List ℕ) × (alias_of entries name ≡ Some target) × Leads entries count target other
+Leads entries (suc count) name other =
+    (target : List ℕ) × (alias_of entries name ≡ Some target) × Leads entries count target other
 
 -- the host's own name: an alias of none, to which at most so many lead as are followed
 pub record IsCanonical (entries : List Entry) (name host : List ℕ) : Type 0 where

@@ -13,7 +13,8 @@ abbrev pub IsPartAt : List ℕ → ℕ → Part → Type 0
 IsPartAt message at Root = (at < length message) × (slice_index message at ≡ 0)
 IsPartAt message at (Label n) = (1 ≤ n) × (n ≤ max_label) × (at + n < length message) × (slice_index message at ≡ n)
 IsPartAt message at (Pointer to) =
-    (at + 1 < length message) × (192 ≤ slice_index message at) × (49152 + to ≡ slice_index message at * 256 + slice_index message (at + 1))
+    (at + 1 < length message) × (192 ≤ slice_index message at)
+    × (49152 + to ≡ slice_index message at * 256 + slice_index message (at + 1))
 
 -- The parts of a name from a place on, up to the root. A label is followed by what stands behind it, a pointer by what
 -- stands where it leads to: at an earlier place than `begin`, where the labels before it began.
@@ -21,7 +22,8 @@ abbrev pub AreParts : List ℕ → ℕ → ℕ → List Part → Type 0
 AreParts message begin at [] = ⊥
 AreParts message begin at (Root ∷ more) = IsPartAt message at Root × (more ≡ [])
 AreParts message begin at (Label n ∷ more) = IsPartAt message at (Label n) × AreParts message begin (at + (1 + n)) more
-AreParts message begin at (Pointer to ∷ more) = IsPartAt message at (Pointer to) × (to < begin) × AreParts message to to more
+AreParts message begin at (Pointer to ∷ more) =
+    IsPartAt message at (Pointer to) × (to < begin) × AreParts message to to more
 
 -- the labels among the parts, each behind its length
 abbrev pub octets_of : List ℕ → ℕ → List Part → List ℕ

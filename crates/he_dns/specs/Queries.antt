@@ -26,5 +26,6 @@ arcount_of (Some room) = 1
 -- labels the root's empty one follows, QTYPE and QCLASS IN (section 4.1.2). Then the additional section.
 abbrev pub query_of : ℕ → List ℕ → Family → Option ℕ → List ℕ
 query_of id name family room =
-    to_be_bytes w16 id ++ to_be_bytes w16 recursion_desired ++ 0 ∷ 1 ∷ 0 ∷ 0 ∷ 0 ∷ 0 ∷ [] ++ to_be_bytes w16 (arcount_of room)
+    to_be_bytes w16 id ++ to_be_bytes w16 recursion_desired ++ 0 ∷ 1 ∷ 0 ∷ 0 ∷ 0 ∷ 0 ∷ []
+    ++ to_be_bytes w16 (arcount_of room)
     ++ name ++ 0 ∷ [] ++ to_be_bytes w16 (type_of family) ++ to_be_bytes w16 class_in ++ additional_of room

@@ -30,7 +30,9 @@ o >>= f = option_and_then f o
 
 -- why a label is none, and the first of some that is
 abbrev pub label_fault : List ℕ → Option NameFault
-label_fault label = if length label == 0 then Some names.EmptyLabel else if nat_lt 63 (length label) then Some names.LongLabel else None
+label_fault label =
+    if length label == 0 then Some names.EmptyLabel else if nat_lt 63 (length label) then Some names.LongLabel
+    else None
 
 abbrev pub labels_fault : List (List ℕ) → Option NameFault
 labels_fault [] = None
@@ -41,7 +43,9 @@ unfoldable pub octet_at : List ℕ → ℕ → Option ℕ
 octet_at message at = if nat_lt at (length message) then Some (slice_index message at) else None
 
 unfoldable pub word_at : List ℕ → ℕ → Option ℕ
-word_at message at = if nat_lt (at + 1) (length message) then Some (slice_index message at * 256 + slice_index message (at + 1)) else None
+word_at message at =
+    if nat_lt (at + 1) (length message) then Some (slice_index message at * 256 + slice_index message (at + 1))
+    else None
 
 -- what stands at a place of a name
 unfoldable pub label_at : List ℕ → ℕ → ℕ → Option Part
@@ -82,7 +86,8 @@ name_at message at = name_from 255 message at at None []
 -- the header, and the place behind the question, of a response to this query
 unfoldable pub header_at : List ℕ → Option Header
 header_at message = if nat_lt (length message) 12 then None
-    else word_at message 0 >>= λ id. word_at message 2 >>= λ flags. word_at message 4 >>= λ questions. word_at message 6 >>= λ answers.
+    else word_at message 0 >>= λ id. word_at message 2 >>= λ flags. word_at message 4 >>=
+    λ questions. word_at message 6 >>= λ answers.
     Some (record { id = id; flags = flags; questions = questions; answers = answers })
 
 abbrev pub responds : Header → ℕ → Bool
@@ -90,7 +95,8 @@ responds header id = header.id == id && header.flags / 2048 == 16 && header.ques
 
 abbrev pub refusal_of : Header → ℕ → Option ℕ
 refusal_of header id =
-    if ((header.id == id && header.flags / 2048 == 16) && header.questions == 0) && not (header.flags % 16 == 0) && not (header.flags % 16 == 3)
+    if ((header.id == id && header.flags / 2048 == 16) && header.questions == 0) && not (header.flags % 16 == 0)
+    && not (header.flags % 16 == 3)
     then Some (header.flags % 16) else None
 
 unfoldable pub refusal_in : List ℕ → ℕ → Option ℕ
@@ -100,7 +106,8 @@ unfoldable pub lame_in : List ℕ → Bool
 lame_in message = option_map_or (λ header. is_lame_by header.flags) (header_at message) false
 
 unfoldable pub behind_question : List ℕ → List ℕ → Family → Option ℕ
-behind_question message name family = name_at message 12 >>= λ asked. word_at message asked.1 >>= λ kind. word_at message (asked.1 + 2) >>= λ class.
+behind_question message name family =
+    name_at message 12 >>= λ asked. word_at message asked.1 >>= λ kind. word_at message (asked.1 + 2) >>= λ class.
     if is_same asked.0 name && kind == type_of family && class == class_in then Some (asked.1 + 4) else None
 
 unfoldable pub response_in : List ℕ → ℕ → List ℕ → Family → Option (Header × ℕ)
@@ -109,14 +116,16 @@ response_in message id name family = header_at message >>= λ header.
 
 -- the record at a place
 unfoldable pub record_at : List ℕ → ℕ → Option Record
-record_at message at = name_at message at >>= λ owner. word_at message owner.1 >>= λ kind. word_at message (owner.1 + 2) >>= λ class.
+record_at message at =
+    name_at message at >>= λ owner. word_at message owner.1 >>= λ kind. word_at message (owner.1 + 2) >>= λ class.
     word_at message (owner.1 + 8) >>= λ size.
     if nat_lt (length message) (owner.1 + 10 + size) then None
     else Some (record { owner = owner.0; kind = kind; class = class; place = owner.1 + 10; size = size })
 
 -- what a record says
 unfoldable pub alias_at : List ℕ → ℕ → ℕ → Option Content
-alias_at message place size = name_at message place >>= λ target. if target.1 == place + size then Some (Alias target.0) else None
+alias_at message place size =
+    name_at message place >>= λ target. if target.1 == place + size then Some (Alias target.0) else None
 
 unfoldable pub address_of : List ℕ → Family → Option Content
 address_of octets families.V4 = if length octets == 4 then Some (Address (V4 (from_be_bytes w32 octets))) else None
@@ -137,12 +146,15 @@ entry_at message family at = record_at message at >>= λ r. content_of message f
 -- what so many records say from a place on
 unfoldable pub entries_from : ℕ → List ℕ → Family → ℕ → Option (List Entry)
 entries_from zero message family at = Some []
-entries_from (suc count) message family at = entry_at message family at >>= λ first. option_map (λ more. first.0 ∷ more) (entries_from count message family first.1)
+entries_from (suc count) message family at =
+    entry_at message family at >>=
+    λ first. option_map (λ more. first.0 ∷ more) (entries_from count message family first.1)
 
 -- the name at the end of the chain, where so many names may be looked up
 unfoldable pub chain_end : ℕ → List Entry → List ℕ → Result (List ℕ) AnswerFault
 chain_end zero entries name = Err faults.ChainTooLong
-chain_end (suc left) entries name = option_map_or (λ target. chain_end left entries target) (alias_of entries name) (Ok name)
+chain_end (suc left) entries name =
+    option_map_or (λ target. chain_end left entries target) (alias_of entries name) (Ok name)
 
 -- the addresses at the end of the chain
 abbrev pub addresses_at : List Entry → Result (List ℕ) AnswerFault → Result (List Ip) AnswerFault
@@ -154,11 +166,13 @@ chain_addresses entries name = addresses_at entries (chain_end 17 entries name)
 
 unfoldable pub section_addresses : List ℕ → Header → ℕ → List ℕ → Family → Result (List Ip) AnswerFault
 section_addresses message header at name family =
-    option_map_or (λ entries. chain_addresses entries name) (entries_from header.answers message family at) (Err faults.Malformed)
+    option_map_or (λ entries. chain_addresses entries name) (entries_from header.answers message family at)
+    (Err faults.Malformed)
 
 unfoldable pub answer_of : List ℕ → ℕ → List ℕ → Family → Result (List Ip) AnswerFault
 answer_of message id name family = option_map_or
-    (λ response. option_map_or (λ fault. Err fault) (flags_fault response.0.flags) (section_addresses message response.0 response.1 name family))
+    (λ response. option_map_or (λ fault. Err fault) (flags_fault response.0.flags)
+    (section_addresses message response.0 response.1 name family))
     (response_in message id name family) (Err faults.NotOurs)
 
 -- what a fault of the reading of an answer section tells of it

@@ -36,7 +36,8 @@ IsAddress family octets ip = ⊥
 -- 3.3.1); an address, if it is of the type of the family's addresses, and its RDATA is one; else nothing. Both of
 -- class IN.
 abbrev pub Says : List ℕ → Family → Record → Content → Type 0
-Says message family r (Alias target) = (r.class ≡ class_in) × (r.kind ≡ type_cname) × IsNameAt message r.place target (record_end r)
+Says message family r (Alias target) =
+    (r.class ≡ class_in) × (r.kind ≡ type_cname) × IsNameAt message r.place target (record_end r)
 Says message family r (Address ip) =
     (r.class ≡ class_in) × (r.kind ≡ type_of family) × IsAddress family (slice_range message r.place (record_end r)) ip
 Says message family r Other = r.class ≡ class_in → (r.kind ≡ type_cname) ⊎ (r.kind ≡ type_of family) → ⊥
@@ -52,4 +53,5 @@ pub record IsEntryAt (message : List ℕ) (family : Family) (at : ℕ) (entry : 
 -- what the records say that stand one behind the other from a place on
 abbrev pub AreEntries : List ℕ → Family → ℕ → List Entry → Type 0
 AreEntries message family at [] = Unit {0}
-AreEntries message family at (entry ∷ more) = (end : ℕ) × IsEntryAt message family at entry end × AreEntries message family end more
+AreEntries message family at (entry ∷ more) =
+    (end : ℕ) × IsEntryAt message family at entry end × AreEntries message family end more

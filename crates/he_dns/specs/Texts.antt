@@ -42,7 +42,8 @@ pub record SpellsName (text : List ℕ) (name : HostName) : Type 0 where
 -- a label that is none, with only labels before it
 abbrev pub IsFirstWrong : List (List ℕ) → (List ℕ → Type 0) → Type 0
 IsFirstWrong labels Wrong =
-    (before : List (List ℕ)) × (label : List ℕ) × (behind : List (List ℕ)) × (labels ≡ before ++ label ∷ behind) × AllByRecursion IsLabel before × Wrong label
+    (before : List (List ℕ)) × (label : List ℕ) × (behind : List (List ℕ)) × (labels ≡ before ++ label ∷ behind)
+    × AllByRecursion IsLabel before × Wrong label
 
 -- why a text spells no name
 abbrev pub HasNameFault : List ℕ → NameFault → Type 0

@@ -52,7 +52,8 @@ bar_text look (rows.Answered family tick usable) more = sign_text look signs.Ans
 bar_text look (rows.Waits from to usable) more = sign_text look signs.Answer ++ repeat more (sign_text look signs.Wait)
 bar_text look (rows.Missing family) more = codes " "
 bar_text look (rows.Paused from to) more = sign_text look signs.Pause ++ repeat more (sign_text look signs.Pause)
-bar_text look (rows.Tried line) more = repeat more (sign_text look signs.Attempt) ++ sign_text look (sign_of_mark line.mark)
+bar_text look (rows.Tried line) more =
+    repeat more (sign_text look signs.Attempt) ++ sign_text look (sign_of_mark line.mark)
 
 -- all columns of a row
 abbrev pub columns_text : Frame → Row → List ℕ
@@ -67,7 +68,9 @@ aligned_text frame row = label_text row ++ repeat (frame.label - length (label_t
 
 -- all columns between the edges, with the spaces beside these
 abbrev pub framed_text : Frame → Row → List ℕ
-framed_text frame row = codes " " ++ (sign_text frame.look signs.Edge ++ (columns_text frame row ++ (sign_text frame.look signs.Edge ++ codes " ")))
+framed_text frame row =
+    codes " "
+    ++ (sign_text frame.look signs.Edge ++ (columns_text frame row ++ (sign_text frame.look signs.Edge ++ codes " ")))
 
 -- LABEL |    BAR     | WORDS
 abbrev pub row_text : Frame → Row → List ℕ
@@ -77,7 +80,9 @@ row_text frame row = aligned_text frame row ++ (framed_text frame row ++ (words_
 abbrev pub scale_text : Frame → List ℕ
 scale_text frame =
     repeat frame.label (codes " ")
-    ++ (codes "  0" ++ (repeat (max (frame.columns - (length (decimal frame.end) + 4)) 1) (codes " ") ++ concat (decimal frame.end ∷ codes " ms\n" ∷ [])))
+    ++ (codes "  0"
+    ++ (repeat (max (frame.columns - (length (decimal frame.end) + 4)) 1) (codes " ")
+    ++ concat (decimal frame.end ∷ codes " ms\n" ∷ [])))
 
 unfoldable pub drawn_text : Frame → List Row → List ℕ
 drawn_text frame drawn = flat_map (row_text frame) drawn ++ scale_text frame

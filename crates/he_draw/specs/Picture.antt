@@ -26,4 +26,5 @@ pub record IsPicture (number line : ℕ) (look : Look) (width : ℕ) (drawn : Li
 
 -- the picture has been appended
 abbrev pub Draws : ℕ → ℕ → Look → ℕ → Race → List ℕ → List ℕ → Type 0
-Draws number line look width race old new = (text : List ℕ) × IsPicture number line look width text race × (new ≡ old ++ text)
+Draws number line look width race old new =
+    (text : List ℕ) × IsPicture number line look width text race × (new ≡ old ++ text)

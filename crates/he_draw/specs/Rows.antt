@@ -48,7 +48,8 @@ a_row race end None = rows.Missing families.V4
 a_row race end (Some a) =
     if nat_lt end (seen race a.tick) then rows.Missing families.V4
     else if is_waiting race a
-    then rows.Waits (seen race a.tick) (wait_end race (a.tick + race.settings.resolution) race.aaaa) (count_by is_usable a.addresses)
+    then rows.Waits (seen race a.tick) (wait_end race (a.tick + race.settings.resolution) race.aaaa)
+    (count_by is_usable a.addresses)
     else rows.Answered families.V4 (seen race a.tick) (count_by is_usable a.addresses)
 
 -- a pause, where it begins before the end
@@ -58,5 +59,6 @@ pause_rows end p = if nat_lt p.0 end then rows.Paused p.0 p.1 ∷ [] else []
 -- the answers, the pauses, and each attempt once, by place
 unfoldable pub rows_of : Race → Report → List Row
 rows_of race report =
-    (aaaa_row race (end_tick report.result) race.aaaa ∷ a_row race (end_tick report.result) race.a ∷ flat_map (pause_rows (end_tick report.result)) race.pauses)
+    (aaaa_row race (end_tick report.result) race.aaaa ∷ a_row race (end_tick report.result) race.a
+    ∷ flat_map (pause_rows (end_tick report.result)) race.pauses)
     ++ map rows.Tried report.lines

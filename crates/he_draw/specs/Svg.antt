@@ -26,7 +26,8 @@ bar_width end from to = x_of end to - x_of end from + 1
 -- a bar of a kind
 abbrev pub rect_text : List ℕ → ℕ → ℕ → ℕ → List ℕ
 rect_text kind end from to =
-    concat (codes "<rect class='" ∷ kind ∷ codes "' x='" ∷ decimal (x_of end from) ∷ codes "' y='7' width='" ∷ decimal (bar_width end from to) ∷ codes "' height='10'/>" ∷ [])
+    concat (codes "<rect class='" ∷ kind ∷ codes "' x='" ∷ decimal (x_of end from) ∷ codes "' y='7' width='"
+    ∷ decimal (bar_width end from to) ∷ codes "' height='10'/>" ∷ [])
 
 -- where an answer is seen
 abbrev pub circle_text : ℕ → ℕ → List ℕ
@@ -40,14 +41,16 @@ kind_of_mark (marks.Cancelled tick) = codes "cancelled"
 -- what became of an attempt, behind its bar
 abbrev pub mark_text : ℕ → Mark → List ℕ
 mark_text end mark =
-    concat (codes "<text x='" ∷ decimal (x_of end (stop_of_mark mark) + 4) ∷ codes "' y='17'>" ∷ unicode_text (sign_of_mark mark) ∷ codes "</text>" ∷ [])
+    concat (codes "<text x='" ∷ decimal (x_of end (stop_of_mark mark) + 4) ∷ codes "' y='17'>"
+    ∷ unicode_text (sign_of_mark mark) ∷ codes "</text>" ∷ [])
 
 abbrev pub shape_text : ℕ → Row → List ℕ
 shape_text end (rows.Answered family tick usable) = circle_text end tick
 shape_text end (rows.Waits from to usable) = rect_text (codes "wait") end from to ++ circle_text end from
 shape_text end (rows.Missing family) = []
 shape_text end (rows.Paused from to) = rect_text (codes "pause") end from to
-shape_text end (rows.Tried line) = rect_text (kind_of_mark line.mark) end line.tick (stop_of_mark line.mark) ++ mark_text end line.mark
+shape_text end (rows.Tried line) =
+    rect_text (kind_of_mark line.mark) end line.tick (stop_of_mark line.mark) ++ mark_text end line.mark
 
 abbrev pub row_opening : ℕ → List ℕ
 row_opening place = concat (codes "<g transform='translate(0 " ∷ decimal (top_of place) ∷ codes ")'>" ∷ [])
@@ -70,12 +73,15 @@ rows_svg end place (row ∷ more) = row_svg end place row ++ rows_svg end (place
 -- what begins an image of so many rows
 unfoldable pub opening_text : ℕ → List ℕ
 opening_text count =
-    concat (codes "<svg xmlns='http://www.w3.org/2000/svg' viewBox='-8 0 1056 " ∷ decimal (top_of count) ∷ codes "' font-family='monospace' font-size='12'>\n" ∷ [])
+    concat (codes "<svg xmlns='http://www.w3.org/2000/svg' viewBox='-8 0 1056 " ∷ decimal (top_of count)
+    ∷ codes "' font-family='monospace' font-size='12'>\n" ∷ [])
 
 -- the two edges of the time beside so many rows, and their ticks
 unfoldable pub edges_text : ℕ → ℕ → List ℕ
 edges_text end count =
-    concat (codes "<path d='M300 48V" ∷ decimal (top_of count) ∷ codes "M801 48V" ∷ decimal (top_of count) ∷ codes "'/>\n<text x='300' y='42'>0</text><text x='801' y='42' text-anchor='end'>" ∷ decimal end ∷ codes " ms</text>\n" ∷ [])
+    concat (codes "<path d='M300 48V" ∷ decimal (top_of count) ∷ codes "M801 48V" ∷ decimal (top_of count)
+    ∷ codes "'/>\n<text x='300' y='42'>0</text><text x='801' y='42' text-anchor='end'>" ∷ decimal end
+    ∷ codes " ms</text>\n" ∷ [])
 
 -- the colours, in a light and in a dark scheme; a wait is dotted, a pause is hatched, and attempts have their signs
 unfoldable pub style_text : List ℕ
@@ -122,4 +128,5 @@ pub record IsSvg (is_alone : Bool) (number line : ℕ) (drawn : List ℕ) (race 
 
 -- the image has been appended
 abbrev pub DrawsSvg : Bool → ℕ → ℕ → Race → List ℕ → List ℕ → Type 0
-DrawsSvg is_alone number line race old new = (text : List ℕ) × IsSvg is_alone number line text race × (new ≡ old ++ text)
+DrawsSvg is_alone number line race old new =
+    (text : List ℕ) × IsSvg is_alone number line text race × (new ≡ old ++ text)

@@ -36,7 +36,8 @@ abbrev pub range_text : ℕ → ℕ → List ℕ → List ℕ
 range_text from to what = concat (decimal from ∷ codes "-" ∷ decimal to ∷ what ∷ [])
 
 abbrev pub words_text : Row → List ℕ
-words_text (rows.Answered family tick usable) = concat (decimal tick ∷ codes " ms, " ∷ decimal usable ∷ codes " usable" ∷ [])
+words_text (rows.Answered family tick usable) =
+    concat (decimal tick ∷ codes " ms, " ∷ decimal usable ∷ codes " usable" ∷ [])
 words_text (rows.Waits from to usable) =
     concat (decimal from ∷ codes "-" ∷ decimal to ∷ codes " ms wait, " ∷ decimal usable ∷ codes " usable" ∷ [])
 words_text (rows.Missing family) = codes "none by the end"

@@ -40,7 +40,8 @@ last_failure race (x ∷ done) = max (failure_of race x) (last_failure race done
 abbrev pub floor_cause : Race → Attempt → ℕ → Attempt → Option ℕ → Cause
 floor_cause race last failed next None = AttemptDelay last.place race.settings.attempt
 floor_cause race last failed next (Some floor) =
-    if nat_lt (seen race (last.tick + floor)) next.tick && nat_lt (seen race failed) next.tick then LaterAnswer (family_of next.ip)
+    if nat_lt (seen race (last.tick + floor)) next.tick && nat_lt (seen race failed) next.tick
+    then LaterAnswer (family_of next.ip)
     else (if nat_lt (last.tick + floor) failed then LastFailure failed else Floor last.place floor)
 
 -- one that starts when that delay is over: the delay after the attempt before, unless it was over at an earlier tick

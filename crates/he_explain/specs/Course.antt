@@ -21,7 +21,8 @@ use Rattle.he_explain.specs.Reasons.{order_reasons_text}
 -- an event behind those of its tick and of earlier ones
 abbrev pub put_event : Event → List Event → List Event
 put_event event [] = event ∷ []
-put_event event (first ∷ more) = if nat_lt event.tick first.tick then event ∷ first ∷ more else first ∷ put_event event more
+put_event event (first ∷ more) =
+    if nat_lt event.tick first.tick then event ∷ first ∷ more else first ∷ put_event event more
 
 -- events put one after the other
 abbrev pub put_events : List Event → List Event → List Event
@@ -36,7 +37,8 @@ abbrev pub cause_text : Cause → List ℕ
 cause_text causes.AaaaAnswer = codes ", on the AAAA answer"
 cause_text causes.BothAnswers = codes ", on both answers"
 cause_text causes.ResolutionDelay = codes ", at the end of the Resolution Delay"
-cause_text (causes.AttemptDelay place delay) = (codes ", " ++ decimal delay) ++ (codes " after attempt " ++ decimal place)
+cause_text (causes.AttemptDelay place delay) =
+    (codes ", " ++ decimal delay) ++ (codes " after attempt " ++ decimal place)
 cause_text (causes.Floor place floor) =
     ((codes ", " ++ decimal floor) ++ (codes " after attempt " ++ decimal place)) ++ codes " as all have failed"
 cause_text (causes.LastFailure tick) = codes ", as all have failed"
@@ -54,7 +56,8 @@ turn_text turns.RunOut = codes ", the other family has run out"
 
 -- the place in the interlaced list, and whose turn it is there
 abbrev pub listed_text : Listed → List ℕ
-listed_text listed = ((codes ", listed at " ++ decimal listed.place) ++ (codes " of " ++ decimal listed.count)) ++ turn_text listed.turn
+listed_text listed =
+    ((codes ", listed at " ++ decimal listed.place) ++ (codes " of " ++ decimal listed.count)) ++ turn_text listed.turn
 
 -- attempt PLACE ADDRESS, CAUSE, LISTED
 abbrev pub start_text : Start → List ℕ

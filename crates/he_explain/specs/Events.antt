@@ -29,7 +29,8 @@ pause_events pauses = map (λ p. event_at p.0 (Paused p.1)) pauses
 -- an answer, when it is seen, with the number of its usable addresses
 abbrev pub answer_events : Race → Family → Option Reply → List Event
 answer_events race family None = []
-answer_events race family (Some reply) = event_at (seen race reply.tick) (Answered family (count_by is_usable reply.addresses)) ∷ []
+answer_events race family (Some reply) =
+    event_at (seen race reply.tick) (Answered family (count_by is_usable reply.addresses)) ∷ []
 
 -- the answer is seen by t
 abbrev pub is_seen_by : Race → ℕ → Option Reply → Bool
@@ -50,7 +51,8 @@ abbrev pub wait_events : Race → Option Reply → List Event
 wait_events race None = []
 wait_events race (Some a) =
     if is_waiting race a
-    then event_at (seen race a.tick) (Waits (a.tick + race.settings.resolution)) ∷ over_events race (seen race (a.tick + race.settings.resolution))
+    then event_at (seen race a.tick) (Waits (a.tick + race.settings.resolution))
+    ∷ over_events race (seen race (a.tick + race.settings.resolution))
     else []
 
 -- what the client meets: its pauses, the answers, and the wait for the AAAA answer
@@ -66,13 +68,22 @@ attempt_of line = record { place = line.place; tick = line.tick; ip = line.ip }
 abbrev pub start_event : Race → Option Attempt → ℕ → Attempt → Event
 start_event race last failed next =
     let cause = cause_of race last failed next in
-    event_at next.tick (Started (record { place = next.place; ip = next.ip; cause = cause; held = is_held race last cause next.tick; listed = listed_at race next.tick next.ip }))
+    event_at next.tick
+    (Started
+    (record {
+      place = next.place;
+      ip = next.ip;
+      cause = cause;
+      held = is_held race last cause next.tick;
+      listed = listed_at race next.tick next.ip;
+    }))
 
 -- the starts of attempts one after the other, behind the last one before them and the last failure
 abbrev pub start_events : Race → Option Attempt → ℕ → List Line → List Event
 start_events race last failed [] = []
 start_events race last failed (line ∷ lines) =
-    start_event race last failed (attempt_of line) ∷ start_events race (Some (attempt_of line)) (max failed (failure_of race (attempt_of line))) lines
+    start_event race last failed (attempt_of line)
+    ∷ start_events race (Some (attempt_of line)) (max failed (failure_of race (attempt_of line))) lines
 
 abbrev pub failed_by : ℕ → Mark → List Event
 failed_by place (marks.Failed tick) = event_at tick (Failed place) ∷ []

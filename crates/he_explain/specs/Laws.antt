@@ -35,13 +35,16 @@ OneRuleDecides = (input : SelectionInput) (a b : Member) → a.place ≢ b.place
 -- t; or it has none, and the later one of both is seen at t; or it is not seen by t, and there the Resolution Delay is
 -- over
 abbrev pub IsFirstBy : Race → ℕ → Cause → Type 0
-IsFirstBy race t AaaaAnswer = IsSomeAnd race.aaaa (λ r. IsTrue (list_any is_usable r.addresses) × (seen race r.tick ≡ t))
+IsFirstBy race t AaaaAnswer =
+    IsSomeAnd race.aaaa (λ r. IsTrue (list_any is_usable r.addresses) × (seen race r.tick ≡ t))
 IsFirstBy race t BothAnswers =
     IsSomeAnd race.aaaa (λ six. IsFalse (list_any is_usable six.addresses)
-    × IsSomeAnd race.a (λ four. IsTrue (list_any is_usable four.addresses) × (max (seen race six.tick) (seen race four.tick) ≡ t)))
+    × IsSomeAnd race.a
+    (λ four. IsTrue (list_any is_usable four.addresses) × (max (seen race six.tick) (seen race four.tick) ≡ t)))
 IsFirstBy race t ResolutionDelay =
     ¬ IsAnswered race t race.aaaa
-    × IsSomeAnd race.a (λ r. IsTrue (list_any is_usable r.addresses) × (seen race (r.tick + race.settings.resolution) ≡ t))
+    × IsSomeAnd race.a
+    (λ r. IsTrue (list_any is_usable r.addresses) × (seen race (r.tick + race.settings.resolution) ≡ t))
 IsFirstBy race t (AttemptDelay place delay) = ⊥
 IsFirstBy race t (Floor place floor) = ⊥
 IsFirstBy race t (LastFailure tick) = ⊥
@@ -51,7 +54,8 @@ IsFirstBy race t (LaterAnswer family) = ⊥
 -- Connection Attempt Delay has not
 abbrev pub IsByFloor : Race → List Attempt → ℕ → Attempt → ℕ → Type 0
 IsByFloor race done t last floor =
-    (race.settings.floor ≡ Some floor) × HaveFailed race done t × (last.tick + floor ≤ t) × (t < last.tick + race.settings.attempt)
+    (race.settings.floor ≡ Some floor) × HaveFailed race done t × (last.tick + floor ≤ t)
+    × (t < last.tick + race.settings.attempt)
 
 -- and of a later attempt: the Connection Attempt Delay after the last one is over at its tick; or it is not, but every
 -- attempt so far has failed, and the floor after the last one is over at that tick; or they have failed by that tick
@@ -71,7 +75,8 @@ IsLaterBy race done last next (LastFailure tick) =
 IsLaterBy race done last next (LaterAnswer family) =
     (family ≡ family_of next.ip) × IsSomeAnd (reply_of race family) (λ r. seen race r.tick ≡ next.tick)
     × ((t : ℕ) × IsFree race t × HasWaited race done t last × (t < next.tick))
-    × ((t : ℕ) → IsFree race t → HasWaited race done t last → t < next.tick → IsFalse (list_any (is_untried done) (received race t)))
+    × ((t : ℕ) → IsFree race t → HasWaited race done t last → t < next.tick
+    → IsFalse (list_any (is_untried done) (received race t)))
 
 abbrev pub IsCausedBy : Race → List Attempt → Option Attempt → Attempt → Cause → Type 0
 IsCausedBy race done None next cause = IsFirstBy race next.tick cause
@@ -99,13 +104,16 @@ names_failures _ = false
 -- and at the first tick at which the client could act and the last one had been waited for
 abbrev pub FloorsStand : Type 0
 FloorsStand =
-    (race : Race) → IsRace race → (done : List Attempt) (last next : Attempt) → last_of done ≡ Some last → IsNext race done next
+    (race : Race) → IsRace race → (done : List Attempt) (last next : Attempt) → last_of done ≡ Some last
+    → IsNext race done next
     → IsTrue (names_failures (cause_of race (Some last) (last_failure race done) next))
-    ↔ ((next.tick < last.tick + race.settings.attempt) × ((t : ℕ) → IsFree race t → HasWaited race done t last → next.tick ≤ t))
+    ↔ ((next.tick < last.tick + race.settings.attempt)
+    × ((t : ℕ) → IsFree race t → HasWaited race done t last → next.tick ≤ t))
 
 -- the address stands at this place of the list, and those before it were tried
 abbrev pub IsFirstUntried : List Attempt → List Ip → ℕ → Ip → Type 0
-IsFirstUntried done list place ip = (slice_get list place ≡ Some ip) × IsTrue (list_all (is_tried done) (take place list))
+IsFirstUntried done list place ip =
+    (slice_get list place ≡ Some ip) × IsTrue (list_all (is_tried done) (take place list))
 
 -- so it is at the place that is told of an attempt
 abbrev pub PlacesStand : Type 0
@@ -123,8 +131,11 @@ CourseStands =
 abbrev pub AreStarts : Race → List Attempt → List Event → Type 0
 AreStarts race done [] = Unit {0}
 AreStarts race done (event ∷ more) =
-    (next : Attempt) × IsNext race done next × (event ≡ start_event race (last_of done) (last_failure race done) next) × AreStarts race (done ++ next ∷ []) more
+    (next : Attempt) × IsNext race done next × (event ≡ start_event race (last_of done) (last_failure race done) next)
+    × AreStarts race (done ++ next ∷ []) more
 
 -- so are the starts of a course
 abbrev pub StartsStand : Type 0
-StartsStand = (race : Race) (report : Report) → IsTranscript race report → AreStarts race [] (start_events race None 0 report.lines)
+StartsStand =
+    (race : Race) (report : Report) → IsTranscript race report
+    → AreStarts race [] (start_events race None 0 report.lines)

@@ -28,7 +28,8 @@ turn_at count ips place =
     else (if beq (is_v6_at ips (place - 1)) (is_v6_at ips place) then RunOut else InTurn)
 
 abbrev pub listed_in : ℕ → List Ip → Ip → Listed
-listed_in count ips ip = record { place = place_in ip ips; count = length ips; turn = turn_at count ips (place_in ip ips) }
+listed_in count ips ip =
+    record { place = place_in ip ips; count = length ips; turn = turn_at count ips (place_in ip ips) }
 
 -- of an attempt at t: in the interlaced list of all that is received by then, tried ones included
 abbrev pub listed_at : Race → ℕ → Ip → Listed

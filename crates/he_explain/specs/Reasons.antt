@@ -55,7 +55,8 @@ compared_text rules.MatchingLabel earlier later =
 compared_text rules.HigherPrecedence earlier later = after_text later.precedence earlier.precedence
 compared_text rules.NativeTransport earlier later = []
 compared_text rules.SmallerScope earlier later = after_text later.scope earlier.scope
-compared_text rules.LowerRoundTripTime earlier later = (codes ": " ++ rtt_text later.rtt) ++ (codes " after " ++ rtt_text earlier.rtt)
+compared_text rules.LowerRoundTripTime earlier later =
+    (codes ": " ++ rtt_text later.rtt) ++ (codes " after " ++ rtt_text earlier.rtt)
 compared_text rules.UsedBefore earlier later = []
 compared_text rules.LongestPrefix earlier later = after_text later.common earlier.common
 compared_text rules.Unchanged earlier later = []
@@ -72,7 +73,8 @@ with_source_text (Some labelled) = codes " source " ++ printed labelled.source.i
 
 -- order PLACE ADDRESS source SOURCE, or order PLACE ADDRESS without source
 abbrev pub place_text : ℕ → DestinationAttributes → List ℕ
-place_text place attributes = ((codes "order " ++ decimal place) ++ (codes " " ++ printed attributes.ip)) ++ with_source_text attributes.source
+place_text place attributes =
+    ((codes "order " ++ decimal place) ++ (codes " " ++ printed attributes.ip)) ++ with_source_text attributes.source
 
 -- which rule decides between two addresses, the earlier one first
 abbrev pub Decision : Type 0
@@ -84,7 +86,8 @@ reason_text decide place None later = []
 reason_text decide place (Some earlier) later = behind_text (place - 1) (decide earlier later) earlier later
 
 abbrev pub reason_line : Decision → ℕ → Option DestinationAttributes → DestinationAttributes → List ℕ
-reason_line decide place earlier attributes = place_text place attributes ++ (reason_text decide place earlier attributes ++ line_end ∷ [])
+reason_line decide place earlier attributes =
+    place_text place attributes ++ (reason_text decide place earlier attributes ++ line_end ∷ [])
 
 -- the lines of addresses, counted from `place`, behind the address before them
 abbrev pub reason_lines : Decision → ℕ → Option DestinationAttributes → List DestinationAttributes → List ℕ
@@ -98,4 +101,5 @@ all_attributes_of race = map (attributes_of (race_input race)) (order race (usab
 
 -- these addresses, each with its source and with what puts it behind the one before
 abbrev pub order_reasons_text : Race → List ℕ
-order_reasons_text race = reason_lines (λ a b. deciding_rule (race_input race) a.ip b.ip) 0 None (all_attributes_of race)
+order_reasons_text race =
+    reason_lines (λ a b. deciding_rule (race_input race) a.ip b.ip) 0 None (all_attributes_of race)

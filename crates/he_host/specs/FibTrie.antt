@@ -60,7 +60,8 @@ told walk Other = false
 abbrev pub own_from : Walk → List (ℕ × List ℕ) → List OwnAddress
 own_from walk [] = []
 own_from walk (line ∷ lines) =
-    (if told walk (trie_line line.1) then record { line = line.0; ip = walk.leaf } ∷ [] else []) ++ own_from (step walk (trie_line line.1)) lines
+    (if told walk (trie_line line.1) then record { line = line.0; ip = walk.leaf } ∷ [] else [])
+    ++ own_from (step walk (trie_line line.1)) lines
 
 abbrev pub nowhere : Walk
 nowhere = record { is_local = false; leaf = None }

@@ -40,7 +40,8 @@ v6_route interfaces line = route_by (link_at interfaces 9 line) (route_line line
 
 -- a line of /proc/net/route, whose field 0 is the interface; its first line names the fields
 unfoldable pub v4_route_read : List Interface → ℕ → List ℕ → Result Metered Why
-v4_route_read interfaces number line = if number == HEADING then Err whys.Internal else v4_route_by (link_at interfaces 0 line) (v4_line line)
+v4_route_read interfaces number line =
+    if number == HEADING then Err whys.Internal else v4_route_by (link_at interfaces 0 line) (v4_line line)
 
 -- what a line with its number says
 abbrev pub found_v6_source : List Interface → ℕ × List ℕ → FoundSource
@@ -50,4 +51,5 @@ abbrev pub found_v6_route : List Interface → ℕ × List ℕ → FoundRoute
 found_v6_route interfaces line = record { file = files.Ipv6Route; line = line.0; read = v6_route interfaces line.1 }
 
 abbrev pub found_v4_route : List Interface → ℕ × List ℕ → FoundRoute
-found_v4_route interfaces line = record { file = files.Ipv4Route; line = line.0; read = v4_route_read interfaces line.0 line.1 }
+found_v4_route interfaces line =
+    record { file = files.Ipv4Route; line = line.0; read = v4_route_read interfaces line.0 line.1 }

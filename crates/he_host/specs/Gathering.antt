@@ -82,7 +82,8 @@ sources_kept kept (found ∷ more) = sources_kept (with_kept kept (judged_source
 abbrev pub sources_left : List Source → List FoundSource → List LeftOut
 sources_left kept [] = []
 sources_left kept (found ∷ more) =
-    told_of found.file found.line (judged_source kept found.read) ++ sources_left (with_kept kept (judged_source kept found.read)) more
+    told_of found.file found.line (judged_source kept found.read)
+    ++ sources_left (with_kept kept (judged_source kept found.read)) more
 
 -- the routes that are kept, behind those that are kept already, and the lines that are left out
 abbrev pub routes_kept : List Route → List FoundRoute → List Route
@@ -92,4 +93,5 @@ routes_kept kept (found ∷ more) = routes_kept (with_kept kept (judged_route ke
 abbrev pub routes_left : List Route → List FoundRoute → List LeftOut
 routes_left kept [] = []
 routes_left kept (found ∷ more) =
-    told_of found.file found.line (judged_route kept found.read) ++ routes_left (with_kept kept (judged_route kept found.read)) more
+    told_of found.file found.line (judged_route kept found.read)
+    ++ routes_left (with_kept kept (judged_route kept found.read)) more

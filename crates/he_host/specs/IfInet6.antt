@@ -22,7 +22,14 @@ address_line line = do
 
 abbrev pub source_on : AddressLine → Option Link → Result Source Why
 source_on read None = Err whys.Down
-source_on read (Some link) = Ok (record { ip = V6 read.number; plen = read.len; interface = link.number; deprecated = has read.flags DEPRECATED; temporary = has read.flags TEMPORARY })
+source_on read (Some link) =
+    Ok (record {
+      ip = V6 read.number;
+      plen = read.len;
+      interface = link.number;
+      deprecated = has read.flags DEPRECATED;
+      temporary = has read.flags TEMPORARY;
+    })
 
 -- the source of a line, by its interface; an address that is tentative or that was found twice on its link is not in
 -- use

@@ -9,7 +9,8 @@ use Rattle.he_host.specs.Parts.{field_of}
 -- the first interface of this name that is up and has a number
 abbrev pub link_of : List ℕ → List Interface → Option Link
 link_of name [] = None
-link_of name (x ∷ xs) = if bytes_eq x.name.now name && x.link.up && not (x.link.number == 0) then Some x.link else link_of name xs
+link_of name (x ∷ xs) =
+    if bytes_eq x.name.now name && x.link.up && not (x.link.number == 0) then Some x.link else link_of name xs
 
 -- the link of the interface that the field of a line at this place names
 unfoldable pub link_at : List Interface → ℕ → List ℕ → Option Link

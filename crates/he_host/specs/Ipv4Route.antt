@@ -33,7 +33,13 @@ v4_line line = do
   text ← field_of 6 line
   metric ← number_in text
   mask ← v4_field 7 line
-  Some (record { destination = destination; gateway = gateway; nowhere = has flags REJECT || bytes_eq name (codes "*"); metric = metric; mask = mask })
+  Some (record {
+    destination = destination;
+    gateway = gateway;
+    nowhere = has flags REJECT || bytes_eq name (codes "*");
+    metric = metric;
+    mask = mask;
+  })
 
 -- how many ones a mask begins with, behind the 96 bits of the mapped addresses
 abbrev pub mask_len : ℕ → ℕ
@@ -48,7 +54,12 @@ masked number mask = do
 abbrev pub v4_route_on : V4Line → PrefixBits → Option Link → Result Metered Why
 v4_route_on read prefix None = Err whys.Down
 v4_route_on read prefix (Some link) =
-    Ok (record { route = record { prefix = prefix; interface = link.number; tunnel = link.tunnel }; metric = read.metric; connected = read.gateway == 0; carrier = link.carrier })
+    Ok (record {
+      route = record { prefix = prefix; interface = link.number; tunnel = link.tunnel };
+      metric = read.metric;
+      connected = read.gateway == 0;
+      carrier = link.carrier;
+    })
 
 -- the route to a prefix, by the line's flags: no route for one that leads nowhere
 abbrev pub v4_route_to : V4Line → Option Link → Option PrefixBits → Result Metered Why

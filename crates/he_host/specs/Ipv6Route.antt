@@ -39,7 +39,12 @@ is_internal read link =
 abbrev pub route_on : RouteLine → PrefixBits → Option Link → Result Metered Why
 route_on read prefix None = Err whys.Down
 route_on read prefix (Some link) =
-    Ok (record { route = record { prefix = prefix; interface = link.number; tunnel = link.tunnel }; metric = read.metric; connected = false; carrier = link.carrier })
+    Ok (record {
+      route = record { prefix = prefix; interface = link.number; tunnel = link.tunnel };
+      metric = read.metric;
+      connected = false;
+      carrier = link.carrier;
+    })
 
 -- the route to a prefix, by the line's flags: no route for one that leads nowhere
 abbrev pub route_to : RouteLine → Option Link → Option PrefixBits → Result Metered Why

@@ -24,10 +24,12 @@ pub record IsAloneOnWay (input : SelectionInput) (ip : Ip) (route : Route) (sour
   pub listed : Among source input.sources
   pub family : is_v6 source.ip ≡ is_v6 ip
   pub way : source.interface ≡ route.interface
-  pub alone : (other : Source) → Among other input.sources → (other ≡ source) ⊎ ((other.interface == route.interface) ≡ false)
+  pub alone : (other : Source) → Among other input.sources → (other ≡ source)
+      ⊎ ((other.interface == route.interface) ≡ false)
   pub early : (other : Source) → Among other input.sources → is_lt (first_of (early_rules ip) other source) ≡ false
 
 -- then it is the destination's source, whatever the later rules say
 abbrev pub OwnInterfaceDecides : Type 0
 OwnInterfaceDecides =
-    (input : SelectionInput) (ip : Ip) (route : Route) (source : Source) → IsAloneOnWay input ip route source → source_of input ip ≡ Some source
+    (input : SelectionInput) (ip : Ip) (route : Route) (source : Source) → IsAloneOnWay input ip route source
+    → source_of input ip ≡ Some source

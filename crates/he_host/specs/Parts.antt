@@ -24,7 +24,9 @@ parts_left parts = parts_from parts.cut parts.rest
 -- the part at this place, where empty ones don't count
 abbrev pub field_among : ℕ → List (List ℕ) → Option (List ℕ)
 field_among place [] = None
-field_among place (part ∷ parts) = if length part == 0 then field_among place parts else (if place == 0 then Some part else field_among (place - 1) parts)
+field_among place (part ∷ parts) =
+    if length part == 0 then field_among place parts
+    else (if place == 0 then Some part else field_among (place - 1) parts)
 
 -- the field of a line at this place, counted from 0
 unfoldable pub field_of : ℕ → List ℕ → Option (List ℕ)

@@ -55,7 +55,8 @@ connected_from ip best (found ∷ more) = connected_from ip (longer_read ip best
 abbrev pub asked_for : Ip → List Asked → Option Place
 asked_for ip [] = None
 asked_for ip (told ∷ more) =
-    if same_ip told.ip ip && not (told.interface == 0) then Some (record { plen = 32; interface = told.interface }) else asked_for ip more
+    if same_ip told.ip ip && not (told.interface == 0) then Some (record { plen = 32; interface = told.interface })
+    else asked_for ip more
 
 abbrev pub loopback_place : Option Link → Result Place Why
 loopback_place None = Err whys.Down
@@ -76,7 +77,8 @@ place_of interfaces routes asked ip =
     else connected_place (asked_for ip asked) (connected_from ip None routes)
 
 abbrev pub source_at : Ip → Place → Source
-source_at ip place = record { ip = ip; plen = place.plen; interface = place.interface; deprecated = false; temporary = false }
+source_at ip place =
+    record { ip = ip; plen = place.plen; interface = place.interface; deprecated = false; temporary = false }
 
 abbrev pub source_where : Ip → Result Place Why → Result Source Why
 source_where ip (Ok place) = Ok (source_at ip place)

@@ -25,7 +25,11 @@ found_own_source taken = record { file = files.Kernel; line = 0; read = Ok taken
 -- the route to one address alone, over the interface of the source
 abbrev pub route_over : Ip → TakenSource → Metered
 route_over to taken = record {
-  route = record { prefix = record { bits = mapped_of to; len = 128 }; interface = taken.source.interface; tunnel = taken.tunnel };
+  route = record {
+    prefix = record { bits = mapped_of to; len = 128 };
+    interface = taken.source.interface;
+    tunnel = taken.tunnel;
+  };
   metric = 0;
   connected = false;
   carrier = true;
@@ -53,4 +57,5 @@ same_source said taken = false
 
 -- the rules take another source than the kernel
 abbrev pub is_unsaid : List Row → HostLists → Way → Bool
-is_unsaid rows host way = not (same_source (option_map (λ source. source.ip) (source_of (selection_input rows host) way.to)) way.from)
+is_unsaid rows host way =
+    not (same_source (option_map (λ source. source.ip) (source_of (selection_input rows host) way.to)) way.from)

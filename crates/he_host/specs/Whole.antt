@@ -22,7 +22,21 @@ use Rattle.he_host.specs.Placing.{found_own}
 abbrev pub loopback_found : Option Link → Option FoundRoute
 loopback_found None = None
 loopback_found (Some link) =
-    Some (record { file = files.Ipv4Route; line = 0; read = Ok (record { route = record { prefix = record { bits = LOOPBACK_BITS; len = LOOPBACK_LEN }; interface = link.number; tunnel = false }; metric = 0; connected = false; carrier = true }) })
+    Some (record {
+      file = files.Ipv4Route;
+      line = 0;
+      read = Ok
+          (record {
+            route = record {
+              prefix = record { bits = LOOPBACK_BITS; len = LOOPBACK_LEN };
+              interface = link.number;
+              tunnel = false;
+            };
+            metric = 0;
+            connected = false;
+            carrier = true;
+          });
+    })
 
 -- what is found of routes
 unfoldable pub routes_in : Files → List Interface → List FoundRoute
@@ -37,14 +51,16 @@ v6_sources_in given interfaces = map (found_v6_source interfaces) (numbered give
 
 -- what is found of IPv4 sources, whose places the routes tell
 unfoldable pub v4_sources_in : Files → List Interface → List FoundRoute → List Asked → List FoundSource
-v4_sources_in given interfaces routes asked = map (found_own interfaces routes asked) (own_addresses (numbered given.fib_trie.now))
+v4_sources_in given interfaces routes asked =
+    map (found_own interfaces routes asked) (own_addresses (numbered given.fib_trie.now))
 
 -- the order in which sources are kept: the first IPv4 ones, the IPv6 ones, and the other IPv4 ones
 abbrev pub in_turn : List FoundSource → List FoundSource → List FoundSource
 in_turn v4 v6 = take (min (length v4) FIRST) v4 ++ v6 ++ drop (min (length v4) FIRST) v4
 
 -- the host is that of what is kept of these, and what is left out is told, of sources first
-pub record HasKept (sources_found : List FoundSource) (routes_found : List FoundRoute) (host : HostLists) (left : List LeftOut) : Type 0 where
+pub record HasKept (sources_found : List FoundSource) (routes_found : List FoundRoute) (host : HostLists)
+    (left : List LeftOut) : Type 0 where
   pub made : Ok host ≡ host_of (sources_kept [] sources_found) (routes_kept [] routes_found)
   pub told : left ≡ sources_left [] sources_found ++ routes_left [] routes_found
 

@@ -10,7 +10,8 @@ mark holds word = if holds then word else []
 
 -- [deprecated] [temporary]
 abbrev pub source_end : Source → List ℕ
-source_end source = mark source.deprecated (codes " deprecated") ++ mark source.temporary (codes " temporary") ++ 10 ∷ []
+source_end source =
+    mark source.deprecated (codes " deprecated") ++ mark source.temporary (codes " temporary") ++ 10 ∷ []
 
 -- source ADDRESS/LENGTH INTERFACE [deprecated] [temporary]
 abbrev pub source_line : Source → List ℕ
@@ -20,7 +21,8 @@ source_line source =
 -- route PREFIX INTERFACE [tunnel], IPv4 prefixes in IPv4 form
 abbrev pub route_line : Route → List ℕ
 route_line route =
-    codes "route " ++ prefix_text true route.prefix ++ codes " " ++ decimal route.interface ++ mark route.tunnel (codes " tunnel") ++ 10 ∷ []
+    codes "route " ++ prefix_text true route.prefix ++ codes " " ++ decimal route.interface
+    ++ mark route.tunnel (codes " tunnel") ++ 10 ∷ []
 
 abbrev pub written_sources : List Source → List ℕ
 written_sources [] = []

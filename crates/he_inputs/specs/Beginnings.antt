@@ -27,7 +27,8 @@ EndsIn text n rest = (lines : List (List ℕ)) × (lines_of text ≡ lines ++ re
 
 -- the text's last whole line is this one, its nth, and these bytes stand behind its line end
 abbrev pub EndsBehind : List ℕ → ℕ → List ℕ → List ℕ → Type 0
-EndsBehind text n line rest = (before : List (List ℕ)) × (lines_of text ≡ before ++ line ∷ rest ∷ []) × (length before + 1 ≡ n)
+EndsBehind text n line rest =
+    (before : List (List ℕ)) × (lines_of text ≡ before ++ line ∷ rest ∷ []) × (length before + 1 ≡ n)
 
 -- what the fault of a group's last line waits for: the word of the lines that mend it
 abbrev pub awaited : List ℕ → TextKind → Option Word
@@ -51,4 +52,5 @@ MayChange text n kind = (kind ≡ kinds.Unfinished) ⊎ IsGroupFaultAtEnd text n
 -- what the text is depends on what follows it: it is empty, or has a fault that not every text has that begins with
 -- its bytes
 abbrev pub MayGoOn : List ℕ → Type 0
-MayGoOn text = (text ≡ []) ⊎ ((line : ℕ) × (kind : TextKind) × (fault_of text ≡ Some (line, kind)) × FaultChanges text line kind)
+MayGoOn text =
+    (text ≡ []) ⊎ ((line : ℕ) × (kind : TextKind) × (fault_of text ≡ Some (line, kind)) × FaultChanges text line kind)

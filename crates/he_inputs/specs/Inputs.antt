@@ -43,7 +43,8 @@ IsFaultBehind is_broken races lines [] fault = fault ≡ fault_at_end is_broken
 IsFaultBehind is_broken races lines (byte ∷ rest) fault =
     ((races ≡ most_races) × (fault ≡ Some (Text (record { line = lines + 1; kind = kinds.TooMany }))))
     ⊎ ((races + 1 ≤ most_races)
-    × (found : ℕ × TextKind) × (fault_of (byte ∷ rest) ≡ Some found) × (fault ≡ Some (fault_behind is_broken lines found)))
+    × (found : ℕ × TextKind) × (fault_of (byte ∷ rest) ≡ Some found)
+    × (fault ≡ Some (fault_behind is_broken lines found)))
 
 -- the input has these races up to its first fault, and this fault. It broke off behind its bytes where `is_broken`.
 pub record HasRaces (input : List ℕ) (is_broken : Bool) (races : List Race) (fault : Option InputFault) : Type 0 where

@@ -54,7 +54,8 @@ IsReaderFault bytes ending reader (faults.Input fault) =
 IsReaderFault bytes ending reader faults.Memory = Unit {0}
 
 -- of bytes that stand behind so many races and lines, a reader passed these races
-pub record HasPassed (bytes : List ℕ) (races_before lines_before : ℕ) (races : List Race) (reader : RaceReader) : Type 0 where
+pub record HasPassed (bytes : List ℕ) (races_before lines_before : ℕ) (races : List Race)
+    (reader : RaceReader) : Type 0 where
   pub within : reader.end ≤ length bytes
   pub whole : AreRaceTexts races (take reader.end bytes)
   pub counted : reader.races ≡ races_before + length races

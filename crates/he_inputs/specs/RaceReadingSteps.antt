@@ -25,7 +25,8 @@ breaks endings.Broken = true
 pub record IsWrong (races : ℕ) (rest : List ℕ) (fault : TextFault) : Type 0 where
   pub some : 0 < length rest
   pub line : IsLineOf rest fault.line
-  pub cause : ((races ≡ most_races) × (fault ≡ record { line = 1; kind = kinds.TooMany })) ⊎ ((races + 1 ≤ most_races) × TellsFault fault.line fault.kind (fault_of rest))
+  pub cause : ((races ≡ most_races) × (fault ≡ record { line = 1; kind = kinds.TooMany }))
+      ⊎ ((races + 1 ≤ most_races) × TellsFault fault.line fault.kind (fault_of rest))
 
 -- what is wrong with what follows: nothing, where nothing follows
 abbrev pub StopsAt : ℕ → List ℕ → Option TextFault → Type 0

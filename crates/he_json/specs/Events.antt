@@ -31,7 +31,8 @@ family_name families.V4 = codes "a"
 
 -- a delay after the start of the attempt of this place is over
 abbrev pub delay_members : List ℕ → ℕ → ℕ → List (List ℕ)
-delay_members name delay place = cause_named name ∷ number_member (codes "delay") delay ∷ number_member (codes "after") place ∷ []
+delay_members name delay place =
+    cause_named name ∷ number_member (codes "delay") delay ∷ number_member (codes "after") place ∷ []
 
 -- what an attempt waited for: an answer or both, a delay, the floor as all before have failed, the last of these
 -- failures, or an answer that came when the attempt had waited for long enough
@@ -74,7 +75,8 @@ attempt_members name place = event_named name ∷ number_member (codes "attempt"
 -- an answer with so many usable addresses
 abbrev pub answered_members : Family → ℕ → List (List ℕ)
 answered_members family count =
-    event_named (codes "answer") ∷ words_member (codes "family") (family_name family) ∷ number_member (codes "usable") count ∷ []
+    event_named (codes "answer") ∷ words_member (codes "family") (family_name family)
+    ∷ number_member (codes "usable") count ∷ []
 
 abbrev pub kind_members : EventKind → List (List ℕ)
 kind_members (kinds.Paused end) = event_named (codes "pause") ∷ number_member (codes "until") end ∷ []

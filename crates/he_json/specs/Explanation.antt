@@ -14,7 +14,8 @@ course_json race report = array (map event_json (course race report))
 -- the order and the course
 abbrev pub explanation_object : Race → Report → List ℕ
 explanation_object race report =
-    object (member (codes "order") (array (order_reasons race)) ∷ member (codes "events") (course_json race report) ∷ [])
+    object (member (codes "order") (array (order_reasons race)) ∷ member (codes "events") (course_json race report)
+    ∷ [])
 
 -- on one line
 abbrev pub explanation_json : Race → Report → List ℕ

@@ -47,11 +47,15 @@ unlike_members own source = member (codes "own") (decimal own) ∷ member (codes
 
 -- the values that a rule compares: rules 1, 3, 7, 8b and 10 compare none. An unknown round trip time is null
 abbrev pub compared_members : DestinationRule → DestinationAttributes → DestinationAttributes → List (List ℕ)
-compared_members rules.MatchingScope earlier later = unlike_members later.scope (of_source (λ source. source.scope) later)
-compared_members rules.MatchingLabel earlier later = unlike_members later.label (of_source (λ source. source.label) later)
-compared_members rules.HigherPrecedence earlier later = after_members (decimal later.precedence) (decimal earlier.precedence)
+compared_members rules.MatchingScope earlier later =
+    unlike_members later.scope (of_source (λ source. source.scope) later)
+compared_members rules.MatchingLabel earlier later =
+    unlike_members later.label (of_source (λ source. source.label) later)
+compared_members rules.HigherPrecedence earlier later =
+    after_members (decimal later.precedence) (decimal earlier.precedence)
 compared_members rules.SmallerScope earlier later = after_members (decimal later.scope) (decimal earlier.scope)
-compared_members rules.LowerRoundTripTime earlier later = after_members (number_or_null later.rtt) (number_or_null earlier.rtt)
+compared_members rules.LowerRoundTripTime earlier later =
+    after_members (number_or_null later.rtt) (number_or_null earlier.rtt)
 compared_members rules.LongestPrefix earlier later = after_members (decimal later.common) (decimal earlier.common)
 compared_members _ earlier later = []
 
@@ -68,7 +72,8 @@ behind_members decide None later = []
 behind_members decide (Some earlier) later = reason_members (decide earlier later) earlier later
 
 abbrev pub reasoned_json : Decision → ℕ → Option DestinationAttributes → DestinationAttributes → List ℕ
-reasoned_json decide place earlier attributes = object (place_members place attributes ++ behind_members decide earlier attributes)
+reasoned_json decide place earlier attributes =
+    object (place_members place attributes ++ behind_members decide earlier attributes)
 
 -- the places of these addresses, counted from `place`, behind the address before them
 abbrev pub reasoned_places : Decision → ℕ → Option DestinationAttributes → List DestinationAttributes → List (List ℕ)

@@ -45,7 +45,8 @@ result_json (results.Limit tick) = ended_json (codes "limit") tick
 -- the attempts by place, and how the race ended
 abbrev pub transcript_object : Report → List ℕ
 transcript_object report =
-    object (member (codes "attempts") (array (map attempt_json report.lines)) ∷ member (codes "result") (result_json report.result) ∷ [])
+    object (member (codes "attempts") (array (map attempt_json report.lines))
+    ∷ member (codes "result") (result_json report.result) ∷ [])
 
 -- on one line
 abbrev pub transcript_json : Report → List ℕ

@@ -54,7 +54,8 @@ pub record GivesNone (Given : List ℕ → Bool → Type 0) (why : NotOneRace) :
 
 -- the input is one race, and this is the text of a run of it with the changes of its settings, of which this is told,
 -- and which ended so
-pub record GivesText (Given : List ℕ → Bool → Type 0) (changes : ChangeValues) (text : List ℕ) (told : Told) (result : Outcome3) : Type 0 where
+pub record GivesText (Given : List ℕ → Bool → Type 0) (changes : ChangeValues) (text : List ℕ) (told : Told)
+    (result : Outcome3) : Type 0 where
   pub race : Race
   pub given : GivesOne Given race
   pub run : IsLiveText (changed changes race) text told result
@@ -64,12 +65,16 @@ pub record GivesText (Given : List ℕ → Bool → Type 0) (changes : ChangeVal
 -- told of the run.
 -- A run's text is written whole, and how it ended is told; a fault of the input, of the event loop or of memory
 -- comes before any of it is.
-abbrev pub Lives : (List ℕ → Bool → Type 0) → (List ℕ → Type 0) → (List ℕ → Type 0) → Type 0 → ChangeValues → Told → Result Outcome3 LiveFault → Type 0
-Lives Given Whole Part Kept changes told (Ok result) = (text : List ℕ) × GivesText Given changes text told result × Whole text
-Lives Given Whole Part Kept changes told (Err (faults.Text fault)) = GivesNone Given (ones.Fault (inputs.Text fault)) × Kept
+abbrev pub Lives : (List ℕ → Bool → Type 0) → (List ℕ → Type 0) → (List ℕ → Type 0) → Type 0 → ChangeValues → Told
+    → Result Outcome3 LiveFault → Type 0
+Lives Given Whole Part Kept changes told (Ok result) =
+    (text : List ℕ) × GivesText Given changes text told result × Whole text
+Lives Given Whole Part Kept changes told (Err (faults.Text fault)) =
+    GivesNone Given (ones.Fault (inputs.Text fault)) × Kept
 Lives Given Whole Part Kept changes told (Err faults.OneRace) = GivesNone Given ones.Count × Kept
 Lives Given Whole Part Kept changes told (Err faults.Read) = GivesNone Given (ones.Fault inputs.Read) × Kept
-Lives Given Whole Part Kept changes told (Err faults.Write) = (text : List ℕ) × (result : Outcome3) × GivesText Given changes text told result × Part text
+Lives Given Whole Part Kept changes told (Err faults.Write) =
+    (text : List ℕ) × (result : Outcome3) × GivesText Given changes text told result × Part text
 Lives Given Whole Part Kept changes told (Err faults.Runtime) = (race : Race) × GivesOne Given race × Kept
 Lives Given Whole Part Kept changes told (Err faults.Memory) = Kept
 

@@ -50,4 +50,5 @@ answer_line word tick ips = ((word ++ 32 ∷ decimal tick) ++ told ips) ++ 10 �
 
 -- both lines, that of IPv6 first
 abbrev pub answers_text : Answers → List ℕ
-answers_text answers = answer_line (codes "aaaa") answers.v6_tick answers.v6 ++ answer_line (codes "a") answers.v4_tick answers.v4
+answers_text answers =
+    answer_line (codes "aaaa") answers.v6_tick answers.v6 ++ answer_line (codes "a") answers.v4_tick answers.v4

@@ -44,7 +44,9 @@ servers_in text = or_own (take 3 (filter_map server_of (entries_of text)))
 
 -- the domains that an entry gives to the search list: `search` all of its values, `domain` its first one
 abbrev pub domains_of : List (List ℕ) → List (List ℕ)
-domains_of (keyword ∷ domain ∷ domains) = if bytes_eq keyword (codes "search") then domain ∷ domains else if bytes_eq keyword (codes "domain") then domain ∷ [] else []
+domains_of (keyword ∷ domain ∷ domains) =
+    if bytes_eq keyword (codes "search") then domain ∷ domains else if bytes_eq keyword (codes "domain")
+    then domain ∷ [] else []
 domains_of _ = []
 
 -- the last search list of the file
@@ -59,7 +61,8 @@ search_in text = take 32 (last_search text)
 
 -- the number that stands behind the name in an option, as in `ndots:2`
 abbrev pub number_behind : List ℕ → List ℕ → Option ℕ
-number_behind name option = if bytes_eq (take (length name) option) name then number_in (drop (length name) option) else None
+number_behind name option =
+    if bytes_eq (take (length name) option) name then number_in (drop (length name) option) else None
 
 abbrev pub numbers_behind : List ℕ → List (List ℕ) → List ℕ
 numbers_behind name options = flat_map (λ option. option_to_list (number_behind name option)) options

@@ -17,7 +17,8 @@ uncommented line = option_map_or (λ at. take at line) (position (λ byte. byte 
 -- name, whatever the case of its letters (RFC 4343)
 abbrev pub given_by : Family → List ℕ → List (List ℕ) → Option Ip
 given_by family name [] = None
-given_by family name (address ∷ names) = if list_any (str_eq_ignore_ascii_case name) names then ip_of_in family address else None
+given_by family name (address ∷ names) =
+    if list_any (str_eq_ignore_ascii_case name) names then ip_of_in family address else None
 
 -- the address of the family that a line gives to the name
 unfoldable pub line_gives : Family → List ℕ → List ℕ → Option Ip

@@ -23,4 +23,5 @@ IsFaultOf record_text faults.Memory = ⊤
 abbrev pub IsNextFault : List ℕ → ℕ → ℕ → NextFault → Type 0
 IsNextFault record_text started now fault =
     IsFaultOf record_text fault
-    ⊎ ((start : ℕ) × (until : ℕ) × IsLate record_text started now start until × IsFaultOf (with_pause record_text start until) fault)
+    ⊎ ((start : ℕ) × (until : ℕ) × IsLate record_text started now start until
+    × IsFaultOf (with_pause record_text start until) fault)

@@ -44,7 +44,8 @@ pub record Sleeps (old : State) (new : Race) : Type 0 where
 -- something is written down that happened after the last start: an answer, how one of the attempts ended, or a pause
 pub record IsWritten (old new : State) : Type 0 where
   pub valid : IsRace new.race
-  pub happened : Answers old new.race ⊎ ((x : Attempt) × EndsOne old.race new.race old.attempts x) ⊎ Sleeps old new.race
+  pub happened : Answers old new.race ⊎ ((x : Attempt) × EndsOne old.race new.race old.attempts x)
+      ⊎ Sleeps old new.race
   pub same : new.attempts ≡ old.attempts
 
 -- the attempts, with the one that starts

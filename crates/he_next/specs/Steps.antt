@@ -47,7 +47,8 @@ due_action result now (Some line) = if nat_le line.tick now then Start line.plac
 -- what is due at the tick, where so many attempts were started
 abbrev pub action_of : Report → ℕ → ℕ → Action
 action_of report started now =
-    if nat_le (end_tick report.result) now then end_action report.result else due_action report.result now (slice_get report.lines started)
+    if nat_le (end_tick report.result) now then end_action report.result
+    else due_action report.result now (slice_get report.lines started)
 
 -- the start of the next attempt, where it lies before the tick
 abbrev pub before_tick : ℕ → Option Line → Option ℕ
@@ -88,7 +89,8 @@ pub record IsInTime (record_text : List ℕ) (started now : ℕ) (action : Actio
 abbrev pub IsPausedStep : List ℕ → ℕ → ℕ → Option Pause → Action → Type 0
 IsPausedStep record_text started now None action = IsInTime record_text started now action
 IsPausedStep record_text started now (Some pause) action =
-    IsLate record_text started now pause.from pause.until × Says (with_pause record_text pause.from pause.until) started now action
+    IsLate record_text started now pause.from pause.until
+    × Says (with_pause record_text pause.from pause.until) started now action
 
 abbrev pub IsStep : List ℕ → ℕ → ℕ → Step → Type 0
 IsStep record_text started now step = IsPausedStep record_text started now step.pause step.action

@@ -39,7 +39,8 @@ name_text name = codes "<h2>" ++ (flat_map escaped name ++ codes "</h2>\n")
 -- a picture beside a story
 abbrev pub section_text : List ℕ → List ℕ → List ℕ
 section_text picture story =
-    concat (codes "<section>\n<figure>\n" ∷ picture ∷ codes "</figure>\n<pre>" ∷ story ∷ codes "</pre>\n</section>\n" ∷ [])
+    concat (codes "<section>\n<figure>\n" ∷ picture ∷ codes "</figure>\n<pre>" ∷ story ∷ codes "</pre>\n</section>\n"
+    ∷ [])
 
 -- the text is the part of a page that the race has: the race of this number in its input, counted from 1, which begins
 -- at this line

@@ -17,4 +17,5 @@ pub record AgreeBelow (tick : ℕ) (x y : Race) : Type 0 where
 -- and below the tick each of these attempts has failed in both or in neither
 abbrev pub FailAlike : ℕ → Race → Race → List Attempt → Type 0
 FailAlike tick x y [] = Unit {0}
-FailAlike tick x y (z ∷ attempts) = ((t : ℕ) → t < tick → has_failed x t z ≡ has_failed y t z) × FailAlike tick x y attempts
+FailAlike tick x y (z ∷ attempts) =
+    ((t : ℕ) → t < tick → has_failed x t z ≡ has_failed y t z) × FailAlike tick x y attempts

@@ -22,18 +22,21 @@ IsAnswerDue turn reply t = IsSomeAnd reply (λ r. ¬ IsTaken turn r × (r.tick �
 pub record IsDelayDue (race : Race) (turn : Option ℕ) (done : List Attempt) (t : ℕ) : Type 0 where
   pub none : done ≡ []
   pub aaaa : ¬ IsSomeAnd race.aaaa (IsTaken turn)
-  pub a : IsSomeAnd race.a (λ r. IsTrue (list_any is_usable r.addresses) × IsTaken turn r × (r.tick + race.settings.resolution ≡ t))
+  pub a : IsSomeAnd race.a
+      (λ r. IsTrue (list_any is_usable r.addresses) × IsTaken turn r × (r.tick + race.settings.resolution ≡ t))
 
 -- an address of the answer, which was taken, is untried
 abbrev pub IsWaiting : Option ℕ → List Attempt → Option Reply → Type 0
-IsWaiting turn done reply = IsSomeAnd reply (λ r. IsTaken turn r × IsTrue (list_any (λ ip. is_usable ip && is_untried done ip) r.addresses))
+IsWaiting turn done reply =
+    IsSomeAnd reply (λ r. IsTaken turn r × IsTrue (list_any (λ ip. is_usable ip && is_untried done ip) r.addresses))
 
 -- the delay after the last start: the floor, where it is given and every attempt made has failed by the last turn;
 -- else the Connection Attempt Delay
 abbrev pub start_delay : Race → Option ℕ → List Attempt → ℕ
 start_delay race None done = race.settings.attempt
 start_delay race (Some turn) done =
-    if list_all (has_failed race turn) done then option_map_or (λ floor. floor) race.settings.floor race.settings.attempt
+    if list_all (has_failed race turn) done
+    then option_map_or (λ floor. floor) race.settings.floor race.settings.attempt
     else race.settings.attempt
 
 -- a start is due when that delay is over, where an address is untried
@@ -52,4 +55,7 @@ IsDueTick race turn done = IsLeast (IsDue race turn done)
 
 -- the last turn was at a free tick below the limit, and left no attempt to start there; if all attempts fail, they had
 abbrev pub IsAfterTurn : Race → Option ℕ → List Attempt → Type 0
-IsAfterTurn race turn done = IfSome turn (λ t. IsFree race t × (t < race.settings.limit) × ¬ MayStart race done t × ((later : ℕ) → HaveFailed race done later → HaveFailed race done t))
+IsAfterTurn race turn done =
+    IfSome turn
+    (λ t. IsFree race t × (t < race.settings.limit) × ¬ MayStart race done t
+    × ((later : ℕ) → HaveFailed race done later → HaveFailed race done t))

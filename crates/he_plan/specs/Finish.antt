@@ -13,9 +13,11 @@ pub use Rattle.he_timeline.specs.Race.{outcome_in, outcome_of}
 abbrev pub fate_by : Race → ℕ → Option Outcome → Fate
 fate_by race start None = Running
 fate_by race start (Some (outcomes.Ok duration)) =
-    if nat_le (finish_of race start duration) race.settings.limit then Succeeded (finish_of race start duration) else Running
+    if nat_le (finish_of race start duration) race.settings.limit then Succeeded (finish_of race start duration)
+    else Running
 fate_by race start (Some (outcomes.Fail duration)) =
-    if nat_le (finish_of race start duration) race.settings.limit then Failed (finish_of race start duration) else Running
+    if nat_le (finish_of race start duration) race.settings.limit then Failed (finish_of race start duration)
+    else Running
 
 abbrev pub fate_of : Race → Attempt → Fate
 fate_of race x = fate_by race x.tick (outcome_of race x.ip)

@@ -13,7 +13,8 @@ pub record Numbered : Type 0 where
 -- the addresses of a list that follow those of `before`, each with its number
 abbrev pub numbered_after : List Ip → List Ip → List Numbered
 numbered_after before [] = []
-numbered_after before (ip ∷ ips) = record { ip = ip; number = count_by (is_of (family_of ip)) before } ∷ numbered_after (before ++ ip ∷ []) ips
+numbered_after before (ip ∷ ips) =
+    record { ip = ip; number = count_by (is_of (family_of ip)) before } ∷ numbered_after (before ++ ip ∷ []) ips
 
 -- of the family of the first address
 abbrev pub is_leading : List Ip → Ip → Bool
@@ -26,7 +27,9 @@ interlacing_key ips count item = cond (is_leading ips item.ip) (2 * (item.number
 
 -- by key, then by number
 abbrev pub comes_before : List Ip → ℕ → Numbered → Numbered → Bool
-comes_before ips count a b = nat_lt (interlacing_key ips count a) (interlacing_key ips count b) || (interlacing_key ips count a == interlacing_key ips count b && nat_lt a.number b.number)
+comes_before ips count a b =
+    nat_lt (interlacing_key ips count a) (interlacing_key ips count b)
+    || (interlacing_key ips count a == interlacing_key ips count b && nat_lt a.number b.number)
 
 -- the result has the addresses of the list, by key, then by number
 pub record IsInterlaced (ips : List Ip) (count : ℕ) (result : List Ip) : Type 0 where

@@ -34,7 +34,8 @@ a_begin_tick resolution (Some aaaa) tick = min (tick + resolution) (max tick aaa
 
 abbrev pub begin_tick : Race → Option ℕ
 begin_tick race =
-    earlier (positive_tick race.aaaa) (option_map (a_begin_tick race.settings.resolution race.aaaa) (positive_tick race.a))
+    earlier (positive_tick race.aaaa)
+    (option_map (a_begin_tick race.settings.resolution race.aaaa) (positive_tick race.a))
 
 -- the tick from which an untried address of the answer may be tried, at or after `from`
 abbrev pub waiting_tick : List Attempt → ℕ → Option Reply → Option ℕ
@@ -53,11 +54,13 @@ wait_by _ _ start attempt = start + attempt
 
 -- the tick up to which the last of these attempts is waited for
 abbrev pub wait_end : Race → List Attempt → Attempt → ℕ
-wait_end race done last = wait_by race.settings.floor (all_failed (map (fate_of race) done)) last.tick race.settings.attempt
+wait_end race done last =
+    wait_by race.settings.floor (all_failed (map (fate_of race) done)) last.tick race.settings.attempt
 
 abbrev pub follow_tick : Race → List Attempt → Attempt → Option ℕ
 follow_tick race done last =
-    earlier (waiting_tick done (wait_end race done last) race.aaaa) (waiting_tick done (wait_end race done last) race.a)
+    earlier (waiting_tick done (wait_end race done last) race.aaaa)
+    (waiting_tick done (wait_end race done last) race.a)
 
 abbrev pub start_after : Race → List Attempt → Option Attempt → Option ℕ
 start_after race done None = begin_tick race
@@ -118,7 +121,8 @@ is_beaten (Some w) tick = nat_le w.0 tick
 
 -- the line of an attempt of which this fate is told
 abbrev pub told_line : ℕ → Option (ℕ × ℕ) → Attempt → Fate → Line
-told_line stop winner x fate = record { place = x.place; tick = x.tick; ip = x.ip; mark = mark_at stop winner x.place fate }
+told_line stop winner x fate =
+    record { place = x.place; tick = x.tick; ip = x.ip; mark = mark_at stop winner x.place fate }
 
 -- that line, if the attempt starts before the stop
 abbrev pub told_one : ℕ → Option (ℕ × ℕ) → Attempt → Fate → List Line
@@ -128,7 +132,8 @@ told_one stop winner x fate = if nat_lt x.tick stop then told_line stop winner x
 abbrev pub told_lines : ℕ → Option (ℕ × ℕ) → List Attempt → List Fate → List Line
 told_lines stop winner [] told = []
 told_lines stop winner (x ∷ attempts) [] = []
-told_lines stop winner (x ∷ attempts) (fate ∷ told) = told_one stop winner x fate ++ told_lines stop winner attempts told
+told_lines stop winner (x ∷ attempts) (fate ∷ told) =
+    told_one stop winner x fate ++ told_lines stop winner attempts told
 
 -- the latest of the failures, and of `tick`
 abbrev pub last_failure : ℕ → List Fate → ℕ

@@ -91,7 +91,8 @@ pub record IsUnderway (race : Race) (underway : Progress) : Type 0 where
 
 -- one more fate is counted
 abbrev pub counted : Progress → Fate → Progress
-counted underway (Failed finish) = record underway { failed = underway.failed + 1; latest = max underway.latest finish }
+counted underway (Failed finish) =
+    record underway { failed = underway.failed + 1; latest = max underway.latest finish }
 counted underway _ = underway
 
 -- the second race differs from the first in the outcome of this attempt alone, by which it ends after the last start

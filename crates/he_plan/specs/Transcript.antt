@@ -113,7 +113,8 @@ pub record AreTold (race : Race) (attempts : List Attempt) (told : List Fate) (w
 
 -- what is handed in are the attempts that a race makes up to its stop, what is known of each of them there, and by
 -- that the winner
-pub record AreKnown (race : Race) (attempts : List Attempt) (known : List Fate) (winner : Option (ℕ × ℕ)) : Type 0 where
+pub record AreKnown (race : Race) (attempts : List Attempt) (known : List Fate)
+    (winner : Option (ℕ × ℕ)) : Type 0 where
   pub in_turn : AreNextInTurn race attempts
   pub stops : (t : ℕ) → MayStart race attempts t → stop_of race winner ≤ t
   pub fates : known ≡ map (known_at race (stop_of race winner)) attempts

@@ -48,4 +48,6 @@ pub record IsWinnerOf (race : Race) (winner : Option (ℕ × ℕ)) : Type 0 wher
 
 -- the least offer of each race is its winner, or there is neither
 abbrev pub HasWinners : List Race → View → Type 0
-HasWinners races v = (number : ℕ) (race : Race) → slice_get races number ≡ Some race → IsWinnerOf race (winner_of (least_of number v.offers))
+HasWinners races v =
+    (number : ℕ) (race : Race) → slice_get races number ≡ Some race
+    → IsWinnerOf race (winner_of (least_of number v.offers))

@@ -57,7 +57,8 @@ abbrev pub ArePlans : List Race → List (Option (List Attempt)) → Type 0
 ArePlans = AllZip (λ race made. IfSome made (AreAttempts race))
 
 -- what a worker has in hand
-pub record IsHeld (races : List Race) (v : View) (done : List Done) (plans : List (Option (List Attempt))) : Type 0 where
+pub record IsHeld (races : List Race) (v : View) (done : List Done)
+    (plans : List (Option (List Attempt))) : Type 0 where
   pub real : All (IsOfSuccess races) v.offers
   pub sound : IsSound races v done
   pub planned : ArePlans races plans
@@ -71,12 +72,14 @@ abbrev pub IsMore : List ℕ → List ℕ → Type 0
 IsMore old new = (job : ℕ) → times job old ≤ times job new
 
 -- a worker has tried all jobs
-pub record IsWorked (races : List Race) (v : View) (done : List Done) (plans : List (Option (List Attempt))) : Type 0 where
+pub record IsWorked (races : List Race) (v : View) (done : List Done)
+    (plans : List (Option (List Attempt))) : Type 0 where
   pub tried : IsTried 0 (batch_jobs races) v.known
   pub held : IsHeld races v done plans
 
 -- a worker tries the jobs of a race, and has tried those of the places below this one
-pub record IsTrying (races : List Race) (number place : ℕ) (old new : View) (done : List Done) (plans : List (Option (List Attempt))) (made : Option (List Attempt)) : Type 0 where
+pub record IsTrying (races : List Race) (number place : ℕ) (old new : View) (done : List Done)
+    (plans : List (Option (List Attempt))) (made : Option (List Attempt)) : Type 0 where
   pub parts : new.parts ≡ old.parts
   pub held : IsHeld races new done plans
   pub planned : (race : Race) → slice_get races number ≡ Some race → IfSome made (AreAttempts race)
@@ -84,7 +87,8 @@ pub record IsTrying (races : List Race) (number place : ℕ) (old new : View) (d
   pub tried : IsTried (batch_jobs (take number races)) (batch_jobs (take number races) + place) new.known
 
 -- a worker has tried the jobs of these races
-pub record HasTried (races : List Race) (from to : ℕ) (old new : View) (done : List Done) (plans : List (Option (List Attempt))) : Type 0 where
+pub record HasTried (races : List Race) (from to : ℕ) (old new : View) (done : List Done)
+    (plans : List (Option (List Attempt))) : Type 0 where
   pub parts : new.parts ≡ old.parts
   pub held : IsHeld races new done plans
   pub more : IsMore old.known new.known
@@ -111,7 +115,8 @@ pub record IsReady {A : Type 0} (races : List Race) (firsts : List ℕ) (board :
 pub record AreFates (races : List Race) (v : View) (fates : List Fate) : Type 0 where
   pub size : length fates ≡ batch_jobs races
   pub tried : IsTried 0 (batch_jobs races) v.known
-  pub honest : (job : ℕ) (fate : Fate) → slice_get fates job ≡ Some fate → 0 < times job v.taken → IsHonestAt races v (job_at races job) fate
+  pub honest : (job : ℕ) (fate : Fate) → slice_get fates job ≡ Some fate → 0 < times job v.taken
+      → IsHonestAt races v (job_at races job) fate
 
 -- what a table of fates holds once these are put into it
 abbrev pub filled : List Done → List Fate → List Fate
@@ -119,9 +124,11 @@ filled [] fates = fates
 filled (d ∷ done) fates = filled done (set fates d.job d.fate)
 
 -- one fate of each attempt of a race
-pub record AreHonestTold (race : Race) (number : ℕ) (v : View) (attempts : List Attempt) (told : List Fate) : Type 0 where
+pub record AreHonestTold (race : Race) (number : ℕ) (v : View) (attempts : List Attempt)
+    (told : List Fate) : Type 0 where
   pub size : length told ≡ length attempts
-  pub honest : (place : ℕ) (x : Attempt) (fate : Fate) → slice_get attempts place ≡ Some x → slice_get told place ≡ Some fate → IsHonest race number place v x fate
+  pub honest : (place : ℕ) (x : Attempt) (fate : Fate) → slice_get attempts place ≡ Some x
+      → slice_get told place ≡ Some fate → IsHonest race number place v x fate
 
 -- a pass that has looked at winner words alone
 pub record IsKept (old new : View) : Type 0 where
@@ -135,7 +142,8 @@ pub record IsKept (old new : View) : Type 0 where
 -- one, the pass has taken each job once that it knows to be taken
 pub record AreSettled (races : List Race) (count : ℕ) (v : View) (reports : List Report) : Type 0 where
   pub transcripts : AllZip IsTranscript (take count races) reports
-  pub winners : (number : ℕ) (race : Race) → number < count → slice_get races number ≡ Some race → IsWinnerOf race (winner_of (least_of number v.offers))
+  pub winners : (number : ℕ) (race : Race) → number < count → slice_get races number ≡ Some race
+      → IsWinnerOf race (winner_of (least_of number v.offers))
   pub once : 0 < count → (job : ℕ) → 0 < times job v.known → times job v.taken ≡ 1
 
 -- a pass that comes back from workers: with all its parts, and real offers

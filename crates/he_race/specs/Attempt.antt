@@ -27,7 +27,8 @@ module _ {C Conn Run : Type 0} (connector : ConnectorOf C Conn Run) (trial : Tri
       (run : Result Run ConnectFault) × connector.begins c place ip now run c' × (new ≡ Connecting run (now + 1) true)
 
   -- a poll of an attempt: which steps it may take, with the connector's state before and after
-  abbrev pub AttemptPolls : C → AttemptFuture C Conn Run → ℕ → Poll (Finish Conn) → C → AttemptFuture C Conn Run → Type 0
+  abbrev pub AttemptPolls : C → AttemptFuture C Conn Run → ℕ → Poll (Finish Conn) → C → AttemptFuture C Conn Run
+      → Type 0
   AttemptPolls c (Sleeping place ip start) now answer c' new =
       (answer ≡ Pending)
       × MatchBool (nat_lt now start) ((c' ≡ c) × (new ≡ Sleeping place ip start)) (Begins place ip c now c' new)

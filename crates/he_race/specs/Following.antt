@@ -57,7 +57,8 @@ abbrev pub SeesAs : Race → Race → ℕ → Option Reply → Type 0
 SeesAs script race before reply = IfSome reply (λ r. r.tick < before → seen race r.tick ≡ seen script r.tick)
 
 -- an attempt that connects as the script says, before a poll at the tick
-pub record IsConnecting {C : Type 0} (script : Race) (xs : List Attempt) (now : ℕ) (o : Unfinished C (Unit {0}) ScriptedTrial) : Type 0 where
+pub record IsConnecting {C : Type 0} (script : Race) (xs : List Attempt) (now : ℕ)
+    (o : Unfinished C (Unit {0}) ScriptedTrial) : Type 0 where
   pub made : Contains xs o.attempt
   pub is_fresh : Bool
   pub future : o.future ≡ Connecting (Ok (script_of script o.attempt.ip o.attempt.tick)) (o.attempt.tick + 1) is_fresh
@@ -83,7 +84,8 @@ pub record Follows {C : Type 0} (script : Race) (live : Live C (Unit {0}) Script
   pub due : (t : ℕ) → live.recorder.due ≤ t → IsFree script t → at ≤ t
 
 -- a future of such a race, after some turns, at the tick at which its ticker stands
-pub record IsUnderWay {C : Type 0} (connector : ConnectorOf C (Unit {0}) ScriptedTrial) (turns : ℕ) (race : RaceFuture C Wheel (Unit {0}) ScriptedTrial) : Type 0 where
+pub record IsUnderWay {C : Type 0} (connector : ConnectorOf C (Unit {0}) ScriptedTrial) (turns : ℕ)
+    (race : RaceFuture C Wheel (Unit {0}) ScriptedTrial) : Type 0 where
   pub script : IsScript race.ticker.race
   pub live : Live C (Unit {0}) ScriptedTrial
   pub is : race.live ≡ Some live

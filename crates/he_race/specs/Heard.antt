@@ -17,7 +17,8 @@ Tells S = S → Family → ℕ → Option (List Ip) → S → Type 0
 abbrev pub StaysSilent : {S : Type 0} → Tells S → S → Family → List (Family × ℕ) → Type 0
 StaysSilent hears s family [] = ⊤
 StaysSilent {S} hears s family (p ∷ polls) =
-    (told : Option (List Ip)) (s' : S) → hears s p.0 p.1 told s' → (p.0 ≡ family → told ≡ None) × StaysSilent hears s' family polls
+    (told : Option (List Ip)) (s' : S) → hears s p.0 p.1 told s' → (p.0 ≡ family → told ≡ None)
+    × StaysSilent hears s' family polls
 
 -- no later poll tells anything of this family
 pub record IsSilent {S : Type 0} (hears : Tells S) (s : S) (family : Family) : Type 0 where

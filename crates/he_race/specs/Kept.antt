@@ -69,7 +69,8 @@ pub record InTurn (race : Race) (now : ℕ) (xs : List Attempt) (won : Bool) : T
   pub stops : (t : ℕ) → MayStart race xs t → now ≤ t
   pub success : won ≡ true → HasSuccess race xs
   pub few : length race.pauses ≤ taken (Some now) race + length xs + 1
-  pub starts : taken (Some now) race + length xs < length race.pauses → now < race.settings.limit → MayStart race xs now
+  pub starts : taken (Some now) race + length xs < length race.pauses → now < race.settings.limit
+      → MayStart race xs now
 
 -- a turn has begun: no attempt has ended in it
 pub record Begins (race : Race) (now : ℕ) (xs : List Attempt) : Type 0 where
@@ -95,7 +96,8 @@ MakesOne race xs all now = (all ≡ xs) ⊎ MakesNext race xs all now
 abbrev pub are_untold : {C Conn Run : Type 0} → List (Ip × Outcome) → List (Unfinished C Conn Run) → Bool
 are_untold told [] = true
 are_untold told (o ∷ os) =
-    not (has_outcome o.attempt.ip told) && not (list_any (λ p. same_ip p.attempt.ip o.attempt.ip) os) && are_untold told os
+    not (has_outcome o.attempt.ip told) && not (list_any (λ p. same_ip p.attempt.ip o.attempt.ip) os)
+    && are_untold told os
 
 module _ {C Conn Run : Type 0} (connector : ConnectorOf C Conn Run) (trial : TrialOf Run Conn) where
   -- an attempt of the race that may be polled

@@ -27,7 +27,8 @@ use Rattle.he_race.specs.Turns.{BeginsAt, EndsPolled, Goes, Replays, StartsOne, 
 use Rattle.he_race.specs.declared.live.AfterPoll.TheVariants as after_polls
 
 -- at the tick an attempt of the race answered, and how it ended is recorded, after the ticks since its start
-pub record Records {Conn : Type 0} (old : Recorder) (now : ℕ) (answer : Result Conn ConnectFault) (new : Recorder) : Type 0 where
+pub record Records {Conn : Type 0} (old : Recorder) (now : ℕ) (answer : Result Conn ConnectFault)
+    (new : Recorder) : Type 0 where
   pub x : Attempt
   pub made : Contains old.underway.attempts x
   pub first : has_outcome x.ip old.recorded.outcomes ≡ false
@@ -43,16 +44,19 @@ Answers old now (Some answer) new = Records old now answer new
 
 module _ {C Conn Run : Type 0} (connector : ConnectorOf C Conn Run) (trial : TrialOf Run Conn) where
   -- the attempt that stands at `i`, the answer of its poll, and what is left of it
-  abbrev pub LeftBy : Live C Conn Run → ℕ → ℕ → Unfinished C Conn Run → Poll (Finish Conn) → AttemptFuture C Conn Run → Option (Result Conn ConnectFault) → Live C Conn Run → Type 0
+  abbrev pub LeftBy : Live C Conn Run → ℕ → ℕ → Unfinished C Conn Run → Poll (Finish Conn) → AttemptFuture C Conn Run
+      → Option (Result Conn ConnectFault) → Live C Conn Run → Type 0
   LeftBy old i now o Pending future answer new =
-      (answer ≡ None) × (new.recorder ≡ old.recorder) × (new.unfinished.items ≡ slice_set old.unfinished.items i (record o { future = future }))
+      (answer ≡ None) × (new.recorder ≡ old.recorder)
+      × (new.unfinished.items ≡ slice_set old.unfinished.items i (record o { future = future }))
   LeftBy old i now o (Ready f) future answer new =
       (answer ≡ Some f.result) × (new.recorder.recorded ≡ told old.recorder.recorded o.attempt now f.result)
       × (new.recorder.underway.attempts ≡ old.recorder.underway.attempts)
       × (new.unfinished.items ≡ remove (slice_set old.unfinished.items i (record o { future = future })) i)
 
   -- the attempt that stands at `i` is polled once
-  pub record PollsAt (c : C) (old : Live C Conn Run) (i now : ℕ) (answer : Option (Result Conn ConnectFault)) (c' : C) (new : Live C Conn Run) : Type 0 where
+  pub record PollsAt (c : C) (old : Live C Conn Run) (i now : ℕ) (answer : Option (Result Conn ConnectFault)) (c' : C)
+      (new : Live C Conn Run) : Type 0 where
     pub o : Unfinished C Conn Run
     pub at : slice_get old.unfinished.items i ≡ Some o
     pub polled : Poll (Finish Conn)
@@ -62,14 +66,17 @@ module _ {C Conn Run : Type 0} (connector : ConnectorOf C Conn Run) (trial : Tri
 
   abbrev pub BeginsOne : C → Option Attempt → List (Unfinished C Conn Run) → C → List (Unfinished C Conn Run) → Type 0
   BeginsOne c None os c' new = (c' ≡ c) × (new ≡ os)
-  BeginsOne c (Some x) os c' new = (o : Unfinished C Conn Run) × BeginsAt connector trial c x c' o × (new ≡ os ++ o ∷ [])
+  BeginsOne c (Some x) os c' new =
+      (o : Unfinished C Conn Run) × BeginsAt connector trial c x c' o × (new ≡ os ++ o ∷ [])
 
   -- the attempt that stands at `made`, if there is one, begins, and stands after the others
-  abbrev pub BeginsFrom : C → List Attempt → ℕ → List (Unfinished C Conn Run) → C → List (Unfinished C Conn Run) → Type 0
+  abbrev pub BeginsFrom : C → List Attempt → ℕ → List (Unfinished C Conn Run) → C → List (Unfinished C Conn Run)
+      → Type 0
   BeginsFrom c all made os c' new = BeginsOne c (slice_get all made) os c' new
 
   -- the end of a turn that goes on: the attempt that is due begins
-  pub record Continues (c : C) (old : Live C Conn Run) (now : ℕ) (c' : C) (new : Live C Conn Run) (tick : ℕ) : Type 0 where
+  pub record Continues (c : C) (old : Live C Conn Run) (now : ℕ) (c' : C) (new : Live C Conn Run)
+      (tick : ℕ) : Type 0 where
     pub recorded : new.recorder.recorded ≡ old.recorder.recorded
     pub starts : StartsOne connector trial c now old.recorder.underway.attempts new.recorder.underway.attempts old.unfinished.items c' new.unfinished.items
     pub kept : IsLive connector trial new
@@ -98,7 +105,8 @@ module _ {S C Conn Run : Type 0} (source : SourceOf S) where
   -- and its source does
   abbrev pub HeardListensAfter : Context → S → Race → ℕ → S → AfterPoll C Conn Run → Type 0
   HeardListensAfter cx s race now s' (after_polls.Ended raced) = ⊤
-  HeardListensAfter cx s race now s' (after_polls.Waits live tick) = HeardListens source cx s race now s' live.recorder.recorded
+  HeardListensAfter cx s race now s' (after_polls.Waits live tick) =
+      HeardListens source cx s race now s' live.recorder.recorded
 
   abbrev pub TurnHearsAfter : Context → S → Live C Conn Run → S → AfterPoll C Conn Run → Type 0
   TurnHearsAfter cx s was s' (after_polls.Ended raced) = ⊤

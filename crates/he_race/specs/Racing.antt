@@ -28,7 +28,8 @@ StepOf C Conn Run = C → Live C Conn Run → ℕ → C → AfterPoll C Conn Run
 
 module _ {C Conn Run T : Type 0} (steps : StepOf C Conn Run) (ticker : TickerOf T) where
   -- the race goes on, and is to be polled again at a tick, for which the ticker is asked
-  pub record AsksFor (old : RaceFuture C T Conn Run) (live : Live C Conn Run) (new : RaceFuture C T Conn Run) (answer : Result (Unit {0}) TickFault) : Type 0 where
+  pub record AsksFor (old : RaceFuture C T Conn Run) (live : Live C Conn Run) (new : RaceFuture C T Conn Run)
+      (answer : Result (Unit {0}) TickFault) : Type 0 where
     pub now : ℕ
     pub told : T
     pub tells : ticker.tells old.ticker now told
@@ -37,12 +38,14 @@ module _ {C Conn Run T : Type 0} (steps : StepOf C Conn Run) (ticker : TickerOf 
     pub polled : steps old.connector live now new.connector (after_polls.Waits next tick)
     pub asks : ticker.wakes told tick answer new.ticker
 
-  pub record GoesOn (old : RaceFuture C T Conn Run) (live : Live C Conn Run) (new : RaceFuture C T Conn Run) : Type 0 where
+  pub record GoesOn (old : RaceFuture C T Conn Run) (live : Live C Conn Run)
+      (new : RaceFuture C T Conn Run) : Type 0 where
     pub asked : AsksFor old live new (Ok tt)
     pub next : new.live ≡ Some asked.next
 
   -- the race has ended
-  pub record Ends (old : RaceFuture C T Conn Run) (live : Live C Conn Run) (new : RaceFuture C T Conn Run) (raced : Raced Conn) : Type 0 where
+  pub record Ends (old : RaceFuture C T Conn Run) (live : Live C Conn Run) (new : RaceFuture C T Conn Run)
+      (raced : Raced Conn) : Type 0 where
     pub now : ℕ
     pub tells : ticker.tells old.ticker now new.ticker
     pub polled : steps old.connector live now new.connector (after_polls.Ended raced)
@@ -54,19 +57,23 @@ module _ {C Conn Run T : Type 0} (steps : StepOf C Conn Run) (ticker : TickerOf 
   Fails old live new faults.Over = ⊥
 
   -- a poll of a race that is not over
-  abbrev pub LivePolls : RaceFuture C T Conn Run → Live C Conn Run → Poll (Result (Raced Conn) RaceFault) → RaceFuture C T Conn Run → Type 0
+  abbrev pub LivePolls : RaceFuture C T Conn Run → Live C Conn Run → Poll (Result (Raced Conn) RaceFault)
+      → RaceFuture C T Conn Run → Type 0
   LivePolls old live Pending new = GoesOn old live new
   LivePolls old live (Ready (Ok raced)) new = Ends old live new raced
   LivePolls old live (Ready (Err fault)) new = Fails old live new fault
 
   -- a poll: after the race has given its result, it is over
-  abbrev pub PollsFrom : Option (Live C Conn Run) → RaceFuture C T Conn Run → Poll (Result (Raced Conn) RaceFault) → RaceFuture C T Conn Run → Type 0
+  abbrev pub PollsFrom : Option (Live C Conn Run) → RaceFuture C T Conn Run → Poll (Result (Raced Conn) RaceFault)
+      → RaceFuture C T Conn Run → Type 0
   PollsFrom None old result new = (result ≡ Ready (Err faults.Over)) × (new ≡ old)
   PollsFrom (Some live) old result new = LivePolls old live result new
 
-  abbrev pub RacePollsBy : RaceFuture C T Conn Run → Poll (Result (Raced Conn) RaceFault) → RaceFuture C T Conn Run → Type 0
+  abbrev pub RacePollsBy : RaceFuture C T Conn Run → Poll (Result (Raced Conn) RaceFault) → RaceFuture C T Conn Run
+      → Type 0
   RacePollsBy old result new = PollsFrom old.live old result new
 
 -- a poll of a race whose answers are known
-abbrev pub RacePolls : {C Conn Run T : Type 0} → ConnectorOf C Conn Run → TrialOf Run Conn → TickerOf T → RaceFuture C T Conn Run → Poll (Result (Raced Conn) RaceFault) → RaceFuture C T Conn Run → Type 0
+abbrev pub RacePolls : {C Conn Run T : Type 0} → ConnectorOf C Conn Run → TrialOf Run Conn → TickerOf T
+    → RaceFuture C T Conn Run → Poll (Result (Raced Conn) RaceFault) → RaceFuture C T Conn Run → Type 0
 RacePolls connector trial ticker old result new = RacePollsBy (PolledAt connector trial) ticker old result new

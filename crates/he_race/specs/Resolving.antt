@@ -16,9 +16,11 @@ use Rattle.he_race.specs.Polling.{TurnsFrom}
 use Rattle.he_race.specs.Recording.{is_won}
 use Rattle.he_race.specs.Turns.{EndsLate, GivesBy, Sweep, begun}
 
-module _ {S C Conn Run : Type 0} (hears : Tells S) (connector : ConnectorOf C Conn Run) (trial : TrialOf Run Conn) where
+module _ {S C Conn Run : Type 0} (hears : Tells S) (connector : ConnectorOf C Conn Run)
+    (trial : TrialOf Run Conn) where
   -- the source is polled, what it tells is recorded, and the turn goes on as that of a race that had these answers
-  pub record HearsAndTurns (s : S) (from : Sweep C Conn Run) (os : List (Unfinished C Conn Run)) (now : ℕ) (s' : S) (c' : C) (step : AfterPoll C Conn Run) : Type 0 where
+  pub record HearsAndTurns (s : S) (from : Sweep C Conn Run) (os : List (Unfinished C Conn Run)) (now : ℕ) (s' : S)
+      (c' : C) (step : AfterPoll C Conn Run) : Type 0 where
     pub race : Race
     pub heard : Hears hears s from.recorded now s' race
     pub turns : TurnsFrom connector trial (record from { recorded = race }) os now c' step
@@ -31,14 +33,16 @@ module _ {S C Conn Run : Type 0} (hears : Tells S) (connector : ConnectorOf C Co
   -- a turn at the tick
   abbrev pub HeardTurn : S → C → Live C Conn Run → ℕ → S → C → AfterPoll C Conn Run → Type 0
   HeardTurn s c live now s' c' step =
-      EndsUnheard s (begun c live now) now s' c' step ⊎ HearsAndTurns s (begun c live now) live.unfinished.items now s' c' step
+      EndsUnheard s (begun c live now) now s' c' step
+      ⊎ HearsAndTurns s (begun c live now) live.unfinished.items now s' c' step
 
   -- a poll takes a turn where none was at the tick or later; else nothing changes, the source isn't polled, and the
   -- tick after the last turn is asked for
   abbrev pub HeardFrom : Option ℕ → S → C → Live C Conn Run → ℕ → S → C → AfterPoll C Conn Run → Type 0
   HeardFrom None s c live now s' c' step = HeardTurn s c live now s' c' step
   HeardFrom (Some turn) s c live now s' c' step =
-      MatchBool (nat_le now turn) ((s' ≡ s) × (c' ≡ c) × (step ≡ after_polls.Waits live (turn + 1))) (HeardTurn s c live now s' c' step)
+      MatchBool (nat_le now turn) ((s' ≡ s) × (c' ≡ c) × (step ≡ after_polls.Waits live (turn + 1)))
+      (HeardTurn s c live now s' c' step)
 
   -- a poll at the tick; a tick past the limit counts as the one after it
   abbrev pub HeardAt : S → C → Live C Conn Run → ℕ → S → C → AfterPoll C Conn Run → Type 0
@@ -71,4 +75,5 @@ abbrev pub MayGiveFrom : {Conn : Type 0} → Option Race → Result (Raced Conn)
 MayGiveFrom {Conn} race result = GivesBy (ReplaysGiven {Conn = Conn}) race result
 
 abbrev pub MayGive : {C Conn Run : Type 0} → Option (Live C Conn Run) → Result (Raced Conn) RaceFault → Type 0
-MayGive {C} {Conn} {Run} live result = MayGiveFrom {Conn = Conn} (option_map (λ (x : Live C Conn Run). x.recorder.recorded) live) result
+MayGive {C} {Conn} {Run} live result =
+    MayGiveFrom {Conn = Conn} (option_map (λ (x : Live C Conn Run). x.recorder.recorded) live) result

@@ -12,7 +12,8 @@ use Rattle.he_race.specs.declared.trial.Trial.{Ghosts as TrialOf}
 use Rattle.he_race.specs.Scripted.{ScriptPolls, script_of, tick_of}
 
 -- the connector begins the trials of this race, and nothing else
-pub record IsScripted {C : Type 0} (connector : ConnectorOf C (Unit {0}) ScriptedTrial) (race : Race) (c : C) : Type 0 where
+pub record IsScripted {C : Type 0} (connector : ConnectorOf C (Unit {0}) ScriptedTrial) (race : Race)
+    (c : C) : Type 0 where
   pub begins : (place : ℕ) (ip : Ip) (now : ℕ) (answer : Result ScriptedTrial ConnectFault) (left : C)
       → connector.begins c place ip now answer left → (answer ≡ Ok (script_of race ip now)) × (left ≡ c)
 

@@ -40,7 +40,8 @@ pub record Replays {Conn : Type 0} (race : Race) (raced : Raced Conn) : Type 0 w
 
 -- what a race that is being run may give, with what is recorded so far: an end of which this is said, or a fault;
 -- where nothing is left of it, that it is over, and only then
-abbrev pub GivesBy : {Conn : Type 0} → (Race → Raced Conn → Type 0) → Option Race → Result (Raced Conn) RaceFault → Type 0
+abbrev pub GivesBy : {Conn : Type 0} → (Race → Raced Conn → Type 0) → Option Race → Result (Raced Conn) RaceFault
+    → Type 0
 GivesBy said (Some race) (Ok raced) = said race raced
 GivesBy said (Some race) (Err faults.Over) = ⊥
 GivesBy said (Some race) (Err fault) = Unit {0}
@@ -52,7 +53,8 @@ abbrev pub GivesFrom : {Conn : Type 0} → Option Race → Result (Raced Conn) R
 GivesFrom {Conn} race result = GivesBy (Replays {Conn = Conn}) race result
 
 abbrev pub GivesOf : {C Conn Run : Type 0} → Option (Live C Conn Run) → Result (Raced Conn) RaceFault → Type 0
-GivesOf {C} {Conn} {Run} live result = GivesFrom {Conn = Conn} (option_map (λ (x : Live C Conn Run). x.recorder.recorded) live) result
+GivesOf {C} {Conn} {Run} live result =
+    GivesFrom {Conn = Conn} (option_map (λ (x : Live C Conn Run). x.recorder.recorded) live) result
 
 -- the race ends at the tick: it is won, or at its limit, or exhausted: no attempt is unfinished, and each usable
 -- address of both answers, which have come, was tried
@@ -103,8 +105,10 @@ module _ {C Conn Run : Type 0} (connector : ConnectorOf C Conn Run) (trial : Tri
 
   -- after a poll of an attempt: one that is pending stays, as the poll left it; of one that answers, how it ended is
   -- recorded
-  abbrev pub after_poll : Sweep C Conn Run → Unfinished C Conn Run → ℕ → Poll (Finish Conn) → C → AttemptFuture C Conn Run → Sweep C Conn Run
-  after_poll s o now Pending c future = record s { connector = c; pending = s.pending ++ record o { future = future } ∷ [] }
+  abbrev pub after_poll : Sweep C Conn Run → Unfinished C Conn Run → ℕ → Poll (Finish Conn) → C
+      → AttemptFuture C Conn Run → Sweep C Conn Run
+  after_poll s o now Pending c future =
+      record s { connector = c; pending = s.pending ++ record o { future = future } ∷ [] }
   after_poll s o now (Ready f) c future =
       record s { connector = c; recorded = told s.recorded o.attempt now f.result; first = first_of s.first f.result }
 
@@ -123,7 +127,8 @@ module _ {C Conn Run : Type 0} (connector : ConnectorOf C Conn Run) (trial : Tri
     pub polls : AttemptPolls connector trial c (Sleeping x.place x.ip x.tick) x.tick Pending c' o.future
 
   -- after the attempts before, one that was made begins at the tick of the turn, and stands after the others
-  pub record BeginsNext (c : C) (now : ℕ) (xs all : List Attempt) (os : List (Unfinished C Conn Run)) (c' : C) (new : List (Unfinished C Conn Run)) : Type 0 where
+  pub record BeginsNext (c : C) (now : ℕ) (xs all : List Attempt) (os : List (Unfinished C Conn Run)) (c' : C)
+      (new : List (Unfinished C Conn Run)) : Type 0 where
     pub x : Attempt
     pub o : Unfinished C Conn Run
     pub more : all ≡ xs ++ x ∷ []
@@ -132,16 +137,19 @@ module _ {C Conn Run : Type 0} (connector : ConnectorOf C Conn Run) (trial : Tri
     pub next : new ≡ os ++ o ∷ []
 
   -- no attempt was made, and all stays as it was
-  pub record StaysAs (c : C) (xs all : List Attempt) (os : List (Unfinished C Conn Run)) (c' : C) (new : List (Unfinished C Conn Run)) : Type 0 where
+  pub record StaysAs (c : C) (xs all : List Attempt) (os : List (Unfinished C Conn Run)) (c' : C)
+      (new : List (Unfinished C Conn Run)) : Type 0 where
     pub none : all ≡ xs
     pub still : c' ≡ c
     pub same : new ≡ os
 
-  abbrev pub StartsOne : C → ℕ → List Attempt → List Attempt → List (Unfinished C Conn Run) → C → List (Unfinished C Conn Run) → Type 0
+  abbrev pub StartsOne : C → ℕ → List Attempt → List Attempt → List (Unfinished C Conn Run) → C
+      → List (Unfinished C Conn Run) → Type 0
   StartsOne c now xs all os c' new = StaysAs c xs all os c' new ⊎ BeginsNext c now xs all os c' new
 
   -- a turn that goes on: each unfinished attempt was polled, the race is not over, and the attempt that is due begins
-  pub record Goes (from : Sweep C Conn Run) (os : List (Unfinished C Conn Run)) (now : ℕ) (c' : C) (new : Live C Conn Run) (tick : ℕ) : Type 0 where
+  pub record Goes (from : Sweep C Conn Run) (os : List (Unfinished C Conn Run)) (now : ℕ) (c' : C)
+      (new : Live C Conn Run) (tick : ℕ) : Type 0 where
     pub swept : Sweep C Conn Run
     pub polled : ArePolled now from os swept
     pub going : is_over swept.recorded swept.attempts now swept.pending (is_some swept.first) ≡ false
@@ -154,7 +162,8 @@ module _ {C Conn Run : Type 0} (connector : ConnectorOf C Conn Run) (trial : Tri
     pub asked : tick ≡ asked_tick new.recorder.due new.unfinished.items
 
   -- a turn after which the race is over, since each unfinished attempt was polled
-  pub record EndsPolled (from : Sweep C Conn Run) (os : List (Unfinished C Conn Run)) (now : ℕ) (c' : C) (raced : Raced Conn) : Type 0 where
+  pub record EndsPolled (from : Sweep C Conn Run) (os : List (Unfinished C Conn Run)) (now : ℕ) (c' : C)
+      (raced : Raced Conn) : Type 0 where
     pub swept : Sweep C Conn Run
     pub polled : ArePolled now from os swept
     pub over : is_over swept.recorded swept.attempts now swept.pending (is_some swept.first) ≡ true
@@ -189,4 +198,5 @@ module _ {C Conn Run : Type 0} (connector : ConnectorOf C Conn Run) (trial : Tri
 
   -- a poll at the tick; a tick past the limit counts as the one after it
   abbrev pub PolledAt : C → Live C Conn Run → ℕ → C → AfterPoll C Conn Run → Type 0
-  PolledAt c live now c' step = PolledFrom live.recorder.turn c live (min now (live.recorder.recorded.settings.limit + 1)) c' step
+  PolledAt c live now c' step =
+      PolledFrom live.recorder.turn c live (min now (live.recorder.recorded.settings.limit + 1)) c' step

@@ -53,9 +53,9 @@
 //! Attempt Delay after the last start has passed, or the floor, where the settings have one and each attempt has
 //! failed by then: those that fail in this turn count.
 //!
-//! A `ResolvingRace` takes the same turns, and in each of them, behind the pause and before the attempts, polls its
-//! source for each family that has no answer, IPv6 first. Of what the source tells, the family's addresses, each once and at
-//! most `MAX_ADDRESSES` of them, count as an answer that came at the turn's tick.
+//! A `ResolvingRace` takes the same turns, and in each of them, after the pause and before the attempts, polls its
+//! source for each family that has no answer, IPv6 first. Of what the source tells, the family's addresses, each
+//! once and at most `MAX_ADDRESSES` of them, count as an answer that came at the turn's tick.
 //!
 //! ```text
 //! let mut race = RaceFuture::new(alloc, &timeline, connector, ticker)?;
@@ -98,8 +98,8 @@
 //!   connection exactly where the race was won (`Replays` in `specs/Turns.antt`).
 //! - What a `ResolvingRace` gives replays likewise, for every source too: the record has the given settings, policy,
 //!   host and history, each given answer, and of the other families what the source told, at the tick of the turn in
-//!   which it did; a family that has an answer isn't polled (`ReplaysGiven` and `HeardAt` in `specs/Resolving.antt`, `Hears` in
-//!   `specs/Heard.antt`). One more answer changes nothing before its tick (`laws::one_more_answer_above`).
+//!   which it did; a family that has an answer isn't polled (`ReplaysGiven` and `HeardAt` in `specs/Resolving.antt`,
+//!   `Hears` in `specs/Heard.antt`). One more answer changes nothing before its tick (`laws::one_more_answer_above`).
 //! - In a turn each unfinished attempt is polled once, with an answer and a new state that its trial's relation
 //!   allows; how one that answers ended is recorded, with the ticks since its start, and nothing else is; a pause is
 //!   recorded exactly where something was due before the turn, from there to it; the race ends exactly where the

@@ -15,7 +15,8 @@ at_line_number n None later = later
 unfoldable pub fault_from : Version → ℕ → List (List ℕ) → List (List ℕ) → Option (ℕ × TextKind)
 fault_from version n before [] = Some (n, kinds.Unfinished)
 fault_from version n before (line ∷ after) =
-    at_line_number n (line_fault version before line after) (if ends line then None else fault_from version (n + 1) (before ++ line ∷ []) after)
+    at_line_number n (line_fault version before line after)
+    (if ends line then None else fault_from version (n + 1) (before ++ line ∷ []) after)
 
 -- the same from the first line on
 unfoldable pub fault_in : List (List ℕ) → Option (ℕ × TextKind)

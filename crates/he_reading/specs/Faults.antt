@@ -94,7 +94,8 @@ too_often before (Ok parts) = excess (most_lines parts.0) (lines_with (group_of 
 
 -- 8: a pause that doesn't end after it begins, or begins before the end of the one before it
 abbrev pub wrong_bounds : List Said → Said → Option TextKind
-wrong_bounds before (Paused from to) = test (not (nat_le (last_end (pauses_given before)) from && nat_lt from to)) kinds.Range
+wrong_bounds before (Paused from to) =
+    test (not (nat_le (last_end (pauses_given before)) from && nat_lt from to)) kinds.Range
 wrong_bounds before said = None
 
 -- 9: a setting, the prefix of a row, the address of a source or the prefix of a route given twice, an address twice in
@@ -116,7 +117,8 @@ begins_with word (Ok parts) = same_word word parts.0
 begins_with word (Err kind) = false
 
 abbrev pub is_next : Word → List (List ℕ) → Bool
-is_next word (line ∷ next ∷ after) = nat_le (length line) most_line_bytes && begins_with word (word_of (tokens_of line))
+is_next word (line ∷ next ∷ after) =
+    nat_le (length line) most_line_bytes && begins_with word (word_of (tokens_of line))
 is_next word _ = false
 
 -- a floor above the attempt delay
@@ -130,7 +132,8 @@ floor_is_above settings = is_above settings.floor settings.attempt
 -- what the lines of a group give together: a policy table that isn't admitted; a floor above the attempt delay
 abbrev pub group_fault : List Said → Said → Option TextKind
 group_fault before (PolicyRow row) = option_map kinds.Policy (table_fault (rows_given before ++ row ∷ []))
-group_fault before (Setting name value) = test (floor_is_above (settings_given (before ++ Setting name value ∷ []))) kinds.Range
+group_fault before (Setting name value) =
+    test (floor_is_above (settings_given (before ++ Setting name value ∷ []))) kinds.Range
 group_fault before said = None
 
 -- 10 and 11: on the last line of a group, which the next line's word tells

@@ -77,7 +77,8 @@ source_marks_in (only ∷ []) =
     else if bytes_eq only (codes "temporary") then Ok (false, true)
     else Err kinds.Word
 source_marks_in (first ∷ second ∷ more) =
-    if bytes_eq first (codes "deprecated") && bytes_eq second (codes "temporary") then Ok (true, true) else Err kinds.Word
+    if bytes_eq first (codes "deprecated") && bytes_eq second (codes "temporary") then Ok (true, true)
+    else Err kinds.Word
 
 -- source SOURCE INTERFACE [deprecated] [temporary]
 unfoldable pub host_source_in : List (List ℕ) → Result Source TextKind
@@ -155,7 +156,8 @@ used_in known _ = Err kinds.Word
 
 -- what a connect does, by its mark
 unfoldable pub mark_in : List ℕ → Result Bool TextKind
-mark_in token = if bytes_eq token (codes "ok") then Ok true else if bytes_eq token (codes "fail") then Ok false else Err kinds.Word
+mark_in token =
+    if bytes_eq token (codes "ok") then Ok true else if bytes_eq token (codes "fail") then Ok false else Err kinds.Word
 
 -- connect ADDRESS ok N, connect ADDRESS fail N
 unfoldable pub connect_in : (Ip → Bool) → List (List ℕ) → Result (Ip × Outcome) TextKind

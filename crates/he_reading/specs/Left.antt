@@ -37,4 +37,5 @@ HasRoom lines = lines.number + length lines.rest.now < 2 ^ 64
 
 -- what is left is so much less as lines were passed
 abbrev pub IsAmong : Lines → Lines → Type 0
-IsAmong old new = (old.number ≤ new.number) × (new.number + length (lines_left new) ≡ old.number + length (lines_left old))
+IsAmong old new =
+    (old.number ≤ new.number) × (new.number + length (lines_left new) ≡ old.number + length (lines_left old))

@@ -50,7 +50,8 @@ built (Err fault) = Err (kind_of fault)
 -- one more line of a word with a bound on its lines, of which there are so many
 unfoldable pub counted : ℕ → Option (ℕ × TextKind) → ℕ → Result LastGroup TextKind
 counted group None lines = Ok (record { group = group; lines = 0 })
-counted group (Some most) lines = if nat_le most.0 lines then Err most.1 else Ok (record { group = group; lines = lines + 1 })
+counted group (Some most) lines =
+    if nat_le most.0 lines then Err most.1 else Ok (record { group = group; lines = lines + 1 })
 
 -- a line of the word, behind lines of which the last one's group has so many
 unfoldable pub admit : Word → LastGroup → Result LastGroup TextKind
@@ -70,7 +71,8 @@ once None value = Ok (Some value)
 once (Some before) value = Err kinds.Repeated
 
 unfoldable pub put : Name → ℕ → GivenSettings → Result GivenSettings TextKind
-put Resolution value given = once given.resolution value >>= λ (more : Option ℕ). Ok (record given { resolution = more })
+put Resolution value given =
+    once given.resolution value >>= λ (more : Option ℕ). Ok (record given { resolution = more })
 put Attempt value given = once given.attempt value >>= λ (more : Option ℕ). Ok (record given { attempt = more })
 put Count value given = once given.count value >>= λ (more : Option ℕ). Ok (record given { count = more })
 put Floor value given = once given.floor value >>= λ (more : Option ℕ). Ok (record given { floor = more })
@@ -114,7 +116,8 @@ no_head = record { settings = none_given; rows = []; sources = []; routes = [] }
 -- one more setting; whether more come
 unfoldable pub add_setting : Bool → Name → ℕ → HeadGiven → Result HeadGiven TextKind
 add_setting more name value head =
-    (put name value head.settings >>= settled more) >>= λ (given : GivenSettings). Ok (record head { settings = given })
+    (put name value head.settings >>= settled more) >>=
+    λ (given : GivenSettings). Ok (record head { settings = given })
 
 abbrev pub with_row : Row → HeadGiven → HeadGiven
 with_row row head = record head { rows = head.rows ++ row ∷ [] }
@@ -128,11 +131,13 @@ add_row more row head =
 
 unfoldable pub add_source : Source → HeadGiven → Result HeadGiven TextKind
 add_source source head =
-    if list_any (same_source source) head.sources then Err kinds.Repeated else Ok (record head { sources = head.sources ++ source ∷ [] })
+    if list_any (same_source source) head.sources then Err kinds.Repeated
+    else Ok (record head { sources = head.sources ++ source ∷ [] })
 
 unfoldable pub add_route : Route → HeadGiven → Result HeadGiven TextKind
 add_route route head =
-    if list_any (same_route route) head.routes then Err kinds.Repeated else Ok (record head { routes = head.routes ++ route ∷ [] })
+    if list_any (same_route route) head.routes then Err kinds.Repeated
+    else Ok (record head { routes = head.routes ++ route ∷ [] })
 
 -- a line of the first four groups; whether one of its word follows it
 unfoldable pub take_given : Bool → Word → List (List ℕ) → HeadGiven → Result HeadGiven TextKind
@@ -171,15 +176,18 @@ unfoldable pub take_listed : Family → ℕ → List (List ℕ) → Race → Res
 take_listed family tick tokens race = listed_in family tokens >>= λ ips. built (add_answer family tick ips race)
 
 unfoldable pub take_answer : Family → List (List ℕ) → Race → Result Race TextKind
-take_answer family tokens race = answer_in family tokens >>= λ reply. built (add_answer family reply.tick reply.addresses race)
+take_answer family tokens race =
+    answer_in family tokens >>= λ reply. built (add_answer family reply.tick reply.addresses race)
 
 -- a line of the other groups
 unfoldable pub take_told : Word → List (List ℕ) → Race → Result Race TextKind
 take_told words.Aaaa tokens race = take_answer families.V6 tokens race
 take_told words.A tokens race = take_answer families.V4 tokens race
-take_told words.Rtt tokens race = round_trip_in (is_in_answer race) tokens >>= λ told. built (add_rtt told.0 told.1 race)
+take_told words.Rtt tokens race =
+    round_trip_in (is_in_answer race) tokens >>= λ told. built (add_rtt told.0 told.1 race)
 take_told words.Used tokens race = used_in (is_in_answer race) tokens >>= λ ip. built (add_used ip race)
-take_told words.Connect tokens race = connect_in (is_in_answer race) tokens >>= λ told. built (add_outcome told.0 told.1 race)
+take_told words.Connect tokens race =
+    connect_in (is_in_answer race) tokens >>= λ told. built (add_outcome told.0 told.1 race)
 take_told words.Pause tokens race = pause_in tokens >>= λ pause. built (add_pause pause.0 pause.1 race)
 take_told words.End tokens race = end_in tokens >>= λ _. Ok race
 take_told _ tokens race = Err kinds.Word
@@ -206,7 +214,8 @@ at_line n (Ok x) = Ok x
 at_line n (Err kind) = Err (n, kind)
 
 -- reading on from line n: the race and what stands behind it
-unfoldable pub read_body : Version → ℕ → LastGroup → Race → List (List ℕ) → Result (Race × List (List ℕ)) (ℕ × TextKind)
+unfoldable pub read_body : Version → ℕ → LastGroup → Race → List (List ℕ)
+    → Result (Race × List (List ℕ)) (ℕ × TextKind)
 read_body version n so_far race [] = Err (n, kinds.Unfinished)
 read_body version n so_far race (line ∷ after) =
     at_line n (wholeness (line ∷ after)) >>= λ _.
@@ -222,24 +231,28 @@ unfoldable pub head_of : Version → List (List ℕ) → Option (Word × List (L
 head_of version line = head_part (version_word version line)
 
 -- such a line, and whether it has a place, by what stands behind it
-unfoldable pub take_head : List (List ℕ) → Word × List (List ℕ) → LastGroup → HeadGiven → Result (LastGroup × HeadGiven) TextKind
+unfoldable pub take_head : List (List ℕ) → Word × List (List ℕ) → LastGroup → HeadGiven
+    → Result (LastGroup × HeadGiven) TextKind
 take_head after parts so_far head = do
   next ← admit parts.0 so_far
   more ← take_given (is_next parts.0 after) parts.0 parts.1 head
   Ok (next, more)
 
 -- what follows the lines of the first four groups
-unfoldable pub settle : Version → ℕ → LastGroup → HeadGiven → List (List ℕ) → Result (Race × List (List ℕ)) (ℕ × TextKind)
+unfoldable pub settle : Version → ℕ → LastGroup → HeadGiven → List (List ℕ)
+    → Result (Race × List (List ℕ)) (ℕ × TextKind)
 settle version n so_far head lines = at_line n (race_begun head) >>= λ race. read_body version n so_far race lines
 
 -- the lines of the first four groups, and then the others
-unfoldable pub read_head : Version → ℕ → LastGroup → HeadGiven → List (List ℕ) → Result (Race × List (List ℕ)) (ℕ × TextKind)
+unfoldable pub read_head : Version → ℕ → LastGroup → HeadGiven → List (List ℕ)
+    → Result (Race × List (List ℕ)) (ℕ × TextKind)
 read_head version n so_far head [] = Err (n, kinds.Unfinished)
 read_head version n so_far head (line ∷ after) =
     at_line n (wholeness (line ∷ after)) >>= λ _.
     elim (head_of version (tokens_of line)) [
       | None ↦ settle version n so_far head (line ∷ after)
-      | Some parts ↦ at_line n (take_head after parts so_far head) >>= λ next. read_head version (n + 1) next.0 next.1 after
+      | Some parts ↦ at_line n (take_head after parts so_far head) >>=
+          λ next. read_head version (n + 1) next.0 next.1 after
     ]
 
 unfoldable pub read_lines : List (List ℕ) → Result (Race × List (List ℕ)) (ℕ × TextKind)

@@ -43,25 +43,32 @@ answer_word families.V4 = words.A
 -- a line, by its tokens, and what it says
 abbrev pub Says : List ℕ → Said → Type 0
 Says line (Setting name value) =
-    (number : List ℕ) × (tokens_of line ≡ spelling_of words.Set ∷ name_spelling name ∷ number ∷ []) × IsNumber (least_value name) (most_value name) number value
+    (number : List ℕ) × (tokens_of line ≡ spelling_of words.Set ∷ name_spelling name ∷ number ∷ [])
+    × IsNumber (least_value name) (most_value name) number value
 Says line (PolicyRow row) =
-    (first : List ℕ) × (second : List ℕ) × (third : List ℕ) × (tokens_of line ≡ spelling_of words.Policy ∷ first ∷ second ∷ third ∷ [])
+    (first : List ℕ) × (second : List ℕ) × (third : List ℕ)
+    × (tokens_of line ≡ spelling_of words.Policy ∷ first ∷ second ∷ third ∷ [])
     × SpellsPrefix first row.prefix × IsNumber 0 most_u16 second row.precedence × IsNumber 0 most_u16 third row.label
 Says line (HostSource source) =
-    (first : List ℕ) × (second : List ℕ) × (tokens_of line ≡ spelling_of words.Source ∷ first ∷ second ∷ source_marks source)
+    (first : List ℕ) × (second : List ℕ)
+    × (tokens_of line ≡ spelling_of words.Source ∷ first ∷ second ∷ source_marks source)
     × SpellsSource first source.ip source.plen × IsNumber least_interface most_u16 second source.interface
 Says line (HostRoute route) =
-    (first : List ℕ) × (second : List ℕ) × (tokens_of line ≡ spelling_of words.Route ∷ first ∷ second ∷ route_marks route)
+    (first : List ℕ) × (second : List ℕ)
+    × (tokens_of line ≡ spelling_of words.Route ∷ first ∷ second ∷ route_marks route)
     × SpellsPrefix first route.prefix × IsNumber least_interface most_u16 second route.interface
 Says line (Answer family reply) =
-    (number : List ℕ) × (tokens : List (List ℕ)) × (tokens_of line ≡ spelling_of (answer_word family) ∷ number ∷ tokens)
+    (number : List ℕ) × (tokens : List (List ℕ))
+    × (tokens_of line ≡ spelling_of (answer_word family) ∷ number ∷ tokens)
     × IsNumber 0 MAX_TICK number reply.tick × Lists tokens reply.addresses × (length tokens ≤ MAX_ADDRESSES)
 Says line (RoundTrip ip rtt) =
     (address : List ℕ) × (number : List ℕ) × (tokens_of line ≡ spelling_of words.Rtt ∷ address ∷ number ∷ [])
     × Spells address ip × IsNumber MIN_DURATION MAX_DURATION number rtt
-Says line (UsedBefore ip) = (address : List ℕ) × (tokens_of line ≡ spelling_of words.Used ∷ address ∷ []) × Spells address ip
+Says line (UsedBefore ip) =
+    (address : List ℕ) × (tokens_of line ≡ spelling_of words.Used ∷ address ∷ []) × Spells address ip
 Says line (OutcomeOf ip outcome) =
-    (address : List ℕ) × (number : List ℕ) × (tokens_of line ≡ spelling_of words.Connect ∷ address ∷ mark_text outcome ∷ number ∷ [])
+    (address : List ℕ) × (number : List ℕ)
+    × (tokens_of line ≡ spelling_of words.Connect ∷ address ∷ mark_text outcome ∷ number ∷ [])
     × Spells address ip × IsNumber MIN_DURATION MAX_DURATION number (duration_of outcome)
 Says line (Paused from to) =
     (first : List ℕ) × (second : List ℕ) × (tokens_of line ≡ spelling_of words.Pause ∷ first ∷ second ∷ [])
@@ -121,7 +128,8 @@ pub record IsRaceText (text : List ℕ) (race : Race) : Type 0 where
 
 -- a race's text stands first
 abbrev pub BeginsWithRace : List ℕ → Type 0
-BeginsWithRace text = (front : List ℕ) × (rest : List ℕ) × (race : Race) × (text ≡ front ++ rest) × IsRaceText front race
+BeginsWithRace text =
+    (front : List ℕ) × (rest : List ℕ) × (race : Race) × (text ≡ front ++ rest) × IsRaceText front race
 
 -- the number of a line of the text, or of what stands behind the last one
 abbrev pub IsLineOf : List ℕ → ℕ → Type 0
@@ -129,4 +137,5 @@ IsLineOf text line = (1 ≤ line) × (line ≤ length (lines_of text))
 
 -- the fault of a reading is the text's, or memory was refused at a line before which nothing is wrong
 abbrev pub TellsFault : ℕ → TextKind → Option (ℕ × TextKind) → Type 0
-TellsFault line kind fault = ((kind ≡ kinds.Memory) × MatchOption fault (Unit {0}) (λ f. line ≤ f.0)) ⊎ (fault ≡ Some (line, kind))
+TellsFault line kind fault =
+    ((kind ≡ kinds.Memory) × MatchOption fault (Unit {0}) (λ f. line ≤ f.0)) ⊎ (fault ≡ Some (line, kind))

@@ -6,7 +6,8 @@ use Rattle.he_relay.specs.declared.fault.PumpFault.TheVariants as faults
 -- at `Ok` the input gave some bytes and ended, and the output took these; where the input broke off, the same; where
 -- it was cut, it neither ended nor broke off behind them; where the output failed, it took a first part of what the
 -- input gave so far
-abbrev pub Pumps : (List ℕ → Bool → Type 0) → (List ℕ → Type 0) → (List ℕ → Type 0) → (List ℕ → Type 0) → Result (Unit {0}) PumpFault → Type 0
+abbrev pub Pumps : (List ℕ → Bool → Type 0) → (List ℕ → Type 0) → (List ℕ → Type 0) → (List ℕ → Type 0)
+    → Result (Unit {0}) PumpFault → Type 0
 Pumps Gives GivesSoFar Puts PutsPart (Ok done) = (bytes : List ℕ) × Gives bytes false × Puts bytes
 Pumps Gives GivesSoFar Puts PutsPart (Err faults.Input) = (bytes : List ℕ) × Gives bytes true × Puts bytes
 Pumps Gives GivesSoFar Puts PutsPart (Err faults.Cut) = (bytes : List ℕ) × GivesSoFar bytes × Puts bytes

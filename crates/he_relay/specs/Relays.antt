@@ -11,7 +11,8 @@ use Rattle.he_relay.specs.declared.relaying.Ends.{Ends}
 use Rattle.he_relay.specs.Pumps.{Pumps}
 
 -- each way is a pump that ended as is told of it; where an allocation was refused, nothing was taken and nothing put
-abbrev pub RelaysBoth : {E : Type 0} → (Result (Unit {0}) PumpFault → Type 0) → (Result (Unit {0}) PumpFault → Type 0) → Type 0 → Result Ends E → Type 0
+abbrev pub RelaysBoth : {E : Type 0} → (Result (Unit {0}) PumpFault → Type 0) → (Result (Unit {0}) PumpFault → Type 0)
+    → Type 0 → Result Ends E → Type 0
 RelaysBoth Sends Receives Kept (Ok ends) = Sends ends.sent × Receives ends.received
 RelaysBoth Sends Receives Kept (Err refused) = Kept
 
@@ -25,7 +26,8 @@ IsNotSent result = IsBroken result ⊎ ((unsent : Unsent) × (result ≡ Err (fa
 
 -- the end that is told of two ways, of which the one to the connection and the one from it ended so: what failed is
 -- told, of the way to the output first. That the input was cut is a fault, but at a terminal
-abbrev pub IsEnd : Bool → Result (Unit {0}) PumpFault → Result (Unit {0}) PumpFault → Result (Unit {0}) RelayFault → Type 0
+abbrev pub IsEnd : Bool → Result (Unit {0}) PumpFault → Result (Unit {0}) PumpFault → Result (Unit {0}) RelayFault
+    → Type 0
 IsEnd is_terminal sent (Err pumps.Output) result = result ≡ Err faults.Output
 IsEnd is_terminal sent (Err pumps.Input) result = IsBroken result
 IsEnd is_terminal sent (Err pumps.Cut) result = IsBroken result
@@ -43,11 +45,13 @@ abbrev pub SomeGiven : List ℕ → Bool → Type 0
 SomeGiven bytes is_broken = ⊤
 
 -- what was taken from the input, what was put into the output, and that the end that is told is that of both ways
-unfoldable pub RelaysStandard : (List ℕ → Bool → Type 0) → (List ℕ → Type 0) → (List ℕ → Type 0) → (List ℕ → Type 0) → Type 0 → Bool → Result (Unit {0}) RelayFault → Type 0
+unfoldable pub RelaysStandard : (List ℕ → Bool → Type 0) → (List ℕ → Type 0) → (List ℕ → Type 0) → (List ℕ → Type 0)
+    → Type 0 → Bool → Result (Unit {0}) RelayFault → Type 0
 RelaysStandard Gives GivesSoFar Put PutPart Kept is_terminal result =
     ((result ≡ Err faults.Memory) × Kept)
     ⊎ ((sent : Result (Unit {0}) PumpFault) × (received : Result (Unit {0}) PumpFault)
-    × Pumps Gives GivesSoFar Some Some sent × Pumps SomeGiven Some Put PutPart received × IsEnd is_terminal sent received result)
+    × Pumps Gives GivesSoFar Some Some sent × Pumps SomeGiven Some Put PutPart received
+    × IsEnd is_terminal sent received result)
 
 -- what was put into the output, by the end that is told. Kept: nothing was put
 abbrev pub Relays : (List ℕ → Type 0) → (List ℕ → Type 0) → Type 0 → Result (Unit {0}) RelayFault → Type 0

@@ -8,7 +8,8 @@ use Rattle.he_replay.specs.Output.{IsOutput, TextRelation}
 
 -- each input that begins with these bytes has this output and this fault, however it ends
 abbrev pub Stands : TextRelation → List ℕ → List ℕ → TextFault → Type 0
-Stands IsText input text fault = (more : List ℕ) (is_broken : Bool) → IsOutput IsText (input ++ more) is_broken text (Some (Text fault))
+Stands IsText input text fault =
+    (more : List ℕ) (is_broken : Bool) → IsOutput IsText (input ++ more) is_broken text (Some (Text fault))
 
 -- the input broke off behind the last line of a policy table or of the settings, of which it is the fault: one more
 -- line of the group may mend it
@@ -22,4 +23,5 @@ pub record IsGroupBroken (input : List ℕ) (is_broken : Bool) (fault : TextFaul
 
 -- the input ended; or what follows changes nothing; or the input broke off in a group of lines
 abbrev pub IsKnown : TextRelation → List ℕ → Bool → List ℕ → TextFault → Type 0
-IsKnown IsText input is_broken text fault = (is_broken ≡ false) ⊎ (Stands IsText input text fault ⊎ IsGroupBroken input is_broken fault)
+IsKnown IsText input is_broken text fault =
+    (is_broken ≡ false) ⊎ (Stands IsText input text fault ⊎ IsGroupBroken input is_broken fault)

@@ -73,7 +73,8 @@ AreTold IsText number line (race ∷ races) bytes text =
 
 -- the text that is written for an input, and what is wrong with the input: a text of each of its races up to the
 -- first fault
-pub record IsOutput (IsText : TextRelation) (input : List ℕ) (is_broken : Bool) (text : List ℕ) (fault : Option InputFault) : Type 0 where
+pub record IsOutput (IsText : TextRelation) (input : List ℕ) (is_broken : Bool) (text : List ℕ)
+    (fault : Option InputFault) : Type 0 where
   pub races : List Race
   pub has : HasRaces input is_broken races fault
   pub told : AreTold IsText 1 1 races has.before text

@@ -13,10 +13,12 @@ use Rattle.he_replay.specs.Rounds.{HasTold}
 -- whether a text is one of a race does not depend on the race's place in the input
 abbrev pub IsAnywhere : TextRelation → Type 0
 IsAnywhere IsText =
-    (number line other_number other_line : ℕ) (text : List ℕ) (race : Race) → IsText number line text race → IsText other_number other_line text race
+    (number line other_number other_line : ℕ) (text : List ℕ) (race : Race) → IsText number line text race
+    → IsText other_number other_line text race
 
 -- the races at the front of what begins at a place of the bytes were told
-pub record IsPiece (IsText : TextRelation) (bytes : List ℕ) (from : ℕ) (text : List ℕ) (reader : RaceReader) : Type 0 where
+pub record IsPiece (IsText : TextRelation) (bytes : List ℕ) (from : ℕ) (text : List ℕ)
+    (reader : RaceReader) : Type 0 where
   pub within : from ≤ length bytes
   pub told : HasTold IsText (drop from bytes) 0 0 text reader
 

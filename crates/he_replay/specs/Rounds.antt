@@ -30,7 +30,8 @@ pub record WritesText (IsSuch : List ℕ → Type 0) (old new : List ℕ) : Type
   pub appended : new ≡ old ++ told
 
 -- of bytes behind so many races and lines, the races that the reader passed were told
-pub record HasTold (IsText : TextRelation) (bytes : List ℕ) (races_before lines_before : ℕ) (text : List ℕ) (reader : RaceReader) : Type 0 where
+pub record HasTold (IsText : TextRelation) (bytes : List ℕ) (races_before lines_before : ℕ) (text : List ℕ)
+    (reader : RaceReader) : Type 0 where
   pub races : List Race
   pub within : reader.end ≤ length bytes
   pub told : AreTold IsText (races_before + 1) (lines_before + 1) races (take reader.end bytes) text
@@ -50,28 +51,34 @@ TellsOn IsText bytes begun old new reader =
     (races lines : ℕ) → HasTold IsText bytes races lines old begun → HasTold IsText bytes races lines new reader
 
 -- races more were told, and what is wrong behind them, if that is known
-pub record Tells (IsText : TextRelation) (ending : Ending) (bytes : List ℕ) (begun : RaceReader) (old new : List ℕ) (told : RoundEnd) : Type 0 where
+pub record Tells (IsText : TextRelation) (ending : Ending) (bytes : List ℕ) (begun : RaceReader) (old new : List ℕ)
+    (told : RoundEnd) : Type 0 where
   pub on : TellsOn IsText bytes begun old new told.reader
   pub fault_is : ((ending ≡ endings.Open) × (told.fault ≡ None)) ⊎ IsFaultPast ending bytes told.reader told.fault
 
 -- the text was put, or there was none and more may follow
-abbrev pub PutsAny : {S : Type 0} → (S → Option (List ℕ)) → (S → Put → S → Type 0) → (S → Flushed → S → Type 0) → Ending → List ℕ → S → S → Type 0
+abbrev pub PutsAny : {S : Type 0} → (S → Option (List ℕ)) → (S → Put → S → Type 0) → (S → Flushed → S → Type 0)
+    → Ending → List ℕ → S → S → Type 0
 PutsAny contents puts flushes ending text first last =
     PutsWhole contents puts flushes first last text ⊎ ((ending ≡ endings.Open) × (text ≡ []) × (first ≡ last))
 
 -- how the text of what was told is put: what is wrong with the input is told behind it
-abbrev pub PutsTold : {S : Type 0} → (S → Option (List ℕ)) → (S → Put → S → Type 0) → (S → Flushed → S → Type 0) → Ending → RoundEnd → List ℕ → S → S → Result RaceReader StreamFault → Type 0
+abbrev pub PutsTold : {S : Type 0} → (S → Option (List ℕ)) → (S → Put → S → Type 0) → (S → Flushed → S → Type 0)
+    → Ending → RoundEnd → List ℕ → S → S → Result RaceReader StreamFault → Type 0
 PutsTold contents puts flushes ending told text first last (Ok reader) =
     (reader ≡ told.reader) × (told.fault ≡ None) × PutsAny contents puts flushes ending text first last
 PutsTold contents puts flushes ending told text first last (Err (faults.Text fault)) =
     (told.fault ≡ Some (inputs.Text fault)) × PutsWhole contents puts flushes first last text
 PutsTold contents puts flushes ending told text first last (Err faults.Read) =
     (told.fault ≡ Some inputs.Read) × PutsWhole contents puts flushes first last text
-PutsTold contents puts flushes ending told text first last (Err faults.Write) = PutsPart contents puts flushes first last text
+PutsTold contents puts flushes ending told text first last (Err faults.Write) =
+    PutsPart contents puts flushes first last text
 PutsTold contents puts flushes ending told text first last (Err faults.Memory) = ⊥
 
 -- a round went on: these races were told of the bytes and put, and what stands behind them is held
-pub record GoesOn {S : Type 0} (IsText : TextRelation) (contents : S → Option (List ℕ)) (puts : S → Put → S → Type 0) (flushes : S → Flushed → S → Type 0) (ending : Ending) (bytes : List ℕ) (from : RaceReader) (kept : List ℕ) (next : RaceReader) (first last : S) : Type 0 where
+pub record GoesOn {S : Type 0} (IsText : TextRelation) (contents : S → Option (List ℕ)) (puts : S → Put → S → Type 0)
+    (flushes : S → Flushed → S → Type 0) (ending : Ending) (bytes : List ℕ) (from : RaceReader) (kept : List ℕ)
+    (next : RaceReader) (first last : S) : Type 0 where
   pub text : List ℕ
   pub reader : RaceReader
   pub told : HasTold IsText bytes from.races from.lines text reader
@@ -81,7 +88,9 @@ pub record GoesOn {S : Type 0} (IsText : TextRelation) (contents : S → Option 
   pub at : next ≡ record { end = 0; races = reader.races; lines = reader.lines }
 
 -- all races at the front of the bytes were told and put, and this is wrong behind them
-pub record EndsWithFault {S : Type 0} (IsText : TextRelation) (contents : S → Option (List ℕ)) (puts : S → Put → S → Type 0) (flushes : S → Flushed → S → Type 0) (ending : Ending) (bytes : List ℕ) (from : RaceReader) (first last : S) (fault : InputFault) : Type 0 where
+pub record EndsWithFault {S : Type 0} (IsText : TextRelation) (contents : S → Option (List ℕ))
+    (puts : S → Put → S → Type 0) (flushes : S → Flushed → S → Type 0) (ending : Ending) (bytes : List ℕ)
+    (from : RaceReader) (first last : S) (fault : InputFault) : Type 0 where
   pub text : List ℕ
   pub reader : RaceReader
   pub told : HasTold IsText bytes from.races from.lines text reader
@@ -89,7 +98,9 @@ pub record EndsWithFault {S : Type 0} (IsText : TextRelation) (contents : S → 
   pub put : PutsWhole contents puts flushes first last text
 
 -- how a round ends: the bytes that are held then, or a fault
-abbrev pub PutsRound : {S : Type 0} → TextRelation → (S → Option (List ℕ)) → (S → Put → S → Type 0) → (S → Flushed → S → Type 0) → Ending → List ℕ → RaceReader → List ℕ → RaceReader → S → S → Result (Unit {0}) StreamFault → Type 0
+abbrev pub PutsRound : {S : Type 0} → TextRelation → (S → Option (List ℕ)) → (S → Put → S → Type 0)
+    → (S → Flushed → S → Type 0) → Ending → List ℕ → RaceReader → List ℕ → RaceReader → S → S
+    → Result (Unit {0}) StreamFault → Type 0
 PutsRound IsText contents puts flushes ending bytes from kept next first last (Ok done) =
     GoesOn IsText contents puts flushes ending bytes from kept next first last
 PutsRound IsText contents puts flushes ending bytes from kept next first last (Err (faults.Text fault)) =
@@ -97,12 +108,14 @@ PutsRound IsText contents puts flushes ending bytes from kept next first last (E
 PutsRound IsText contents puts flushes ending bytes from kept next first last (Err faults.Read) =
     EndsWithFault IsText contents puts flushes ending bytes from first last inputs.Read
 PutsRound IsText contents puts flushes ending bytes from kept next first last (Err faults.Write) =
-    (text : List ℕ) × (reader : RaceReader) × HasTold IsText bytes from.races from.lines text reader × PutsPart contents puts flushes first last text
+    (text : List ℕ) × (reader : RaceReader) × HasTold IsText bytes from.races from.lines text reader
+    × PutsPart contents puts flushes first last text
 PutsRound IsText contents puts flushes ending bytes from kept next first last (Err faults.Memory) = first ≡ last
 
 -- where a call stands: the races that were told, and the bytes that are held behind them. Took: what was taken so far;
 -- Done: what was put so far
-pub record IsAt (IsText : TextRelation) (held : List ℕ) (reader : RaceReader) (Took Done : List ℕ → Type 0) : Type 0 where
+pub record IsAt (IsText : TextRelation) (held : List ℕ) (reader : RaceReader)
+    (Took Done : List ℕ → Type 0) : Type 0 where
   pub races : List Race
   pub before : List ℕ
   pub text : List ℕ

@@ -14,7 +14,8 @@ use Rattle.he_inputs.specs.declared.stream_fault.StreamFault.{StreamFault}
 use Rattle.he_inputs.specs.declared.stream_fault.StreamFault.TheVariants.{Text, Read, Write, Memory}
 
 -- the input was given, whole or up to where it broke off, and its whole output, of this fault, was put in
-pub record PutsOutput (IsText : TextRelation) (Gave : List ℕ → Bool → Type 0) (Whole : List ℕ → Type 0) (fault : Option InputFault) : Type 0 where
+pub record PutsOutput (IsText : TextRelation) (Gave : List ℕ → Bool → Type 0) (Whole : List ℕ → Type 0)
+    (fault : Option InputFault) : Type 0 where
   pub input : List ℕ
   pub is_broken : Bool
   pub text : List ℕ
@@ -24,7 +25,8 @@ pub record PutsOutput (IsText : TextRelation) (Gave : List ℕ → Bool → Type
 
 -- of the input these bytes were taken, and no more, and the whole output of every input that begins with them was put
 -- in
-pub record PutsSure (IsText : TextRelation) (Taken : List ℕ → Type 0) (Whole : List ℕ → Type 0) (fault : TextFault) : Type 0 where
+pub record PutsSure (IsText : TextRelation) (Taken : List ℕ → Type 0) (Whole : List ℕ → Type 0)
+    (fault : TextFault) : Type 0 where
   pub input : List ℕ
   pub text : List ℕ
   pub taken : Taken input
@@ -42,7 +44,8 @@ pub record TellsSome (IsText : TextRelation) (input text : List ℕ) : Type 0 wh
 
 -- of the input these bytes were taken, whether there are more or not, and this was done with a text of some first
 -- races of them
-pub record PutsSome (IsText : TextRelation) (Gave : List ℕ → Bool → Type 0) (Taken : List ℕ → Type 0) (Done : List ℕ → Type 0) : Type 0 where
+pub record PutsSome (IsText : TextRelation) (Gave : List ℕ → Bool → Type 0) (Taken : List ℕ → Type 0)
+    (Done : List ℕ → Type 0) : Type 0 where
   pub input : List ℕ
   pub text : List ℕ
   pub taken : Taken input ⊎ ((is_broken : Bool) × Gave input is_broken)
@@ -53,7 +56,8 @@ pub record PutsSome (IsText : TextRelation) (Gave : List ℕ → Bool → Type 0
 -- further; Whole: the text of which all was put into the output and then flushed; RoundScope: the text of which a
 -- first part was put in, until that failed; Put: the text of which all was put in and flushed, or nothing where there
 -- is none
-abbrev pub Streams : TextRelation → (List ℕ → Bool → Type 0) → (List ℕ → Type 0) → (List ℕ → Type 0) → (List ℕ → Type 0) → (List ℕ → Type 0) → Result (Unit {0}) StreamFault → Type 0
+abbrev pub Streams : TextRelation → (List ℕ → Bool → Type 0) → (List ℕ → Type 0) → (List ℕ → Type 0)
+    → (List ℕ → Type 0) → (List ℕ → Type 0) → Result (Unit {0}) StreamFault → Type 0
 Streams IsText Gave Taken Whole RoundScope Put (Ok done) = PutsOutput IsText Gave Whole None
 Streams IsText Gave Taken Whole RoundScope Put (Err (Text fault)) =
     PutsOutput IsText Gave Whole (Some (inputs.Text fault)) ⊎ PutsSure IsText Taken Whole fault
@@ -66,5 +70,6 @@ abbrev pub HasWorkers : ℕ → Type 0
 HasWorkers workers = (LEAST_WORKERS ≤ workers) × (workers ≤ MOST_WORKERS)
 
 -- what is asked for of the input's races, each with the changes of its settings
-abbrev pub Replays : Content → ChangeValues → (List ℕ → Bool → Type 0) → (List ℕ → Type 0) → (List ℕ → Type 0) → (List ℕ → Type 0) → (List ℕ → Type 0) → Result (Unit {0}) StreamFault → Type 0
+abbrev pub Replays : Content → ChangeValues → (List ℕ → Bool → Type 0) → (List ℕ → Type 0) → (List ℕ → Type 0)
+    → (List ℕ → Type 0) → (List ℕ → Type 0) → Result (Unit {0}) StreamFault → Type 0
 Replays content changes = Streams (IsTextWith content changes)

@@ -69,7 +69,8 @@ IsTold asking = is_some asking.told ≡ true
 -- way it is to be polled again.
 unfoldable pub asking_needs : Asking → ℕ → Type 0
 asking_needs asking s =
-    (is_some asking.told ≡ false) × ((asking.queries.items ≡ []) ⊎ any_needs asking.queries.items s ⊎ next_needs asking.next s)
+    (is_some asking.told ≡ false)
+    × ((asking.queries.items ≡ []) ⊎ any_needs asking.queries.items s ⊎ next_needs asking.next s)
 
 -- it is told, or has registered for all that it waits for
 abbrev pub Listens : Context → Asking → Type 0
@@ -119,4 +120,5 @@ module _ {R : Type 0} where
 
   -- the family is told, or the look-up has registered for all that it waits for
   abbrev pub IsHeard : Context → Gathering R → Family → Type 0
-  IsHeard cx gathering family = (is_some (told_of gathering family) ≡ true) ⊎ Covers cx (lookup_needs gathering.lookup family)
+  IsHeard cx gathering family =
+      (is_some (told_of gathering family) ≡ true) ⊎ Covers cx (lookup_needs gathering.lookup family)

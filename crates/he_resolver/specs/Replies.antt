@@ -39,7 +39,8 @@ TellsAddresses message ips other = ⊥
 -- a message of another question, or none, is passed over, unless the server refuses without its question
 abbrev pub StrangeReply : List ℕ → ℕ → Option Reply → Type 0
 StrangeReply message id None = (code : ℕ) → IsRefusal message id code → ⊥
-StrangeReply message id (Some reply) = (code : ℕ) × IsRefusal message id code × (reply ≡ replies.Failure (failure_of code))
+StrangeReply message id (Some reply) =
+    (code : ℕ) × IsRefusal message id code × (reply ≡ replies.Failure (failure_of code))
 
 abbrev pub FaultReply : List ℕ → ℕ → AnswerFault → Option Reply → Type 0
 FaultReply message id answers.NotOurs reply = StrangeReply message id reply
@@ -48,5 +49,6 @@ FaultReply message id fault reply = reply ≡ Some (fault_reply fault)
 -- the message answers addresses, or has a fault
 abbrev pub ComesTo : List ℕ → ℕ → List ℕ → Family → Option Reply → Type 0
 ComesTo message id name family reply =
-    ((ips : List Ip) × (told : Reply) × Answers message id name family ips × TellsAddresses message ips told × (reply ≡ Some told))
+    ((ips : List Ip) × (told : Reply) × Answers message id name family ips × TellsAddresses message ips told
+    × (reply ≡ Some told))
     ⊎ ((fault : AnswerFault) × HasFault message id name family fault × FaultReply message id fault reply)

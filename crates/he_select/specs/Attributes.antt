@@ -40,20 +40,26 @@ attributes_with rows route source known ip = record {
 
 -- what they look at of an address
 abbrev pub attributes_of : SelectionInput → Ip → DestinationAttributes
-attributes_of input ip = attributes_with input.rows (route_of input ip) (option_map (labelled_of input.rows) (source_of input ip)) input.known ip
+attributes_of input ip =
+    attributes_with input.rows (route_of input ip)
+    (option_map (labelled_of input.rows) (source_of input ip)) input.known ip
 
 -- a route serves the address with this mapped number, of this family
 abbrev pub serves_number : ℕ → Bool → Route → Bool
-serves_number number v4 route = agrees 128 number route.prefix.bits route.prefix.len && beq (is_inside_mapped route.prefix) v4
+serves_number number v4 route =
+    agrees 128 number route.prefix.bits route.prefix.len && beq (is_inside_mapped route.prefix) v4
 
 -- the source that the code's loop finds
 unfoldable pub chosen_over : Option Route → List LabelledSource → Ip → ℕ → Option LabelledSource
 chosen_over route labelled ip label =
-    option_and_then (λ route. walk_fitting (admits (destination_of ip label route)) (is_better_labelled (destination_of ip label route)) None labelled) route
+    option_and_then
+    (λ route. walk_fitting (admits (destination_of ip label route))
+    (is_better_labelled (destination_of ip label route)) None labelled) route
 
 abbrev pub attributes_from : List Row → List Route → List LabelledSource → List Known → Ip → DestinationAttributes
 attributes_from rows routes labelled known ip =
-    attributes_with rows (longest_route routes ip) (chosen_over (longest_route routes ip) labelled ip (label_of rows ip)) known ip
+    attributes_with rows (longest_route routes ip)
+    (chosen_over (longest_route routes ip) labelled ip (label_of rows ip)) known ip
 
 abbrev pub tells : Known → Bool
 tells one = is_some one.rtt || one.used
@@ -90,7 +96,9 @@ late_attribute_rules =
     ∷ []
 
 abbrev pub attribute_rules : List (Rule DestinationAttributes)
-attribute_rules = no_first (λ s. is_none s.source) ∷ no_first has_other_scope ∷ no_first has_deprecated ∷ no_first has_other_label ∷ late_attribute_rules
+attribute_rules =
+    no_first (λ s. is_none s.source) ∷ no_first has_other_scope ∷ no_first has_deprecated ∷ no_first has_other_label
+    ∷ late_attribute_rules
 
 unfoldable pub late_rule_between : DestinationAttributes → DestinationAttributes → DestinationRule
 late_rule_between a b = first_deciding late_attribute_rules late_rules_in_order a b

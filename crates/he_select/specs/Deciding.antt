@@ -12,11 +12,14 @@ use Rattle.he_select.specs.Selection.{SelectionInput}
 
 -- the rules from 6 on, in the order of `destination_rules`
 abbrev pub late_rules_in_order : List DestinationRule
-late_rules_in_order = rules.HigherPrecedence ∷ rules.NativeTransport ∷ rules.SmallerScope ∷ rules.LowerRoundTripTime ∷ rules.UsedBefore ∷ rules.LongestPrefix ∷ rules.Unchanged ∷ []
+late_rules_in_order =
+    rules.HigherPrecedence ∷ rules.NativeTransport ∷ rules.SmallerScope ∷ rules.LowerRoundTripTime ∷ rules.UsedBefore
+    ∷ rules.LongestPrefix ∷ rules.Unchanged ∷ []
 
 -- all of them
 abbrev pub rules_in_order : List DestinationRule
-rules_in_order = rules.AvoidUnusable ∷ rules.MatchingScope ∷ rules.AvoidDeprecated ∷ rules.MatchingLabel ∷ late_rules_in_order
+rules_in_order =
+    rules.AvoidUnusable ∷ rules.MatchingScope ∷ rules.AvoidDeprecated ∷ rules.MatchingLabel ∷ late_rules_in_order
 
 -- the rule at this place of `destination_rules` tells the two apart, and none before it does
 abbrev pub DecidesAt : SelectionInput → Member → Member → ℕ → Type 0
@@ -31,4 +34,5 @@ first_deciding (rule ∷ more) (name ∷ names) a b = cond (is_eq (rule a b)) (f
 -- the rule that puts an address behind another: of two that nothing else tells apart, the later one was given later
 unfoldable pub deciding_rule : SelectionInput → Ip → Ip → DestinationRule
 deciding_rule input earlier later =
-    first_deciding (destination_rules input) rules_in_order (record { ip = earlier; place = 0 }) (record { ip = later; place = 1 })
+    first_deciding (destination_rules input) rules_in_order (record { ip = earlier; place = 0 })
+    (record { ip = later; place = 1 })

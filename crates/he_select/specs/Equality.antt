@@ -14,7 +14,8 @@ equal_row a b = same_prefix a.prefix b.prefix && a.precedence == b.precedence &&
 
 abbrev pub equal_source : Source → Source → Bool
 equal_source a b =
-    same_ip a.ip b.ip && a.plen == b.plen && a.interface == b.interface && beq a.deprecated b.deprecated && beq a.temporary b.temporary
+    same_ip a.ip b.ip && a.plen == b.plen && a.interface == b.interface && beq a.deprecated b.deprecated
+    && beq a.temporary b.temporary
 
 abbrev pub equal_route : Route → Route → Bool
 equal_route a b = same_prefix a.prefix b.prefix && a.interface == b.interface && beq a.tunnel b.tunnel

@@ -24,8 +24,10 @@ IsTableFault rows tables.Memory = ⊥
 abbrev pub IsHostFault : HostLists → HostFault → Type 0
 IsHostFault host hosts.TooMany = HasHostSize host → ⊥
 IsHostFault host (hosts.RepeatedSource i) = HasHostSize host × IsLeast (repeats_at same_source host.sources) i
-IsHostFault host (hosts.RepeatedRoute i) = HasHostSize host × AddressesDiffer host × IsLeast (repeats_at same_route host.routes) i
-IsHostFault host (hosts.BadSource i) = HasHostSize host × AddressesDiffer host × RoutesDiffer host × FailsFirst IsSoundSource host.sources i
+IsHostFault host (hosts.RepeatedRoute i) =
+    HasHostSize host × AddressesDiffer host × IsLeast (repeats_at same_route host.routes) i
+IsHostFault host (hosts.BadSource i) =
+    HasHostSize host × AddressesDiffer host × RoutesDiffer host × FailsFirst IsSoundSource host.sources i
 IsHostFault host (hosts.BadRoute i) =
     HasHostSize host × AddressesDiffer host × RoutesDiffer host × All IsSoundSource host.sources
     × FailsFirst IsSoundRoute host.routes i

@@ -35,4 +35,5 @@ host_fault sources routes = first_cause (host_causes sources routes)
 
 -- the host of these lists, or why there is none
 abbrev pub host_of : List Source → List Route → Result HostLists HostFault
-host_of sources routes = option_map_or Err (host_fault sources routes) (Ok (record { sources = sources; routes = routes }))
+host_of sources routes =
+    option_map_or Err (host_fault sources routes) (Ok (record { sources = sources; routes = routes }))

@@ -37,7 +37,8 @@ PreferenceIsByKeys =
 
 -- hence it is a strict total order on the members of a list
 abbrev pub PreferenceIsStrictTotalOrder : Type 0
-PreferenceIsStrictTotalOrder = (input : SelectionInput) → IsAdmitted input.rows → IsStrictTotalOrderOn (λ m. IsUsable m.ip) (prefers input)
+PreferenceIsStrictTotalOrder =
+    (input : SelectionInput) → IsAdmitted input.rows → IsStrictTotalOrderOn (λ m. IsUsable m.ip) (prefers input)
 
 -- a list has one order of preference, and that is the one that `order_of` names
 pub record IsOneOrder (input : SelectionInput) (ips : List Ip) : Type 0 where
@@ -46,7 +47,8 @@ pub record IsOneOrder (input : SelectionInput) (ips : List Ip) : Type 0 where
 
 -- so it is for usable addresses under an admitted table
 abbrev pub EachListHasOneOrder : Type 0
-EachListHasOneOrder = (input : SelectionInput) → IsAdmitted input.rows → (ips : List Ip) → All IsUsable ips → IsOneOrder input ips
+EachListHasOneOrder =
+    (input : SelectionInput) → IsAdmitted input.rows → (ips : List Ip) → All IsUsable ips → IsOneOrder input ips
 
 -- the order of those addresses that pass a test is what passes it of the order of all
 abbrev pub OrderOfFilterIsFilterOfOrder : Type 0
@@ -56,7 +58,8 @@ OrderOfFilterIsFilterOfOrder =
 
 -- an address is reachable where it has a route and a candidate: there is a best candidate where there is any
 abbrev pub ReachableWhereCandidates : Type 0
-ReachableWhereCandidates = (input : SelectionInput) (ip : Ip) → IsTrue (is_reachable input ip) ↔ (0 < length (candidates input ip))
+ReachableWhereCandidates =
+    (input : SelectionInput) (ip : Ip) → IsTrue (is_reachable input ip) ↔ (0 < length (candidates input ip))
 
 -- every address has a row of an admitted table
 abbrev pub EveryAddressHasRow : Type 0
@@ -66,7 +69,9 @@ EveryAddressHasRow = (rows : List Row) → IsAdmitted rows → (ip : Ip) → InR
 -- list
 abbrev pub RepeatsByOneMore : {X : Type 0} → (X → X → Bool) → Type 0
 RepeatsByOneMore {X} same =
-    (xs : List X) (x : X) → first_repeat same (xs ++ x ∷ []) ≡ option_or (first_repeat same xs) (cause_if (list_any (same x) xs) (length xs))
+    (xs : List X) (x : X)
+    → first_repeat same (xs ++ x ∷ [])
+    ≡ option_or (first_repeat same xs) (cause_if (list_any (same x) xs) (length xs))
 
 -- rows are a table exactly where the search for what is wrong finds nothing ..
 abbrev pub AdmittedWhereNoFault : Type 0
@@ -81,8 +86,10 @@ abbrev pub HostWhereNoFault : Type 0
 HostWhereNoFault = (host : HostLists) → IsHost host ↔ (host_fault host.sources host.routes ≡ None)
 
 abbrev pub HostFaultsAreFirst : Type 0
-HostFaultsAreFirst = (host : HostLists) (fault : HostFault) → host_fault host.sources host.routes ≡ Some fault → IsHostFault host fault
+HostFaultsAreFirst =
+    (host : HostLists) (fault : HostFault) → host_fault host.sources host.routes ≡ Some fault → IsHostFault host fault
 
 -- the limits of the code are the numbers of Ranges
 abbrev pub LimitsAreStated : Type 0
-LimitsAreStated = (ROWS ≡ most_rows) × (SOURCES ≡ most_sources) × (ROUTES ≡ most_routes) × (NO_INTERFACE + 1 ≡ least_interface)
+LimitsAreStated =
+    (ROWS ≡ most_rows) × (SOURCES ≡ most_sources) × (ROUTES ≡ most_routes) × (NO_INTERFACE + 1 ≡ least_interface)

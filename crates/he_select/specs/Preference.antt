@@ -32,7 +32,8 @@ has_current_source input ip = option_map_or (λ source. not source.deprecated) (
 
 -- Label(Source(D)) = Label(D)
 abbrev pub has_like_label : SelectionInput → Ip → Bool
-has_like_label input ip = option_map_or (λ source. label_of input.rows source.ip == label_of input.rows ip) (source_of input ip) false
+has_like_label input ip =
+    option_map_or (λ source. label_of input.rows source.ip == label_of input.rows ip) (source_of input ip) false
 
 -- the common prefix length of Source(D) and D, 0 without a source
 abbrev pub common_with_source : SelectionInput → Ip → ℕ
@@ -119,7 +120,9 @@ prefers input a b = is_lt (first_of (destination_rules input) a b)
 -- it
 pub record IsOrder (input : SelectionInput) (list result : List Ip) : Type 0 where
   pub members : IsPermutation list result
-  pub places : (n : ℕ) (ip : Ip) → slice_get list n ≡ Some ip → slice_get result (count_by (λ other. prefers input other (record { ip = ip; place = n })) (members_from 0 list)) ≡ Some ip
+  pub places : (n : ℕ) (ip : Ip) → slice_get list n ≡ Some ip
+      → slice_get result
+      (count_by (λ other. prefers input other (record { ip = ip; place = n })) (members_from 0 list)) ≡ Some ip
 
 -- the member to which this many members are preferred
 abbrev pub member_at : SelectionInput → List Member → ℕ → Option Member
@@ -128,4 +131,5 @@ member_at input members n = find (λ member. count_by (λ other. prefers input o
 -- the addresses in the order in which they are to be tried: at each place the one to which as many are preferred as
 -- there are places before it
 unfoldable pub order_of : SelectionInput → List Ip → List Ip
-order_of input ips = map (λ member. member.ip) (filter_map (member_at input (members_from 0 ips)) (range_with_len 0 (length ips)))
+order_of input ips =
+    map (λ member. member.ip) (filter_map (member_at input (members_from 0 ips)) (range_with_len 0 (length ips)))

@@ -87,7 +87,8 @@ prefers_same_address ip = yes_first (λ source. same_ip source.ip ip)
 -- destination's; then the larger
 abbrev pub by_appropriate_scope : ℕ → Rule ℕ
 by_appropriate_scope scope a b =
-    cond (nat_lt a b) (cond (nat_lt a scope) Greater Less) (cond (nat_lt b a) (cond (nat_lt b scope) Less Greater) Equal)
+    cond (nat_lt a b) (cond (nat_lt a scope) Greater Less)
+    (cond (nat_lt b a) (cond (nat_lt b scope) Less Greater) Equal)
 
 abbrev pub prefers_appropriate_scope : Ip → Rule Source
 prefers_appropriate_scope ip a b = by_appropriate_scope (scope_of ip) (scope_of a.ip) (scope_of b.ip)

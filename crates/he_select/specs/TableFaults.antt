@@ -17,7 +17,8 @@ has_row rows prefix = list_any (λ row. same_prefix row.prefix prefix) rows
 abbrev pub shared_from : ℕ → List Row → Option (ℕ × ℕ)
 shared_from place [] = None
 shared_from place (row ∷ rows) =
-    option_or (option_map (λ later. (place, later)) (position_from (shares_precedence row) (place + 1) rows)) (shared_from (place + 1) rows)
+    option_or (option_map (λ later. (place, later)) (position_from (shares_precedence row) (place + 1) rows))
+    (shared_from (place + 1) rows)
 
 -- why rows are refused, in their order
 abbrev pub table_causes : List Row → List (Option PolicyFault)

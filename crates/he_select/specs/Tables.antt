@@ -32,7 +32,8 @@ same_row a b = same_prefix a.prefix b.prefix
 
 -- one row inside ::ffff:0:0/96 and one outside it with the same precedence
 abbrev pub shares_precedence : Row → Row → Bool
-shares_precedence a b = a.precedence == b.precedence && not (beq (is_inside_mapped a.prefix) (is_inside_mapped b.prefix))
+shares_precedence a b =
+    a.precedence == b.precedence && not (beq (is_inside_mapped a.prefix) (is_inside_mapped b.prefix))
 
 -- ::/0, which every address begins with
 abbrev pub any_address : PrefixBits
@@ -54,7 +55,8 @@ HasPrefix rows prefix = Any (λ row. row.prefix ≡ prefix) rows
 
 -- not one precedence inside ::ffff:0:0/96 and outside it
 abbrev pub PrecedencesApart : Row → Row → Type 0
-PrecedencesApart a b = IsTrue (is_inside_mapped a.prefix) → IsFalse (is_inside_mapped b.prefix) → a.precedence ≢ b.precedence
+PrecedencesApart a b =
+    IsTrue (is_inside_mapped a.prefix) → IsFalse (is_inside_mapped b.prefix) → a.precedence ≢ b.precedence
 
 -- where a precedence stood both inside and outside ::ffff:0:0/96, rules 6, 9 and 10 could prefer three addresses of
 -- two families in a circle

@@ -25,13 +25,17 @@ abbrev pub gap_text : Family → ℕ → Option Line → List ℕ
 gap_text family seen None = concat (codes "no address of the " ∷ name_of family ∷ codes " answer was tried\n" ∷ [])
 gap_text family seen (Some line) =
     if nat_lt seen line.tick
-    then concat (decimal (line.tick - seen) ∷ codes " ms passed between the " ∷ name_of family ∷ codes " answer and the first attempt at one of its addresses\n" ∷ [])
+    then concat
+    (decimal (line.tick - seen) ∷ codes " ms passed between the " ∷ name_of family
+    ∷ codes " answer and the first attempt at one of its addresses\n" ∷ [])
     else []
 
 -- an answer that is seen at this tick, in a race that ended at `end`
 abbrev pub seen_text : Family → ℕ → List Line → ℕ → List Ip → List ℕ
 seen_text family end lines seen ips =
-    if nat_lt end seen then concat (codes "the " ∷ name_of family ∷ codes " answer came at " ∷ decimal seen ∷ codes " ms, after the end\n" ∷ [])
+    if nat_lt end seen
+    then concat
+    (codes "the " ∷ name_of family ∷ codes " answer came at " ∷ decimal seen ∷ codes " ms, after the end\n" ∷ [])
     else if list_any is_usable ips then gap_text family seen (first_of family lines)
     else []
 

@@ -10,7 +10,8 @@ use Rattle.he_story.specs.Heading.{ending_text}
 
 -- the race with the least floor that a race may have
 abbrev pub floored : Race → Race
-floored race = changed (record { resolution = None; attempt = None; count = None; limit = None; floor = Some MIN_FLOOR }) race
+floored race =
+    changed (record { resolution = None; attempt = None; count = None; limit = None; floor = Some MIN_FLOOR }) race
 
 -- the race has no floor, and would have ended earlier with one
 unfoldable pub ends_sooner : Race → Report → Report → Bool

@@ -27,10 +27,13 @@ abbrev pub cause_text : Cause → List ℕ
 cause_text causes.AaaaAnswer = codes "the AAAA answer is there"
 cause_text causes.BothAnswers = codes "both answers are there"
 cause_text causes.ResolutionDelay = codes "the wait for the AAAA answer is over"
-cause_text (causes.AttemptDelay place delay) = concat (decimal delay ∷ codes " ms after the start of attempt " ∷ decimal (place + 1) ∷ [])
+cause_text (causes.AttemptDelay place delay) =
+    concat (decimal delay ∷ codes " ms after the start of attempt " ∷ decimal (place + 1) ∷ [])
 cause_text (causes.Floor place floor) =
-    concat (codes "all before have failed, and the floor of " ∷ decimal floor ∷ codes " ms after attempt " ∷ decimal (place + 1) ∷ codes " is over" ∷ [])
-cause_text (causes.LastFailure tick) = concat (codes "all before have failed, the last one at " ∷ decimal tick ∷ codes " ms" ∷ [])
+    concat (codes "all before have failed, and the floor of " ∷ decimal floor ∷ codes " ms after attempt "
+    ∷ decimal (place + 1) ∷ codes " is over" ∷ [])
+cause_text (causes.LastFailure tick) =
+    concat (codes "all before have failed, the last one at " ∷ decimal tick ∷ codes " ms" ∷ [])
 cause_text (causes.LaterAnswer families.V6) = codes "it came with the AAAA answer"
 cause_text (causes.LaterAnswer families.V4) = codes "it came with the A answer"
 
@@ -50,7 +53,9 @@ turn_text turns.RunOut families.V4 = codes ", IPv4 alone is left"
 abbrev pub listed_text : Listed → Family → List ℕ
 listed_text listed family =
     if listed.count == 1 then codes "; the only address known"
-    else concat (codes "; number " ∷ decimal (listed.place + 1) ∷ codes " of " ∷ decimal listed.count ∷ codes " known" ∷ turn_text listed.turn family ∷ [])
+    else concat
+    (codes "; number " ∷ decimal (listed.place + 1) ∷ codes " of " ∷ decimal listed.count ∷ codes " known"
+    ∷ turn_text listed.turn family ∷ [])
 
 -- attempt PLACE to ADDRESS: CAUSE; LISTED
 abbrev pub start_text : Start → List ℕ
@@ -86,12 +91,15 @@ other_text race tick family = unless (is_seen_by race tick (reply_of race (other
 -- an answer with so many addresses, and whether the other one is still to come
 abbrev pub answered_text : Race → ℕ → Family → ℕ → List ℕ
 answered_text race tick family count =
-    answer_of family ++ (counted count (codes " address to try") (codes " addresses to try") ++ other_text race tick family)
+    answer_of family
+    ++ (counted count (codes " address to try") (codes " addresses to try") ++ other_text race tick family)
 
 abbrev pub kind_text : Race → List Line → ℕ → EventKind → List ℕ
-kind_text race lines tick (kinds.Paused end) = concat (codes "pause: the client sees and starts nothing until " ∷ decimal end ∷ codes " ms" ∷ [])
+kind_text race lines tick (kinds.Paused end) =
+    concat (codes "pause: the client sees and starts nothing until " ∷ decimal end ∷ codes " ms" ∷ [])
 kind_text race lines tick (kinds.Answered family count) = answered_text race tick family count
-kind_text race lines tick (kinds.Waits end) = concat (codes "wait for the AAAA answer until " ∷ decimal end ∷ codes " ms (Resolution Delay)" ∷ [])
+kind_text race lines tick (kinds.Waits end) =
+    concat (codes "wait for the AAAA answer until " ∷ decimal end ∷ codes " ms (Resolution Delay)" ∷ [])
 kind_text race lines tick kinds.DelayOver = codes "the wait is over, without the AAAA answer"
 kind_text race lines tick (kinds.Failed place) = became_text lines tick place (codes " failed after ")
 kind_text race lines tick (kinds.Started start) = start_text start

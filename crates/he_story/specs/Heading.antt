@@ -12,7 +12,8 @@ use Rattle.he_story.specs.Parts.{counted, unless}
 abbrev pub won_text : ℕ → ℕ → Option Line → List ℕ
 won_text tick count None = []
 won_text tick count (Some line) =
-    concat (codes "connected to " ∷ printed line.ip ∷ codes " after " ∷ decimal tick ∷ codes " ms, by attempt " ∷ decimal (line.place + 1) ∷ codes " of " ∷ decimal count ∷ [])
+    concat (codes "connected to " ∷ printed line.ip ∷ codes " after " ∷ decimal tick ∷ codes " ms, by attempt "
+    ∷ decimal (line.place + 1) ∷ codes " of " ∷ decimal count ∷ [])
 
 -- not connected at a tick, after so many attempts
 abbrev pub not_connected_text : List ℕ → ℕ → List ℕ → ℕ → List ℕ
@@ -29,5 +30,6 @@ ending_text lines (results.Limit tick) =
 -- race NUMBER, line LINE: ENDING, behind a blank line where it is not the first race
 abbrev pub heading_text : ℕ → ℕ → Report → List ℕ
 heading_text number line report =
-    concat (unless (number == 1) (codes "\n") ∷ codes "race " ∷ decimal number ∷ codes ", line " ∷ decimal line ∷ codes ": " ∷ [])
+    concat (unless (number == 1) (codes "\n") ∷ codes "race " ∷ decimal number ∷ codes ", line " ∷ decimal line
+    ∷ codes ": " ∷ [])
     ++ (ending_text report.lines report.result ++ codes "\n")

@@ -34,7 +34,8 @@ reached_text false None = codes ", not reachable: no route"
 
 -- a value of the later address and one of the address before it
 abbrev pub values_text : List ℕ → ℕ → ℕ → List ℕ → List ℕ
-values_text name later earlier rule = concat (name ∷ decimal later ∷ codes ", the one before " ∷ decimal earlier ∷ rule ∷ [])
+values_text name later earlier rule =
+    concat (name ∷ decimal later ∷ codes ", the one before " ∷ decimal earlier ∷ rule ∷ [])
 
 -- a value of the later address and one of its source
 abbrev pub unlike_text : List ℕ → ℕ → ℕ → List ℕ → List ℕ
@@ -43,9 +44,11 @@ unlike_text name later source rule = concat (name ∷ decimal later ∷ codes ",
 -- the round trip times, of which the earlier address has a known one
 abbrev pub rtts_text : Option ℕ → Option ℕ → List ℕ
 rtts_text (Some later) (Some earlier) =
-    concat (codes "; round trip time " ∷ decimal later ∷ codes " ms, the one before " ∷ decimal earlier ∷ codes " ms (RFC 8305 section 4)" ∷ [])
+    concat (codes "; round trip time " ∷ decimal later ∷ codes " ms, the one before " ∷ decimal earlier
+    ∷ codes " ms (RFC 8305 section 4)" ∷ [])
 rtts_text None (Some earlier) =
-    concat (codes "; round trip time unknown, the one before " ∷ decimal earlier ∷ codes " ms (RFC 8305 section 4)" ∷ [])
+    concat (codes "; round trip time unknown, the one before " ∷ decimal earlier ∷ codes " ms (RFC 8305 section 4)"
+    ∷ [])
 rtts_text later None = []
 
 -- what puts the later of two addresses behind the earlier one, and the rule
@@ -59,7 +62,8 @@ reason_text rules.MatchingLabel earlier later =
 reason_text rules.HigherPrecedence earlier later =
     values_text (codes "; precedence ") later.precedence earlier.precedence (codes " (RFC 6724 rule 6)")
 reason_text rules.NativeTransport earlier later = codes "; its route is a tunnel (RFC 6724 rule 7)"
-reason_text rules.SmallerScope earlier later = values_text (codes "; scope ") later.scope earlier.scope (codes " (RFC 6724 rule 8)")
+reason_text rules.SmallerScope earlier later =
+    values_text (codes "; scope ") later.scope earlier.scope (codes " (RFC 6724 rule 8)")
 reason_text rules.LowerRoundTripTime earlier later = rtts_text later.rtt earlier.rtt
 reason_text rules.UsedBefore earlier later = codes "; the one before was used before (RFC 8305 section 4)"
 reason_text rules.LongestPrefix earlier later =
@@ -78,13 +82,16 @@ is_routed routes ip = list_any (serves ip) routes
 abbrev pub address_line : List Route → Decision → ℕ → ℕ → Option DestinationAttributes → DestinationAttributes → List ℕ
 address_line routes decide width number earlier attributes =
     (right_aligned width number ++ concat (codes ". " ∷ printed attributes.ip ∷ kind_text attributes.ip ∷ []))
-    ++ (reached_text (is_routed routes attributes.ip) attributes.source ++ (behind_text decide earlier attributes ++ codes "\n"))
+    ++ (reached_text (is_routed routes attributes.ip) attributes.source
+    ++ (behind_text decide earlier attributes ++ codes "\n"))
 
 -- the lines of addresses, from this number on, behind the address before them
-abbrev pub address_lines : List Route → Decision → ℕ → ℕ → Option DestinationAttributes → List DestinationAttributes → List ℕ
+abbrev pub address_lines : List Route → Decision → ℕ → ℕ → Option DestinationAttributes → List DestinationAttributes
+    → List ℕ
 address_lines routes decide width number earlier [] = []
 address_lines routes decide width number earlier (first ∷ more) =
-    address_line routes decide width number earlier first ++ address_lines routes decide width (number + 1) (Some first) more
+    address_line routes decide width number earlier first
+    ++ address_lines routes decide width (number + 1) (Some first) more
 
 -- what stands above them
 abbrev pub title_text : List DestinationAttributes → List ℕ
@@ -97,4 +104,5 @@ listed_text routes decide sorted =
     title_text sorted ++ address_lines routes decide (length (decimal (length sorted)) + 2) 1 None sorted
 
 abbrev pub preferred_text : Race → List ℕ
-preferred_text race = listed_text race.host.routes (λ a b. deciding_rule (race_input race) a.ip b.ip) (all_attributes_of race)
+preferred_text race =
+    listed_text race.host.routes (λ a b. deciding_rule (race_input race) a.ip b.ip) (all_attributes_of race)

@@ -13,7 +13,8 @@ use Rattle.he_story.specs.Preferred.{preferred_text}
 abbrev pub story_text : ℕ → ℕ → Race → Report → Report → List ℕ
 story_text number line race report with_floor =
     heading_text number line report
-    ++ (preferred_text race ++ (happening_text race report ++ (closing_text race report ++ floor_text race report with_floor)))
+    ++ (preferred_text race
+    ++ (happening_text race report ++ (closing_text race report ++ floor_text race report with_floor)))
 
 -- the text is the story of the race, by its transcript and the one that it has with a floor: the race of this number
 -- in its input, counted from 1, which begins at this line

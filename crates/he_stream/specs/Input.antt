@@ -30,12 +30,14 @@ EndsBroken takes first last true =
     EndsWith takes TakesOn most_reads taken.Failed first last ⊎ RunsOut takes TakesOn most_reads first last
 
 -- the input gave these bytes, and then ended or broke off
-pub record Gives {S : Type 0} (remaining : S → Option (List ℕ)) (takes : S → Taken → S → Type 0) (first last : S) (bytes : List ℕ) (is_broken : Bool) : Type 0 where
+pub record Gives {S : Type 0} (remaining : S → Option (List ℕ)) (takes : S → Taken → S → Type 0) (first last : S)
+    (bytes : List ℕ) (is_broken : Bool) : Type 0 where
   pub taken : Consumes (remaining first) (remaining last) bytes
   pub whole : OnFalse is_broken (IsAtEnd (remaining last))
   pub told : EndsBroken takes first last is_broken
 
 -- the input gave these bytes, and neither ended nor broke off yet
-pub record GivesSoFar {S : Type 0} (remaining : S → Option (List ℕ)) (takes : S → Taken → S → Type 0) (first last : S) (bytes : List ℕ) : Type 0 where
+pub record GivesSoFar {S : Type 0} (remaining : S → Option (List ℕ)) (takes : S → Taken → S → Type 0) (first last : S)
+    (bytes : List ℕ) : Type 0 where
   pub taken : Consumes (remaining first) (remaining last) bytes
   pub told : Stops takes TakesOn most_reads first last

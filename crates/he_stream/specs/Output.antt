@@ -50,34 +50,42 @@ Flushes flushes first last (Ok done) = IsFlushed flushes first last
 Flushes flushes first last (Err fault) = FailsToFlush flushes first last
 
 -- the output took the whole text, and was then flushed
-pub record PutsWhole {S : Type 0} (contents : S → Option (List ℕ)) (puts : S → Put → S → Type 0) (flushes : S → Flushed → S → Type 0) (first last : S) (text : List ℕ) : Type 0 where
+pub record PutsWhole {S : Type 0} (contents : S → Option (List ℕ)) (puts : S → Put → S → Type 0)
+    (flushes : S → Flushed → S → Type 0) (first last : S) (text : List ℕ) : Type 0 where
   pub state : S
   pub put : PutsAll puts first state
   pub flushed : IsFlushed flushes state last
   pub written : Appends (contents first) (contents last) text
 
 -- the output took a first part of the text, since a step failed or took none, the flush failed, or a bound was reached
-pub record PutsPart {S : Type 0} (contents : S → Option (List ℕ)) (puts : S → Put → S → Type 0) (flushes : S → Flushed → S → Type 0) (first last : S) (text : List ℕ) : Type 0 where
+pub record PutsPart {S : Type 0} (contents : S → Option (List ℕ)) (puts : S → Put → S → Type 0)
+    (flushes : S → Flushed → S → Type 0) (first last : S) (text : List ℕ) : Type 0 where
   pub written : AppendsPart (contents first) (contents last) text
   pub failed : FailsToPut puts first last ⊎ ((state : S) × PutsAll puts first state × FailsToFlush flushes state last)
 
 -- so many rounds: in each the output took a whole text, and was then flushed. The text is theirs, one after the other
-abbrev pub PutsRounds : {S : Type 0} → (S → Option (List ℕ)) → (S → Put → S → Type 0) → (S → Flushed → S → Type 0) → ℕ → S → S → List ℕ → Type 0
+abbrev pub PutsRounds : {S : Type 0} → (S → Option (List ℕ)) → (S → Put → S → Type 0) → (S → Flushed → S → Type 0) → ℕ
+    → S → S → List ℕ → Type 0
 PutsRounds contents puts flushes zero first last text = (first ≡ last) × (text ≡ [])
 PutsRounds {S} contents puts flushes (suc rounds) first last text =
     (before : List ℕ) × (more : List ℕ) × (state : S) × (text ≡ before ++ more)
     × PutsRounds contents puts flushes rounds first state before × PutsWhole contents puts flushes state last more
 
 -- the output took the whole text in rounds, and nothing where there is none of them
-abbrev pub PutsInRounds : {S : Type 0} → (S → Option (List ℕ)) → (S → Put → S → Type 0) → (S → Flushed → S → Type 0) → S → S → List ℕ → Type 0
-PutsInRounds contents puts flushes first last text = (rounds : ℕ) × PutsRounds contents puts flushes rounds first last text
+abbrev pub PutsInRounds : {S : Type 0} → (S → Option (List ℕ)) → (S → Put → S → Type 0) → (S → Flushed → S → Type 0)
+    → S → S → List ℕ → Type 0
+PutsInRounds contents puts flushes first last text =
+    (rounds : ℕ) × PutsRounds contents puts flushes rounds first last text
 
 -- the output took the whole text in rounds, at least one, so that the last step was a flush that was done
-abbrev pub PutsAndEnds : {S : Type 0} → (S → Option (List ℕ)) → (S → Put → S → Type 0) → (S → Flushed → S → Type 0) → S → S → List ℕ → Type 0
-PutsAndEnds contents puts flushes first last text = (rounds : ℕ) × PutsRounds contents puts flushes (suc rounds) first last text
+abbrev pub PutsAndEnds : {S : Type 0} → (S → Option (List ℕ)) → (S → Put → S → Type 0) → (S → Flushed → S → Type 0) → S
+    → S → List ℕ → Type 0
+PutsAndEnds contents puts flushes first last text =
+    (rounds : ℕ) × PutsRounds contents puts flushes (suc rounds) first last text
 
 -- the output took a first part of the text in rounds, and failed in the next round
-pub record PutsRoundsPart {S : Type 0} (contents : S → Option (List ℕ)) (puts : S → Put → S → Type 0) (flushes : S → Flushed → S → Type 0) (first last : S) (text : List ℕ) : Type 0 where
+pub record PutsRoundsPart {S : Type 0} (contents : S → Option (List ℕ)) (puts : S → Put → S → Type 0)
+    (flushes : S → Flushed → S → Type 0) (first last : S) (text : List ℕ) : Type 0 where
   pub before : List ℕ
   pub more : List ℕ
   pub state : S

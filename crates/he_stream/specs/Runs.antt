@@ -8,7 +8,8 @@ StepsOn {S} {X} answers GoesOn (suc steps) first last =
     (state : S) × (answer : X) × StepsOn answers GoesOn steps first state × GoesOn answer × answers state answer last
 
 -- steps that go on, and then, as one of so many at most, a step with this answer
-pub record EndsWith {S X : Type 0} (answers : S → X → S → Type 0) (GoesOn : X → Type 0) (most : ℕ) (answer : X) (first last : S) : Type 0 where
+pub record EndsWith {S X : Type 0} (answers : S → X → S → Type 0) (GoesOn : X → Type 0) (most : ℕ) (answer : X)
+    (first last : S) : Type 0 where
   pub steps : ℕ
   pub few : steps < most
   pub state : S
@@ -16,13 +17,15 @@ pub record EndsWith {S X : Type 0} (answers : S → X → S → Type 0) (GoesOn 
   pub ended : answers state answer last
 
 -- steps that go on, so many at most, and none that ends the run
-pub record Stops {S X : Type 0} (answers : S → X → S → Type 0) (GoesOn : X → Type 0) (most : ℕ) (first last : S) : Type 0 where
+pub record Stops {S X : Type 0} (answers : S → X → S → Type 0) (GoesOn : X → Type 0) (most : ℕ)
+    (first last : S) : Type 0 where
   pub steps : ℕ
   pub few : steps ≤ most
   pub before : StepsOn answers GoesOn steps first last
 
 -- steps that go on, as many as are made at most, and none that ends the run
-pub record RunsOut {S X : Type 0} (answers : S → X → S → Type 0) (GoesOn : X → Type 0) (most : ℕ) (first last : S) : Type 0 where
+pub record RunsOut {S X : Type 0} (answers : S → X → S → Type 0) (GoesOn : X → Type 0) (most : ℕ)
+    (first last : S) : Type 0 where
   pub steps : ℕ
   pub all : steps ≡ most
   pub before : StepsOn answers GoesOn steps first last

@@ -8,7 +8,8 @@ use Rattle.he_stream.specs.declared.answer.Put.TheVariants as put
 
 -- bytes that are known are lost from the front, and only at `Bytes`; at the end none is left
 abbrev pub Takes : Option (List ℕ) → Option (List ℕ) → Taken → List ℕ → Type 0
-Takes before after (taken.Bytes count) room = (0 < count) × (count ≤ length room) × Consumes before after (take count room)
+Takes before after (taken.Bytes count) room =
+    (0 < count) × (count ≤ length room) × Consumes before after (take count room)
 Takes before after taken.End room = Keeps before after × (0 < length room → IsAtEnd after)
 Takes before after taken.Interrupted room = Keeps before after
 Takes before after taken.Failed room = Keeps before after

@@ -31,11 +31,17 @@ ended counts Limit = record counts { limit = counts.limit + 1 }
 -- and with its attempts
 abbrev pub counted : Counts → Course → Counts
 counted counts course =
-    record (ended counts course.ending) { races = counts.races + 1; attempts = counts.attempts + course.attempts; most = max counts.most course.attempts; waited = counts.waited + (if course.has_waited then 1 else 0) }
+    record (ended counts course.ending) {
+      races = counts.races + 1;
+      attempts = counts.attempts + course.attempts;
+      most = max counts.most course.attempts;
+      waited = counts.waited + (if course.has_waited then 1 else 0);
+    }
 
 -- a tally with one attempt more
 abbrev pub tried : Tally → Bool → Tally
-tried tally is_lost = record { failed = (if is_lost then tally.failed + 1 else tally.failed); attempts = tally.attempts + 1 }
+tried tally is_lost =
+    record { failed = (if is_lost then tally.failed + 1 else tally.failed); attempts = tally.attempts + 1 }
 
 -- so many attempts more can be counted
 abbrev pub MayTally : List (Ip × Tally) → ℕ → Type 0

@@ -43,7 +43,11 @@ has_waited race (first ∷ more) = is_missing race first.tick race.aaaa
 
 abbrev pub course_of : Raced → Course
 course_of raced =
-    record { ending = ending_of raced.report.lines raced.report.result; attempts = length raced.report.lines; has_waited = has_waited raced.race raced.report.lines }
+    record {
+      ending = ending_of raced.report.lines raced.report.result;
+      attempts = length raced.report.lines;
+      has_waited = has_waited raced.race raced.report.lines;
+    }
 
 abbrev pub is_won : Ending → Bool
 is_won (Won family tick) = true

@@ -11,11 +11,14 @@ use Rattle.he_summary.specs.declared.times.Spread.{Spread}
 abbrev pub spread_json : Option Spread → List ℕ
 spread_json None = codes "null"
 spread_json (Some spread) =
-    filled (codes "{\"median\":#,\"p90\":#,\"p99\":#,\"greatest\":#}") (spread.median ∷ spread.p90 ∷ spread.p99 ∷ spread.greatest ∷ [])
+    filled (codes "{\"median\":#,\"p90\":#,\"p99\":#,\"greatest\":#}")
+    (spread.median ∷ spread.p90 ∷ spread.p99 ∷ spread.greatest ∷ [])
 
 abbrev pub tally_json : Ip × Tally → List ℕ
 tally_json tallied =
-    codes "{\"address\":\"" ++ (printed tallied.0 ++ filled (codes "\",\"failed\":#,\"attempts\":#}") (tallied.1.failed ∷ tallied.1.attempts ∷ []))
+    codes "{\"address\":\""
+    ++ (printed tallied.0
+    ++ filled (codes "\",\"failed\":#,\"attempts\":#}") (tallied.1.failed ∷ tallied.1.attempts ∷ []))
 
 abbrev pub more_json : Ip × Tally → List ℕ
 more_json tallied = codes "," ++ tally_json tallied

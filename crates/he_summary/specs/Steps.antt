@@ -21,7 +21,8 @@ MaySum sums = (races : List Raced) × HasSummed sums races × (length races < 2 
 abbrev pub SumsRace : Race → Sums → Sums → Type 0
 SumsRace race old new =
     (report : Report) × IsTranscript race report
-    × ((before : List Raced) → HasSummed old before → HasSummed new (before ++ record { race = race; report = report } ∷ []))
+    × ((before : List Raced) → HasSummed old before
+    → HasSummed new (before ++ record { race = race; report = report } ∷ []))
 
 -- these races of the input are summed
 pub record AreSummed (changes : ChangeValues) (races : List Race) (old new : Sums) : Type 0 where
@@ -37,7 +38,8 @@ pub record HasRead (changes : ChangeValues) (input : List ℕ) (reader : RaceRea
   pub summed : AreSummed changes races old new
 
 -- the races of the input up to its first fault are summed
-pub record HasEnded (changes : ChangeValues) (input : List ℕ) (is_broken : Bool) (fault : Option InputFault) (old new : Sums) : Type 0 where
+pub record HasEnded (changes : ChangeValues) (input : List ℕ) (is_broken : Bool) (fault : Option InputFault)
+    (old new : Sums) : Type 0 where
   pub races : List Race
   pub has : HasRaces input is_broken races fault
   pub summed : AreSummed changes races old new
@@ -45,14 +47,17 @@ pub record HasEnded (changes : ChangeValues) (input : List ℕ) (is_broken : Boo
 -- how the reading ends
 abbrev pub EndsReading : ChangeValues → List ℕ → Bool → Sums → Sums → Result (Unit {0}) RaceReaderFault → Type 0
 EndsReading changes input is_broken old new (Ok done) = HasEnded changes input is_broken None old new
-EndsReading changes input is_broken old new (Err (readers.Input fault)) = HasEnded changes input is_broken (Some fault) old new
+EndsReading changes input is_broken old new (Err (readers.Input fault)) =
+    HasEnded changes input is_broken (Some fault) old new
 EndsReading changes input is_broken old new (Err readers.Memory) = ⊤
 
 -- a reader passes one race more, which is summed; or it ends, or stops at a fault
-abbrev pub SumsNext : ChangeValues → List ℕ → Bool → RaceReader → RaceReader → Sums → Sums → Result Bool RaceReaderFault → Type 0
+abbrev pub SumsNext : ChangeValues → List ℕ → Bool → RaceReader → RaceReader → Sums → Sums
+    → Result Bool RaceReaderFault → Type 0
 SumsNext changes input is_broken before after old new (Ok true) =
     (race : Race) × PassesRace input before after race × IsWithin input after × SumsRace (changed changes race) old new
-SumsNext changes input is_broken before after old new (Ok false) = (new ≡ old) × EndsAt (ending_of is_broken) (drop before.end input)
+SumsNext changes input is_broken before after old new (Ok false) =
+    (new ≡ old) × EndsAt (ending_of is_broken) (drop before.end input)
 SumsNext changes input is_broken before after old new (Err (readers.Input fault)) =
     (new ≡ old) × IsReaderFault input (ending_of is_broken) before (readers.Input fault)
 SumsNext changes input is_broken before after old new (Err readers.Memory) = ⊤

@@ -53,7 +53,8 @@ pub record IsRaced (changes : ChangeValues) (race : Race) (raced : Raced) : Type
   pub transcript : IsTranscript raced.race raced.report
 
 -- the races of an input up to its first fault are summed behind those that were summed before
-pub record HasAdded (changes : ChangeValues) (Given : List ℕ → Bool → Type 0) (old new : Sums) (fault : Option InputFault) : Type 0 where
+pub record HasAdded (changes : ChangeValues) (Given : List ℕ → Bool → Type 0) (old new : Sums)
+    (fault : Option InputFault) : Type 0 where
   pub input : List ℕ
   pub is_broken : Bool
   pub given : Given input is_broken
@@ -79,5 +80,6 @@ summary_in forms.Json = summary_json
 -- the summary of these races in this form has been appended
 abbrev pub IsWritten : Form → List Raced → List ℕ → List ℕ → Type 0
 IsWritten form races old new =
-    (spread : Option Spread) × (failing : List (Ip × Tally)) × IsSpread (times_of races) spread × AreFailing (all_tries races) failing
+    (spread : Option Spread) × (failing : List (Ip × Tally)) × IsSpread (times_of races) spread
+    × AreFailing (all_tries races) failing
     × (new ≡ old ++ summary_in form (counts_of (map course_of races)) spread failing)

@@ -17,7 +17,8 @@ spread_text (Some spread) =
 -- FAILED of ATTEMPTS attempts to ADDRESS
 abbrev pub tally_text : Ip × Tally → List ℕ
 tally_text tallied =
-    filled (words_for tallied.1.attempts (codes "  # of # attempt to ") (codes "  # of # attempts to ")) (tallied.1.failed ∷ tallied.1.attempts ∷ [])
+    filled (words_for tallied.1.attempts (codes "  # of # attempt to ") (codes "  # of # attempts to "))
+    (tallied.1.failed ∷ tallied.1.attempts ∷ [])
     ++ (printed tallied.0 ++ codes "\n")
 
 -- nothing where no attempt failed or was silent
@@ -31,6 +32,7 @@ summary_text counts spread failing =
     ++ (filled (codes "# won (# by IPv6, # by IPv4), # exhausted, # at the limit\n")
     (counts.won ∷ counts.by_v6 ∷ counts.by_v4 ∷ counts.exhausted ∷ counts.limit ∷ [])
     ++ (spread_text spread
-    ++ (filled (codes "attempts: #, at most # in a race\nthe Resolution Delay was waited out in ") (counts.attempts ∷ counts.most ∷ [])
+    ++ (filled (codes "attempts: #, at most # in a race\nthe Resolution Delay was waited out in ")
+    (counts.attempts ∷ counts.most ∷ [])
     ++ (filled (words_for counts.waited (codes "# race\n") (codes "# races\n")) (counts.waited ∷ [])
     ++ failing_text failing))))

@@ -38,7 +38,11 @@ tries_of raced = map (try_of raced.race) raced.report.lines
 
 -- of the attempts to this address: how many failed or were silent, and how many there are
 abbrev pub tally_of : List Try → Ip → Tally
-tally_of tries ip = record { failed = count_by (λ x. same_ip ip x.ip && x.is_lost) tries; attempts = count_by (λ x. same_ip ip x.ip) tries }
+tally_of tries ip =
+    record {
+      failed = count_by (λ x. same_ip ip x.ip && x.is_lost) tries;
+      attempts = count_by (λ x. same_ip ip x.ip) tries;
+    }
 
 -- what the tallies say of this address
 abbrev pub tally_at : List (Ip × Tally) → Ip → Tally
@@ -62,7 +66,8 @@ failed_first x y = ordering_then (nat_cmp y.0 x.0) (nat_cmp x.1 y.1)
 -- the first ten of those that have failures, in that order
 abbrev pub AreRanked : List (Ip × Tally) → List (Ip × Tally) → Type 0
 AreRanked tallies told =
-    (ranked : List (Ip × Tally)) × IsPermutation (filter has_failed tallies) ranked × IsSortedByKey rank_of failed_first ranked × (told ≡ take 10 ranked)
+    (ranked : List (Ip × Tally)) × IsPermutation (filter has_failed tallies) ranked
+    × IsSortedByKey rank_of failed_first ranked × (told ≡ take 10 ranked)
 
 -- the addresses of which is told how many of the attempts to them failed or were silent
 abbrev pub AreFailing : List Try → List (Ip × Tally) → Type 0

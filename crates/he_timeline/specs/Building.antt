@@ -20,7 +20,16 @@ empty_history = record { rtts = []; used = [] }
 -- a race with these settings, this policy and this host, in which nothing happens
 abbrev pub empty_race : SettingValues → List Row → HostLists → Race
 empty_race settings policy host =
-    record { settings = settings; policy = policy; host = host; aaaa = None; a = None; history = empty_history; outcomes = []; pauses = [] }
+    record {
+      settings = settings;
+      policy = policy;
+      host = host;
+      aaaa = None;
+      a = None;
+      history = empty_history;
+      outcomes = [];
+      pauses = [];
+    }
 
 -- the race's settings, policy, host, answers and history, before anything is recorded
 abbrev pub unrecorded : Race → Race

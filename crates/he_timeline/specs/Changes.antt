@@ -41,7 +41,14 @@ changes_of given =
 -- what is given stands in place of the race's own; a floor above the Connection Attempt Delay then is that delay
 abbrev pub changed_settings : ChangeValues → SettingValues → SettingValues
 changed_settings changes own =
-    record { resolution = unwrap_or changes.resolution own.resolution; attempt = unwrap_or changes.attempt own.attempt; count = unwrap_or changes.count own.count; limit = unwrap_or changes.limit own.limit; floor = option_map (min (unwrap_or changes.attempt own.attempt)) (option_or changes.floor own.floor) }
+    record {
+      resolution = unwrap_or changes.resolution own.resolution;
+      attempt = unwrap_or changes.attempt own.attempt;
+      count = unwrap_or changes.count own.count;
+      limit = unwrap_or changes.limit own.limit;
+      floor =
+          option_map (min (unwrap_or changes.attempt own.attempt)) (option_or changes.floor own.floor);
+    }
 
 -- the race with the changes of its settings
 abbrev pub changed : ChangeValues → Race → Race

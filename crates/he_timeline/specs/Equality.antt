@@ -38,7 +38,8 @@ same_floor _ _ = false
 
 abbrev pub same_settings : SettingValues → SettingValues → Bool
 same_settings x y =
-    x.resolution == y.resolution && x.attempt == y.attempt && x.count == y.count && x.limit == y.limit && same_floor x.floor y.floor
+    x.resolution == y.resolution && x.attempt == y.attempt && x.count == y.count && x.limit == y.limit
+    && same_floor x.floor y.floor
 
 -- settings, policy, host, answers, history, outcomes and pauses are equal, as lists
 abbrev pub same_race : Race → Race → Bool

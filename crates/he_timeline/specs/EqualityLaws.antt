@@ -39,7 +39,8 @@ and_both true b h k = k
 and_both false b h k = h
 
 -- a test that says yes only of equals, and of each thing and itself, decides equality
-decides_by : {A : Type 0} (E : A → A → Bool) (x y : A) → (E x y ≡ true → x ≡ y) → E x x ≡ true → Decides (E x y) (x ≡ y)
+decides_by : {A : Type 0} (E : A → A → Bool) (x y : A) → (E x y ≡ true → x ≡ y) → E x x ≡ true
+    → Decides (E x y) (x ≡ y)
 decides_by {A} E x y same self = (same, λ e. subst (λ (z : A). E x z ≡ true) e self)
 
 eq_from : (m n : ℕ) → (m == n) ≡ true → m ≡ n
@@ -75,16 +76,29 @@ pair_is {A} {B} p q e f =
     ap g e ∙ ap h f
 
 ips_decide : (xs ys : List Ip) → Decides (pointwise same_ip xs ys) (xs ≡ ys)
-ips_decide xs ys = slice_eq-Decides (λ x y. decides_by same_ip x y (ip_from x y) (ip_self x)) xs ys (pointwise same_ip xs ys) refl
+ips_decide xs ys =
+    slice_eq-Decides (λ x y. decides_by same_ip x y (ip_from x y) (ip_self x)) xs ys (pointwise same_ip xs ys) refl
 
 told_decide : (xs ys : List (Ip × Outcome)) → Decides (pointwise same_told xs ys) (xs ≡ ys)
-told_decide xs ys = slice_eq-Decides (λ x y. decides_by same_told x y (λ h. pair_is x y (ip_from x.0 y.0 (and_left _ _ h)) (outcome_from x.1 y.1 (and_right _ _ h))) (and_both _ _ (ip_self x.0) (outcome_self x.1))) xs ys (pointwise same_told xs ys) refl
+told_decide xs ys =
+    slice_eq-Decides
+    (λ x y. decides_by same_told x y
+    (λ h. pair_is x y (ip_from x.0 y.0 (and_left _ _ h)) (outcome_from x.1 y.1 (and_right _ _ h)))
+    (and_both _ _ (ip_self x.0) (outcome_self x.1))) xs ys (pointwise same_told xs ys) refl
 
 rtts_decide : (xs ys : List (Ip × ℕ)) → Decides (pointwise same_rtt xs ys) (xs ≡ ys)
-rtts_decide xs ys = slice_eq-Decides (λ x y. decides_by same_rtt x y (λ h. pair_is x y (ip_from x.0 y.0 (and_left _ _ h)) (eq_from x.1 y.1 (and_right _ _ h))) (and_both _ _ (ip_self x.0) (eq_self x.1))) xs ys (pointwise same_rtt xs ys) refl
+rtts_decide xs ys =
+    slice_eq-Decides
+    (λ x y. decides_by same_rtt x y
+    (λ h. pair_is x y (ip_from x.0 y.0 (and_left _ _ h)) (eq_from x.1 y.1 (and_right _ _ h)))
+    (and_both _ _ (ip_self x.0) (eq_self x.1))) xs ys (pointwise same_rtt xs ys) refl
 
 pauses_decide : (xs ys : List (ℕ × ℕ)) → Decides (pointwise same_pause xs ys) (xs ≡ ys)
-pauses_decide xs ys = slice_eq-Decides (λ x y. decides_by same_pause x y (λ h. pair_is x y (eq_from x.0 y.0 (and_left _ _ h)) (eq_from x.1 y.1 (and_right _ _ h))) (and_both _ _ (eq_self x.0) (eq_self x.1))) xs ys (pointwise same_pause xs ys) refl
+pauses_decide xs ys =
+    slice_eq-Decides
+    (λ x y. decides_by same_pause x y
+    (λ h. pair_is x y (eq_from x.0 y.0 (and_left _ _ h)) (eq_from x.1 y.1 (and_right _ _ h)))
+    (and_both _ _ (eq_self x.0) (eq_self x.1))) xs ys (pointwise same_pause xs ys) refl
 
 reply_from : (x y : Option Reply) → same_reply x y ≡ true → x ≡ y
 reply_from None None h = refl
@@ -120,10 +134,14 @@ history_self x = and_both _ _ ((rtts_decide x.rtts x.rtts).1 refl) ((ips_decide 
 
 settings_from : (x y : SettingValues) → same_settings x y ≡ true → x ≡ y
 settings_from x y h =
-    let f : ℕ → SettingValues = λ v. record { resolution = v; attempt = x.attempt; count = x.count; limit = x.limit; floor = x.floor } in
-    let g : ℕ → SettingValues = λ v. record { resolution = y.resolution; attempt = v; count = x.count; limit = x.limit; floor = x.floor } in
-    let k : ℕ → SettingValues = λ v. record { resolution = y.resolution; attempt = y.attempt; count = v; limit = x.limit; floor = x.floor } in
-    let l : ℕ → SettingValues = λ v. record { resolution = y.resolution; attempt = y.attempt; count = y.count; limit = v; floor = x.floor } in
+    let f : ℕ → SettingValues =
+    λ v. record { resolution = v; attempt = x.attempt; count = x.count; limit = x.limit; floor = x.floor } in
+    let g : ℕ → SettingValues =
+    λ v. record { resolution = y.resolution; attempt = v; count = x.count; limit = x.limit; floor = x.floor } in
+    let k : ℕ → SettingValues =
+    λ v. record { resolution = y.resolution; attempt = y.attempt; count = v; limit = x.limit; floor = x.floor } in
+    let l : ℕ → SettingValues =
+    λ v. record { resolution = y.resolution; attempt = y.attempt; count = y.count; limit = v; floor = x.floor } in
     let m : Option ℕ → SettingValues = λ v. record y { floor = v } in
     let but_floor = and_left _ _ h in
     ap f (eq_from x.resolution y.resolution (and_left _ _ (and_left _ _ (and_left _ _ but_floor))))
@@ -133,7 +151,10 @@ settings_from x y h =
     ∙ ap m (floor_from x.floor y.floor (and_right _ _ h))
 
 settings_self : (x : SettingValues) → same_settings x x ≡ true
-settings_self x = and_both _ _ (and_both _ _ (and_both _ _ (and_both _ _ (eq_self x.resolution) (eq_self x.attempt)) (eq_self x.count)) (eq_self x.limit)) (floor_self x.floor)
+settings_self x =
+    and_both _ _
+    (and_both _ _ (and_both _ _ (and_both _ _ (eq_self x.resolution) (eq_self x.attempt)) (eq_self x.count))
+    (eq_self x.limit)) (floor_self x.floor)
 
 pub race_from : (x y : Race) → same_race x y ≡ true → x ≡ y
 race_from x y h =
@@ -146,8 +167,10 @@ race_from x y h =
     let e : SettingValues → Race = λ v. record x { settings = v } in
     let f : List Row → Race = λ v. record x { settings = y.settings; policy = v } in
     let g : HostLists → Race = λ v. record x { settings = y.settings; policy = y.policy; host = v } in
-    let k : Option Reply → Race = λ v. record y { aaaa = v; a = x.a; history = x.history; outcomes = x.outcomes; pauses = x.pauses } in
-    let l : Option Reply → Race = λ v. record y { a = v; history = x.history; outcomes = x.outcomes; pauses = x.pauses } in
+    let k : Option Reply → Race =
+    λ v. record y { aaaa = v; a = x.a; history = x.history; outcomes = x.outcomes; pauses = x.pauses } in
+    let l : Option Reply → Race =
+    λ v. record y { a = v; history = x.history; outcomes = x.outcomes; pauses = x.pauses } in
     let o : History → Race = λ v. record y { history = v; outcomes = x.outcomes; pauses = x.pauses } in
     let m : List (Ip × Outcome) → Race = λ v. record y { outcomes = v; pauses = x.pauses } in
     let n : List (ℕ × ℕ) → Race = λ v. record y { pauses = v } in
@@ -161,7 +184,15 @@ race_from x y h =
     ∙ ap n ((pauses_decide x.pauses y.pauses).0 (and_right _ _ h))
 
 pub race_self : (x : Race) → same_race x x ≡ true
-race_self x = and_both _ _ (and_both _ _ (and_both _ _ (and_both _ _ (and_both _ _ (and_both _ _ (and_both _ _ (settings_self x.settings) ((tables_decide x.policy x.policy).1 refl)) ((hosts_decide x.host x.host).1 refl)) (reply_self x.aaaa)) (reply_self x.a)) (history_self x.history)) ((told_decide x.outcomes x.outcomes).1 refl)) ((pauses_decide x.pauses x.pauses).1 refl)
+race_self x =
+    and_both _ _
+    (and_both _ _
+    (and_both _ _
+    (and_both _ _
+    (and_both _ _
+    (and_both _ _ (and_both _ _ (settings_self x.settings) ((tables_decide x.policy x.policy).1 refl))
+    ((hosts_decide x.host x.host).1 refl)) (reply_self x.aaaa)) (reply_self x.a)) (history_self x.history))
+    ((told_decide x.outcomes x.outcomes).1 refl)) ((pauses_decide x.pauses x.pauses).1 refl)
 
 pub race_is : (x y : Race) → x ≡ y → same_race x y ≡ true
 race_is x y e = subst (λ (z : Race). same_race x z ≡ true) e (race_self x)
@@ -173,7 +204,8 @@ alike false false h k = refl
 
 pub same_race-per : IsPartialEquivalence same_race
 same_race-per = record {
-  symm = λ x y. alike (same_race x y) (same_race y x) (λ h. race_is y x (sym (race_from x y h))) (λ h. race_is x y (sym (race_from y x h)));
+  symm = λ x y. alike (same_race x y) (same_race y x) (λ h. race_is y x (sym (race_from x y h)))
+      (λ h. race_is x y (sym (race_from y x h)));
   trans = λ x y z h k. race_is x z (race_from x y h ∙ race_from y z k);
 }
 

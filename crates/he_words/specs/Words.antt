@@ -74,7 +74,8 @@ most_lines _ = None
 -- the word that a token spells
 unfoldable pub word_in : List ℕ → Option Word
 word_in token =
-    find (λ word. bytes_eq token (spelling_of word)) (Set ∷ Policy ∷ Source ∷ Route ∷ Aaaa ∷ A ∷ Rtt ∷ Used ∷ Connect ∷ Pause ∷ End ∷ [])
+    find (λ word. bytes_eq token (spelling_of word))
+    (Set ∷ Policy ∷ Source ∷ Route ∷ Aaaa ∷ A ∷ Rtt ∷ Used ∷ Connect ∷ Pause ∷ End ∷ [])
 
 -- the setting that a token names
 unfoldable pub name_in : List ℕ → Option Name
@@ -86,7 +87,9 @@ is_head_word word = nat_le (group_of word) 4
 
 -- the version that a first line tells
 abbrev pub header_in : List ℕ → Result Version TextKind
-header_in line = if bytes_eq line (header_of One) then Ok One else if bytes_eq line (header_of Two) then Ok Two else Err kinds.Header
+header_in line =
+    if bytes_eq line (header_of One) then Ok One else if bytes_eq line (header_of Two) then Ok Two
+    else Err kinds.Header
 
 -- the least and the greatest value of a setting
 abbrev pub least_value : Name → ℕ

@@ -15,7 +15,8 @@ from_text (Some source) = printed source.ip
 
 -- N ADDRESS from SOURCE, or N ADDRESS from none
 abbrev pub order_line : SelectionInput → ℕ → Ip → List ℕ
-order_line input place ip = written_line (decimal place ∷ printed ip ∷ codes "from" ∷ from_text (source_of input ip) ∷ [])
+order_line input place ip =
+    written_line (decimal place ∷ printed ip ∷ codes "from" ∷ from_text (source_of input ip) ∷ [])
 
 -- the lines of the addresses, counted from `place`
 abbrev pub order_lines : SelectionInput → ℕ → List Ip → List ℕ
@@ -24,4 +25,5 @@ order_lines input place (ip ∷ ips) = order_line input place ip ++ order_lines 
 
 -- the addresses in sorted order, not interlaced, each with its source; then `end`
 abbrev pub order_text : Race → List ℕ
-order_text race = order_lines (race_input race) 0 (order race (usable_addresses race)) ++ written_line (codes "end" ∷ [])
+order_text race =
+    order_lines (race_input race) 0 (order race (usable_addresses race)) ++ written_line (codes "end" ∷ [])

@@ -51,7 +51,8 @@ source_ip_text (Some ip) = printed ip
 
 -- the line of a place of an order
 abbrev pub sourced_line : ℕ → Sourced → List ℕ
-sourced_line place sourced = written_line (decimal place ∷ printed sourced.ip ∷ codes "from" ∷ source_ip_text sourced.source ∷ [])
+sourced_line place sourced =
+    written_line (decimal place ∷ printed sourced.ip ∷ codes "from" ∷ source_ip_text sourced.source ∷ [])
 
 -- and the lines of the places, counted from `place`
 abbrev pub attributes_line : ℕ → DestinationAttributes → List ℕ

@@ -35,7 +35,8 @@ fate_text (marks.Cancelled tick) = codes "cancelled" ∷ decimal tick ∷ []
 
 -- attempt PLACE START ADDRESS MARK TICK
 abbrev pub attempt_text : Line → List ℕ
-attempt_text line = written_line (codes "attempt" ∷ decimal line.place ∷ decimal line.tick ∷ printed line.ip ∷ fate_text line.mark)
+attempt_text line =
+    written_line (codes "attempt" ∷ decimal line.place ∷ decimal line.tick ∷ printed line.ip ∷ fate_text line.mark)
 
 -- won PLACE TICK, exhausted TICK or limit TICK
 abbrev pub result_text : Outcome3 → List ℕ
@@ -55,7 +56,8 @@ abbrev pub setting_text : List ℕ → ℕ → List ℕ
 setting_text name value = written_line (codes "set" ∷ name ∷ decimal value ∷ [])
 
 abbrev pub delays_text : SettingValues → List ℕ
-delays_text settings = setting_text (codes "resolution") settings.resolution ++ setting_text (codes "attempt") settings.attempt
+delays_text settings =
+    setting_text (codes "resolution") settings.resolution ++ setting_text (codes "attempt") settings.attempt
 
 abbrev pub bounds_text : SettingValues → List ℕ
 bounds_text settings = setting_text (codes "count") settings.count ++ setting_text (codes "limit") settings.limit
@@ -82,15 +84,18 @@ top_text race = written_line (header_of (version_of race) ∷ []) ++ settings_te
 
 -- policy PREFIX PRECEDENCE LABEL, every prefix in IPv6 form
 abbrev pub row_text : Row → List ℕ
-row_text row = written_line (codes "policy" ∷ prefix_text false row.prefix ∷ decimal row.precedence ∷ decimal row.label ∷ [])
+row_text row =
+    written_line (codes "policy" ∷ prefix_text false row.prefix ∷ decimal row.precedence ∷ decimal row.label ∷ [])
 
 -- source SOURCE INTERFACE [deprecated] [temporary]
 abbrev pub host_source_text : Source → List ℕ
-host_source_text source = written_line (codes "source" ∷ source_text source.ip source.plen ∷ decimal source.interface ∷ source_marks source)
+host_source_text source =
+    written_line (codes "source" ∷ source_text source.ip source.plen ∷ decimal source.interface ∷ source_marks source)
 
 -- route PREFIX INTERFACE [tunnel], IPv4 prefixes in IPv4 form
 abbrev pub host_route_text : Route → List ℕ
-host_route_text route = written_line (codes "route" ∷ prefix_text true route.prefix ∷ decimal route.interface ∷ route_marks route)
+host_route_text route =
+    written_line (codes "route" ∷ prefix_text true route.prefix ∷ decimal route.interface ∷ route_marks route)
 
 abbrev pub host_text : HostLists → List ℕ
 host_text host = flat_map host_source_text host.sources ++ flat_map host_route_text host.routes
@@ -124,7 +129,8 @@ history_text history = flat_map rtt_text history.rtts ++ flat_map used_text hist
 
 -- connect ADDRESS ok N, connect ADDRESS fail N
 abbrev pub outcome_text : Ip × Outcome → List ℕ
-outcome_text told = written_line (codes "connect" ∷ printed told.0 ∷ mark_text told.1 ∷ decimal (duration_of told.1) ∷ [])
+outcome_text told =
+    written_line (codes "connect" ∷ printed told.0 ∷ mark_text told.1 ∷ decimal (duration_of told.1) ∷ [])
 
 -- pause FROM TO
 abbrev pub pause_text : ℕ × ℕ → List ℕ
@@ -136,4 +142,5 @@ told_text race = flat_map outcome_text race.outcomes ++ flat_map pause_text race
 -- the text of a timeline
 abbrev pub timeline_text : Race → List ℕ
 timeline_text race =
-    (top_text race ++ (selection_text race ++ (answers_text race ++ (history_text race.history ++ told_text race)))) ++ written_line (codes "end" ∷ [])
+    (top_text race ++ (selection_text race ++ (answers_text race ++ (history_text race.history ++ told_text race))))
+    ++ written_line (codes "end" ∷ [])
