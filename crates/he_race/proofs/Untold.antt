@@ -14,7 +14,7 @@ use Rattle.he_timeline.specs.Race.{Race, has_outcome}
 use Rattle.he_timeline.proofs.Bools.{and_both, and_left, and_right, clash, or_left_none, or_none, or_right_none}
 use Rattle.he_timeline.proofs.Ranges.{same_ip-sym}
 use Rattle.he_race.specs.declared.connector.Connector.{Ghosts as ConnectorOf}
-use Rattle.he_race.specs.declared.faults.ConnectFault.{ConnectFault}
+use Rattle.he_race.specs.declared.faults.AttemptFault.{AttemptFault}
 use Rattle.he_race.specs.declared.live.Unfinished.{Unfinished}
 use Rattle.he_race.specs.declared.trial.Trial.{Ghosts as TrialOf}
 use Rattle.he_race.specs.Recording.{ended_by, slept}
@@ -183,6 +183,6 @@ slept-outcomes race due now = by_test (nat_lt due now)
     by_test false = refl
 
 -- how an attempt that answered is recorded
-pub ended-told : {Conn : Type 0} (race : Race) (x : Attempt) (now : ℕ) (answer : Result Conn ConnectFault) (won : Bool) → won ≡ is_ok answer → with_outcome race x.ip (ended_by won (now - x.tick)) ≡ told race x now answer
+pub ended-told : {Conn : Type 0} (race : Race) (x : Attempt) (now : ℕ) (answer : Result Conn AttemptFault) (won : Bool) → won ≡ is_ok answer → with_outcome race x.ip (ended_by won (now - x.tick)) ≡ told race x now answer
 ended-told race x now (Ok conn) won e = ap (λ (b : Bool). with_outcome race x.ip (ended_by b (now - x.tick))) e
 ended-told race x now (Err fault) won e = ap (λ (b : Bool). with_outcome race x.ip (ended_by b (now - x.tick))) e

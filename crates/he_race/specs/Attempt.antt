@@ -6,14 +6,14 @@ use Rattle.he_addr.specs.declared.ip.Ip.{Ip}
 use Rattle.he_race.specs.declared.attempt.AttemptFuture.{AttemptFuture}
 use Rattle.he_race.specs.declared.attempt.AttemptFuture.TheVariants.{Sleeping, Connecting, Done}
 use Rattle.he_race.specs.declared.attempt.Finish.{Finish}
-use Rattle.he_race.specs.declared.faults.ConnectFault.{ConnectFault}
+use Rattle.he_race.specs.declared.faults.AttemptFault.{AttemptFault}
 use Rattle.he_race.specs.declared.connector.Connector.{Ghosts as ConnectorOf}
 use Rattle.he_race.specs.declared.trial.Trial.{Ghosts as TrialOf}
 
 module _ {C Conn Run : Type 0} (connector : ConnectorOf C Conn Run) (trial : TrialOf Run Conn) where
   -- what the trial, or the fault of a connector that could not begin one, answers at `now`, and the attempt that is
   -- left
-  abbrev pub RunAnswers : Result Run ConnectFault → ℕ → ℕ → Poll (Finish Conn) → AttemptFuture C Conn Run → Type 0
+  abbrev pub RunAnswers : Result Run AttemptFault → ℕ → ℕ → Poll (Finish Conn) → AttemptFuture C Conn Run → Type 0
   RunAnswers (Ok run) next now Pending new =
       (run' : Run) × trial.polls run now Pending run' × (new ≡ Connecting (Ok run') next false)
   RunAnswers (Ok run) next now (Ready f) new =
@@ -24,7 +24,7 @@ module _ {C Conn Run : Type 0} (connector : ConnectorOf C Conn Run) (trial : Tri
   -- at or after its start a sleeping attempt begins, and is pending
   abbrev pub Begins : ℕ → Ip → C → ℕ → C → AttemptFuture C Conn Run → Type 0
   Begins place ip c now c' new =
-      (run : Result Run ConnectFault) × connector.begins c place ip now run c' × (new ≡ Connecting run (now + 1) true)
+      (run : Result Run AttemptFault) × connector.begins c place ip now run c' × (new ≡ Connecting run (now + 1) true)
 
   -- a poll of an attempt: which steps it may take, with the connector's state before and after
   abbrev pub AttemptPolls : C → AttemptFuture C Conn Run → ℕ → Poll (Finish Conn) → C → AttemptFuture C Conn Run

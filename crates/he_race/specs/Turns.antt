@@ -12,7 +12,7 @@ use Rattle.he_race.specs.declared.attempt.AttemptFuture.{AttemptFuture}
 use Rattle.he_race.specs.declared.attempt.AttemptFuture.TheVariants.{Sleeping}
 use Rattle.he_race.specs.declared.attempt.Finish.{Finish}
 use Rattle.he_race.specs.declared.connector.Connector.{Ghosts as ConnectorOf}
-use Rattle.he_race.specs.declared.faults.ConnectFault.{ConnectFault}
+use Rattle.he_race.specs.declared.faults.AttemptFault.{AttemptFault}
 use Rattle.he_race.specs.declared.faults.RaceFault.{RaceFault}
 use Rattle.he_race.specs.declared.live.Live.{Live}
 use Rattle.he_race.specs.declared.live.Unfinished.{Unfinished}
@@ -27,7 +27,7 @@ use Rattle.he_race.specs.declared.faults.RaceFault.TheVariants as faults
 use Rattle.he_race.specs.declared.live.AfterPoll.TheVariants as after_polls
 
 -- an attempt's answer is a connection
-abbrev pub is_connection : {Conn : Type 0} → Result Conn ConnectFault → Bool
+abbrev pub is_connection : {Conn : Type 0} → Result Conn AttemptFault → Bool
 is_connection (Ok conn) = true
 is_connection (Err fault) = false
 
@@ -64,11 +64,11 @@ is_over race attempts now unfinished won =
     || ((length unfinished == 0) && (is_tried_out_by now attempts race.aaaa && is_tried_out_by now attempts race.a)))
 
 -- the record with how an attempt ended: after the ticks since its start
-abbrev pub told : {Conn : Type 0} → Race → Attempt → ℕ → Result Conn ConnectFault → Race
+abbrev pub told : {Conn : Type 0} → Race → Attempt → ℕ → Result Conn AttemptFault → Race
 told race x now answer = with_outcome race x.ip (ended_by (is_connection answer) (now - x.tick))
 
 -- the connection that there is, or else the answer's
-abbrev pub first_of : {Conn : Type 0} → Option Conn → Result Conn ConnectFault → Option Conn
+abbrev pub first_of : {Conn : Type 0} → Option Conn → Result Conn AttemptFault → Option Conn
 first_of (Some conn) answer = Some conn
 first_of None (Ok conn) = Some conn
 first_of None (Err fault) = None

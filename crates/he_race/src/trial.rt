@@ -4,11 +4,11 @@ ghost use Rattle.std.specs.Prelude.{◌≡◌, ◌≤◌, ℕ, ⊤, Option, Resu
 ghost use Rattle.futures.specs.Poll.{OnPending};
 ghost use Rattle.futures.specs.Task.{Covers, Keeps};
 ghost use Rattle.futures.specs.declared.task.Poll.{Poll};
-ghost use Rattle.he_race.specs.declared.faults.ConnectFault.{ConnectFault};
+ghost use Rattle.he_race.specs.declared.faults.AttemptFault.{AttemptFault};
 ghost use Rattle.he_race.specs.declared.limits.TheConstants.{MAX_POLL_TICK};
 ghost use Rattle.he_race.specs.Waiting.{WaitsForTick};
 
-use crate::faults::ConnectFault;
+use crate::faults::AttemptFault;
 use crate::limits::MAX_POLL_TICK;
 use futures::task::{Context, Poll};
 
@@ -30,7 +30,7 @@ pub trait Trial: Drop {
     ghost needs: { Self → ℕ → Type 0 } = { λ _ _. ⊥ };
 
     // What a poll at a tick may answer, and the state that it leaves.
-    ghost polls: { Self → ℕ → Poll (Result Self.Conn ConnectFault) → Self → Type 0 };
+    ghost polls: { Self → ℕ → Poll (Result Self.Conn AttemptFault) → Self → Type 0 };
 
     ghost due_tick: { Self → Option ℕ };
 
@@ -40,7 +40,7 @@ pub trait Trial: Drop {
         &mut self,
         now: u64,
         cx: &mut Context<'_>,
-    ) -> Poll<Result<Self::Conn, ConnectFault>>
+    ) -> Poll<Result<Self::Conn, AttemptFault>>
         requires can { can_poll self.old }
         requires in_time { now ≤ MAX_POLL_TICK }
         ensures step { polls self.old now result self.new }
