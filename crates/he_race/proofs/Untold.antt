@@ -59,6 +59,9 @@ module _ {C Conn Run : Type 0} where
   joined told o os first once rest =
       and_both _ _ (and_both _ _ (not_false (has_outcome o.attempt.ip told) first) (not_false (list_any (λ (p : Unfinished C Conn Run). same_ip p.attempt.ip o.attempt.ip) os) once)) rest
 
+  pub untold-rest : (told : List (Ip × Outcome)) (o : Unfinished C Conn Run) (os : List (Unfinished C Conn Run)) → are_untold told (o ∷ os) ≡ true → are_untold told os ≡ true
+  untold-rest told o os h = let k : Heads told o os = heads told o os h in k.rest
+
   pub untold-at : (told : List (Ip × Outcome)) (os : List (Unfinished C Conn Run)) → are_untold told os ≡ true → (i : ℕ) (d : Unfinished C Conn Run) → i < length os → has_outcome (get_or os i d).attempt.ip told ≡ false
   untold-at told [] h i d lt = absurd (let no : ⊥ = omega arith in no)
   untold-at told (o ∷ os) h zero d lt = let k : Heads told o os = heads told o os h in k.first

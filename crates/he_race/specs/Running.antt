@@ -19,7 +19,13 @@ pub record IsScripted {C : Type 0} (connector : ConnectorOf C (Unit {0}) Scripte
 
 -- what a scripted trial does
 abbrev pub scripted_trial : TrialOf ScriptedTrial (Unit {0})
-scripted_trial = record { can_poll = λ _. ⊤; needs = λ _ _. ⊥; polls = ScriptPolls; due_tick = tick_of }
+scripted_trial = record {
+  can_poll = λ _. ⊤;
+  needs = λ _ _. ⊥;
+  polls = ScriptPolls;
+  due_tick = tick_of;
+  may_give = λ _ _. ⊤;
+}
 
 -- the fate of an attempt that finished
 abbrev pub result_at : ℕ → Result (Unit {0}) AttemptFault → Fate

@@ -1,11 +1,12 @@
 // A connection that is being made.
 
-ghost use Rattle.std.specs.Prelude.{◌≡◌, ◌≤◌, ℕ, ⊤, Option, Result, ◌⊎◌};
-ghost use Rattle.futures.specs.Poll.{OnPending};
+ghost use Rattle.std.specs.Prelude.{◌≡◌, ◌≤◌, ℕ, ⊤, Option, Result, ◌⊎◌, IfOk};
+ghost use Rattle.futures.specs.Poll.{IfReady, OnPending};
 ghost use Rattle.futures.specs.Task.{Covers, Keeps};
 ghost use Rattle.futures.specs.declared.task.Poll.{Poll};
 ghost use Rattle.he_race.specs.declared.faults.AttemptFault.{AttemptFault};
 ghost use Rattle.he_race.specs.declared.limits.TheConstants.{MAX_POLL_TICK};
+ghost use Rattle.he_race.specs.Reach.{AreAmong};
 ghost use Rattle.he_race.specs.Waiting.{WaitsForTick};
 
 use crate::faults::AttemptFault;
@@ -34,6 +35,9 @@ pub trait Trial: Drop {
 
     ghost due_tick: { Self → Option ℕ };
 
+    // Which connections it may give: those that go where it was begun for. Each poll keeps it.
+    ghost may_give: { Self → Self.Conn → Type 0 } = { λ _ _. ⊤ };
+
     /// Polls at the tick `now`, at most `MAX_POLL_TICK`. It answers the connection or why there is none; after an
     /// answer it isn't called again.
     fn poll_trial(
@@ -45,6 +49,8 @@ pub trait Trial: Drop {
         requires in_time { now ≤ MAX_POLL_TICK }
         ensures step { polls self.old now result self.new }
         ensures again { OnPending result (can_poll self.new) }
+        ensures aim { OnPending result (AreAmong (may_give self.new) (may_give self.old)) }
+        ensures gives { IfReady result (λ answer. IfOk answer (may_give self.old)) }
         ensures waits { OnPending result (Covers cx.new (needs self.new)
             ⊎ WaitsForTick polls self.new (due_tick self.new)) }
         ensures kept { Keeps cx.old cx.new };
