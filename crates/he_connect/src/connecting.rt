@@ -88,7 +88,8 @@ where
             None => Ok(Ended::NoConnection),
         },
         Some(_) if asked.only_tries => Ok(Ended::Connected),
-        Some(stream) => {
+        Some(dialed) => {
+            let stream = dialed.into_stream();
             let mut connection = over_socket(&stream, asked.wait);
             relay_standard(rt, alloc, input, output, &mut connection)?;
             Ok(Ended::Relayed)

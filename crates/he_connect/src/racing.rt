@@ -11,7 +11,7 @@ use crate::source::{HostAnswers, LookupFaults};
 use crate::start::start_race;
 use crate::telling::Telling;
 use crate::tried::write_tried;
-use he_live::{Steps, resolving_race_on};
+use he_live::{Dialed, Steps, resolving_race_on};
 use he_race::Raced;
 use he_resolver::{Lookup, NamesFault, SystemResolver, Wanted};
 use he_story::write_story;
@@ -20,7 +20,7 @@ use he_write::write_timeline;
 use std::alloc::{AllocGlobal, Global};
 use std::io::Write;
 use std::mem::drop;
-use std::net::{Net, TcpStream};
+use std::net::Net;
 use std::random::RandomSource;
 use std::rt::Files;
 use std::sync::Wait;
@@ -38,7 +38,7 @@ pub(crate) struct Run {
     /// Why there was no address to connect to, where a look-up found none.
     pub nameless: Option<NamesFault>,
     /// The connection.
-    pub winner: Option<TcpStream>,
+    pub winner: Option<Dialed>,
 }
 
 // The texts of a race that was run.
@@ -135,7 +135,7 @@ fn end_with<R: Net>(
     asked: &Asked<'_>,
     nameless: Option<NamesFault>,
     steps: &Steps,
-    raced: Raced<TcpStream>,
+    raced: Raced<Dialed>,
 ) -> Result<Run, ConnectFault>
     ensures text { IfOk result (λ run. run.text.items ≡ timeline_text raced.recorded) }
     ensures winner { IfOk result (λ run. is_some run.winner ≡ is_some raced.winner) }
@@ -164,7 +164,7 @@ fn texts_of<R: Net>(
     asked: &Asked<'_>,
     nameless: Option<NamesFault>,
     steps: &Steps,
-    raced: &Raced<TcpStream>,
+    raced: &Raced<Dialed>,
 ) -> Result<Texts, ConnectFault>
     ensures text { IfOk result (λ texts. texts.text.items ≡ timeline_text raced.now.recorded) }
     ensures fault { IfErr result IsBefore }
