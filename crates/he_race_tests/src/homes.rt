@@ -13,6 +13,12 @@ pub const V6_A: Ip = Ip::V6(0x2001_0db8_0001_0000_0000_0000_0000_0001);
 /// 2001:db8:1::2
 pub const V6_B: Ip = Ip::V6(0x2001_0db8_0001_0000_0000_0000_0000_0002);
 
+/// 2001:db8:1::3
+const V6_C: Ip = Ip::V6(0x2001_0db8_0001_0000_0000_0000_0000_0003);
+
+/// 198.51.100.2
+const V4_B: Ip = Ip::V4(0xc633_6402);
+
 /// 198.51.100.1
 pub const V4_A: Ip = Ip::V4(0xc633_6401);
 
@@ -135,6 +141,19 @@ pub fn race(alloc: Global, given: &PlannedRace) -> Result<Timeline, Fail> {
 /// The same race with neither answers nor outcomes.
 pub fn unanswered(alloc: Global, given: &PlannedRace) -> Result<Timeline, Fail> {
     Ok(empty(alloc, settings(given)?, host(alloc)?)?.finish())
+}
+
+/// A race of three IPv6 and two IPv4 addresses, answered at 20, with two of the first family first.
+pub fn many_race(alloc: Global) -> Result<Timeline, Fail> {
+    let mut builder = empty(alloc, Settings::new(50, 250, 2, 30_000)?, host(alloc)?)?;
+    let filled = fill_many(&mut builder);
+    finished(builder, filled)
+}
+
+fn fill_many(builder: &mut TimelineBuilder) -> Result<(), Fail> {
+    builder.answer(Family::V6, 20, &[V6_A, V6_B, V6_C])?;
+    builder.answer(Family::V4, 20, &[V4_A, V4_B])?;
+    Ok(())
 }
 
 pub fn known_race(alloc: Global, known: &Known) -> Result<Timeline, Fail> {

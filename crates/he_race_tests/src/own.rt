@@ -3,7 +3,7 @@
 use crate::homes::{V4_A, V6_A};
 use futures::task::{Context, Doorbell, Poll, Solo};
 use he_addr::Ip;
-use he_race::{AttemptFuture, AttemptFault, Connector, Finish, Trial};
+use he_race::{AttemptFault, AttemptFuture, Connector, Finish, Trial};
 use std::test::Fail;
 
 #[derive(Drop)]

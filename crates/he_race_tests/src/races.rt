@@ -1,9 +1,11 @@
 // Races as futures, over tickers that stand still, go back, jump or are lost, a connector that cannot begin, and with
 // floors.
 
-ghost use Rattle.std.specs.Prelude.{◌≤◌};
+ghost use Rattle.std.specs.Prelude.{◌≡◌, ◌≤◌, IfSome, None};
+ghost use Rattle.futures.specs.Poll.{IfReady, OnPending};
+ghost use Rattle.he_race.specs.Winner.{MayPoll};
 
-use crate::homes::{PlannedRace, V4_A, V6_A, first_race, race};
+use crate::homes::{PlannedRace, V4_A, V6_A, first_race, many_race, race};
 use futures::Future;
 use futures::task::{Context, Doorbell, Poll, Solo};
 use he_addr::Ip;
@@ -148,28 +150,62 @@ fn summary(raced: &Raced<()>) -> Short {
     }
 }
 
-// What is seen of a race.
+// What is seen of a race. It goes on where it answers once more after its result, and not that it is over.
 #[derive(Clone, Copy, Debug, PartialEq, Eq)]
 enum Seen {
     Pending,
     Gave(Short),
     Failed(RaceFault),
+    GoesOn,
 }
 
-fn seen_of<F: Future<Output = Result<Raced<()>, RaceFault>>>(solo: &Solo, future: F) -> Seen
-    requires { F.can_poll future }
+// Polls of a race that never ends.
+const MOST_POLLS: u8 = 100;
+
+fn poll_once<C: Connector, T: Ticker>(
+    solo: &Solo,
+    race: &mut RaceFuture<C, T>,
+) -> Poll<Result<Raced<C::Conn>, RaceFault>>
+    requires { IfSome race.old.live (MayPoll C.Connector C.Run.Trial race.old.connector) }
+    ensures again { OnPending result (IfSome race.new.live (MayPoll C.Connector C.Run.Trial race.new.connector)) }
+    ensures over { IfReady result (λ _. race.new.live ≡ None) }
 {
-    let given = drive(solo, future, 40);
-    let seen = seen_in(&given);
-    drop(given);
-    seen
+    let mut cx = solo.begin();
+    let polled = race.poll(&mut cx);
+    cx.cancel();
+    polled
 }
 
-fn seen_in(given: &Option<Result<Raced<()>, RaceFault>>) -> Seen {
+// What is seen of the race within so many polls, and of one more poll after its result.
+fn seen_of<C: Connector<Conn = ()>, T: Ticker>(solo: &Solo, mut future: RaceFuture<C, T>) -> Seen
+    requires { IfSome future.live (MayPoll C.Connector C.Run.Trial future.connector) }
+{
+    for _ in 0..MOST_POLLS {
+        if let Poll::Ready(given) = poll_once(solo, &mut future) {
+            let seen = seen_in(&given);
+            drop(given);
+            let again = poll_once(solo, &mut future);
+            let is_over = is_over(&again);
+            drop(again);
+            drop(future);
+            return if is_over { seen } else { Seen::GoesOn };
+        }
+    }
+    drop(future);
+    Seen::Pending
+}
+
+fn is_over(given: &Poll<Result<Raced<()>, RaceFault>>) -> bool {
     match given {
-        None => Seen::Pending,
-        Some(Ok(raced)) => Seen::Gave(summary(raced)),
-        Some(Err(fault)) => Seen::Failed(*fault),
+        Poll::Ready(Err(fault)) => *fault == RaceFault::Over,
+        _ => false,
+    }
+}
+
+fn seen_in(given: &Result<Raced<()>, RaceFault>) -> Seen {
+    match given {
+        Ok(raced) => Seen::Gave(summary(raced)),
+        Err(fault) => Seen::Failed(*fault),
     }
 }
 
@@ -271,6 +307,27 @@ fn seen_at(alloc: Global, solo: &Solo, timeline: &Timeline, faulty: usize) -> Re
     };
     let future = RaceFuture::new(alloc, timeline, connector, Stepping { wheel })?;
     Ok(seen_of(solo, future))
+}
+
+// Five attempts that cannot begin, of both families in turn: the last one fails a tick after its start.
+#[test]
+fn none_can_begin(rt: HostRuntime) -> Result<(), Fail> {
+    let solo = Solo::new(&rt, Doorbell::spinning())?;
+    let alloc: Global = rt.alloc();
+    let timeline = many_race(alloc)?;
+    let seen = seen_at(alloc, &solo, &timeline, 5);
+    drop(timeline);
+    let none = Short {
+        result: Outcome3::Exhausted(1_021),
+        attempts: 5,
+        last: Some((1_020, Mark::Failed(1_021))),
+        pauses: 0,
+        pause: None,
+        v6: Some(Outcome::Fail(1)),
+        v4: Some(Outcome::Fail(1)),
+    };
+    assert_eq!(rt; seen?, Seen::Gave(none));
+    Ok(())
 }
 
 // The first attempt cannot begin, and the second wins; all cannot.

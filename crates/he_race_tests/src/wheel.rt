@@ -2,8 +2,9 @@
 
 use crate::homes::{PlannedRace, race};
 use futures::task::{Doorbell, Solo};
-use he_race::{Ticker, WheelTicker};
+use he_race::{TickFault, Ticker, WheelTicker};
 use he_timeline::Timeline;
+use refusing::{Refusing, refused_in_turn};
 use std::alloc::Global;
 use std::mem::drop;
 use std::test::Fail;
@@ -40,6 +41,49 @@ fn ticks(solo: &Solo, ticker: &mut WheelTicker<'_>) -> Result<[u64; 4], Fail> {
     let went = ticker.jump()?;
     let last = if went { 0 } else { ticker.now() };
     Ok([first, second, third, last])
+}
+
+// A ticker over a heap of the test's own: asked for 60, and where that was granted it goes there, else it stays.
+fn is_asked<'a, 'h>(
+    solo: &Solo,
+    heap: &'h Refusing<Global>,
+    timeline: &'a Timeline,
+) -> Option<bool> {
+    let mut ticker: WheelTicker<'a, &'h Refusing<Global>> = WheelTicker::new(heap, timeline).ok()?;
+    let mut cx = solo.begin();
+    let asked = ticker.wake_at(60, &mut cx);
+    cx.cancel();
+    let has_gone = ticker.jump().unwrap_or(false);
+    let at = ticker.now();
+    drop(ticker);
+    match asked {
+        Ok(()) => Some(has_gone && at == 60),
+        Err(TickFault::Memory) if !has_gone && at == 0 => None,
+        Err(_) => Some(false),
+    }
+}
+
+#[test]
+fn a_refused_wake_leaves_the_ticker(rt: HostRuntime) -> Result<(), Fail> {
+    let alloc: Global = rt.alloc();
+    let timeline = race(
+        alloc,
+        &PlannedRace {
+            limit: 30_000,
+            floor: None,
+            has_second: false,
+            answers: (90, 10),
+            v6: None,
+            v4: None,
+            pause: None,
+        },
+    )?;
+    let solo = Solo::new(&rt, Doorbell::spinning())?;
+    let heap = Refusing::new(alloc);
+    let refused = refused_in_turn(&heap, || is_asked(&solo, &heap, &timeline));
+    drop(timeline);
+    assert!(rt; refused.unwrap_or(0) > 0);
+    Ok(())
 }
 
 #[test]
