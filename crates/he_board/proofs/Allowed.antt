@@ -10,7 +10,7 @@ use Rattle.he_board.specs.declared.view.Layout.{Layout}
 use Rattle.he_board.specs.Notes.{blank, taking, knowing, looking, offering, kept, given, joined}
 use Rattle.he_board.specs.Balance.{winner_word, job_word, Balanced, IsBalanced}
 use Rattle.he_board.specs.Plays.{IsAtMostNoted, IsDecided, job_swapped, winner_loaded, winner_lowered, parts_counted}
-use Rattle.he_board.proofs.Keeping.{at_most_noted, decided, parts_within, swap_keeps, look_keeps, lower_keeps, fork_keeps, rejoin_keeps}
+use Rattle.he_board.proofs.Keeping.{at_most_noted, decided, parts_within, taken_by_all, swap_keeps, look_keeps, lower_keeps, fork_keeps, rejoin_keeps}
 
 module _ {S : Type 0} (k : Layout) (slots id : ℕ) (me : Me S View) (some_part : 0 < me.0.parts) where
   pub may_swap : (job : ℕ) → job < k.jobs → Allows (IsBalanced {S = S} k) slots id me (job_word job) (λ _. 1) (job_swapped (step slots (job_word job) 1 0 none) me)
@@ -57,7 +57,12 @@ module _ {S : Type 0} (k : Layout) (slots id : ℕ) (me : Me S View) (some_part 
     keeps,
     tt,
     subst (λ (ws : List ℕ). Balanced k.jobs k.races ws (set s.views id me.0)) (sym (set-get_or s.words 0 0)) (subst (λ (vs : List View). Balanced k.jobs k.races s.words vs) (sym (set_again s.views id me.0 at)) law),
-    (refl, refl, parts_within k.jobs k.races s.words s.views law id me.0 at some_part),
+    (
+      refl,
+      refl,
+      parts_within k.jobs k.races s.words s.views law id me.0 at some_part,
+      taken_by_all k.jobs k.races s.words s.views law id me.0 at some_part,
+    ),
   )
 
 module _ {S : Type 0} (k : Layout) (id : ℕ) (v : View) where

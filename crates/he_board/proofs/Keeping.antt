@@ -10,7 +10,7 @@ use Rattle.he_board.specs.declared.limits.TheConstants.{RACES, PARTS, NO_OFFER}
 use Rattle.he_board.specs.declared.view.View.{View}
 use Rattle.he_board.specs.Notes.{times, least_of, count_of, are_keys, blank, taking, knowing, looking, offering, kept, given, joined}
 use Rattle.he_board.specs.Balance.{total, least, winner_word, job_word, takers, knowers, least_offer, least_looked, Balanced}
-use Rattle.he_board.specs.Plays.{IsAtMostNoted, IsDecided}
+use Rattle.he_board.specs.Plays.{IsAtMostNoted, IsDecided, IsTakenOnce}
 use Rattle.he_board.proofs.Lists.{times-append, times-one_same, times-one_other, least_of-le_top, least_of-append, least_of-one_same, least_of-one_other, least_of-none, count_of-none, are_keys-append, one_key}
 use Rattle.he_board.proofs.Sums.{total-set, total-same, total-snoc, total-at, total-alone, least-le_top, least-set, least-same, least-snoc, least-at, least-drop, least-alone}
 
@@ -67,6 +67,19 @@ module _ (jobs races : ℕ) (words : List ℕ) (views : List View) (law : Balanc
       let s : total parts_of views ≡ PARTS = law.parts in
       let m : u.parts ≤ total parts_of (set views id (blank 0)) = total-at parts_of (set views id (blank 0)) j u (set_else views id j (blank 0) ne ∙ at') in omega arith)
 
+  -- who has all parts took each job that it knows to be taken, once
+  pub taken_by_all : v.parts ≡ PARTS → IsTakenOnce v
+  taken_by_all full job known =
+      let t : takers job views ≡ times job v.taken = total-alone (taken_of job) views id v at (λ j u ne at'. ap (taken_of job) (others_idle full j u ne at')) in
+      let k : times job v.known ≤ knowers job views = total-at (known_of job) views id v at in
+      let one : takers job views ≤ 1 = law.one_taker job in
+      let free : takers job views ≡ 0 → knowers job views ≡ 0 = law.free_unknown job in
+      taken_once (takers job views) (knowers job views) (times job v.taken) (times job v.known) t k one free known
+    where
+      taken_once : (t k a b : ℕ) → t ≡ a → b ≤ k → t ≤ 1 → (t ≡ 0 → k ≡ 0) → 0 < b → a ≡ 1
+      taken_once zero k a b same below one free known = let z : k ≡ 0 = free refl in absurd (omega arith)
+      taken_once (suc t) k a b same below one free known = omega arith
+
   pub decided : (race : ℕ) → race < races → v.parts ≡ PARTS → IsDecided race (get_or words (winner_word race) 0) v
   decided race near full =
       let least_here : least_offer race views ≡ least_of race v.offers = least-alone (offer_of race) views id v at (least_of-le_top race v.offers)
@@ -77,21 +90,12 @@ module _ (jobs races : ℕ) (words : List ℕ) (views : List View) (law : Balanc
         offered = λ some_key. let back : count_of race v.offers ≡ 0 → least_of race v.offers ≡ NO_OFFER = least_of-none race v.offers in positive (count_of race v.offers) (λ none. some_key (here ∙ back none));
         none = λ none. here ∙ least_of-none race v.offers none;
         unoffered = λ top_now. count_of-none race v.offers (law.keys id v at) (sym here ∙ top_now);
-        taken = λ job known. (
-            let t : takers job views ≡ times job v.taken = total-alone (taken_of job) views id v at (λ j u ne at'. ap (taken_of job) (others_idle full j u ne at')) in
-            let k : times job v.known ≤ knowers job views = total-at (known_of job) views id v at in
-            let one : takers job views ≤ 1 = law.one_taker job in
-            let free : takers job views ≡ 0 → knowers job views ≡ 0 = law.free_unknown job in
-            taken_once (takers job views) (knowers job views) (times job v.taken) (times job v.known) t k one free known);
+        taken = taken_by_all full;
       }
     where
       positive : (n : ℕ) → (n ≡ 0 → ⊥) → 0 < n
       positive zero not_zero = absurd (not_zero refl)
       positive (suc n) not_zero = omega arith
-
-      taken_once : (t k a b : ℕ) → t ≡ a → b ≤ k → t ≤ 1 → (t ≡ 0 → k ≡ 0) → 0 < b → a ≡ 1
-      taken_once zero k a b same below one free known = let z : k ≡ 0 = free refl in absurd (omega arith)
-      taken_once (suc t) k a b same below one free known = omega arith
 
   pub parts_within : v.parts ≤ PARTS
   parts_within = let s : total parts_of views ≡ PARTS = law.parts in let m : v.parts ≤ total parts_of views = total-at parts_of views id v at in omega arith

@@ -12,13 +12,17 @@ pub record IsAtMostNoted (race value : ℕ) (v : View) : Type 0 where
   pub offers : value ≤ least_of race v.offers
   pub looked : value ≤ least_of race v.looked
 
+-- each job that is known to be taken was taken by this pass, once
+abbrev pub IsTakenOnce : View → Type 0
+IsTakenOnce v = (job : ℕ) → 0 < times job v.known → times job v.taken ≡ 1
+
 -- the value is the least offer of all, and each job that is known to be taken was taken by this pass
 pub record IsDecided (race value : ℕ) (v : View) : Type 0 where
   pub least : value ≡ least_of race v.offers
   pub offered : value ≢ NO_OFFER → 0 < count_of race v.offers
   pub none : count_of race v.offers ≡ 0 → value ≡ NO_OFFER
   pub unoffered : value ≡ NO_OFFER → count_of race v.offers ≡ 0
-  pub taken : (job : ℕ) → 0 < times job v.known → times job v.taken ≡ 1
+  pub taken : IsTakenOnce v
 
 module _ {S : Type 0} where
   abbrev pub job_swapped : Step S → Me S View → ℕ → Me S View → Type 0
@@ -34,6 +38,7 @@ module _ {S : Type 0} where
   winner_lowered st m n m' = (race : ℕ) → st.word ≡ winner_word race
       → (m'.0 ≡ offering race st.first n m.0) × (m'.1 ≡ m.1) × IsAtMostNoted race n m.0
 
-  -- the parts of a pass are parts of the board's
+  -- the parts of a pass are parts of the board's; who has all of them took each job that it knows to be taken
   abbrev pub parts_counted : Step S → Me S View → ℕ → Me S View → Type 0
-  parts_counted st m n m' = (m'.0 ≡ m.0) × (m'.1 ≡ m.1) × (m.0.parts ≤ PARTS)
+  parts_counted st m n m' =
+      (m'.0 ≡ m.0) × (m'.1 ≡ m.1) × (m.0.parts ≤ PARTS) × (m.0.parts ≡ PARTS → IsTakenOnce m.0)

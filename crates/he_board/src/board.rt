@@ -58,7 +58,7 @@ impl<A: Allocator + Copy> Board<A> {
 impl<A: Allocator> Board<A> {
     ghost use Rattle.he_board.specs.Notes.{count_of, given, joined, kept, key_of, knowing, least_of, looking, offering, taking, times, winner_of};
     ghost use Rattle.he_board.specs.Passes.{IsPassOf, jobs_of, notes, races_of};
-    ghost use Rattle.he_board.specs.Plays.{IsAtMostNoted};
+    ghost use Rattle.he_board.specs.Plays.{IsAtMostNoted, IsTakenOnce};
 
     /// Tries to take the job. Of all calls on one job, whatever passes make them, exactly one answers true.
     ///
@@ -133,6 +133,18 @@ impl<A: Allocator> Board<A> {
         self.merge(first, second)
     }
 
+    /// Settles who took what, for a pass with all parts, beside which there is no other pass: each job that it knows to
+    /// be taken it has taken itself, exactly once, by one of the passes that were rejoined into it. One atomic step.
+    pub fn settle(&self, pass: &mut Pass)
+        requires own { IsPassOf self.now pass.old }
+        requires parts { (notes pass.old).parts ≡ PARTS }
+        ensures own { IsPassOf self.now pass.new }
+        ensures noted { notes pass.new ≡ notes pass.old }
+        ensures taken { IsTakenOnce (notes pass.new) }
+    {
+        self.count_parts(pass);
+    }
+
     /// The tick (milliseconds) and the place of the least offer that anybody made to the race, and None exactly where
     /// nobody made one. For a pass with all parts, beside which there is no other pass. One atomic step.
     ///
@@ -147,7 +159,7 @@ impl<A: Allocator> Board<A> {
         ensures value { result ≡ winner_of (least_of race (notes pass.old).offers) }
         ensures none { IsNone result ↔ (count_of race (notes pass.old).offers ≡ 0) }
         ensures below { least_of race (notes pass.old).offers ≤ least_of race (notes pass.old).looked }
-        ensures taken { (job : ℕ) → 0 < times job (notes pass.old).known → times job (notes pass.old).taken ≡ 1 }
+        ensures taken { IsTakenOnce (notes pass.old) }
     {
         let word = self.load_winner(pass, race);
         if word == NO_OFFER {

@@ -2,7 +2,7 @@
 ghost use Rattle.std.specs.Prelude.{◌≡◌, ◌==◌, ◌+◌, ◌<◌, ◌≤◌, if◌then◌else◌};
 ghost use Rattle.he_board.specs.Notes.{taking, knowing, looking, offering, kept, given, joined};
 ghost use Rattle.he_board.specs.Passes.{IsPassOf, jobs_of, notes, races_of};
-ghost use Rattle.he_board.specs.Plays.{IsAtMostNoted, IsDecided};
+ghost use Rattle.he_board.specs.Plays.{IsAtMostNoted, IsDecided, IsTakenOnce};
 
 use crate::board::Board;
 use crate::limits::{NO_OFFER, PARTS, RACES};
@@ -49,6 +49,17 @@ impl<A: Allocator> Board<A> {
         self.table
             .shared
             .fetch_min::<LowersWinner>(&mut pass.seat, 1 + race, key)
+    }
+
+    // Looks at the word that no step changes: of a pass with all parts, beside which there is no other, that tells who
+    // took what.
+    pub(crate) fn count_parts(&self, pass: &mut Pass)
+        requires own { IsPassOf self.now pass.old }
+        ensures own { IsPassOf self.now pass.new }
+        ensures noted { notes pass.new ≡ notes pass.old }
+        ensures taken { (notes pass.old).parts ≡ PARTS → IsTakenOnce (notes pass.old) }
+    {
+        self.table.shared.load::<CountsParts>(&mut pass.seat, 0);
     }
 
     pub(crate) fn cut(&self, pass: Pass) -> (Pass, Pass)

@@ -1,8 +1,10 @@
 pub mod Ends
 pub mod Further
 pub mod Input
+pub mod Joining
 pub mod Known
 pub mod Moved
 pub mod OneOutput
 pub mod RaceTexts
 pub mod RoundEnd
+pub mod Workers

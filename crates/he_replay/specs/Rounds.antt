@@ -12,7 +12,7 @@ use Rattle.he_inputs.specs.declared.race_reader.Ending.TheVariants as endings
 use Rattle.he_inputs.specs.declared.race_reader.RaceReader.{RaceReader}
 use Rattle.he_inputs.specs.Inputs.{IsFaultBehind, line_count}
 use Rattle.he_words.specs.Ranges.{most_races}
-use Rattle.he_inputs.specs.RaceReading.{MayFollow}
+use Rattle.he_inputs.specs.RaceReading.{EndsAt, MayFollow}
 use Rattle.he_inputs.specs.declared.stream_fault.StreamFault.{StreamFault}
 use Rattle.he_inputs.specs.declared.stream_fault.StreamFault.TheVariants as faults
 use Rattle.he_replay.specs.declared.race_texts.TextRequest.{TextRequest}
@@ -44,6 +44,12 @@ abbrev pub IsFaultPast : Ending → List ℕ → RaceReader → Option InputFaul
 IsFaultPast ending bytes reader fault =
     (more : List ℕ) (is_broken : Bool) → MayFollow ending more is_broken
     → IsFaultBehind is_broken reader.races reader.lines (drop reader.end bytes ++ more) fault
+
+-- the reader came so far, or no race follows where it stands, or something is wrong there, whatever follows
+abbrev pub Reaches : Ending → List ℕ → ℕ → RaceReader → Type 0
+Reaches ending bytes reach reader =
+    (reach ≤ reader.end) ⊎ EndsAt ending (drop reader.end bytes)
+    ⊎ ((fault : InputFault) × IsFaultPast ending bytes reader (Some fault))
 
 -- races more were told, whatever was told before
 abbrev pub TellsOn : TextRelation → List ℕ → RaceReader → List ℕ → List ℕ → RaceReader → Type 0

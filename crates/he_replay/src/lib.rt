@@ -15,16 +15,18 @@
 //! (`laws`).
 //!
 //! Where races come faster than they are told, and more than one worker may be taken, `replay` cuts the bytes of a
-//! step into pieces behind races. Each worker takes pieces from a board (`he_board`), reads them and writes the texts
-//! of their races, in a thread of its own. Proved, for every number of workers and every order of their steps: the
-//! clauses of `replay`.
+//! step into pieces after the ends of races. Each worker takes pieces from a board (`he_board`), reads them and writes
+//! the texts of their races, in a thread of its own. Proved, for every number of workers and every order of their
+//! steps: the clauses of `replay`; and where no growth is refused each piece is told exactly once, by the worker that
+//! took it, up to its end or to what is no whole race, and none is left that goes on where the joined ones end
+//! (`specs/Pieces`).
 //!
 //! `replay_batch` (`he_pool`), which shares the attempts of races that are in memory, is offered here too; `replay`
 //! does not go through it.
 //!
 //! Only tested: that `replay` tells want of memory only where a growth was refused, that it writes what is asked for
-//! of a race before it reads on, and that it reads nothing after a failed write. Neither proved nor tested: where
-//! bytes are cut for workers, that their pieces are told at once, and any speed.
+//! of a race before it reads on, and that it reads nothing after a failed write. Neither proved nor tested: that
+//! pieces are told at the same time, and any speed.
 #![tactic(auto)]
 
 pub mod laws;

@@ -3,7 +3,7 @@
 ghost use Rattle.std.specs.Prelude.{◌≡◌, ◌+◌, ◌-◌, ◌≤◌, ◌^◌, false, IfOk, OnOk, drop, take, vec_len};
 ghost use Rattle.he_inputs.specs.declared.race_reader.Ending.TheVariants as endings;
 ghost use Rattle.he_inputs.specs.RaceReading.{IsWithin};
-ghost use Rattle.he_replay.specs.Rounds.{HasTold, IsAsked, PutsRound, PutsTold, Tells};
+ghost use Rattle.he_replay.specs.Rounds.{HasTold, IsAsked, PutsRound, PutsTold, Reaches, Tells};
 
 use crate::limits::{ARENA_BYTES, MOST_RACES};
 use crate::race_texts::TextRequest;
@@ -57,7 +57,8 @@ pub(crate) struct RoundScope {
 impl RoundScope {
     // Whether the reader goes on that has come so far.
     fn goes_on(&self, reader: RaceReader) -> bool
-        ensures { result ≡ false → self.now.ending ≡ endings.Open }
+        ensures open { result ≡ false → self.now.ending ≡ endings.Open }
+        ensures reached { result ≡ false → self.now.reach ≤ reader.end }
     {
         self.ending != Ending::Open || reader.end < self.reach || reader.races == MOST_RACES
     }
@@ -146,7 +147,9 @@ pub(crate) fn tell_races<A: Allocator + Copy>(
     text: &mut Vec<u8, A>,
 ) -> Result<RoundEnd, AllocError>
     requires { IsWithin bytes.now part.begun }
-    ensures { IfOk result (Tells (IsAsked asked.now) part.ending bytes.now part.begun text.old.items text.new.items) }
+    ensures told { IfOk result (Tells (IsAsked asked.now) part.ending bytes.now part.begun text.old.items
+        text.new.items) }
+    ensures reached { IfOk result (λ told. Reaches part.ending bytes.now part.reach told.reader) }
 {
     let mut arena = Bump::try_with_capacity(alloc, ARENA_BYTES)?;
     let mut reader = part.begun;
