@@ -1,4 +1,4 @@
-//! Prints what is read of recorded files of machines: first the host of each recording and what is left out of it,
+//! Prints what is read of recorded files of machines: first the machine of each recording and what is left out of it,
 //! then what the files of names say.
 //!
 //! It reads the folder in which it is started. Nothing is proved of this program but that it is safe and ends.

@@ -53,7 +53,7 @@ IsRequest (Texts task texts) = HasTaskWorkers task
 IsRequest (Page path texts) = Unit {0}
 IsRequest (Summary form texts) = Unit {0}
 IsRequest (Live options) = LEAST_PORT ≤ options.port
-IsRequest Host = Unit {0}
+IsRequest (Host destinations) = Unit {0}
 IsRequest (Names host resolver) = Unit {0}
 IsRequest (Connect options) = LEAST_PORT ≤ options.port
 
@@ -141,8 +141,9 @@ RunsRequest input file page output (Summary form texts) first last before after 
     (λ _. IsRefused first last before after status)
 RunsRequest input file page output (Live options) first last before after status =
     RunsLive input output options first last before after status
-RunsRequest input file page output Host first last before after status =
-    (last ≡ first) × Shows output before after status
+RunsRequest input file page output (Host destinations) first last before after status =
+    (last ≡ first)
+    × MatchOption destinations ((status ≡ USAGE) × (after ≡ before)) (λ _. Shows output before after status)
 RunsRequest input file page output (Names host resolver) first last before after status =
     (last ≡ first) × RunsNames output resolver before after status
 RunsRequest input file page output (Connect options) first last before after status =

@@ -30,6 +30,7 @@ mod arguments;
 pub mod asking;
 pub mod command;
 mod files;
+pub mod host;
 pub mod limits;
 mod numbers;
 mod pages;

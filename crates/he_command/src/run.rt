@@ -8,6 +8,7 @@ ghost use Rattle.he_command.specs.Streams.{Shows};
 use crate::arguments::OptionFault;
 use crate::asking::Options;
 use crate::command::{Request, read_words};
+use crate::host::run_host;
 use crate::numbers::{SettingFault, settings_of};
 use crate::pages::run_page;
 use crate::racing::LiveOptions;
@@ -16,8 +17,7 @@ use crate::system::{System, columns_of};
 use crate::tasks::run_texts;
 use clap::Error;
 use clap::error::ErrorKind;
-use he_connect::{Asked, ConnectFault, Ended, Lines, connect};
-use he_host::machine::write_machine;
+use he_connect::{ConnectFault, ConnectRequest, Ended, Lines, connect};
 use he_inputs::StreamFault;
 use he_live::{FailedAttempt, LiveFault, Told, first_local, live, write_failures};
 use he_plan::Outcome3;
@@ -114,7 +114,7 @@ where
             run_summary(rt, alloc, form, &texts, input, output, faults)
         }
         Request::Live(options) => run_live(rt, alloc, &options, input, output, faults),
-        Request::Host => run_host(rt, alloc, output, faults),
+        Request::Host(destinations) => run_host(rt, alloc, destinations, output, faults),
         Request::Names { host, resolver } => {
             run_names(rt, alloc, host, resolver, output, faults)
         }
@@ -200,32 +200,6 @@ fn keep_record<R: System>(rt: &R, path: Option<&str>, text: &[u8]) -> Result<(),
     }
 }
 
-// Writes the lines of this machine, and what is left out of them.
-fn run_host<R, O, F>(rt: &R, alloc: Global, output: &mut O, faults: &mut F) -> u8
-where
-    R: System,
-    O: OutputStream,
-    F: Write,
-    ensures { Shows O.OutputStream output.old output.new result }
-{
-    let mut lines = Vec::new(alloc);
-    let mut remarks = Vec::new(alloc);
-    match write_machine(rt, &mut lines, &mut remarks) {
-        Ok(()) => {
-            let status = report_end(put_lines(&lines, output), faults);
-            let _ = faults.write_all(remarks.as_slice());
-            status
-        }
-        Err(fault) => report(fault, faults),
-    }
-}
-
-fn put_lines<O: OutputStream>(lines: &[u8], output: &mut O) -> Result<(), StreamFault>
-    ensures { Shows O.OutputStream output.old output.new (status_of result) }
-{
-    write_whole(output, lines).map_err(|_| StreamFault::Write)
-}
-
 // Finds the addresses of a host. A resolver that is none is a line that is refused.
 fn run_names<R, O, F>(
     rt: &R,
@@ -277,7 +251,7 @@ where
         Ok(settings) => settings,
         Err(fault) => return refuse_option(OptionFault::Setting(fault), faults),
     };
-    let asked = Asked {
+    let request = ConnectRequest {
         host: options.host,
         port: options.port,
         families: options.families,
@@ -294,7 +268,7 @@ where
         wait: options.wait,
     };
     report_connection(
-        connect(rt, alloc, &asked, input, output, faults),
+        connect(rt, alloc, &request, input, output, faults),
         options.host,
         faults,
     )
@@ -391,7 +365,7 @@ fn refuse<F: Write>(error: &Error, faults: &mut F) -> u8
 }
 
 // Says how a command ended, and answers the exit status.
-fn report_end<E: Display + Drop, F: Write>(end: Result<(), E>, faults: &mut F) -> u8
+pub(crate) fn report_end<E: Display + Drop, F: Write>(end: Result<(), E>, faults: &mut F) -> u8
     ensures { result ≡ status_of end }
 {
     match end {

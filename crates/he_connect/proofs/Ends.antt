@@ -1,7 +1,7 @@
 -- How a connection ended, behind a race that was run.
 use Rattle.std.proofs.Common.{◌≡◌, ℕ, List, Bool, subst, sym, inl, inr}
 use Rattle.std.specs.Prelude.{Result, Ok, Err}
-use Rattle.he_connect.specs.declared.asked.Families.{Families}
+use Rattle.he_connect.specs.declared.request.Families.{Families}
 use Rattle.he_connect.specs.declared.connecting.Ended.{Ended}
 use Rattle.he_connect.specs.declared.connecting.Ended.TheVariants as ends
 use Rattle.he_connect.specs.declared.fault.ConnectFault.{ConnectFault}

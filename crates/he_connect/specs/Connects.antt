@@ -9,7 +9,7 @@ use Rattle.he_relay.specs.declared.fault.RelayFault.{RelayFault}
 use Rattle.he_relay.specs.Relays.{Relays}
 use Rattle.he_story.specs.Story.{Tells}
 use Rattle.he_write.specs.Written.{timeline_text}
-use Rattle.he_connect.specs.declared.asked.Families.{Families}
+use Rattle.he_connect.specs.declared.request.Families.{Families}
 use Rattle.he_connect.specs.declared.connecting.Ended.{Ended}
 use Rattle.he_connect.specs.declared.connecting.Ended.TheVariants as ends
 use Rattle.he_connect.specs.declared.fault.ConnectFault.{ConnectFault}

@@ -7,7 +7,7 @@
 //!
 //! # What is proved
 //!
-//! - The race begins as [`start_race`](start::start_race) says: with the settings, the host and the policy of the
+//! - The race begins as [`start_race`](start::start_race) says: with the settings, the machine and the policy of the
 //!   lines, and an empty answer for a family that isn't tried (`specs/Start`).
 //! - The text that is written as the record is that of a race that began so, kept what it began with, and replays to
 //!   its transcript; there is a connection exactly where that race was won (`IsRun` in `specs/Connects`).
@@ -22,7 +22,7 @@
 //! of it.
 #![tactic(auto)]
 
-pub mod asked;
+pub mod request;
 pub mod connecting;
 pub mod fault;
 mod kernel;
@@ -33,7 +33,7 @@ pub mod start;
 mod telling;
 mod tried;
 
-pub use asked::{Asked, Families, Lines};
+pub use request::{ConnectRequest, Families, Lines};
 pub use connecting::{Ended, connect};
 pub use fault::ConnectFault;
 pub use he_relay::DEFAULT_WAIT;

@@ -1,11 +1,12 @@
-//! The lines that say the host of a race, and its policy.
+//! The lines that say the machine of a race, and its policy.
 ghost use Rattle.std.specs.Prelude.{IfErr};
 ghost use Rattle.he_connect.specs.Connects.{IsBefore};
 
-use crate::asked::Lines;
+use crate::request::Lines;
 use crate::fault::ConnectFault;
 use he_addr::read_ip;
-use he_host::machine::{write_machine, write_machine_to};
+use he_host::machine::write_machine;
+use he_host::taken::write_machine_to;
 use std::alloc::{AllocGlobal, Global};
 use std::net::Net;
 use std::rt::Files;

@@ -3,7 +3,7 @@ ghost use Rattle.std.specs.Prelude.{◌≡◌, IfOk, IfErr, is_some};
 ghost use Rattle.he_write.specs.Written.{timeline_text};
 ghost use Rattle.he_connect.specs.Connects.{IsBefore, IsExplained, IsRun, RunsFrom};
 
-use crate::asked::{Asked, Lines};
+use crate::request::{ConnectRequest, Lines};
 use crate::fault::ConnectFault;
 use crate::kernel::write_other_sources;
 use crate::lines::read_lines_of;
@@ -30,7 +30,7 @@ use tokio::runtime::{Handle, LocalRuntime};
 
 /// A race that was run.
 #[derive(Drop)]
-pub(crate) struct Run {
+pub(crate) struct FinishedRace {
     /// The text of its record.
     pub text: Vec<u8>,
     /// What is told of it: its explanation, where that is asked for, and where nothing connected what was tried.
@@ -43,7 +43,7 @@ pub(crate) struct Run {
 
 // The texts of a race that was run.
 #[derive(Drop)]
-struct Texts {
+struct RaceTexts {
     text: Vec<u8>,
     told: Vec<u8>,
 }
@@ -53,20 +53,20 @@ struct Texts {
 pub(crate) fn run_race<R, F>(
     rt: &R,
     alloc: Global,
-    asked: &Asked<'_>,
+    request: &ConnectRequest<'_>,
     faults: &mut F,
-) -> Result<Run, ConnectFault>
+) -> Result<FinishedRace, ConnectFault>
 where
     F: Write,
     R: Threads + Wait + Clock + RandomSource + AllocGlobal + Net + Files + Sync,
     R: SystemResolver + Copy + Send + 'static,
-    ensures race { IfOk result (λ run. IsRun asked.now.settings asked.now.families run.text.items
+    ensures race { IfOk result (λ run. IsRun request.now.settings request.now.families run.text.items
         (is_some run.winner)) }
     ensures fault { IfErr result IsBefore }
 {
-    let lines = read_lines_of(rt, alloc, asked.lines, asked.host)?;
-    let start = start_race(alloc, asked.settings, asked.families, &lines)?;
-    let run = run_from(rt, alloc, asked, &start, faults);
+    let lines = read_lines_of(rt, alloc, request.lines, request.host)?;
+    let start = start_race(alloc, request.settings, request.families, &lines)?;
+    let run = run_from(rt, alloc, request, &start, faults);
     drop(start);
     run
 }
@@ -75,10 +75,10 @@ where
 fn run_from<R, F>(
     rt: &R,
     alloc: Global,
-    asked: &Asked<'_>,
+    request: &ConnectRequest<'_>,
     start: &Timeline,
     faults: &mut F,
-) -> Result<Run, ConnectFault>
+) -> Result<FinishedRace, ConnectFault>
 where
     F: Write,
     R: Threads + Wait + Clock + RandomSource + AllocGlobal + Net + Files + Sync,
@@ -89,20 +89,20 @@ where
     let mut runtime = LocalRuntime::new(rt)?;
     let handle = runtime.handle().clone()?;
     let why = LookupFaults::new();
-    let source = answers_of(rt, alloc, &handle, asked, &why)?;
+    let source = answers_of(rt, alloc, &handle, request, &why)?;
     let steps = Steps::new(alloc)?;
-    let telling = Telling::new(alloc, faults, asked.tells_steps);
+    let telling = Telling::new(alloc, faults, request.tells_steps);
     let raced = resolving_race_on(
         rt,
         alloc,
         &mut runtime,
         start,
         source,
-        asked.port,
+        request.port,
         &steps,
         &telling,
     )?;
-    end_with(rt, alloc, asked, why.fault(asked.families), &steps, raced)
+    end_with(rt, alloc, request, why.fault(request.families), &steps, raced)
 }
 
 // The answers of a look-up of the host, which waits in the event loop.
@@ -110,7 +110,7 @@ fn answers_of<'h, R>(
     rt: &'h R,
     alloc: Global,
     handle: &'h Handle,
-    asked: &Asked<'_>,
+    request: &ConnectRequest<'_>,
     why: &'h LookupFaults,
 ) -> Result<HostAnswers<'h, R>, ConnectFault>
 where
@@ -120,9 +120,9 @@ where
 {
     let (reactor, timers) = (handle.reactor(), handle.time());
     let wanted = Wanted {
-        host: asked.host,
-        only: asked.families.only(),
-        choice: asked.resolver,
+        host: request.host,
+        only: request.families.only(),
+        choice: request.resolver,
     };
     let lookup = Lookup::new(rt, alloc, reactor, timers, wanted)?;
     Ok(HostAnswers::new(alloc, lookup, why))
@@ -132,16 +132,16 @@ where
 fn end_with<R: Net>(
     rt: &R,
     alloc: Global,
-    asked: &Asked<'_>,
+    request: &ConnectRequest<'_>,
     nameless: Option<NamesFault>,
     steps: &Steps,
     raced: Raced<TcpStream>,
-) -> Result<Run, ConnectFault>
+) -> Result<FinishedRace, ConnectFault>
     ensures text { IfOk result (λ run. run.text.items ≡ timeline_text raced.recorded) }
     ensures winner { IfOk result (λ run. is_some run.winner ≡ is_some raced.winner) }
     ensures fault { IfErr result IsBefore }
 {
-    let texts = texts_of(rt, alloc, asked, nameless, steps, &raced);
+    let texts = texts_of(rt, alloc, request, nameless, steps, &raced);
     let Raced {
         transcript,
         recorded,
@@ -149,8 +149,8 @@ fn end_with<R: Net>(
     } = raced;
     drop(transcript);
     drop(recorded);
-    let Texts { text, told } = texts?;
-    Ok(Run {
+    let RaceTexts { text, told } = texts?;
+    Ok(FinishedRace {
         text,
         told,
         nameless,
@@ -161,24 +161,24 @@ fn end_with<R: Net>(
 fn texts_of<R: Net>(
     rt: &R,
     alloc: Global,
-    asked: &Asked<'_>,
+    request: &ConnectRequest<'_>,
     nameless: Option<NamesFault>,
     steps: &Steps,
     raced: &Raced<TcpStream>,
-) -> Result<Texts, ConnectFault>
+) -> Result<RaceTexts, ConnectFault>
     ensures text { IfOk result (λ texts. texts.text.items ≡ timeline_text raced.now.recorded) }
     ensures fault { IfErr result IsBefore }
 {
     let mut text = Vec::new(alloc);
     write_timeline(&raced.recorded, &mut text)?;
-    let mut told = explain(alloc, asked.explains, &raced.recorded)?;
-    if asked.tells_steps || asked.lines == Lines::Machine {
+    let mut told = explain(alloc, request.explains, &raced.recorded)?;
+    if request.tells_steps || request.lines == Lines::Machine {
         write_other_sources(rt, &raced.recorded, raced.transcript.attempts(), &mut told)?;
     }
     if raced.winner.is_none() && nameless.is_none() {
-        write_tried(asked, &raced.recorded, &raced.transcript, steps, &mut told)?;
+        write_tried(request, &raced.recorded, &raced.transcript, steps, &mut told)?;
     }
-    Ok(Texts { text, told })
+    Ok(RaceTexts { text, told })
 }
 
 // The story of a race, where it is asked for.

@@ -1,6 +1,6 @@
 //! Where the answers of a connection's race come from.
 
-use crate::asked::Families;
+use crate::request::Families;
 use futures::task::{Context, Poll};
 use he_addr::{Family, Ip};
 use he_race::AnswerSource;

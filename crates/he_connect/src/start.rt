@@ -5,7 +5,7 @@ ghost use Rattle.he_inputs.specs.Inputs.{HasRaces};
 ghost use Rattle.he_connect.specs.Connects.{IsBefore};
 ghost use Rattle.he_connect.specs.Start.{Starts, lines_text, with_families};
 
-use crate::asked::Families;
+use crate::request::Families;
 use crate::fault::ConnectFault;
 use he_addr::Family;
 use he_inputs::read_one_race;
@@ -36,7 +36,7 @@ pub fn start_race(
     started
 }
 
-// The race that has the host and the policy of another one.
+// The race that has the machine and the policy of another one.
 fn start_with(
     alloc: Global,
     settings: Settings,
@@ -82,7 +82,7 @@ fn read_lines(alloc: Global, lines: &[u8]) -> Result<Timeline, ConnectFault>
     }
 }
 
-// Whether the lines of a race say more than its host and its policy. Outcomes and what is known from earlier stand
+// Whether the lines of a race say more than its machine and its policy. Outcomes and what is known from earlier stand
 // with an answer alone.
 fn has_others(base: &Timeline) -> bool {
     let settings = base.settings();

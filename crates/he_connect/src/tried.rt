@@ -1,6 +1,6 @@
 //! The line that tells what was tried where nothing connected.
 
-use crate::asked::Asked;
+use crate::request::ConnectRequest;
 use he_addr::{Family, Memory, write_ip, write_number};
 use he_live::{Reason, Steps};
 use he_plan::{Line, Mark, Transcript};
@@ -14,16 +14,16 @@ use std::alloc::Global;
 ///
 /// `Memory` where an allocation was refused; a part of the line may be there.
 pub(crate) fn write_tried(
-    asked: &Asked<'_>,
+    request: &ConnectRequest<'_>,
     recorded: &Timeline,
     transcript: &Transcript,
     steps: &Steps,
     out: &mut Vec<u8>,
 ) -> Result<(), Memory> {
     out.extend_from_slice(b"he: no connection to ")?;
-    out.extend_from_slice(asked.host.as_bytes())?;
+    out.extend_from_slice(request.host.as_bytes())?;
     out.extend_from_slice(b" port ")?;
-    write_number(u64::from(asked.port), out)?;
+    write_number(u64::from(request.port), out)?;
     write_attempts(recorded, transcript.attempts(), steps, out)?;
     out.push(b'\n')?;
     Ok(())

@@ -32,7 +32,7 @@ pub enum Lines<'a> {
 
 /// A connection that is asked for.
 #[derive(Clone, Copy)]
-pub struct Asked<'a> {
+pub struct ConnectRequest<'a> {
     /// A name or an address.
     pub host: &'a str,
     /// 1 to 65,535.
