@@ -36,7 +36,7 @@ abbrev pub or_own : List Ip → List Ip
 or_own [] = own_server ∷ []
 or_own (server ∷ servers) = server ∷ servers
 
--- the first three name servers, or the host's own
+-- the first three name servers, or the machine's own
 abbrev pub servers_in : List ℕ → List Ip
 servers_in text = or_own (take 3 (filter_map server_of (entries_of text)))
 

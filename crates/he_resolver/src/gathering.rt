@@ -17,7 +17,7 @@ use std::time::{Clock, Instant};
 
 // What a family was told, and the milliseconds since the first poll at which that came.
 #[derive(Drop)]
-pub(crate) struct Told {
+pub(crate) struct FamilyAnswer {
     tick: u64,
     answer: Result<Vec<Ip>, NamesFault>,
 }
@@ -29,8 +29,8 @@ pub(crate) struct Gathering<'h, R> {
     alloc: Global,
     lookup: Lookup<'h, R>,
     start: Option<Instant>,
-    v6: Option<Told>,
-    v4: Option<Told>,
+    v6: Option<FamilyAnswer>,
+    v4: Option<FamilyAnswer>,
 }
 
 impl<'h, R: Net + RandomSource + Clock> Gathering<'h, R> {
@@ -66,7 +66,7 @@ impl<'h, R: Net + RandomSource + Clock> Gathering<'h, R> {
             return;
         }
         if let Poll::Ready(answer) = self.lookup.poll_answer(family, cx) {
-            let told = Some(Told { tick, answer });
+            let told = Some(FamilyAnswer { tick, answer });
             match family {
                 Family::V6 => self.v6 = told,
                 Family::V4 => self.v4 = told,
@@ -115,7 +115,7 @@ impl<R: Net + RandomSource + Clock> Future for Gathering<'_, R> {
     }
 }
 
-fn join(alloc: Global, v6: Told, v4: Told) -> Result<Found, NamesFault> {
+fn join(alloc: Global, v6: FamilyAnswer, v4: FamilyAnswer) -> Result<Found, NamesFault> {
     if let (Err(six), Err(four)) = (&v6.answer, &v4.answer) {
         return Err(first_fault(*six, *four));
     }

@@ -6,11 +6,11 @@ ghost use Rattle.futures.specs.Task.{Covers, Keeps};
 ghost use Rattle.he_names.specs.Answers.{IsAnswer};
 ghost use Rattle.he_resolver.specs.Needs.{lookup_needs};
 
-use crate::asked::asked_in;
 use crate::choice::Choice;
 use crate::fault::NamesFault;
 use crate::files::{HOSTS, SETTINGS, read_file};
 use crate::known::known_in;
+use crate::plan::plan_of;
 use crate::resolver::Resolver;
 use crate::setup::Setup;
 use crate::system::{SystemQuery, SystemResolver};
@@ -80,13 +80,13 @@ impl<'h, R: Net + RandomSource + Clock> Lookup<'h, R> {
             return Ok(Lookup { alloc, source });
         }
         let settings = read_file(rt, alloc, SETTINGS)?;
-        let asked = asked_in(alloc, host, &settings, wanted.choice)?;
+        let plan = plan_of(alloc, host, &settings, wanted.choice)?;
         let setup = Setup {
             rt,
             alloc,
             reactor,
             timers,
-            asked,
+            plan,
         };
         let source = Source::Servers(Resolver::new(setup, wanted.only));
         Ok(Lookup { alloc, source })

@@ -106,7 +106,7 @@ impl Query {
 
     // Sends the query again, unless it was sent as often as the settings say.
     fn send_again<R: Clock>(&mut self, setup: &Setup<'_, R>) -> Result<(), NamesFault> {
-        if self.sends >= setup.asked.sends() {
+        if self.sends >= setup.plan.sends() {
             return Err(NamesFault::NoAnswer);
         }
         self.sends = self.sends.saturating_add(1);

@@ -1,6 +1,6 @@
 // What a resolver works with.
 
-use crate::asked::Asked;
+use crate::plan::QueryPlan;
 use std::alloc::Global;
 use std::io;
 use std::time::{Clock, Duration};
@@ -14,7 +14,7 @@ pub(crate) struct Setup<'h, R> {
     pub(crate) alloc: Global,
     pub(crate) reactor: &'h Handle,
     pub(crate) timers: &'h tokio::time::Handle,
-    pub(crate) asked: Asked,
+    pub(crate) plan: QueryPlan,
 }
 
 impl<R: Clock> Setup<'_, R> {

@@ -13,13 +13,13 @@ use std::net::SocketAddr;
 // What a resolver asks: the names in their order, until one has an address; the servers in their order, and how many
 // times a query is sent to each.
 #[derive(Drop)]
-pub(crate) struct Asked {
+pub(crate) struct QueryPlan {
     names: Vec<Name>,
     servers: Vec<SocketAddr>,
     sends: u64,
 }
 
-impl Asked {
+impl QueryPlan {
     // The name at this place, where there are so many.
     pub(crate) fn name(&self, place: usize) -> Option<&Name> {
         self.names.get(place)
@@ -45,16 +45,16 @@ impl Asked {
 }
 
 // What is asked for a host, by a file of resolver settings.
-pub(crate) fn asked_in(
+pub(crate) fn plan_of(
     alloc: Global,
     host: &[u8],
     settings: &[u8],
     choice: Choice,
-) -> Result<Asked, NamesFault>
-    ensures sends { IfOk result (λ asked. asked.sends ≡ option_in (codes "timeout:") 1 5 30 settings.now * option_in
+) -> Result<QueryPlan, NamesFault>
+    ensures sends { IfOk result (λ plan. plan.sends ≡ option_in (codes "timeout:") 1 5 30 settings.now * option_in
         (codes "attempts:") 1 2 5 settings.now) }
 {
-    Ok(Asked {
+    Ok(QueryPlan {
         names: names_of(alloc, host, settings)?,
         servers: servers_of(alloc, settings, choice)?,
         sends: read_timeout(alloc, settings)?.saturating_mul(read_attempts(alloc, settings)?),
@@ -84,8 +84,8 @@ fn names_of(alloc: Global, host: &[u8], settings: &[u8]) -> Result<Vec<Name>, Na
     }
     let search = read_search(alloc, settings)?;
     let mut names = Vec::new(alloc);
-    for asked in &names_to_ask(alloc, host, read_ndots(alloc, settings)?, &search)? {
-        match Name::read(alloc, asked) {
+    for name in &names_to_ask(alloc, host, read_ndots(alloc, settings)?, &search)? {
+        match Name::read(alloc, name) {
             Ok(name) => names.push(name)?,
             Err(NameFault::Memory) => return Err(NamesFault::Memory),
             Err(_) => {}

@@ -3,7 +3,7 @@
 ghost use Rattle.std.specs.Prelude.{◌≡◌, ◌<◌, ◌||◌, is_some, vec_len};
 ghost use Rattle.futures.specs.Poll.{IfReady, OnPending};
 ghost use Rattle.futures.specs.Task.{Covers, IsArmed, Keeps};
-ghost use Rattle.he_resolver.specs.Needs.{IsTold, Listens, any_needs, asking_needs, next_needs};
+ghost use Rattle.he_resolver.specs.Needs.{IsTold, Listens, any_needs, family_needs, next_server_needs};
 
 use crate::fault::NamesFault;
 use crate::limits::{ALONE, MOST_STEPS};
@@ -21,7 +21,7 @@ use tokio::time::Sleep;
 
 // When the next server is asked.
 #[derive(Drop)]
-pub(crate) enum Next {
+pub(crate) enum NextServer {
     Now,
     After(Sleep),
     // There is no other.
@@ -30,13 +30,13 @@ pub(crate) enum Next {
 
 // One family's part of a name: what was told, or how far the asking is.
 #[derive(Drop)]
-pub(crate) struct Asking {
+pub(crate) struct FamilyLookup {
     family: Family,
     // The queries that are waited for.
     queries: Vec<Query>,
     // How many servers were asked.
     begun: usize,
-    next: Next,
+    next: NextServer,
     // Why the first server that failed told nothing.
     lack: Option<NamesFault>,
     told: Option<Result<Vec<Ip>, NamesFault>>,
@@ -44,14 +44,14 @@ pub(crate) struct Asking {
     is_settled: bool,
 }
 
-impl Asking {
+impl FamilyLookup {
     // Of a family that isn't wanted that is told and settled at once.
-    pub(crate) fn new(alloc: Global, family: Family, is_wanted: bool) -> Asking {
-        Asking {
+    pub(crate) fn new(alloc: Global, family: Family, is_wanted: bool) -> FamilyLookup {
+        FamilyLookup {
             family,
             queries: Vec::new(alloc),
             begun: 0,
-            next: Next::Now,
+            next: NextServer::Now,
             lack: None,
             told: if is_wanted {
                 None
@@ -69,7 +69,7 @@ impl Asking {
         if !self.is_settled {
             self.queries.clear();
             self.begun = 0;
-            self.next = Next::Now;
+            self.next = NextServer::Now;
             self.lack = None;
             self.told = None;
         }
@@ -119,7 +119,7 @@ impl Asking {
         ensures settled { self.new.is_settled ≡ self.old.is_settled }
     {
         self.queries.clear();
-        self.next = Next::Never;
+        self.next = NextServer::Never;
         self.told = Some(told);
     }
 
@@ -134,7 +134,7 @@ impl Asking {
         ensures settled { self.new.is_settled ≡ self.old.is_settled }
         ensures kept { Keeps cx.old cx.new }
     {
-        let Some(name) = setup.asked.name(place) else {
+        let Some(name) = setup.plan.name(place) else {
             self.tell(Err(NamesFault::NoAnswer));
             return Poll::Ready(());
         };
@@ -154,14 +154,14 @@ impl Asking {
     }
 
     // One step: asks the next server where that is due, or looks what became of the queries.
-    #[tactic(auto, unfolding(crate::specs::Needs::asking_needs))]
+    #[tactic(auto, unfolding(crate::specs::Needs::family_needs))]
     fn step<R: Net + RandomSource + Clock>(
         &mut self,
         setup: &Setup<'_, R>,
         question: Question<'_>,
         cx: &mut Context<'_>,
     ) -> Poll<()>
-        ensures waits { OnPending result (Covers cx.new (asking_needs self.new)) }
+        ensures waits { OnPending result (Covers cx.new (family_needs self.new)) }
         ensures settled { self.new.is_settled ≡ self.old.is_settled }
         ensures kept { Keeps cx.old cx.new }
     {
@@ -178,7 +178,7 @@ impl Asking {
             Poll::Pending => match self.next.poll_due(cx) {
                 Poll::Pending => Poll::Pending,
                 Poll::Ready(()) => {
-                    self.next = Next::Now;
+                    self.next = NextServer::Now;
                     Poll::Ready(())
                 }
             },
@@ -194,8 +194,8 @@ impl Asking {
     )
         ensures settled { self.new.is_settled ≡ self.old.is_settled }
     {
-        let Some(server) = setup.asked.server(self.begun) else {
-            self.next = Next::Never;
+        let Some(server) = setup.plan.server(self.begun) else {
+            self.next = NextServer::Never;
             if self.queries.is_empty() {
                 self.tell(Err(self.lack.unwrap_or(NamesFault::NoAnswer)));
             }
@@ -217,7 +217,7 @@ impl Asking {
     {
         let query = Query::begin(setup, server, question)?;
         self.queries.push(query)?;
-        self.next = Next::After(setup.sleep(ALONE)?);
+        self.next = NextServer::After(setup.sleep(ALONE)?);
         Ok(())
     }
 
@@ -229,28 +229,28 @@ impl Asking {
         match answer {
             Err(fault) if fault.is_of_server() => {
                 self.lack = Some(self.lack.unwrap_or(fault));
-                self.next = Next::Now;
+                self.next = NextServer::Now;
             }
             told => self.tell(told),
         }
     }
 }
 
-impl Next {
+impl NextServer {
     fn is_now(&self) -> bool {
-        matches!(self, Next::Now)
+        matches!(self, NextServer::Now)
     }
 
     // Ready once the next server is to be asked.
     fn poll_due(&mut self, cx: &mut Context<'_>) -> Poll<()>
         requires armed { IsArmed cx.old }
-        ensures waits { OnPending result (Covers cx.new (next_needs self.new)) }
+        ensures waits { OnPending result (Covers cx.new (next_server_needs self.new)) }
         ensures kept { Keeps cx.old cx.new }
     {
         match self {
-            Next::Now => Poll::Ready(()),
-            Next::Never => Poll::Pending,
-            Next::After(timer) => match timer.poll_elapsed(cx) {
+            NextServer::Now => Poll::Ready(()),
+            NextServer::Never => Poll::Pending,
+            NextServer::After(timer) => match timer.poll_elapsed(cx) {
                 Poll::Pending => Poll::Pending,
                 Poll::Ready(_) => Poll::Ready(()),
             },
