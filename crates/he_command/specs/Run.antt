@@ -10,7 +10,7 @@ use Rattle.he_connect.specs.declared.connecting.Ended.{Ended}
 use Rattle.he_connect.specs.declared.fault.ConnectFault.{ConnectFault}
 use Rattle.he_live.specs.Live.{Lives}
 use Rattle.he_live.specs.declared.fault.LiveFault.{LiveFault}
-use Rattle.he_live.specs.declared.recording.Told.{Told}
+use Rattle.he_live.specs.declared.recording.LiveReport.{LiveReport}
 use Rattle.he_resolver.specs.Told.{TellsNames}
 use Rattle.he_resolver.specs.declared.choice.Choice.{Choice}
 use Rattle.he_resolver.specs.declared.fault.TellFault.{TellFault}
@@ -66,7 +66,7 @@ RunsNames output (Some choice) before after status =
     × (status ≡ status_of result)
 
 -- the status tells how a live race ended, or that its record could not be written to the file that was named
-abbrev pub TellsRace : LiveOptions → Told → Result Outcome3 LiveFault → ℕ → Type 0
+abbrev pub TellsRace : LiveOptions → LiveReport → Result Outcome3 LiveFault → ℕ → Type 0
 TellsRace options told result status =
     (status ≡ status_of_live options.must_connect result)
     ⊎ (IsSome options.record × (told.record.items ≢ []) × (status ≡ FAULT))
@@ -75,7 +75,7 @@ TellsRace options told result status =
 abbrev pub RunsRace : {I O : Type 0} → inputs.Ghosts I → outputs.Ghosts O → LiveOptions → ChangeValues → I → I → O → O
     → ℕ → Type 0
 RunsRace input output options changes first last before after status =
-    (result : Result Outcome3 LiveFault) × (told : Told)
+    (result : Result Outcome3 LiveFault) × (told : LiveReport)
     × Lives (Gave input first last) (TookAll output before after) (TookPart output before after)
     (after ≡ before) changes told result
     × TellsRace options told result status

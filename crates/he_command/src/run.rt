@@ -19,7 +19,7 @@ use clap::Error;
 use clap::error::ErrorKind;
 use he_connect::{ConnectFault, ConnectRequest, Ended, Lines, connect};
 use he_inputs::StreamFault;
-use he_live::{FailedAttempt, LiveFault, Told, first_local, live, write_failures};
+use he_live::{FailedAttempt, LiveFault, LiveReport, first_local, live, write_failures};
 use he_plan::Outcome3;
 use he_resolver::{Choice, TellFault, Wanted, write_names};
 use he_stream::{FromReader, InputStream, OutputStream, ToWriter, write_whole};
@@ -162,7 +162,7 @@ where
     ensures { RunsRace I.InputStream O.OutputStream options.now changes input.old input.new output.old output.new
         result }
 {
-    let mut told = Told::new(alloc);
+    let mut told = LiveReport::new(alloc);
     let end = live(rt, alloc, input, output, options.port, changes, &mut told);
     let status = report_live(rt, alloc, options, &told, end, faults);
     drop(told);
@@ -174,7 +174,7 @@ fn report_live<R: System, F: Write>(
     rt: &R,
     alloc: Global,
     options: &LiveOptions<'_>,
-    told: &Told,
+    told: &LiveReport,
     end: Result<Outcome3, LiveFault>,
     faults: &mut F,
 ) -> u8

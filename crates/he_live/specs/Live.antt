@@ -11,7 +11,7 @@ use Rattle.he_inputs.specs.declared.input_fault.InputFault.TheVariants as inputs
 use Rattle.he_inputs.specs.declared.inputs.NotOneRace.{NotOneRace}
 use Rattle.he_inputs.specs.declared.inputs.NotOneRace.TheVariants as ones
 use Rattle.he_live.specs.Reasons.{AreFailed}
-use Rattle.he_live.specs.declared.recording.Told.{Told}
+use Rattle.he_live.specs.declared.recording.LiveReport.{LiveReport}
 use Rattle.he_live.specs.declared.fault.LiveFault.{LiveFault}
 use Rattle.he_live.specs.declared.fault.LiveFault.TheVariants as faults
 
@@ -21,7 +21,7 @@ IsRunFault fault = (fault ≡ faults.Runtime) ⊎ (fault ≡ faults.Memory)
 
 -- the text of a race that was run, what is told of it, and how it ended: the text is a transcript and then the record,
 -- which has the race's settings, policy, host, answers and what is known from earlier, and replays to this transcript
-pub record IsLiveText (race : Race) (text : List ℕ) (told : Told) (result : Outcome3) : Type 0 where
+pub record IsLiveText (race : Race) (text : List ℕ) (told : LiveReport) (result : Outcome3) : Type 0 where
   pub recorded : Race
   pub report : Report
   pub alike : AreAlike race recorded
@@ -54,7 +54,7 @@ pub record GivesNone (Given : List ℕ → Bool → Type 0) (why : NotOneRace) :
 
 -- the input is one race, and this is the text of a run of it with the changes of its settings, of which this is told,
 -- and which ended so
-pub record GivesText (Given : List ℕ → Bool → Type 0) (changes : ChangeValues) (text : List ℕ) (told : Told)
+pub record GivesText (Given : List ℕ → Bool → Type 0) (changes : ChangeValues) (text : List ℕ) (told : LiveReport)
     (result : Outcome3) : Type 0 where
   pub race : Race
   pub given : GivesOne Given race
@@ -65,8 +65,8 @@ pub record GivesText (Given : List ℕ → Bool → Type 0) (changes : ChangeVal
 -- told of the run.
 -- A run's text is written whole, and how it ended is told; a fault of the input, of the event loop or of memory
 -- comes before any of it is.
-abbrev pub Lives : (List ℕ → Bool → Type 0) → (List ℕ → Type 0) → (List ℕ → Type 0) → Type 0 → ChangeValues → Told
-    → Result Outcome3 LiveFault → Type 0
+abbrev pub Lives : (List ℕ → Bool → Type 0) → (List ℕ → Type 0) → (List ℕ → Type 0) → Type 0 → ChangeValues
+    → LiveReport → Result Outcome3 LiveFault → Type 0
 Lives Given Whole Part Kept changes told (Ok result) =
     (text : List ℕ) × GivesText Given changes text told result × Whole text
 Lives Given Whole Part Kept changes told (Err (faults.Text fault)) =
@@ -79,7 +79,7 @@ Lives Given Whole Part Kept changes told (Err faults.Runtime) = (race : Race) ×
 Lives Given Whole Part Kept changes told (Err faults.Memory) = Kept
 
 -- after a fault before the race was run to its end, what is told is as it was
-abbrev pub KeepsTold : Told → Told → Result Outcome3 LiveFault → Type 0
-KeepsTold old new (Ok result) = ⊤
-KeepsTold old new (Err faults.Write) = ⊤
-KeepsTold old new (Err fault) = new ≡ old
+abbrev pub KeepsReport : LiveReport → LiveReport → Result Outcome3 LiveFault → Type 0
+KeepsReport old new (Ok result) = ⊤
+KeepsReport old new (Err faults.Write) = ⊤
+KeepsReport old new (Err fault) = new ≡ old

@@ -7,7 +7,7 @@ use Rattle.he_inputs.specs.declared.inputs.NotOneRace.TheVariants as ones
 use Rattle.he_write.specs.Written.{timeline_text, transcript_text}
 use Rattle.he_live.specs.Live.{GivesNone, GivesOne}
 use Rattle.he_live.specs.Reasons.{AreFailed}
-use Rattle.he_live.specs.declared.recording.Run.{Run}
+use Rattle.he_live.specs.declared.recording.LiveOutput.{LiveOutput}
 
 abbrev pub ReadsOne : (List ℕ → Bool → Type 0) → Result Race NotOneRace → Type 0
 ReadsOne Given (Ok race) = GivesOne Given race
@@ -15,8 +15,8 @@ ReadsOne Given (Err (ones.Fault fault)) = GivesNone Given (ones.Fault fault)
 ReadsOne Given (Err ones.Count) = GivesNone Given ones.Count
 ReadsOne Given (Err ones.Memory) = ⊤
 
-pub record IsTold (report : Report) (recorded : Race) (run : Run) : Type 0 where
-  pub text : run.text.items ≡ transcript_text report ++ run.told.record.items
-  pub record_text : run.told.record.items ≡ timeline_text recorded
-  pub failures : AreFailed report.lines run.told.failed.items
+pub record IsTold (report : Report) (recorded : Race) (run : LiveOutput) : Type 0 where
+  pub text : run.text.items ≡ transcript_text report ++ run.report.record.items
+  pub record_text : run.report.record.items ≡ timeline_text recorded
+  pub failures : AreFailed report.lines run.report.failed.items
   pub ended : run.ended ≡ report.result

@@ -40,8 +40,8 @@ reason_of_numbered None kind = reason_without_number kind
 abbrev pub reason_of : Error → Reason
 reason_of error = reason_of_numbered (raw_os_error error) (error_kind error)
 
--- this host could make no socket, for want of descriptors, memory, buffers or the address family: that says nothing of
--- the address. StepKind a router or a route forbids is no such error: connect(2) gives EACCES and EPERM for both
+-- this machine could make no socket, for want of descriptors, memory, buffers or the address family: that says nothing
+-- of the address. What a router or a route forbids is no such error: connect(2) gives EACCES and EPERM for both
 abbrev pub is_local : Reason → Bool
 is_local NoFamily = true
 is_local TooManyFiles = true
@@ -95,7 +95,7 @@ failure_line x = start_text x ++ why_text x.reason
 abbrev pub failure_lines : List FailedAttempt → List ℕ
 failure_lines failed = flat_map failure_line failed
 
--- the first that the host itself could not begin
+-- the first that this machine itself could not begin
 abbrev pub first_local : List FailedAttempt → Option FailedAttempt
 first_local [] = None
 first_local (x ∷ failed) = if is_local x.reason then Some x else first_local failed

@@ -50,7 +50,7 @@ fn has_failed(line: &Line) -> bool
     matches!(line.mark, Mark::Failed(_))
 }
 
-/// The first attempt that this host itself could not begin: it could make no socket.
+/// The first attempt that this machine itself could not begin: it could make no socket.
 pub fn first_local(failed: &[FailedAttempt]) -> Option<FailedAttempt>
     ensures { result ≡ first_local failed.now }
 {
@@ -63,7 +63,7 @@ pub fn first_local(failed: &[FailedAttempt]) -> Option<FailedAttempt>
 }
 
 /// Appends a line for each failed attempt, as `he: attempt 3 at 198.51.100.7 failed: refused`, or `could
-/// not begin: too many open files` where this host itself could not begin it.
+/// not begin: too many open files` where this machine itself could not begin it.
 ///
 /// # Errors
 ///

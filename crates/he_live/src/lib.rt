@@ -3,8 +3,9 @@
 //!
 //! # A connection of your own
 //!
-//! A timeline says what the client knows: the host's sources and routes (by which addresses are ordered, RFC 6724),
-//! and the addresses that the name has, each answer with the tick from which on it counts as known; 0 is at once.
+//! A timeline says what the client knows: the sources and routes of this machine (by which addresses are ordered, RFC
+//! 6724), and the addresses that the name has, each answer with the tick from which on it counts as known; 0 is at
+//! once.
 //! `he_inputs` reads one from a text, and `TimelineBuilder` of `he_plan` makes one.
 //!
 //! ```text
@@ -41,8 +42,8 @@
 //!   its settings, and hands out the record's text; it makes all of it before it writes the first byte, and after any
 //!   fault but `Write` nothing was written. `Text`, `Read` and `OneRace` come only where the input has this fault
 //!   (`specs/Live`). It tells each attempt of the transcript that failed, and no other, by place and address.
-//! - Which reason an error of the system is, which reasons are the host's own, and the lines that tell failed attempts
-//!   ([`Reason::of`], [`Reason::is_local`], [`write_failures`]; `specs/Reasons`).
+//! - Which reason an error of the system is, which reasons are of this machine alone, and the lines that tell failed
+//!   attempts ([`Reason::of`], [`Reason::is_local`], [`write_failures`]; `specs/Reasons`).
 //!
 //! All promise this if they return: they wait for the system.
 //!
@@ -65,5 +66,5 @@ pub use failures::{FailedAttempt, failed_attempts, first_local, write_failures};
 pub use fault::LiveFault;
 pub use racing::{live_race, live_race_on, resolving_race_on};
 pub use reason::Reason;
-pub use recording::{Told, live};
+pub use recording::{LiveReport, live};
 pub use steps::{Quiet, Step, StepKind, Steps, Watcher};

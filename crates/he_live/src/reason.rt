@@ -25,7 +25,7 @@ pub enum Reason {
     TooManyFilesInSystem,
     OutOfMemory,
     NoBuffers,
-    /// A filter or a route forbids it, of a router on the way or of this host: the system's errors for both are the
+    /// A filter or a route forbids it, of a router on the way or of this machine: the system's errors for both are the
     /// same.
     Prohibited,
     /// Another one, by the system's number; 0 where it has none.
@@ -67,7 +67,7 @@ impl Reason {
         }
     }
 
-    /// Whether this host could make no socket, which says nothing of the address: no descriptor, no memory, no
+    /// Whether this machine could make no socket, which says nothing of the address: no descriptor, no memory, no
     /// buffers, or no sockets of the family.
     pub fn is_local(self) -> bool
         ensures { result ≡ is_local self }

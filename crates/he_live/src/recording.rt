@@ -3,7 +3,7 @@ ghost use Rattle.std.specs.Prelude.{◌≡◌, [], IfErr, IfOk};
 ghost use Rattle.he_stream.specs.Input.{Gives};
 ghost use Rattle.he_stream.specs.Output.{PutsPart, PutsWhole};
 ghost use Rattle.he_write.specs.Written.{timeline_text};
-ghost use Rattle.he_live.specs.Live.{IsLiveText, IsRunFault, KeepsTold, Lives};
+ghost use Rattle.he_live.specs.Live.{IsLiveText, IsRunFault, KeepsReport, Lives};
 ghost use Rattle.he_live.specs.Reading.{IsTold, ReadsOne};
 
 use crate::failures::{FailedAttempt, failed_attempts};
@@ -23,9 +23,9 @@ use std::random::RandomSource;
 use std::sync::Wait;
 use std::time::Clock;
 
-/// What is told of a live race beside its output.
+/// What a live race leaves beside its output.
 #[derive(Drop)]
-pub struct Told {
+pub struct LiveReport {
     /// The record: a timeline text that replays to the transcript. It is what the output has behind the transcript,
     /// and empty where no race was run.
     pub record: Vec<u8>,
@@ -33,13 +33,13 @@ pub struct Told {
     pub failed: Vec<FailedAttempt>,
 }
 
-impl Told {
+impl LiveReport {
     /// No race was run. It takes no memory.
-    pub fn new(alloc: Global) -> Told
+    pub fn new(alloc: Global) -> LiveReport
         ensures record { result.record.items ≡ [] }
         ensures failed { result.failed.items ≡ [] }
     {
-        Told {
+        LiveReport {
             record: Vec::new(alloc),
             failed: Vec::new(alloc),
         }
@@ -53,7 +53,7 @@ impl Told {
 /// Of the input's race the settings, policy, host, answers and what is known of addresses from earlier are looked at
 /// alone. The whole output is made before the first byte of it is written: after `Write` a first part was written,
 /// after any other fault nothing. It is flushed at the end. Where the race was run, also if it could not be written,
-/// `told` has then its record and its attempts that failed; else it is as it was.
+/// `report` has then its record and its attempts that failed; else it is as it was.
 ///
 /// # Errors
 ///
@@ -71,7 +71,7 @@ pub fn live<R, I, O>(
     output: &mut O,
     port: u16,
     changes: Changes,
-    told: &mut Told,
+    report: &mut LiveReport,
 ) -> Result<Outcome3, LiveFault>
 where
     R: Wait + Clock + RandomSource + AllocGlobal + Net,
@@ -79,14 +79,15 @@ where
     O: OutputStream,
     ensures done { Lives (Gives I.remaining I.takes input.old input.new)
         (PutsWhole O.contents O.puts O.flushes output.old output.new)
-        (PutsPart O.contents O.puts O.flushes output.old output.new) (output.new ≡ output.old) changes told.new result }
-    ensures quiet { KeepsTold told.old told.new result }
+        (PutsPart O.contents O.puts O.flushes output.old output.new) (output.new ≡ output.old) changes report.new
+        result }
+    ensures quiet { KeepsReport report.old report.new result }
 {
     let timeline = take_race(alloc, input)?.with_changes(changes);
     let run = run_race(rt, alloc, &timeline, port);
     drop(timeline);
     let run = run?;
-    *told = run.told;
+    *report = run.report;
     match write_whole(output, run.text.as_slice()) {
         Ok(()) => Ok(run.ended),
         Err(_) => Err(LiveFault::Write),
@@ -103,19 +104,19 @@ fn take_race<I: InputStream>(alloc: Global, input: &mut I) -> Result<Timeline, N
     }
 }
 
-// A race that was run: the text of the output, what is told beside it, and how it ended.
+// A race that was run: the text of the output, its report, and how it ended.
 #[derive(Drop)]
-struct Run {
+struct LiveOutput {
     text: Vec<u8>,
-    told: Told,
+    report: LiveReport,
     ended: Outcome3,
 }
 
 // Runs the race.
-fn run_race<R>(rt: &R, alloc: Global, timeline: &Timeline, port: u16) -> Result<Run, LiveFault>
+fn run_race<R>(rt: &R, alloc: Global, timeline: &Timeline, port: u16) -> Result<LiveOutput, LiveFault>
 where
     R: Wait + Clock + RandomSource + AllocGlobal + Net,
-    ensures run { IfOk result (λ run. IsLiveText timeline.now run.text.items run.told run.ended) }
+    ensures run { IfOk result (λ run. IsLiveText timeline.now run.text.items run.report run.ended) }
     ensures fault { IfErr result IsRunFault }
 {
     let steps = Steps::new(alloc)?;
@@ -125,7 +126,7 @@ where
     run
 }
 
-fn tell_race(alloc: Global, raced: &Raced<TcpStream>, steps: &Steps) -> Result<Run, LiveFault>
+fn tell_race(alloc: Global, raced: &Raced<TcpStream>, steps: &Steps) -> Result<LiveOutput, LiveFault>
     ensures text { IfOk result (IsTold raced.now.transcript raced.now.recorded) }
     ensures fault { IfErr result IsRunFault }
 {
@@ -133,9 +134,9 @@ fn tell_race(alloc: Global, raced: &Raced<TcpStream>, steps: &Steps) -> Result<R
     let mut text = Vec::new(alloc);
     write_transcript(&raced.transcript, &mut text)?;
     text.extend_from_slice(&record)?;
-    Ok(Run {
+    Ok(LiveOutput {
         text,
-        told: Told {
+        report: LiveReport {
             record,
             failed: failed_attempts(alloc, raced.transcript.attempts(), steps)?,
         },

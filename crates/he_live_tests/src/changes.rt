@@ -1,7 +1,7 @@
 // Races of which some settings are changed.
 
 use crate::homes::{Lender, free_port, replays};
-use he_live::{Told, live};
+use he_live::{LiveReport, live};
 use he_plan::Outcome3;
 use he_stream::{FromReader, ToWriter};
 use he_timeline::{Changes, Range};
@@ -47,7 +47,7 @@ fn is_run<R: Lender + Net>(
 ) -> Result<bool, Fail> {
     let mut input = FromReader::new(FakeReader::new(TWO, usize::MAX));
     let mut output = ToWriter::new(Vec::new(rt.alloc()));
-    let mut told = Told::new(rt.alloc());
+    let mut told = LiveReport::new(rt.alloc());
     let ended = live(
         rt,
         rt.alloc(),

@@ -1,7 +1,7 @@
 // What each fault leaves, and what is written of a race that is read and run.
 
 use crate::homes::{Lender, ONE, REFUSED, Wanted, race_on};
-use he_live::{LiveFault, Reason, Told, live};
+use he_live::{LiveFault, Reason, LiveReport, live};
 use he_stream::{FromReader, ToWriter};
 use he_timeline::Changes;
 use he_words::{TextFault, TextKind};
@@ -109,7 +109,7 @@ fn is_right<R: Lender + Net>(rt: &R, row: &Row) -> bool {
     };
     let mut input = FromReader::new(reader);
     let mut output = ToWriter::new(writer);
-    let mut told = Told::new(rt.alloc());
+    let mut told = LiveReport::new(rt.alloc());
     let ended = live(
         rt,
         rt.alloc(),

@@ -4,7 +4,7 @@ use crate::homes::{
     End, Lender, ONE, REFUSED, Result3, Wanted, descriptors, free_port, listen, race, replays,
 };
 use he_addr::Ip;
-use he_live::{FailedAttempt, Reason, Told, live};
+use he_live::{FailedAttempt, Reason, LiveReport, live};
 use he_plan::Outcome3;
 use he_stream::{FromReader, ToWriter};
 use he_timeline::Changes;
@@ -227,7 +227,7 @@ fn is_told<R: Lender + Net<Listener = TcpListener, Stream = StdStream>>(
 ) -> Result<bool, Fail> {
     let mut input = FromReader::new(FakeReader::new(ONE, 7));
     let mut output = ToWriter::new(Vec::new(rt.alloc()));
-    let mut told = Told::new(rt.alloc());
+    let mut told = LiveReport::new(rt.alloc());
     let ended = live(
         rt,
         rt.alloc(),

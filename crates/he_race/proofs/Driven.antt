@@ -34,11 +34,13 @@ use Rattle.he_race.specs.Racing.{AsksFor, GoesOn, LivePolls, PollsFrom, RacePoll
 use Rattle.he_race.specs.Kept.{first_after, IsLive}
 use Rattle.he_race.specs.Running.{IsScripted, scripted_trial}
 use Rattle.he_race.specs.Turns.{Goes, IsNew, PolledAt, PolledFrom, Turned, begun}
+use Rattle.he_race.specs.Winner.{MayPoll}
 use Rattle.he_race.specs.Wheel.{Asks, Jumps, Wheel, counted, last_tick, moved}
 use Rattle.he_race.proofs.Finished.{ended-late, ended-polled}
 use Rattle.he_race.proofs.Onward.{follows-on}
 use Rattle.he_race.proofs.Runs.{at_false, seen_from}
 use Rattle.he_race.proofs.Turning.{same_limit}
+use Rattle.he_race.proofs.Winning.{polled-aims-on}
 
 -- what a ticker that jumps does
 abbrev pub wheel_ticker : TickerOf Wheel
@@ -74,9 +76,9 @@ module _ {C : Type 0} (connector : ConnectorOf C (Unit {0}) ScriptedTrial) where
     where
       ended : (raced : Raced (Unit {0})) (now : ℕ) → now ≡ old.ticker.at → PolledAt connector scripted_trial old.connector u.live now new.connector (after_polls.Ended raced) → IsTranscript old.ticker.race raced.transcript
       ended raced now at polled =
-          elim (polled_turned old.connector new.connector u.live old.ticker.at (after_polls.Ended raced) u.kept u.follows.later (subst (λ (n : ℕ). PolledAt connector scripted_trial old.connector u.live n new.connector (after_polls.Ended raced)) at polled)) [
-            | inl late ↦ ended-late connector old.ticker.race u.script old.connector u.scripted u.live old.ticker.at u.follows u.kept (min old.ticker.at (u.live.recorder.recorded.settings.limit + 1)) new.connector raced refl late
-            | inr swept ↦ ended-polled connector old.ticker.race u.script old.connector u.scripted u.live old.ticker.at u.follows u.kept (min old.ticker.at (u.live.recorder.recorded.settings.limit + 1)) new.connector raced refl swept
+          elim (polled_turned old.connector new.connector u.live old.ticker.at (after_polls.Ended raced) u.kept.kept u.follows.later (subst (λ (n : ℕ). PolledAt connector scripted_trial old.connector u.live n new.connector (after_polls.Ended raced)) at polled)) [
+            | inl late ↦ ended-late connector old.ticker.race u.script old.connector u.scripted u.live old.ticker.at u.follows u.kept.kept (min old.ticker.at (u.live.recorder.recorded.settings.limit + 1)) new.connector raced refl late
+            | inr swept ↦ ended-polled connector old.ticker.race u.script old.connector u.scripted u.live old.ticker.at u.follows u.kept.kept (min old.ticker.at (u.live.recorder.recorded.settings.limit + 1)) new.connector raced refl swept
           ]
 
       by_given : (given : Result (Raced (Unit {0})) RaceFault) → LivePolls (PolledAt connector scripted_trial) wheel_ticker old u.live (Ready given) new → GivesScripts old.ticker.race given
@@ -102,20 +104,20 @@ module _ {C : Type 0} (connector : ConnectorOf C (Unit {0}) ScriptedTrial) where
       limit = u.live.recorder.recorded.settings.limit
 
       turned : (now : ℕ) → now ≡ old.ticker.at → (next : Live C (Unit {0}) ScriptedTrial) (tick : ℕ) → PolledAt connector scripted_trial old.connector u.live now polled.connector (after_polls.Waits next tick) → Goes connector scripted_trial (begun old.connector u.live (min old.ticker.at (limit + 1))) u.live.unfinished.items (min old.ticker.at (limit + 1)) polled.connector next tick
-      turned now at next tick p = polled_turned old.connector polled.connector u.live old.ticker.at (after_polls.Waits next tick) u.kept u.follows.later (subst (λ (n : ℕ). PolledAt connector scripted_trial old.connector u.live n polled.connector (after_polls.Waits next tick)) at p)
+      turned now at next tick p = polled_turned old.connector polled.connector u.live old.ticker.at (after_polls.Waits next tick) u.kept.kept u.follows.later (subst (λ (n : ℕ). PolledAt connector scripted_trial old.connector u.live n polled.connector (after_polls.Waits next tick)) at p)
 
       by_asked : GoesOn (PolledAt connector scripted_trial) wheel_ticker old u.live polled → IsUnderWay connector (turns + 1) (record polled { ticker = left }) × (left.race ≡ old.ticker.race)
       by_asked g =
           let a : AsksFor (PolledAt connector scripted_trial) wheel_ticker old u.live polled (Ok tt) = g.asked in
           let t : Goes connector scripted_trial (begun old.connector u.live (min old.ticker.at (limit + 1))) u.live.unfinished.items (min old.ticker.at (limit + 1)) polled.connector a.next a.tick = turned a.now a.tells.0 a.next a.tick a.polled in
-          let on = follows-on connector old.ticker.race u.script old.connector u.scripted u.live old.ticker.at u.follows u.kept (min old.ticker.at (limit + 1)) polled.connector a.next a.tick refl t in
+          let on = follows-on connector old.ticker.race u.script old.connector u.scripted u.live old.ticker.at u.follows u.kept.kept (min old.ticker.at (limit + 1)) polled.connector a.next a.tick refl t in
           let early : old.ticker.at < last_tick = early_by a.next t.kept on.2 in
           let stands : left ≡ record old.ticker { at = seen old.ticker.race (max a.tick (old.ticker.at + 1)); asked = [] } = gone old.ticker polled.ticker left went a.tick u.script.valid u.asked early (a.asks ∙ ap (λ (w : Wheel). record w { asked = insert_key nat_cmp w.asked (counted w.at a.tick) }) a.tells.1) jumps in (
             rw stands (record {
               script = u.script;
               live = a.next;
               is = g.next;
-              kept = t.kept;
+              kept = record { kept = t.kept; aimed = (polled-aims-on connector scripted_trial old.connector polled.connector u.live a.next a.now a.tick u.kept a.polled).aimed };
               scripted = subst (IsScripted connector old.ticker.race) (sym on.1) u.scripted;
               follows = on.0;
               asked = refl;
@@ -133,7 +135,7 @@ module _ {C : Type 0} (connector : ConnectorOf C (Unit {0}) ScriptedTrial) where
   pub few-turns : (turns : ℕ) (race : Future) → IsUnderWay connector turns race → turns ≤ race.ticker.race.settings.limit
   few-turns turns race u =
       let same : u.live.recorder.recorded.settings.limit ≡ race.ticker.race.settings.limit = same_limit race.ticker.race u.live.recorder.recorded u.follows.alike in
-      let by : first_after u.live.recorder.turn ≤ u.live.recorder.recorded.settings.limit = by_turn u.live.recorder.turn u.kept.recorder.rests.after in
+      let by : first_after u.live.recorder.turn ≤ u.live.recorder.recorded.settings.limit = by_turn u.live.recorder.turn u.kept.kept.recorder.rests.after in
       omega (arith, u.turns_by)
     where
       by_turn : (turn : Option ℕ) → IsAfterTurn u.live.recorder.recorded turn u.live.recorder.underway.attempts → first_after turn ≤ u.live.recorder.recorded.settings.limit
@@ -141,7 +143,7 @@ module _ {C : Type 0} (connector : ConnectorOf C (Unit {0}) ScriptedTrial) where
       by_turn (Some n) after = omega (arith, after.1)
 
 -- a race before its first poll
-pub starts-under_way : {C : Type 0} (connector : ConnectorOf C (Unit {0}) ScriptedTrial) (script : Race) → IsScript script → (future : RaceFuture C Wheel (Unit {0}) ScriptedTrial) → IsScripted connector script future.connector → future.ticker ≡ record { race = script; at = seen script 0; asked = [] } → (x : Option (Live C (Unit {0}) ScriptedTrial)) → future.live ≡ x → IsSomeAnd x (IsLive connector scripted_trial) → IsSomeAnd x (IsNew script) → IsUnderWay connector 0 future
+pub starts-under_way : {C : Type 0} (connector : ConnectorOf C (Unit {0}) ScriptedTrial) (script : Race) → IsScript script → (future : RaceFuture C Wheel (Unit {0}) ScriptedTrial) → IsScripted connector script future.connector → future.ticker ≡ record { race = script; at = seen script 0; asked = [] } → (x : Option (Live C (Unit {0}) ScriptedTrial)) → future.live ≡ x → IsSomeAnd x (MayPoll connector scripted_trial future.connector) → IsSomeAnd x (IsNew script) → IsUnderWay connector 0 future
 starts-under_way connector script ss future scripted ticker None is kept new = absurd kept
 starts-under_way {C} connector script ss future scripted ticker (Some live) is kept new =
     let race_is : future.ticker.race ≡ script = ap (λ (w : Wheel). w.race) ticker in

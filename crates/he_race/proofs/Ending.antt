@@ -73,13 +73,18 @@ get_map race (y ∷ xs) zero x lt e = ap (λ (z : Attempt). Some (fate_of race z
 get_map race (y ∷ xs) (suc k) x lt e = get_map race xs k x (omega arith) e
 
 -- an attempt that has succeeded did at the stop
-won_at : (race : Race) (stop : ℕ) (xs : List Attempt) (won : Bool) → EndsRace race stop xs won → (h : HasSuccess race xs) → fate_of race h.x ≡ Succeeded stop
-won_at race stop xs won e h =
+pub won-stop : (race : Race) (stop : ℕ) (xs : List Attempt) (won : Bool) → EndsRace race stop xs won → (h : HasSuccess race xs) → fate_of race h.x ≡ Succeeded stop
+won-stop race stop xs won e h =
     let P : Attempt → Type 0 = λ x. IfSome (outcome_of race x.ip) (EndedBy race stop won x) in
     let ended : P h.x = All-contains P xs h.x e.ended h.made in
     let at : EndedBy race stop won h.x (outcomes.Ok h.duration) = subst (λ (o : Option Outcome). IfSome o (EndedBy race stop won h.x)) h.success ended in
     let same : h.duration ≡ stop - h.x.tick = omega (arith, at.1) in
     finish-succeeded race e.valid h.x stop (e.free at.0) (omega (arith, at.1)) e.early (h.success ∙ ap (λ (k : ℕ). Some (outcomes.Ok k)) same)
+
+pub success-stop : (race : Race) (stop : ℕ) (xs : List Attempt) (won : Bool) → EndsRace race stop xs won → (k finish : ℕ) → slice_get (map (fate_of race) xs) k ≡ Some (Succeeded finish) → finish ≡ stop
+success-stop race stop xs won e k finish at =
+    let both : (won ≡ true) × (finish ≡ stop) = success_at race stop finish won xs (settled_all race stop xs won e) k at in
+    both.1
 
 -- the winner's finish is the stop
 pub winner-stop : (race : Race) (stop : ℕ) (xs : List Attempt) (won : Bool) → EndsRace race stop xs won → (winner : ℕ × ℕ) → IsWinner (map (fate_of race) xs) (Some winner) → winner.0 ≡ stop
@@ -98,7 +103,7 @@ not_true false h = refl
 pub ended-known : (race : Race) (xs : List Attempt) (won : Bool) → IsEnded race xs won → (winner : Option (ℕ × ℕ)) → IsWinner (map (fate_of race) xs) winner → Known race xs won winner
 ended-known race xs won ended None w =
     let e : EndsRace race ended.stop xs won = ended.ends in
-    let lost : won ≡ false = not_true won (λ yes. (let h : HasSuccess race xs = e.success yes in w (ended.stop, h.made.0) (get_map race xs h.made.0 h.x h.made.1 h.made.2 ∙ ap Some (won_at race ended.stop xs won e h)))) in
+    let lost : won ≡ false = not_true won (λ yes. (let h : HasSuccess race xs = e.success yes in w (ended.stop, h.made.0) (get_map race xs h.made.0 h.x h.made.1 h.made.2 ∙ ap Some (won-stop race ended.stop xs won e h)))) in
     record {
       known = record {
         in_turn = e.in_turn;

@@ -1,3 +1,4 @@
+pub mod Aiming
 pub mod Awake
 pub mod Builds
 pub mod Cleaned
@@ -23,3 +24,4 @@ pub mod Turning
 pub mod Untold
 pub mod Waits
 pub mod Wheels
+pub mod Winning

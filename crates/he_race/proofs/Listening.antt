@@ -21,7 +21,7 @@ use Rattle.he_race.specs.declared.attempt.AttemptFuture.{AttemptFuture}
 use Rattle.he_race.specs.declared.attempt.AttemptFuture.TheVariants.{Sleeping}
 use Rattle.he_race.specs.declared.attempt.Finish.{Finish}
 use Rattle.he_race.specs.declared.connector.Connector.{Ghosts as ConnectorOf}
-use Rattle.he_race.specs.declared.faults.ConnectFault.{ConnectFault}
+use Rattle.he_race.specs.declared.faults.AttemptFault.{AttemptFault}
 use Rattle.he_race.specs.declared.live.AfterPoll.{AfterPoll}
 use Rattle.he_race.specs.declared.live.AfterPoll.TheVariants as after_polls
 use Rattle.he_race.specs.declared.live.Live.{Live}
@@ -54,7 +54,7 @@ module _ {C Conn Run : Type 0} (connector : ConnectorOf C Conn Run) (trial : Tri
   listening-none cx os = λ k d lt. absurd (let no : ⊥ = omega arith in no)
 
   -- one more attempt was polled, and is pending
-  pub listening-pending : (cx cx' : Context) (now : ℕ) (c c' : C) (old new : Live C Conn Run) (i : ℕ) (answer : Option (Result Conn ConnectFault)) → AllListen connector trial cx (take i old.unfinished.items) → Keeps cx cx' → i < length old.unfinished.items → answer ≡ None → PollsAt connector trial c old i now answer c' new → IfNone answer (IfSome (slice_get new.unfinished.items i) (λ o. Listens connector trial cx' o.future)) → AllListen connector trial cx' (take (i + 1) new.unfinished.items)
+  pub listening-pending : (cx cx' : Context) (now : ℕ) (c c' : C) (old new : Live C Conn Run) (i : ℕ) (answer : Option (Result Conn AttemptFault)) → AllListen connector trial cx (take i old.unfinished.items) → Keeps cx cx' → i < length old.unfinished.items → answer ≡ None → PollsAt connector trial c old i now answer c' new → IfNone answer (IfSome (slice_get new.unfinished.items i) (λ o. Listens connector trial cx' o.future)) → AllListen connector trial cx' (take (i + 1) new.unfinished.items)
   listening-pending cx cx' now c c' old new i answer h keeps lt e p waits = by_poll p.polled p.left
     where
       by_poll : (polled : Poll (Finish Conn)) → LeftBy connector trial old i now p.o polled p.future answer new → AllListen connector trial cx' (take (i + 1) new.unfinished.items)
@@ -63,12 +63,12 @@ module _ {C Conn Run : Type 0} (connector : ConnectorOf C Conn Run) (trial : Tri
           let one : Unfinished C Conn Run = record p.o { future = p.future } in
           let taken : take (i + 1) new.unfinished.items ≡ take i old.unfinished.items ++ one ∷ [] = ap (λ (k : ℕ). take k new.unfinished.items) (one-more i) ∙ ap (take (suc i)) left.2 ∙ take-one old.unfinished.items i one lt in
           let at : slice_get new.unfinished.items i ≡ Some one = ap (λ (xs : List (Unfinished C Conn Run)). slice_get xs i) left.2 ∙ set-at old.unfinished.items i one lt in
-          let some : IfSome (slice_get new.unfinished.items i) (λ o. Listens connector trial cx' o.future) = subst (λ (x : Option (Result Conn ConnectFault)). IfNone x (IfSome (slice_get new.unfinished.items i) (λ o. Listens connector trial cx' o.future))) e waits in
+          let some : IfSome (slice_get new.unfinished.items i) (λ o. Listens connector trial cx' o.future) = subst (λ (x : Option (Result Conn AttemptFault)). IfNone x (IfSome (slice_get new.unfinished.items i) (λ o. Listens connector trial cx' o.future))) e waits in
           let it : Listens connector trial cx' p.future = subst (λ (x : Option (Unfinished C Conn Run)). IfSome x (λ o. Listens connector trial cx' o.future)) at some in
           subst (AllListen connector trial cx') (sym taken) (All-push (λ (o : Unfinished C Conn Run). Listens connector trial cx' o.future) (take i old.unfinished.items) one (all_kept cx cx' (take i old.unfinished.items) keeps h) it)
 
   -- one more was polled, and has answered
-  pub listening-ready : (cx cx' : Context) (now : ℕ) (c c' : C) (old new : Live C Conn Run) (i : ℕ) (answer : Option (Result Conn ConnectFault)) (a : Result Conn ConnectFault) → AllListen connector trial cx (take i old.unfinished.items) → Keeps cx cx' → i < length old.unfinished.items → answer ≡ Some a → PollsAt connector trial c old i now answer c' new → AllListen connector trial cx' (take i new.unfinished.items)
+  pub listening-ready : (cx cx' : Context) (now : ℕ) (c c' : C) (old new : Live C Conn Run) (i : ℕ) (answer : Option (Result Conn AttemptFault)) (a : Result Conn AttemptFault) → AllListen connector trial cx (take i old.unfinished.items) → Keeps cx cx' → i < length old.unfinished.items → answer ≡ Some a → PollsAt connector trial c old i now answer c' new → AllListen connector trial cx' (take i new.unfinished.items)
   listening-ready cx cx' now c c' old new i answer a h keeps lt e p = by_poll p.polled p.left
     where
       by_poll : (polled : Poll (Finish Conn)) → LeftBy connector trial old i now p.o polled p.future answer new → AllListen connector trial cx' (take i new.unfinished.items)

@@ -27,7 +27,7 @@ use Rattle.he_timeline.proofs.Seen.{IsSeen-seen}
 use Rattle.he_race.specs.declared.attempt.AttemptFuture.{AttemptFuture}
 use Rattle.he_race.specs.declared.attempt.AttemptFuture.TheVariants.{Connecting}
 use Rattle.he_race.specs.declared.connector.Connector.{Ghosts as ConnectorOf}
-use Rattle.he_race.specs.declared.faults.ConnectFault.{ConnectFault}
+use Rattle.he_race.specs.declared.faults.AttemptFault.{AttemptFault}
 use Rattle.he_race.specs.declared.live.Live.{Live}
 use Rattle.he_race.specs.declared.live.Unfinished.{Unfinished}
 use Rattle.he_race.specs.declared.scripted.ScriptedTrial.{ScriptedTrial}
@@ -293,7 +293,7 @@ module _ {C : Type 0} (connector : ConnectorOf C (Unit {0}) ScriptedTrial) (race
         let b = at_false _ _ (nat_lt n.x.tick n.x.tick) (not_lt n.x.tick n.x.tick (omega arith)) n.begins.polls.1 in
         let own : IsScripted connector race to.connector = subst (IsScripted connector race) (sym w.still) sc in
         let is : (b.0 ≡ Ok (script_of race n.x.ip n.x.tick)) × (c' ≡ to.connector) = own.begins n.x.place n.x.ip n.x.tick b.0 c' b.1 in
-        (is.1 ∙ w.still, b.2 ∙ ap (λ (y : Result ScriptedTrial ConnectFault). Connecting y (n.x.tick + 1) true) is.0)
+        (is.1 ∙ w.still, b.2 ∙ ap (λ (y : Result ScriptedTrial AttemptFault). Connecting y (n.x.tick + 1) true) is.0)
 
     began_connecting : (o : Held) (x : Attempt) → o.attempt ≡ x → x.tick ≡ at → o.future ≡ Connecting (Ok (script_of race x.ip x.tick)) (x.tick + 1) true → tick ≤ x.tick + 1 → IsConnecting race (made ++ x ∷ []) (next_tick tick) o
     began_connecting o x same begun future by =

@@ -1,11 +1,15 @@
 -- What a poll of a race comes to, by what it did.
-use Rattle.std.proofs.Common.{◌≡◌, ◌+◌, ℕ, Bool, true, false, MatchBool, min, nat_le, List, Option, Some, None, Result, IfSome, Ok, Err, sym, subst, inl, inr}
+use Rattle.std.proofs.Common.{◌≡◌, ◌+◌, ℕ, Bool, true, false, MatchBool, min, nat_le, List, Option, Some, None, Result, IfSome, IsSomeAnd, Ok, Err, sym, subst, inl, inr}
+use Rattle.std.specs.List.{slice_get}
 use Rattle.std.specs.Option.{option_map}
 use Rattle.futures.specs.Poll.{IfReady, OnPending}
 use Rattle.futures.specs.declared.task.Poll.{Poll}
 use Rattle.futures.specs.declared.task.Poll.TheVariants.{Ready, Pending}
 use Rattle.he_addr.specs.declared.ip.Family.{Family}
 use Rattle.he_addr.specs.declared.ip.Ip.{Ip}
+use Rattle.he_plan.specs.declared.transcript.Line.{Line}
+use Rattle.he_plan.specs.declared.transcript.Outcome3.{Outcome3}
+use Rattle.he_plan.specs.declared.transcript.Outcome3.TheVariants as results
 use Rattle.he_plan.specs.Agreement.{AreAlike}
 use Rattle.he_timeline.specs.Race.{Race}
 use Rattle.he_race.specs.declared.connector.Connector.{Ghosts as ConnectorOf}
@@ -27,8 +31,11 @@ use Rattle.he_race.specs.Racing.{PollsFrom, RacePollsBy, StepOf, fault_of}
 use Rattle.he_race.specs.Recording.{slept}
 use Rattle.he_race.specs.Resolving.{HeardAt, HeardFrom, HeardTurn, KeepsGiven, ReplaysGiven}
 use Rattle.he_race.specs.Turns.{GivesBy, PolledAt, PolledFrom, Replays, Turned, begun}
+use Rattle.he_race.specs.Reach.{ReachAlike}
+use Rattle.he_race.specs.Winner.{EndsAt, GoesAt, MayPoll, WinnerGoes}
 use Rattle.he_race.proofs.Heard.{given-alike, given-later, heard-same, unheard-same}
 use Rattle.he_race.proofs.Turning.{alike-later, slept-alike}
+use Rattle.he_race.proofs.Winning.{AimedOn}
 
 module _ {C Conn Run T : Type 0} (steps : StepOf C Conn Run) (ticker : TickerOf T) where
   pub waits : (old new : RaceFuture C T Conn Run) (live next : Live C Conn Run) (now tick : ℕ) (told : T) (u : Unit {0}) → old.live ≡ Some live → ticker.tells old.ticker now told → steps old.connector live now new.connector (after_polls.Waits next tick) → ticker.wakes told tick (Ok u) new.ticker → new.live ≡ Some next → RacePollsBy steps ticker old Pending new
@@ -76,47 +83,69 @@ pub record GoneOn {C Conn Run : Type 0} (connector : ConnectorOf C Conn Run) (tr
 -- what a race gives of whose ends this is said
 module _ {C Conn Run T : Type 0} (connector : ConnectorOf C Conn Run) (trial : TrialOf Run Conn) (steps : StepOf C Conn Run) (ticker : TickerOf T) (said : Race → Raced Conn → Type 0)
     (ends : (c c' : C) (live : Live C Conn Run) (now : ℕ) (raced : Raced Conn) → steps c live now c' (after_polls.Ended raced) → said live.recorder.recorded raced)
-    (goes : (c c' : C) (live next : Live C Conn Run) (now tick : ℕ) → IsLive connector trial live → steps c live now c' (after_polls.Waits next tick) → GoneOn connector trial said live next) where
+    (goes : (c c' : C) (live next : Live C Conn Run) (now tick : ℕ) → IsLive connector trial live → steps c live now c' (after_polls.Waits next tick) → GoneOn connector trial said live next)
+    (wins : (c c' : C) (live : Live C Conn Run) (now : ℕ) (raced : Raced Conn) → MayPoll connector trial c live → steps c live now c' (after_polls.Ended raced) → WinnerGoes (connector.reaches c) raced)
+    (aims : (c c' : C) (live next : Live C Conn Run) (now tick : ℕ) → MayPoll connector trial c live → steps c live now c' (after_polls.Waits next tick) → AimedOn connector trial c c' next) where
   abbrev record_of : Option (Live C Conn Run) → Option Race
   record_of x = option_map (λ (live : Live C Conn Run). live.recorder.recorded) x
 
-  gives_from : (x : Option (Live C Conn Run)) (old new : RaceFuture C T Conn Run) (result : Poll (Result (Raced Conn) RaceFault)) → PollsFrom steps ticker x old result new → IfReady result (GivesBy said (record_of x))
-  gives_from None old new Pending h = tt
-  gives_from None old new (Ready (Ok raced)) h = cc (h.0)
-  gives_from None old new (Ready (Err fault)) h = cc (h.0)
-  gives_from (Some live) old new Pending h = tt
-  gives_from (Some live) old new (Ready (Ok raced)) h = ends old.connector new.connector live h.now raced h.polled
-  gives_from (Some live) old new (Ready (Err faults.Memory)) h = tt
-  gives_from (Some live) old new (Ready (Err faults.Clock)) h = tt
-  gives_from (Some live) old new (Ready (Err faults.Over)) h = absurd h
+  gives_from : (x : Option (Live C Conn Run)) (old new : RaceFuture C T Conn Run) (result : Poll (Result (Raced Conn) RaceFault)) → IfSome x (MayPoll connector trial old.connector) → PollsFrom steps ticker x old result new → IfReady result (GivesBy (EndsAt said (connector.reaches old.connector)) (record_of x))
+  gives_from None old new Pending is h = tt
+  gives_from None old new (Ready (Ok raced)) is h = cc (h.0)
+  gives_from None old new (Ready (Err fault)) is h = cc (h.0)
+  gives_from (Some live) old new Pending is h = tt
+  gives_from (Some live) old new (Ready (Ok raced)) is h = record { end = ends old.connector new.connector live h.now raced h.polled; winner = wins old.connector new.connector live h.now raced is h.polled }
+  gives_from (Some live) old new (Ready (Err faults.Memory)) is h = tt
+  gives_from (Some live) old new (Ready (Err faults.Clock)) is h = tt
+  gives_from (Some live) old new (Ready (Err faults.Over)) is h = absurd h
 
-  pub poll-gives : (old new : RaceFuture C T Conn Run) (result : Poll (Result (Raced Conn) RaceFault)) → RacePollsBy steps ticker old result new → IfReady result (GivesBy said (record_of old.live))
-  poll-gives old new result h = gives_from old.live old new result h
+  pub poll-gives : (old new : RaceFuture C T Conn Run) (result : Poll (Result (Raced Conn) RaceFault)) → IfSome old.live (MayPoll connector trial old.connector) → RacePollsBy steps ticker old result new → IfReady result (GivesBy (EndsAt said (connector.reaches old.connector)) (record_of old.live))
+  poll-gives old new result is h = gives_from old.live old new result is h
 
-  again_from : (x : Option (Live C Conn Run)) (old new : RaceFuture C T Conn Run) (result : Poll (Result (Raced Conn) RaceFault)) → IfSome x (IsLive connector trial) → PollsFrom steps ticker x old result new → OnPending result (IfSome new.live (IsLive connector trial))
+  again_from : (x : Option (Live C Conn Run)) (old new : RaceFuture C T Conn Run) (result : Poll (Result (Raced Conn) RaceFault)) → IfSome x (MayPoll connector trial old.connector) → PollsFrom steps ticker x old result new → OnPending result (IfSome new.live (MayPoll connector trial new.connector))
   again_from None old new Pending is h = cc (h.0)
   again_from None old new (Ready given) is h = tt
   again_from (Some live) old new Pending is h =
-      subst (λ (z : Option (Live C Conn Run)). IfSome z (IsLive connector trial)) (sym h.next) (goes old.connector new.connector live h.asked.next h.asked.now h.asked.tick is h.asked.polled).kept
+      let may : MayPoll connector trial new.connector h.asked.next = record {
+        kept = (goes old.connector new.connector live h.asked.next h.asked.now h.asked.tick is.kept h.asked.polled).kept;
+        aimed = (aims old.connector new.connector live h.asked.next h.asked.now h.asked.tick is h.asked.polled).aimed;
+      } in
+      subst (λ (z : Option (Live C Conn Run)). IfSome z (MayPoll connector trial new.connector)) (sym h.next) may
   again_from (Some live) old new (Ready given) is h = tt
 
-  pub poll-again : (old new : RaceFuture C T Conn Run) (result : Poll (Result (Raced Conn) RaceFault)) → IfSome old.live (IsLive connector trial) → RacePollsBy steps ticker old result new → OnPending result (IfSome new.live (IsLive connector trial))
+  pub poll-again : (old new : RaceFuture C T Conn Run) (result : Poll (Result (Raced Conn) RaceFault)) → IfSome old.live (MayPoll connector trial old.connector) → RacePollsBy steps ticker old result new → OnPending result (IfSome new.live (MayPoll connector trial new.connector))
   poll-again old new result is h = again_from old.live old new result is h
 
-  gives_later : (live next : Live C Conn Run) → GoneOn connector trial said live next → (r : Result (Raced Conn) RaceFault) → GivesBy said (Some next.recorder.recorded) r → GivesBy said (Some live.recorder.recorded) r
-  gives_later live next g (Ok raced) h = g.later raced h
-  gives_later live next g (Err faults.Memory) h = tt
-  gives_later live next g (Err faults.Clock) h = tt
-  gives_later live next g (Err faults.Over) h = absurd h
+  goes_alike : (first second : Ip → Conn → Type 0) → ReachAlike first second → (raced : Raced Conn) (winner : Option Conn) → IfSome winner (GoesAt second raced.transcript.lines raced.transcript.result) → IfSome winner (GoesAt first raced.transcript.lines raced.transcript.result)
+  goes_alike first second e raced None h = tt
+  goes_alike first second e raced (Some conn) h = by_result raced.transcript.result h
+    where
+      by_line : (line : Option Line) → IsSomeAnd line (λ (l : Line). second l.ip conn) → IsSomeAnd line (λ (l : Line). first l.ip conn)
+      by_line None h = h
+      by_line (Some l) h = (e l.ip).1 conn h
 
-  same_from : (x : Option (Live C Conn Run)) (old new : RaceFuture C T Conn Run) (result : Poll (Result (Raced Conn) RaceFault)) → IfSome x (IsLive connector trial) → PollsFrom steps ticker x old result new → OnPending result ((r : Result (Raced Conn) RaceFault) → GivesBy said (record_of new.live) r → GivesBy said (record_of x) r)
+      by_result : (result : Outcome3) → GoesAt second raced.transcript.lines result conn → GoesAt first raced.transcript.lines result conn
+      by_result (results.Won place tick) h = by_line (slice_get raced.transcript.lines place) h
+      by_result (results.Exhausted tick) h = h
+      by_result (results.Limit tick) h = h
+
+  gives_later : (first second : Ip → Conn → Type 0) → ReachAlike first second → (live next : Live C Conn Run) → GoneOn connector trial said live next → (r : Result (Raced Conn) RaceFault) → GivesBy (EndsAt said second) (Some next.recorder.recorded) r → GivesBy (EndsAt said first) (Some live.recorder.recorded) r
+  gives_later first second e live next g (Ok raced) h = record { end = g.later raced h.end; winner = goes_alike first second e raced raced.winner h.winner }
+  gives_later first second e live next g (Err faults.Memory) h = tt
+  gives_later first second e live next g (Err faults.Clock) h = tt
+  gives_later first second e live next g (Err faults.Over) h = absurd h
+
+  same_from : (x : Option (Live C Conn Run)) (old new : RaceFuture C T Conn Run) (result : Poll (Result (Raced Conn) RaceFault)) → IfSome x (MayPoll connector trial old.connector) → PollsFrom steps ticker x old result new
+      → OnPending result ((r : Result (Raced Conn) RaceFault) → GivesBy (EndsAt said (connector.reaches new.connector)) (record_of new.live) r → GivesBy (EndsAt said (connector.reaches old.connector)) (record_of x) r)
   same_from None old new Pending is h = cc (h.0)
   same_from None old new (Ready given) is h = tt
   same_from (Some live) old new Pending is h = λ r given.
-      gives_later live h.asked.next (goes old.connector new.connector live h.asked.next h.asked.now h.asked.tick is h.asked.polled) r (subst (λ (z : Option (Live C Conn Run)). GivesBy said (record_of z) r) h.next given)
+      gives_later (connector.reaches old.connector) (connector.reaches new.connector) (aims old.connector new.connector live h.asked.next h.asked.now h.asked.tick is h.asked.polled).still live h.asked.next
+      (goes old.connector new.connector live h.asked.next h.asked.now h.asked.tick is.kept h.asked.polled) r (subst (λ (z : Option (Live C Conn Run)). GivesBy (EndsAt said (connector.reaches new.connector)) (record_of z) r) h.next given)
   same_from (Some live) old new (Ready given) is h = tt
 
-  pub poll-same : (old new : RaceFuture C T Conn Run) (result : Poll (Result (Raced Conn) RaceFault)) → IfSome old.live (IsLive connector trial) → RacePollsBy steps ticker old result new → OnPending result ((r : Result (Raced Conn) RaceFault) → GivesBy said (record_of new.live) r → GivesBy said (record_of old.live) r)
+  pub poll-same : (old new : RaceFuture C T Conn Run) (result : Poll (Result (Raced Conn) RaceFault)) → IfSome old.live (MayPoll connector trial old.connector) → RacePollsBy steps ticker old result new
+      → OnPending result ((r : Result (Raced Conn) RaceFault) → GivesBy (EndsAt said (connector.reaches new.connector)) (record_of new.live) r → GivesBy (EndsAt said (connector.reaches old.connector)) (record_of old.live) r)
   poll-same old new result is h = same_from old.live old new result is h
 
 module _ {C Conn Run : Type 0} (connector : ConnectorOf C Conn Run) (trial : TrialOf Run Conn) where

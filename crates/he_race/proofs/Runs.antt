@@ -19,8 +19,8 @@ use Rattle.he_race.specs.declared.attempt.AttemptFuture.{AttemptFuture}
 use Rattle.he_race.specs.declared.attempt.AttemptFuture.TheVariants.{Sleeping, Connecting}
 use Rattle.he_race.specs.declared.attempt.Finish.{Finish}
 use Rattle.he_race.specs.declared.connector.Connector.{Ghosts as ConnectorOf}
-use Rattle.he_race.specs.declared.faults.ConnectFault.{ConnectFault}
-use Rattle.he_race.specs.declared.faults.ConnectFault.TheVariants.{Failed as Refused}
+use Rattle.he_race.specs.declared.faults.AttemptFault.{AttemptFault}
+use Rattle.he_race.specs.declared.faults.AttemptFault.TheVariants.{Failed as Refused}
 use Rattle.he_race.specs.declared.scripted.ScriptedTrial.{ScriptedTrial}
 use Rattle.he_race.specs.Attempt.{AttemptPolls, CanPoll, RunAnswers, due_of}
 use Rattle.he_race.specs.Running.{IsScripted, fate_at, result_at, scripted_trial}
@@ -31,7 +31,7 @@ pub le_of : (m n : ℕ) → nat_lt m n ≡ false → n ≤ m
 le_of m n e = elim (cases_lt m n) [ inl h ↦ absurd (clash (nat_lt m n) (lt_test m n h) e) | inr k ↦ k ]
 
 abbrev Answer : Type 0
-Answer = Result (Unit {0}) ConnectFault
+Answer = Result (Unit {0}) AttemptFault
 
 pub seen_rises : (race : Race) → IsRace race → (x y : ℕ) → x ≤ y → seen race x ≤ seen race y
 seen_rises race r x y h =
@@ -199,10 +199,10 @@ module _ {C : Type 0} (connector : ConnectorOf C (Unit {0}) ScriptedTrial) (race
     pub none : due_of connector scripted_trial new ≡ None → fate_of race x ≡ Running
     pub some : (d : ℕ) → due_of connector scripted_trial new ≡ Some d → Stands race x (n + 1) new (seen race d)
 
-  waits_zero : (c' : C) (run : Result ScriptedTrial ConnectFault) (new : Future C) → connector.begins c x.place x.ip x.tick run c' → new ≡ Connecting run (x.tick + 1) true → Waits zero c' new
+  waits_zero : (c' : C) (run : Result ScriptedTrial AttemptFault) (new : Future C) → connector.begins c x.place x.ip x.tick run c' → new ≡ Connecting run (x.tick + 1) true → Waits zero c' new
   waits_zero c' run new b e =
       let script : (run ≡ Ok (Trial race x)) × (c' ≡ c) = sc.begins x.place x.ip x.tick run c' b in
-      let is : new ≡ Connecting (Ok (Trial race x)) (x.tick + 1) true = e ∙ ap (λ (y : Result ScriptedTrial ConnectFault). Connecting y (x.tick + 1) true) script.0 in
+      let is : new ≡ Connecting (Ok (Trial race x)) (x.tick + 1) true = e ∙ ap (λ (y : Result ScriptedTrial AttemptFault). Connecting y (x.tick + 1) true) script.0 in
       record {
         same = script.1;
         none = λ due. let at : Some (x.tick + 1) ≡ None = rw is at due in cc;

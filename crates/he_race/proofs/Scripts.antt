@@ -1,7 +1,7 @@
 -- What a pending poll of a scripted trial waits for.
 use Rattle.std.proofs.Common.{Some, None, Ok, Err, ◌∙◌}
 use Rattle.futures.specs.declared.task.Poll.TheVariants.{Ready, Pending}
-use Rattle.he_race.specs.declared.faults.ConnectFault.TheVariants.{Failed}
+use Rattle.he_race.specs.declared.faults.AttemptFault.TheVariants.{Failed}
 use Rattle.he_race.specs.declared.scripted.ScriptedTrial.{ScriptedTrial}
 use Rattle.he_race.specs.declared.scripted.ScriptedTrial.TheVariants.{Succeeds, Fails, Silent}
 use Rattle.he_race.specs.Scripted.{ScriptPolls, tick_of}

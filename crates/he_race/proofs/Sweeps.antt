@@ -13,7 +13,7 @@ use Rattle.he_timeline.proofs.Bools.{le_test, not_le}
 use Rattle.he_race.specs.declared.attempt.Finish.{Finish}
 use Rattle.he_race.specs.declared.connector.Connector.{Ghosts as ConnectorOf}
 use Rattle.he_race.specs.declared.recorder.Recorder.{Recorder}
-use Rattle.he_race.specs.declared.faults.ConnectFault.{ConnectFault}
+use Rattle.he_race.specs.declared.faults.AttemptFault.{AttemptFault}
 use Rattle.he_race.specs.declared.limits.TheConstants.{MAX_POLL_TICK}
 use Rattle.he_race.specs.declared.live.Live.{Live}
 use Rattle.he_race.specs.declared.live.AfterPoll.{AfterPoll}
@@ -78,7 +78,7 @@ module _ {C Conn Run : Type 0} (connector : ConnectorOf C Conn Run) (trial : Tri
   abbrev swept_by : C → Race → List Attempt → List (Unfinished C Conn Run) → Option Conn → Sweep C Conn Run
   swept_by c race made xs first = record { connector = c; recorded = race; attempts = made; pending = xs; first = first }
 
-  pub sweeping-pending : (from : Sweep C Conn Run) (os : List (Unfinished C Conn Run)) (now : ℕ) (c c' : C) (old new : Live C Conn Run) (i : ℕ) (first : Option Conn) (answer : Option (Result Conn ConnectFault)) → Sweeping from os now c old.recorder.recorded old.recorder.underway.attempts old.unfinished.items i first → i < length old.unfinished.items → answer ≡ None → PollsAt connector trial c old i now answer c' new → Sweeping from os now c' new.recorder.recorded new.recorder.underway.attempts new.unfinished.items (i + 1) first
+  pub sweeping-pending : (from : Sweep C Conn Run) (os : List (Unfinished C Conn Run)) (now : ℕ) (c c' : C) (old new : Live C Conn Run) (i : ℕ) (first : Option Conn) (answer : Option (Result Conn AttemptFault)) → Sweeping from os now c old.recorder.recorded old.recorder.underway.attempts old.unfinished.items i first → i < length old.unfinished.items → answer ≡ None → PollsAt connector trial c old i now answer c' new → Sweeping from os now c' new.recorder.recorded new.recorder.underway.attempts new.unfinished.items (i + 1) first
   sweeping-pending from os now c c' old new i first answer s lt e p = by_poll p.polled p.polls p.left
     where
       by_poll : (polled : Poll (Finish Conn)) → AttemptPolls connector trial c p.o.future now polled c' p.future → LeftBy connector trial old i now p.o polled p.future answer new → Sweeping from os now c' new.recorder.recorded new.recorder.underway.attempts new.unfinished.items (i + 1) first
@@ -94,7 +94,7 @@ module _ {C Conn Run : Type 0} (connector : ConnectorOf C Conn Run) (trial : Tri
             s.rest to (subst (λ (zs : List (Unfinished C Conn Run)). ArePolled connector trial now (record { connector = c; recorded = old.recorder.recorded; attempts = old.recorder.underway.attempts; pending = take i old.unfinished.items; first = first }) zs to) (sym (from-at old.unfinished.items i p.o p.at)) (Pending, c', p.future, polls, more));
       }
 
-  pub sweeping-ready : (from : Sweep C Conn Run) (os : List (Unfinished C Conn Run)) (now : ℕ) (c c' : C) (old new : Live C Conn Run) (i : ℕ) (first more : Option Conn) (answer : Option (Result Conn ConnectFault)) (a : Result Conn ConnectFault) → Sweeping from os now c old.recorder.recorded old.recorder.underway.attempts old.unfinished.items i first → i < length old.unfinished.items → answer ≡ Some a → more ≡ first_of first a → PollsAt connector trial c old i now answer c' new → Sweeping from os now c' new.recorder.recorded new.recorder.underway.attempts new.unfinished.items i more
+  pub sweeping-ready : (from : Sweep C Conn Run) (os : List (Unfinished C Conn Run)) (now : ℕ) (c c' : C) (old new : Live C Conn Run) (i : ℕ) (first more : Option Conn) (answer : Option (Result Conn AttemptFault)) (a : Result Conn AttemptFault) → Sweeping from os now c old.recorder.recorded old.recorder.underway.attempts old.unfinished.items i first → i < length old.unfinished.items → answer ≡ Some a → more ≡ first_of first a → PollsAt connector trial c old i now answer c' new → Sweeping from os now c' new.recorder.recorded new.recorder.underway.attempts new.unfinished.items i more
   sweeping-ready from os now c c' old new i first more answer a s lt e m p = by_poll p.polled p.polls p.left
     where
       by_poll : (polled : Poll (Finish Conn)) → AttemptPolls connector trial c p.o.future now polled c' p.future → LeftBy connector trial old i now p.o polled p.future answer new → Sweeping from os now c' new.recorder.recorded new.recorder.underway.attempts new.unfinished.items i more

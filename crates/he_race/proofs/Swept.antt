@@ -23,8 +23,8 @@ use Rattle.he_race.specs.declared.attempt.AttemptFuture.{AttemptFuture}
 use Rattle.he_race.specs.declared.attempt.AttemptFuture.TheVariants.{Connecting}
 use Rattle.he_race.specs.declared.attempt.Finish.{Finish}
 use Rattle.he_race.specs.declared.connector.Connector.{Ghosts as ConnectorOf}
-use Rattle.he_race.specs.declared.faults.ConnectFault.{ConnectFault}
-use Rattle.he_race.specs.declared.faults.ConnectFault.TheVariants.{Failed as Refused}
+use Rattle.he_race.specs.declared.faults.AttemptFault.{AttemptFault}
+use Rattle.he_race.specs.declared.faults.AttemptFault.TheVariants.{Failed as Refused}
 use Rattle.he_race.specs.declared.live.Unfinished.{Unfinished}
 use Rattle.he_race.specs.declared.scripted.ScriptedTrial.{ScriptedTrial}
 use Rattle.he_race.specs.Attempt.{AttemptPolls, RunAnswers}
@@ -55,13 +55,13 @@ and_none true b e = e
 and_none false b e = refl
 
 -- a trial that is pending ends after the tick
-pending_late : (o : Option Outcome) (start now : ℕ) → ◌≡◌ {A = Poll (Result (Unit {0}) ConnectFault)} Pending (answer_of (script o start) now) → IfSome o (λ outcome. now < start + duration_of outcome)
+pending_late : (o : Option Outcome) (start now : ℕ) → ◌≡◌ {A = Poll (Result (Unit {0}) AttemptFault)} Pending (answer_of (script o start) now) → IfSome o (λ outcome. now < start + duration_of outcome)
 pending_late None start now h = tt
 pending_late (Some (outcomes.Ok d)) start now h = elim (cases_lt now (start + d)) [ inl early ↦ early | inr over ↦ absurd (pending_over (Some (outcomes.Ok d)) start now (start + d) refl over h) ]
 pending_late (Some (outcomes.Fail d)) start now h = elim (cases_lt now (start + d)) [ inl early ↦ early | inr over ↦ absurd (pending_over (Some (outcomes.Fail d)) start now (start + d) refl over h) ]
 
 abbrev Answer : Type 0
-Answer = Result (Unit {0}) ConnectFault
+Answer = Result (Unit {0}) AttemptFault
 
 module _ {C : Type 0} (connector : ConnectorOf C (Unit {0}) ScriptedTrial) (race : Race) (r : IsRace race) (c : C) (xs : List Attempt) (now : ℕ) (free : IsFree race now) where
   abbrev Held : Type 0

@@ -20,7 +20,7 @@ use Rattle.he_plan.proofs.Growing.{pauses-over}
 use Rattle.he_plan.proofs.Stopping.{none_left-ends}
 use Rattle.he_race.specs.declared.recorder.Recorder.{Recorder}
 use Rattle.he_race.specs.declared.connector.Connector.{Ghosts as ConnectorOf}
-use Rattle.he_race.specs.declared.faults.ConnectFault.{ConnectFault}
+use Rattle.he_race.specs.declared.faults.AttemptFault.{AttemptFault}
 use Rattle.he_race.specs.declared.live.Live.{Live}
 use Rattle.he_race.specs.declared.live.Unfinished.{Unfinished}
 use Rattle.he_race.specs.declared.trial.Trial.{Ghosts as TrialOf}
@@ -56,7 +56,7 @@ no_outcome (p ∷ told) ip h = by_head (same_ip p.0 ip) (or_left_none _ _ h) (no
     by_head false e rest = rest
 
 -- the turn goes on where an attempt was recorded
-pub recorded-turn : {Conn : Type 0} (old new : Recorder) (now : ℕ) (won : Bool) (answer : Result Conn ConnectFault) → InTurn old.recorded now old.underway.attempts won → Records old now answer new → InTurn new.recorded now new.underway.attempts (won || is_connection answer)
+pub recorded-turn : {Conn : Type 0} (old new : Recorder) (now : ℕ) (won : Bool) (answer : Result Conn AttemptFault) → InTurn old.recorded now old.underway.attempts won → Records old now answer new → InTurn new.recorded now new.underway.attempts (won || is_connection answer)
 recorded-turn old new now won answer t r =
     let after : InTurn (told old.recorded r.x now answer) now old.underway.attempts (won || is_connection answer) = finished old.recorded now old.underway.attempts won (is_connection answer) r.x t r.made (no_outcome old.recorded.outcomes r.x.ip r.first) r.first (subst IsRace r.is r.valid) in
     rw (r.is, r.attempts) after
@@ -67,7 +67,7 @@ alike-later x y z e f = f ∙ ap (λ (r : Race). record r { outcomes = z.outcome
 pub polled-none : (old : Recorder) → IsUnderway old.recorded old.underway → Polled old old
 polled-none old underway = record { attempts = refl; alike = refl; pauses = refl; underway = underway }
 
-pub polled-more : {Conn : Type 0} (first old new : Recorder) (now : ℕ) (answer : Result Conn ConnectFault) → Polled first old → Records old now answer new → Polled first new
+pub polled-more : {Conn : Type 0} (first old new : Recorder) (now : ℕ) (answer : Result Conn AttemptFault) → Polled first old → Records old now answer new → Polled first new
 polled-more first old new now answer p r = record {
   attempts = r.attempts ∙ p.attempts;
   alike = alike-later first.recorded old.recorded new.recorded p.alike (subst (AreAlike old.recorded) (sym r.is) refl);
@@ -81,6 +81,7 @@ ends-late race now xs b e = record {
   valid = b.in_turn.valid;
   in_turn = b.in_turn.made.in_turn;
   past = All-weaker (λ (x : Attempt). x.tick < now) (λ (x : Attempt). x.tick ≤ race.settings.limit) (λ x h. omega (arith, h)) xs b.in_turn.past;
+  before = λ won. absurd (not_won won);
   free = λ won. absurd (not_won won);
   early = omega arith;
   ended = All-weaker (λ (x : Attempt). IfSome (outcome_of race x.ip) (FailedBelow race now x)) (λ (x : Attempt). IfSome (outcome_of race x.ip) (EndedBy race race.settings.limit false x)) (λ x h. by_outcome x (outcome_of race x.ip) h) xs b.failed;
@@ -111,6 +112,7 @@ ends-turn race xs now unfinished won t early over = record {
   valid = t.valid;
   in_turn = t.made.in_turn;
   past = All-weaker (λ (x : Attempt). x.tick < now) (λ (x : Attempt). x.tick ≤ now) (λ x h. omega (arith, h)) xs t.past;
+  before = λ yes. t.past;
   free = λ yes. pauses-over race t.valid now t.over;
   early = early;
   ended = t.ended;
@@ -165,7 +167,7 @@ module _ {C Conn Run : Type 0} (connector : ConnectorOf C Conn Run) (trial : Tri
   pub unfinished-later : (race : Race) (xs all : List Attempt) (now : ℕ) (os : List (Unfinished C Conn Run)) → MakesOne race xs all now → All (IsUnfinished connector trial xs) os → All (IsUnfinished connector trial all) os
   unfinished-later race xs all now os m h = All-weaker (IsUnfinished connector trial xs) (IsUnfinished connector trial all) (λ o u. record { made = made_later race xs all now o.attempt m u.made; can = u.can }) os h
 
-  pub polling-none : (first : Recorder) (now : ℕ) (cur new : Live C Conn Run) (i : ℕ) (won : Bool) (answer : Option (Result Conn ConnectFault)) → Polling first now cur i won → i < vec_len cur.unfinished → answer ≡ None → Answers cur.recorder now answer new.recorder → All (IsUnfinished connector trial cur.recorder.underway.attempts) new.unfinished.items → are_untold new.recorder.recorded.outcomes new.unfinished.items ≡ true → vec_len new.unfinished + (if is_some answer then 1 else 0) ≡ vec_len cur.unfinished → Polling first now new (i + 1) won
+  pub polling-none : (first : Recorder) (now : ℕ) (cur new : Live C Conn Run) (i : ℕ) (won : Bool) (answer : Option (Result Conn AttemptFault)) → Polling first now cur i won → i < vec_len cur.unfinished → answer ≡ None → Answers cur.recorder now answer new.recorder → All (IsUnfinished connector trial cur.recorder.underway.attempts) new.unfinished.items → are_untold new.recorder.recorded.outcomes new.unfinished.items ≡ true → vec_len new.unfinished + (if is_some answer then 1 else 0) ≡ vec_len cur.unfinished → Polling first now new (i + 1) won
   polling-none first now cur new i won (Some a) p lt e recorder left untold len = cc
   polling-none first now cur new i won None p lt e recorder left untold len =
       let P : Recorder → Type 0 = λ c. InTurn c.recorded now c.underway.attempts won in
@@ -178,11 +180,11 @@ module _ {C Conn Run : Type 0} (connector : ConnectorOf C Conn Run) (trial : Tri
         within = omega (arith, len);
       }
 
-  pub polling-some : (first : Recorder) (now : ℕ) (cur new : Live C Conn Run) (i : ℕ) (won more : Bool) (answer : Option (Result Conn ConnectFault)) (a : Result Conn ConnectFault) → Polling first now cur i won → i < vec_len cur.unfinished → answer ≡ Some a → more ≡ (won || is_connection a) → Answers cur.recorder now answer new.recorder → All (IsUnfinished connector trial cur.recorder.underway.attempts) new.unfinished.items → are_untold new.recorder.recorded.outcomes new.unfinished.items ≡ true → vec_len new.unfinished + (if is_some answer then 1 else 0) ≡ vec_len cur.unfinished → Polling first now new i more
+  pub polling-some : (first : Recorder) (now : ℕ) (cur new : Live C Conn Run) (i : ℕ) (won more : Bool) (answer : Option (Result Conn AttemptFault)) (a : Result Conn AttemptFault) → Polling first now cur i won → i < vec_len cur.unfinished → answer ≡ Some a → more ≡ (won || is_connection a) → Answers cur.recorder now answer new.recorder → All (IsUnfinished connector trial cur.recorder.underway.attempts) new.unfinished.items → are_untold new.recorder.recorded.outcomes new.unfinished.items ≡ true → vec_len new.unfinished + (if is_some answer then 1 else 0) ≡ vec_len cur.unfinished → Polling first now new i more
   polling-some first now cur new i won more None a p lt e m recorder left untold len = cc
   polling-some first now cur new i won more (Some b) a p lt e m recorder left untold len =
       let same : b ≡ a = cc in
-      let r : Records cur.recorder now a new.recorder = subst (λ (x : Result Conn ConnectFault). Records cur.recorder now x new.recorder) same recorder in
+      let r : Records cur.recorder now a new.recorder = subst (λ (x : Result Conn AttemptFault). Records cur.recorder now x new.recorder) same recorder in
       let turn : InTurn new.recorder.recorded now new.recorder.underway.attempts (won || is_connection a) = recorded-turn cur.recorder new.recorder now won a p.turn r in
       let Q : List Attempt → Type 0 = λ xs. All (IsUnfinished connector trial xs) new.unfinished.items in
       record {

@@ -14,7 +14,7 @@ use Rattle.he_timeline.specs.Race.{Race, has_outcome}
 use Rattle.he_timeline.proofs.Bools.{and_both, and_left, and_right, clash, or_left_none, or_none, or_right_none}
 use Rattle.he_timeline.proofs.Ranges.{same_ip-sym}
 use Rattle.he_race.specs.declared.connector.Connector.{Ghosts as ConnectorOf}
-use Rattle.he_race.specs.declared.faults.ConnectFault.{ConnectFault}
+use Rattle.he_race.specs.declared.faults.AttemptFault.{AttemptFault}
 use Rattle.he_race.specs.declared.live.Unfinished.{Unfinished}
 use Rattle.he_race.specs.declared.trial.Trial.{Ghosts as TrialOf}
 use Rattle.he_race.specs.Recording.{ended_by, slept}
@@ -58,6 +58,9 @@ module _ {C Conn Run : Type 0} where
   joined : (told : List (Ip × Outcome)) (o : Unfinished C Conn Run) (os : List (Unfinished C Conn Run)) → has_outcome o.attempt.ip told ≡ false → list_any (λ (p : Unfinished C Conn Run). same_ip p.attempt.ip o.attempt.ip) os ≡ false → are_untold told os ≡ true → are_untold told (o ∷ os) ≡ true
   joined told o os first once rest =
       and_both _ _ (and_both _ _ (not_false (has_outcome o.attempt.ip told) first) (not_false (list_any (λ (p : Unfinished C Conn Run). same_ip p.attempt.ip o.attempt.ip) os) once)) rest
+
+  pub untold-rest : (told : List (Ip × Outcome)) (o : Unfinished C Conn Run) (os : List (Unfinished C Conn Run)) → are_untold told (o ∷ os) ≡ true → are_untold told os ≡ true
+  untold-rest told o os h = let k : Heads told o os = heads told o os h in k.rest
 
   pub untold-at : (told : List (Ip × Outcome)) (os : List (Unfinished C Conn Run)) → are_untold told os ≡ true → (i : ℕ) (d : Unfinished C Conn Run) → i < length os → has_outcome (get_or os i d).attempt.ip told ≡ false
   untold-at told [] h i d lt = absurd (let no : ⊥ = omega arith in no)
@@ -183,6 +186,6 @@ slept-outcomes race due now = by_test (nat_lt due now)
     by_test false = refl
 
 -- how an attempt that answered is recorded
-pub ended-told : {Conn : Type 0} (race : Race) (x : Attempt) (now : ℕ) (answer : Result Conn ConnectFault) (won : Bool) → won ≡ is_ok answer → with_outcome race x.ip (ended_by won (now - x.tick)) ≡ told race x now answer
+pub ended-told : {Conn : Type 0} (race : Race) (x : Attempt) (now : ℕ) (answer : Result Conn AttemptFault) (won : Bool) → won ≡ is_ok answer → with_outcome race x.ip (ended_by won (now - x.tick)) ≡ told race x now answer
 ended-told race x now (Ok conn) won e = ap (λ (b : Bool). with_outcome race x.ip (ended_by b (now - x.tick))) e
 ended-told race x now (Err fault) won e = ap (λ (b : Bool). with_outcome race x.ip (ended_by b (now - x.tick))) e

@@ -10,7 +10,7 @@ use Rattle.he_addr.specs.declared.ip.Ip.{Ip}
 use Rattle.he_race.specs.declared.attempt.AttemptFuture.{AttemptFuture}
 use Rattle.he_race.specs.declared.attempt.AttemptFuture.TheVariants.{Sleeping, Connecting}
 use Rattle.he_race.specs.declared.attempt.Finish.{Finish}
-use Rattle.he_race.specs.declared.faults.ConnectFault.{ConnectFault}
+use Rattle.he_race.specs.declared.faults.AttemptFault.{AttemptFault}
 use Rattle.he_race.specs.declared.connector.Connector.{Ghosts as ConnectorOf}
 use Rattle.he_race.specs.declared.trial.Trial.{Ghosts as TrialOf}
 use Rattle.he_race.specs.Attempt.{RunAnswers, attempt_polls, due_of, needs_of}
@@ -64,12 +64,12 @@ module _ {C Conn Run : Type 0} (connector : ConnectorOf C Conn Run) (trial : Tri
   sleeping_waits place ip start =
       waits_still (attempt_polls connector trial) (Sleeping place ip start) (Some start) (asleep place ip start)
 
-  fresh : (run : Result Run ConnectFault) (next t : ℕ) (r : Poll (Finish Conn)) (s' : AttemptFuture C Conn Run) → t < next
+  fresh : (run : Result Run AttemptFault) (next t : ℕ) (r : Poll (Finish Conn)) (s' : AttemptFuture C Conn Run) → t < next
       → attempt_polls connector trial (Connecting run next true) t r s'
       → (r ≡ Pending) × (s' ≡ Connecting run next true)
   fresh run next t r s' before p = at_true _ _ (nat_lt t next) ((Decides-ltb t next).1 before) p.2.1
 
-  pub fresh_waits : (run : Result Run ConnectFault) (next : ℕ)
+  pub fresh_waits : (run : Result Run AttemptFault) (next : ℕ)
       → WaitsForTick (attempt_polls connector trial) (Connecting run next true) (Some next)
   fresh_waits run next =
       waits_still (attempt_polls connector trial) (Connecting run next true) (Some next) (fresh run next)
@@ -99,21 +99,21 @@ module _ {C Conn Run : Type 0} (connector : ConnectorOf C Conn Run) (trial : Tri
   connecting_waits next run due h =
       record { at = λ ts. connecting next due run ts (h.at ts) }
 
-  pub fresh_waits_if : (run : Result Run ConnectFault) (next : ℕ) (is_fresh : Bool) → is_fresh ≡ true
+  pub fresh_waits_if : (run : Result Run AttemptFault) (next : ℕ) (is_fresh : Bool) → is_fresh ≡ true
       → WaitsForTick (attempt_polls connector trial) (Connecting run next is_fresh) (due_of connector trial (Connecting run next is_fresh))
   fresh_waits_if run next true e = fresh_waits run next
   fresh_waits_if run next false e = absurd (no (sym e))
 
   -- what a pending poll of the trial waits for, a poll of the attempt waits for
-  pub lifted : (run : Run) (next : ℕ) (x : Result Run ConnectFault) (cx cx' : Context) → x ≡ Ok run → cx ≡ cx'
+  pub lifted : (run : Run) (next : ℕ) (x : Result Run AttemptFault) (cx cx' : Context) → x ≡ Ok run → cx ≡ cx'
       → (Covers cx' (trial.needs run) ⊎ WaitsForTick trial.polls run (trial.due_tick run))
       → Listens connector trial cx (Connecting x next false)
   lifted run next x cx cx' e same (inl covers) =
-      let P : Result Run ConnectFault → Type 0 = λ y. Covers cx (needs_of connector trial (Connecting y next false)) in
+      let P : Result Run AttemptFault → Type 0 = λ y. Covers cx (needs_of connector trial (Connecting y next false)) in
       let here : Covers cx (trial.needs run) = subst (λ (c : Context). Covers c (trial.needs run)) (sym same) covers in
       inl (subst P (sym e) here)
   lifted run next x cx cx' e same (inr waits) =
-      let P : Result Run ConnectFault → Type 0 = λ y. WaitsForTick (attempt_polls connector trial) (Connecting y next false) (due_of connector trial (Connecting y next false)) in
+      let P : Result Run AttemptFault → Type 0 = λ y. WaitsForTick (attempt_polls connector trial) (Connecting y next false) (due_of connector trial (Connecting y next false)) in
       inr (subst P (sym e) (connecting_waits next run (trial.due_tick run) waits))
 
 pub on_pending : {A : Type 0} (r : Poll A) (X : Type 0) → r ≡ Pending → OnPending r X → X

@@ -6,25 +6,30 @@ use Rattle.he_addr.specs.declared.ip.Ip.{Ip}
 use Rattle.he_race.specs.declared.attempt.AttemptFuture.{AttemptFuture}
 use Rattle.he_race.specs.declared.attempt.AttemptFuture.TheVariants.{Sleeping, Connecting, Done}
 use Rattle.he_race.specs.declared.attempt.Finish.{Finish}
-use Rattle.he_race.specs.declared.faults.ConnectFault.{ConnectFault}
+use Rattle.he_race.specs.declared.faults.AttemptFault.{AttemptFault}
 use Rattle.he_race.specs.declared.connector.Connector.{Ghosts as ConnectorOf}
 use Rattle.he_race.specs.declared.trial.Trial.{Ghosts as TrialOf}
+use Rattle.he_race.specs.Reach.{AreAmong, ReachAlike}
 
 module _ {C Conn Run : Type 0} (connector : ConnectorOf C Conn Run) (trial : TrialOf Run Conn) where
   -- what the trial, or the fault of a connector that could not begin one, answers at `now`, and the attempt that is
   -- left
-  abbrev pub RunAnswers : Result Run ConnectFault → ℕ → ℕ → Poll (Finish Conn) → AttemptFuture C Conn Run → Type 0
+  abbrev pub RunAnswers : Result Run AttemptFault → ℕ → ℕ → Poll (Finish Conn) → AttemptFuture C Conn Run → Type 0
   RunAnswers (Ok run) next now Pending new =
       (run' : Run) × trial.polls run now Pending run' × (new ≡ Connecting (Ok run') next false)
+      × AreAmong (trial.may_give run') (trial.may_give run)
   RunAnswers (Ok run) next now (Ready f) new =
       (run' : Run) × trial.polls run now (Ready f.result) run' × (f.tick ≡ now) × (new ≡ Done (next - 1))
+      × IfOk f.result (trial.may_give run)
   RunAnswers (Err e) next now Pending new = ⊥
   RunAnswers (Err e) next now (Ready f) new = (f ≡ record { tick = now; result = Err e }) × (new ≡ Done (next - 1))
 
-  -- at or after its start a sleeping attempt begins, and is pending
+  -- at or after its start a sleeping attempt begins, and is pending: its trial gives connections that go to its address
   abbrev pub Begins : ℕ → Ip → C → ℕ → C → AttemptFuture C Conn Run → Type 0
   Begins place ip c now c' new =
-      (run : Result Run ConnectFault) × connector.begins c place ip now run c' × (new ≡ Connecting run (now + 1) true)
+      (run : Result Run AttemptFault) × connector.begins c place ip now run c' × (new ≡ Connecting run (now + 1) true)
+      × IfOk run (λ r. AreAmong (trial.may_give r) (connector.reaches c ip))
+      × ReachAlike (connector.reaches c) (connector.reaches c')
 
   -- a poll of an attempt: which steps it may take, with the connector's state before and after
   abbrev pub AttemptPolls : C → AttemptFuture C Conn Run → ℕ → Poll (Finish Conn) → C → AttemptFuture C Conn Run
@@ -59,6 +64,13 @@ module _ {C Conn Run : Type 0} (connector : ConnectorOf C Conn Run) (trial : Tri
   needs_of (Connecting (Ok run) next false) = trial.needs run
   needs_of (Connecting (Err e) next false) = λ _. ⊥
   needs_of (Done started) = λ _. ⊥
+
+  -- the attempt leads to the address: it is to connect to it, or each connection that its trial may give goes there
+  abbrev pub LeadsTo : (Ip → Conn → Type 0) → Ip → AttemptFuture C Conn Run → Type 0
+  LeadsTo reaches ip (Sleeping place own start) = own ≡ ip
+  LeadsTo reaches ip (Connecting (Ok run) next is_fresh) = AreAmong (trial.may_give run) (reaches ip)
+  LeadsTo reaches ip (Connecting (Err e) next is_fresh) = ⊤
+  LeadsTo reaches ip (Done started) = ⊤
 
   -- polls with some connector
   abbrev pub attempt_polls : AttemptFuture C Conn Run → ℕ → Poll (Finish Conn) → AttemptFuture C Conn Run → Type 0

@@ -22,10 +22,11 @@ use Rattle.he_race.specs.declared.live.Raced.{Raced}
 use Rattle.he_race.specs.declared.live.Unfinished.{Unfinished}
 use Rattle.he_race.specs.declared.race.RaceFuture.{RaceFuture}
 use Rattle.he_race.specs.declared.scripted.ScriptedTrial.{ScriptedTrial}
-use Rattle.he_race.specs.Kept.{first_after, IsLive}
+use Rattle.he_race.specs.Kept.{first_after}
 use Rattle.he_race.specs.Running.{IsScripted, scripted_trial}
 use Rattle.he_race.specs.Scripted.{script_of}
 use Rattle.he_race.specs.Wheel.{Wheel}
+use Rattle.he_race.specs.Winner.{MayPoll}
 
 -- a script: a race within its ranges, as each timeline is
 pub record IsScript (script : Race) : Type 0 where
@@ -89,7 +90,7 @@ pub record IsUnderWay {C : Type 0} (connector : ConnectorOf C (Unit {0}) Scripte
   pub script : IsScript race.ticker.race
   pub live : Live C (Unit {0}) ScriptedTrial
   pub is : race.live ≡ Some live
-  pub kept : IsLive connector scripted_trial live
+  pub kept : MayPoll connector scripted_trial race.connector live
   pub scripted : IsScripted connector race.ticker.race race.connector
   pub follows : Follows race.ticker.race live race.ticker.at
   pub asked : race.ticker.asked ≡ []

@@ -6,6 +6,7 @@ pub mod Kept
 pub mod Listening
 pub mod Polling
 pub mod Racing
+pub mod Reach
 pub mod Recording
 pub mod Resolving
 pub mod Running
@@ -13,3 +14,4 @@ pub mod Scripted
 pub mod Turns
 pub mod Waiting
 pub mod Wheel
+pub mod Winner

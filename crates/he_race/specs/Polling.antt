@@ -14,7 +14,7 @@ use Rattle.he_race.specs.declared.attempt.AttemptFuture.{AttemptFuture}
 use Rattle.he_race.specs.declared.attempt.Finish.{Finish}
 use Rattle.he_race.specs.declared.connector.Connector.{Ghosts as ConnectorOf}
 use Rattle.he_race.specs.declared.recorder.Recorder.{Recorder}
-use Rattle.he_race.specs.declared.faults.ConnectFault.{ConnectFault}
+use Rattle.he_race.specs.declared.faults.AttemptFault.{AttemptFault}
 use Rattle.he_race.specs.declared.limits.TheConstants.{MAX_POLL_TICK}
 use Rattle.he_race.specs.declared.live.Live.{Live}
 use Rattle.he_race.specs.declared.live.Unfinished.{Unfinished}
@@ -27,7 +27,7 @@ use Rattle.he_race.specs.Turns.{BeginsAt, EndsPolled, Goes, Replays, StartsOne, 
 use Rattle.he_race.specs.declared.live.AfterPoll.TheVariants as after_polls
 
 -- at the tick an attempt of the race answered, and how it ended is recorded, after the ticks since its start
-pub record Records {Conn : Type 0} (old : Recorder) (now : ℕ) (answer : Result Conn ConnectFault)
+pub record Records {Conn : Type 0} (old : Recorder) (now : ℕ) (answer : Result Conn AttemptFault)
     (new : Recorder) : Type 0 where
   pub x : Attempt
   pub made : Contains old.underway.attempts x
@@ -38,14 +38,14 @@ pub record Records {Conn : Type 0} (old : Recorder) (now : ℕ) (answer : Result
   pub underway : IsUnderway new.recorded new.underway
 
 -- a pending attempt changes nothing of the record
-abbrev pub Answers : {Conn : Type 0} → Recorder → ℕ → Option (Result Conn ConnectFault) → Recorder → Type 0
+abbrev pub Answers : {Conn : Type 0} → Recorder → ℕ → Option (Result Conn AttemptFault) → Recorder → Type 0
 Answers old now None new = new ≡ old
 Answers old now (Some answer) new = Records old now answer new
 
 module _ {C Conn Run : Type 0} (connector : ConnectorOf C Conn Run) (trial : TrialOf Run Conn) where
   -- the attempt that stands at `i`, the answer of its poll, and what is left of it
   abbrev pub LeftBy : Live C Conn Run → ℕ → ℕ → Unfinished C Conn Run → Poll (Finish Conn) → AttemptFuture C Conn Run
-      → Option (Result Conn ConnectFault) → Live C Conn Run → Type 0
+      → Option (Result Conn AttemptFault) → Live C Conn Run → Type 0
   LeftBy old i now o Pending future answer new =
       (answer ≡ None) × (new.recorder ≡ old.recorder)
       × (new.unfinished.items ≡ slice_set old.unfinished.items i (record o { future = future }))
@@ -55,7 +55,7 @@ module _ {C Conn Run : Type 0} (connector : ConnectorOf C Conn Run) (trial : Tri
       × (new.unfinished.items ≡ remove (slice_set old.unfinished.items i (record o { future = future })) i)
 
   -- the attempt that stands at `i` is polled once
-  pub record PollsAt (c : C) (old : Live C Conn Run) (i now : ℕ) (answer : Option (Result Conn ConnectFault)) (c' : C)
+  pub record PollsAt (c : C) (old : Live C Conn Run) (i now : ℕ) (answer : Option (Result Conn AttemptFault)) (c' : C)
       (new : Live C Conn Run) : Type 0 where
     pub o : Unfinished C Conn Run
     pub at : slice_get old.unfinished.items i ≡ Some o

@@ -1,5 +1,5 @@
 -- How a race that is being run is recorded, and what holds of its record where it ends.
-use Rattle.std.specs.Prelude.{ℕ, ◌≡◌, ◌+◌, ◌≤◌, Bool, true, false, List, Some, if◌then◌else◌, IfSome, nat_lt}
+use Rattle.std.specs.Prelude.{ℕ, ◌≡◌, ◌+◌, ◌<◌, ◌≤◌, Bool, true, false, List, Some, if◌then◌else◌, IfSome, nat_lt}
 use Rattle.std.specs.List.{All, Contains}
 use Rattle.he_plan.specs.declared.attempts.Attempt.{Attempt}
 use Rattle.he_timeline.specs.declared.outcome.Outcome.{Outcome}
@@ -34,6 +34,7 @@ pub record EndsRace (race : Race) (stop : ℕ) (xs : List Attempt) (won : Bool) 
   pub valid : IsRace race
   pub in_turn : AreNextInTurn race xs
   pub past : All (λ x. x.tick ≤ stop) xs
+  pub before : won ≡ true → All (λ x. x.tick < stop) xs
   pub free : won ≡ true → IsFree race stop
   pub early : stop ≤ race.settings.limit
   pub ended : All (λ x. IfSome (outcome_of race x.ip) (EndedBy race stop won x)) xs

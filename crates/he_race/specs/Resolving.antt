@@ -1,6 +1,7 @@
 -- What a turn of a race is whose answers come while it runs, and what the race gives: the public contracts of
 -- `ResolvingRace` cite it.
 use Rattle.std.specs.Prelude.{ℕ, ◌≡◌, ◌+◌, ◌⊎◌, ⊤, min, nat_le, is_some, MatchBool, List, Option, Some, None, option_map, Result}
+use Rattle.he_addr.specs.declared.ip.Ip.{Ip}
 use Rattle.he_timeline.specs.Race.{Race, Reply}
 use Rattle.he_plan.specs.Transcript.{IsTranscript}
 use Rattle.he_race.specs.declared.connector.Connector.{Ghosts as ConnectorOf}
@@ -15,6 +16,7 @@ use Rattle.he_race.specs.Heard.{Hears, Tells}
 use Rattle.he_race.specs.Polling.{TurnsFrom}
 use Rattle.he_race.specs.Recording.{is_won}
 use Rattle.he_race.specs.Turns.{EndsLate, GivesBy, Sweep, begun}
+use Rattle.he_race.specs.Winner.{EndsAt}
 
 module _ {S C Conn Run : Type 0} (hears : Tells S) (connector : ConnectorOf C Conn Run)
     (trial : TrialOf Run Conn) where
@@ -70,10 +72,12 @@ pub record ReplaysGiven {Conn : Type 0} (race : Race) (raced : Raced Conn) : Typ
   pub transcript : IsTranscript raced.recorded raced.transcript
   pub winner : is_some raced.winner ≡ is_won raced.transcript.result
 
--- what a race whose answers come may give, with what is recorded so far: an end that replays
-abbrev pub MayGiveFrom : {Conn : Type 0} → Option Race → Result (Raced Conn) RaceFault → Type 0
-MayGiveFrom {Conn} race result = GivesBy (ReplaysGiven {Conn = Conn}) race result
+-- what a race whose answers come may give, with what is recorded so far: an end that replays, with a winner that goes
+-- to the address of the line that won
+abbrev pub MayGiveFrom : {Conn : Type 0} → (Ip → Conn → Type 0) → Option Race → Result (Raced Conn) RaceFault → Type 0
+MayGiveFrom {Conn} reaches race result = GivesBy (EndsAt (ReplaysGiven {Conn = Conn}) reaches) race result
 
-abbrev pub MayGive : {C Conn Run : Type 0} → Option (Live C Conn Run) → Result (Raced Conn) RaceFault → Type 0
-MayGive {C} {Conn} {Run} live result =
-    MayGiveFrom {Conn = Conn} (option_map (λ (x : Live C Conn Run). x.recorder.recorded) live) result
+abbrev pub MayGive : {C Conn Run : Type 0} → (Ip → Conn → Type 0) → Option (Live C Conn Run)
+    → Result (Raced Conn) RaceFault → Type 0
+MayGive {C} {Conn} {Run} reaches live result =
+    MayGiveFrom {Conn = Conn} reaches (option_map (λ (x : Live C Conn Run). x.recorder.recorded) live) result

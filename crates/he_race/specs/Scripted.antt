@@ -6,8 +6,8 @@ use Rattle.he_addr.specs.declared.ip.Ip.{Ip}
 use Rattle.he_timeline.specs.declared.outcome.Outcome.{Outcome}
 use Rattle.he_timeline.specs.declared.outcome.Outcome.TheVariants as outcomes
 use Rattle.he_timeline.specs.Race.{outcome_of, Race}
-use Rattle.he_race.specs.declared.faults.ConnectFault.{ConnectFault}
-use Rattle.he_race.specs.declared.faults.ConnectFault.TheVariants.{Failed}
+use Rattle.he_race.specs.declared.faults.AttemptFault.{AttemptFault}
+use Rattle.he_race.specs.declared.faults.AttemptFault.TheVariants.{Failed}
 use Rattle.he_race.specs.declared.scripted.ScriptedTrial.{ScriptedTrial}
 use Rattle.he_race.specs.declared.scripted.ScriptedTrial.TheVariants.{Succeeds, Fails, Silent}
 
@@ -22,7 +22,7 @@ abbrev pub script_of : Race → Ip → ℕ → ScriptedTrial
 script_of race ip start = script (outcome_of race ip) start
 
 -- what it answers at `now`
-abbrev pub answer_of : ScriptedTrial → ℕ → Poll (Result (Unit {0}) ConnectFault)
+abbrev pub answer_of : ScriptedTrial → ℕ → Poll (Result (Unit {0}) AttemptFault)
 answer_of (Succeeds tick) now = if nat_lt now tick then Pending else Ready (Ok tt)
 answer_of (Fails tick) now = if nat_lt now tick then Pending else Ready (Err Failed)
 answer_of Silent now = Pending
@@ -34,5 +34,5 @@ tick_of (Fails tick) = Some tick
 tick_of Silent = None
 
 -- a poll at `now`: its answer, and the trial as it was
-abbrev pub ScriptPolls : ScriptedTrial → ℕ → Poll (Result (Unit {0}) ConnectFault) → ScriptedTrial → Type 0
+abbrev pub ScriptPolls : ScriptedTrial → ℕ → Poll (Result (Unit {0}) AttemptFault) → ScriptedTrial → Type 0
 ScriptPolls trial now answer left = (answer ≡ answer_of trial now) × (left ≡ trial)

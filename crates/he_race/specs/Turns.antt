@@ -3,6 +3,7 @@
 use Rattle.std.specs.Prelude.{ℕ, ◌≡◌, ◌+◌, ◌-◌, ◌<◌, ◌==◌, ◌&&◌, ◌||◌, ◌⊎◌, ◌++◌, length, min, nat_le, Bool, true, false, MatchBool, List, [], ◌∷◌, Option, Some, None, is_some, option_map, Result, Ok, Err}
 use Rattle.futures.specs.declared.task.Poll.{Poll}
 use Rattle.futures.specs.declared.task.Poll.TheVariants.{Ready, Pending}
+use Rattle.he_addr.specs.declared.ip.Ip.{Ip}
 use Rattle.he_plan.specs.declared.attempts.Attempt.{Attempt}
 use Rattle.he_plan.specs.Agreement.{AreAlike}
 use Rattle.he_timeline.specs.Building.{unrecorded, with_outcome}
@@ -12,7 +13,7 @@ use Rattle.he_race.specs.declared.attempt.AttemptFuture.{AttemptFuture}
 use Rattle.he_race.specs.declared.attempt.AttemptFuture.TheVariants.{Sleeping}
 use Rattle.he_race.specs.declared.attempt.Finish.{Finish}
 use Rattle.he_race.specs.declared.connector.Connector.{Ghosts as ConnectorOf}
-use Rattle.he_race.specs.declared.faults.ConnectFault.{ConnectFault}
+use Rattle.he_race.specs.declared.faults.AttemptFault.{AttemptFault}
 use Rattle.he_race.specs.declared.faults.RaceFault.{RaceFault}
 use Rattle.he_race.specs.declared.live.Live.{Live}
 use Rattle.he_race.specs.declared.live.Unfinished.{Unfinished}
@@ -23,11 +24,12 @@ use Rattle.he_race.specs.Answered.{earliest, is_tried_out_by}
 use Rattle.he_race.specs.Attempt.{AttemptPolls, due_of}
 use Rattle.he_race.specs.Recording.{EndsRace, ended_by, is_won, slept}
 use Rattle.he_race.specs.Kept.{IsLive}
+use Rattle.he_race.specs.Winner.{EndsAt}
 use Rattle.he_race.specs.declared.faults.RaceFault.TheVariants as faults
 use Rattle.he_race.specs.declared.live.AfterPoll.TheVariants as after_polls
 
 -- an attempt's answer is a connection
-abbrev pub is_connection : {Conn : Type 0} → Result Conn ConnectFault → Bool
+abbrev pub is_connection : {Conn : Type 0} → Result Conn AttemptFault → Bool
 is_connection (Ok conn) = true
 is_connection (Err fault) = false
 
@@ -48,13 +50,14 @@ GivesBy said (Some race) (Err fault) = Unit {0}
 GivesBy said None (Ok raced) = ⊥
 GivesBy said None (Err fault) = fault ≡ faults.Over
 
--- where all answers were given: an end that replays
-abbrev pub GivesFrom : {Conn : Type 0} → Option Race → Result (Raced Conn) RaceFault → Type 0
-GivesFrom {Conn} race result = GivesBy (Replays {Conn = Conn}) race result
+-- where all answers were given: an end that replays, with a winner that goes to the address of the line that won
+abbrev pub GivesFrom : {Conn : Type 0} → (Ip → Conn → Type 0) → Option Race → Result (Raced Conn) RaceFault → Type 0
+GivesFrom {Conn} reaches race result = GivesBy (EndsAt (Replays {Conn = Conn}) reaches) race result
 
-abbrev pub GivesOf : {C Conn Run : Type 0} → Option (Live C Conn Run) → Result (Raced Conn) RaceFault → Type 0
-GivesOf {C} {Conn} {Run} live result =
-    GivesFrom {Conn = Conn} (option_map (λ (x : Live C Conn Run). x.recorder.recorded) live) result
+abbrev pub GivesOf : {C Conn Run : Type 0} → (Ip → Conn → Type 0) → Option (Live C Conn Run)
+    → Result (Raced Conn) RaceFault → Type 0
+GivesOf {C} {Conn} {Run} reaches live result =
+    GivesFrom {Conn = Conn} reaches (option_map (λ (x : Live C Conn Run). x.recorder.recorded) live) result
 
 -- the race ends at the tick: it is won, or at its limit, or exhausted: no attempt is unfinished, and each usable
 -- address of both answers, which have come, was tried
@@ -64,11 +67,11 @@ is_over race attempts now unfinished won =
     || ((length unfinished == 0) && (is_tried_out_by now attempts race.aaaa && is_tried_out_by now attempts race.a)))
 
 -- the record with how an attempt ended: after the ticks since its start
-abbrev pub told : {Conn : Type 0} → Race → Attempt → ℕ → Result Conn ConnectFault → Race
+abbrev pub told : {Conn : Type 0} → Race → Attempt → ℕ → Result Conn AttemptFault → Race
 told race x now answer = with_outcome race x.ip (ended_by (is_connection answer) (now - x.tick))
 
 -- the connection that there is, or else the answer's
-abbrev pub first_of : {Conn : Type 0} → Option Conn → Result Conn ConnectFault → Option Conn
+abbrev pub first_of : {Conn : Type 0} → Option Conn → Result Conn AttemptFault → Option Conn
 first_of (Some conn) answer = Some conn
 first_of None (Ok conn) = Some conn
 first_of None (Err fault) = None

@@ -8,7 +8,7 @@ ghost use Rattle.he_race.specs.Attempt.{AttemptPolls, CanPoll, due_of, started_o
 ghost use Rattle.he_race.specs.Listening.{Listens};
 
 use crate::connector::Connector;
-use crate::faults::ConnectFault;
+use crate::faults::AttemptFault;
 use crate::limits::MAX_POLL_TICK;
 use crate::trial::Trial;
 use futures::task::{Context, Poll};
@@ -18,7 +18,7 @@ use he_addr::Ip;
 #[derive(Drop)]
 pub struct Finish<Conn> {
     pub tick: u64,
-    pub result: Result<Conn, ConnectFault>,
+    pub result: Result<Conn, AttemptFault>,
 }
 
 /// One attempt: it sleeps until its start, then connects, and is done once it has answered.
@@ -33,7 +33,7 @@ pub enum AttemptFuture<C: Connector> {
     /// Begun at the tick before `next`: the trial, or why the connector could not begin one. It isn't polled before
     /// `next`.
     Connecting {
-        run: Result<C::Run, ConnectFault>,
+        run: Result<C::Run, AttemptFault>,
         next: u64,
         is_fresh: bool,
     },

@@ -4,7 +4,7 @@ use thiserror::Error;
 
 /// Why an address has no connection.
 #[derive(Clone, Copy, Debug, PartialEq, Eq, Error)]
-pub enum ConnectFault {
+pub enum AttemptFault {
     /// The attempt could not be begun.
     #[error("the attempt could not begin")]
     Begin,

@@ -27,11 +27,11 @@
 //!     ghost polls = { λ _ _ _ _. ⊤ };                     // nothing is promised of its answers
 //!     ghost due_tick = { λ _. None };
 //!
-//!     fn poll_trial(&mut self, now: u64, cx: &mut Context<'_>) -> Poll<Result<Session, ConnectFault>> {
+//!     fn poll_trial(&mut self, now: u64, cx: &mut Context<'_>) -> Poll<Result<Session, AttemptFault>> {
 //!         match self.io.poll(cx) {                      // registers in `cx` where it is pending
 //!             Poll::Pending => Poll::Pending,
 //!             Poll::Ready(Ok(session)) => Poll::Ready(Ok(session)),
-//!             Poll::Ready(Err(_)) => Poll::Ready(Err(ConnectFault::Failed)),
+//!             Poll::Ready(Err(_)) => Poll::Ready(Err(AttemptFault::Failed)),
 //!         }
 //!     }
 //!
@@ -148,7 +148,7 @@ pub mod wheel;
 pub use answers::AnswerSource;
 pub use attempt::{AttemptFuture, Finish};
 pub use connector::Connector;
-pub use faults::{ConnectFault, RaceFault, TickFault};
+pub use faults::{AttemptFault, RaceFault, TickFault};
 pub use live::Raced;
 pub use one::race_one;
 pub use race::RaceFuture;

@@ -18,7 +18,7 @@ ghost use Rattle.he_race.specs.Turns.{ArePolled, BeginsAt, IsNew, asked_tick, fi
 use crate::answers::AnswerSource;
 use crate::attempt::{AttemptFuture, Finish};
 use crate::connector::Connector;
-use crate::faults::ConnectFault;
+use crate::faults::AttemptFault;
 use crate::recorder::Recorder;
 use futures::task::{Context, Poll};
 use he_addr::Memory;
@@ -247,7 +247,7 @@ impl<C: Connector> Live<C> {
         now: u64,
         connector: &mut C,
         cx: &mut Context<'_>,
-    ) -> Result<Option<Result<C::Conn, ConnectFault>>, Memory>
+    ) -> Result<Option<Result<C::Conn, AttemptFault>>, Memory>
         requires below { i < vec_len self.old.unfinished }
         requires turn { (won : Bool) × InTurn self.old.recorder.recorded now self.old.recorder.underway.attempts won }
         requires underway { IsUnderway self.old.recorder.recorded self.old.recorder.underway }
@@ -387,7 +387,7 @@ fn next_tick<C: Connector>(due: u64, unfinished: &[Unfinished<C>]) -> u64
 }
 
 // The connection that there is, or else the answer's.
-fn first_of<Conn: Drop>(winner: Option<Conn>, answer: Result<Conn, ConnectFault>) -> Option<Conn>
+fn first_of<Conn: Drop>(winner: Option<Conn>, answer: Result<Conn, AttemptFault>) -> Option<Conn>
     ensures value { result ≡ first_of winner answer }
     ensures is_some { is_some result ≡ (is_some winner || is_connection answer) }
 {

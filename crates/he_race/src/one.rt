@@ -7,7 +7,7 @@ ghost use Rattle.he_timeline.specs.Race.{Race};
 ghost use Rattle.he_plan.specs.Transcript.{IsTranscript};
 ghost use Rattle.he_race.specs.Following.{GivesScripts, IsUnderWay};
 ghost use Rattle.he_race.specs.Racing.{RacePolls};
-ghost use Rattle.he_race.specs.Kept.{IsLive};
+ghost use Rattle.he_race.specs.Winner.{MayPoll};
 
 use crate::alone::Alone;
 use crate::connector::Connector;
@@ -121,7 +121,7 @@ fn poll_once<C: Connector, T: Ticker>(
     solo: &Solo,
     race: &mut RaceFuture<C, T>,
 ) -> Poll<Result<Raced<C::Conn>, RaceFault>>
-    requires { IfSome race.old.live (IsLive C.Connector C.Run.Trial) }
+    requires { IfSome race.old.live (MayPoll C.Connector C.Run.Trial race.old.connector) }
     ensures { RacePolls C.Connector C.Run.Trial T.Ticker race.old result race.new }
 {
     let mut cx = solo.begin();

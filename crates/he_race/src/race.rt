@@ -11,6 +11,7 @@ ghost use Rattle.he_race.specs.Racing.{RacePolls, RacePollsBy, fault_of};
 ghost use Rattle.he_race.specs.Resolving.{HeardAt};
 ghost use Rattle.he_race.specs.Kept.{IsLive};
 ghost use Rattle.he_race.specs.Turns.{GivesOf, IsNew};
+ghost use Rattle.he_race.specs.Winner.{MayPoll};
 
 use crate::answers::{AnswerSource, NoAnswers};
 use crate::connector::Connector;
@@ -45,7 +46,7 @@ impl<C: Connector, T: Ticker> RaceFuture<C, T> {
     ) -> Result<RaceFuture<C, T>, Memory>
         ensures connector { IfOk result (λ race. race.connector ≡ connector) }
         ensures ticker { IfOk result (λ race. race.ticker ≡ ticker) }
-        ensures live { IfOk result (λ race. IsSomeAnd race.live (IsLive C.Connector C.Run.Trial)) }
+        ensures live { IfOk result (λ race. IsSomeAnd race.live (MayPoll C.Connector C.Run.Trial race.connector)) }
         ensures recorded { IfOk result (λ race. IsSomeAnd race.live (λ live. live.recorder.recorded
             ≡ unrecorded timeline.now)) }
         ensures first { IfOk result (λ race. IsSomeAnd race.live (IsNew timeline.now)) }
@@ -112,17 +113,18 @@ impl<C: Connector, T: Ticker> Future for RaceFuture<C, T> {
     type Output = Result<Raced<C::Conn>, RaceFault>;
 
     ghost use Rattle.std.specs.Prelude.{IfSome};
-    ghost use Rattle.he_race.specs.Kept.{IsLive};
+    ghost use Rattle.he_race.specs.Winner.{MayPoll};
 
-    ghost can_poll = { λ s. IfSome s.live (IsLive C.Connector C.Run.Trial) };
+    ghost can_poll = { λ s. IfSome s.live (MayPoll C.Connector C.Run.Trial s.connector) };
 
-    ghost gives = { λ s r. GivesOf s.live r };
+    ghost gives = { λ s r. GivesOf (C.Connector.reaches s.connector) s.live r };
 
     fn poll(&mut self, cx: &mut Context<'_>) -> Poll<Result<Raced<C::Conn>, RaceFault>>
-        requires { IfSome self.old.live (IsLive C.Connector C.Run.Trial) }
-        ensures value { IfReady result (GivesOf self.old.live) }
-        ensures again { OnPending result (IfSome self.new.live (IsLive C.Connector C.Run.Trial)) }
-        ensures same { OnPending result ((x : _) → GivesOf self.new.live x → GivesOf self.old.live x) }
+        requires { IfSome self.old.live (MayPoll C.Connector C.Run.Trial self.old.connector) }
+        ensures value { IfReady result (GivesOf (C.Connector.reaches self.old.connector) self.old.live) }
+        ensures again { OnPending result (IfSome self.new.live (MayPoll C.Connector C.Run.Trial self.new.connector)) }
+        ensures same { OnPending result ((x : _) → GivesOf (C.Connector.reaches self.new.connector) self.new.live x
+            → GivesOf (C.Connector.reaches self.old.connector) self.old.live x) }
         ensures registered { OnPending result (Covers cx.new (λ _. ⊥)) }
         ensures kept { Keeps cx.old cx.new }
         ensures over { IfReady result (λ _. self.new.live ≡ None) }

@@ -6,11 +6,11 @@ ghost use Rattle.futures.specs.Poll.{IfReady, OnPending};
 ghost use Rattle.futures.specs.Task.{Covers, Keeps};
 ghost use Rattle.he_timeline.specs.Building.{unrecorded};
 ghost use Rattle.he_race.specs.contracts.resolving.ResolvingRace.{the_row};
-ghost use Rattle.he_race.specs.Kept.{IsLive};
 ghost use Rattle.he_race.specs.Listening.{RaceHears, RaceListens};
 ghost use Rattle.he_race.specs.Racing.{RacePollsBy};
 ghost use Rattle.he_race.specs.Resolving.{HeardAt, MayGive};
 ghost use Rattle.he_race.specs.Turns.{IsNew};
+ghost use Rattle.he_race.specs.Winner.{MayPoll};
 
 use crate::answers::AnswerSource;
 use crate::connector::Connector;
@@ -45,7 +45,7 @@ impl<C: Connector, S: AnswerSource, T: Ticker> ResolvingRace<C, S, T> {
         ensures source { IfOk result (λ new. new.source ≡ source) }
         ensures connector { IfOk result (λ new. new.race.connector ≡ connector) }
         ensures ticker { IfOk result (λ new. new.race.ticker ≡ ticker) }
-        ensures live { IfOk result (λ new. IsSomeAnd new.race.live (IsLive C.Connector C.Run.Trial)) }
+        ensures live { IfOk result (λ new. IsSomeAnd new.race.live (MayPoll C.Connector C.Run.Trial new.race.connector)) }
         ensures recorded { IfOk result (λ new. IsSomeAnd new.race.live (λ live. live.recorder.recorded
             ≡ unrecorded timeline.now)) }
         ensures first { IfOk result (λ new. IsSomeAnd new.race.live (IsNew timeline.now)) }
@@ -68,17 +68,19 @@ impl<C: Connector, S: AnswerSource, T: Ticker> Future for ResolvingRace<C, S, T>
     type Output = Result<Raced<C::Conn>, RaceFault>;
 
     ghost use Rattle.std.specs.Prelude.{IfSome};
-    ghost use Rattle.he_race.specs.Kept.{IsLive};
+    ghost use Rattle.he_race.specs.Winner.{MayPoll};
 
-    ghost can_poll = { λ s. IfSome s.race.live (IsLive C.Connector C.Run.Trial) };
+    ghost can_poll = { λ s. IfSome s.race.live (MayPoll C.Connector C.Run.Trial s.race.connector) };
 
-    ghost gives = { λ s r. MayGive s.race.live r };
+    ghost gives = { λ s r. MayGive (C.Connector.reaches s.race.connector) s.race.live r };
 
     fn poll(&mut self, cx: &mut Context<'_>) -> Poll<Result<Raced<C::Conn>, RaceFault>>
-        requires { IfSome self.old.race.live (IsLive C.Connector C.Run.Trial) }
-        ensures value { IfReady result (MayGive self.old.race.live) }
-        ensures again { OnPending result (IfSome self.new.race.live (IsLive C.Connector C.Run.Trial)) }
-        ensures same { OnPending result ((x : _) → MayGive self.new.race.live x → MayGive self.old.race.live x) }
+        requires { IfSome self.old.race.live (MayPoll C.Connector C.Run.Trial self.old.race.connector) }
+        ensures value { IfReady result (MayGive (C.Connector.reaches self.old.race.connector) self.old.race.live) }
+        ensures again { OnPending result (IfSome self.new.race.live (MayPoll C.Connector C.Run.Trial
+            self.new.race.connector)) }
+        ensures same { OnPending result ((x : _) → MayGive (C.Connector.reaches self.new.race.connector)
+            self.new.race.live x → MayGive (C.Connector.reaches self.old.race.connector) self.old.race.live x) }
         ensures registered { OnPending result (Covers cx.new (λ _. ⊥)) }
         ensures kept { Keeps cx.old cx.new }
         ensures over { IfReady result (λ _. self.new.race.live ≡ None) }

@@ -3,7 +3,7 @@
 ghost use Rattle.std.specs.Prelude.{◌≡◌};
 
 use crate::connector::Connector;
-use crate::faults::ConnectFault;
+use crate::faults::AttemptFault;
 use crate::trial::Trial;
 use futures::task::{Context, Poll};
 use he_addr::Ip;
@@ -46,10 +46,10 @@ impl Trial for ScriptedTrial {
 
     ghost due_tick = { tick_of };
 
-    fn poll_trial(&mut self, now: u64, _cx: &mut Context<'_>) -> Poll<Result<(), ConnectFault>> {
+    fn poll_trial(&mut self, now: u64, _cx: &mut Context<'_>) -> Poll<Result<(), AttemptFault>> {
         match *self {
             ScriptedTrial::Succeeds(tick) if now >= tick => Poll::Ready(Ok(())),
-            ScriptedTrial::Fails(tick) if now >= tick => Poll::Ready(Err(ConnectFault::Failed)),
+            ScriptedTrial::Fails(tick) if now >= tick => Poll::Ready(Err(AttemptFault::Failed)),
             _ => Poll::Pending,
         }
     }
@@ -72,7 +72,7 @@ impl<'a, A: Allocator> Connector for Scripted<'a, A> {
 
     ghost begins = { λ s place ip now answer left. (answer ≡ Ok (script_of s.timeline.now ip now)) × (left ≡ s) };
 
-    fn begin(&mut self, _place: usize, ip: Ip, now: u64) -> Result<ScriptedTrial, ConnectFault> {
+    fn begin(&mut self, _place: usize, ip: Ip, now: u64) -> Result<ScriptedTrial, AttemptFault> {
         Ok(match self.timeline.outcome(ip) {
             Some(Outcome::Ok(duration)) => ScriptedTrial::Succeeds(now + duration),
             Some(Outcome::Fail(duration)) => ScriptedTrial::Fails(now + duration),

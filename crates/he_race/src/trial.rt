@@ -1,14 +1,15 @@
 // A connection that is being made.
 
-ghost use Rattle.std.specs.Prelude.{◌≡◌, ◌≤◌, ℕ, ⊤, Option, Result, ◌⊎◌};
-ghost use Rattle.futures.specs.Poll.{OnPending};
+ghost use Rattle.std.specs.Prelude.{◌≡◌, ◌≤◌, ℕ, ⊤, Option, Result, ◌⊎◌, IfOk};
+ghost use Rattle.futures.specs.Poll.{IfReady, OnPending};
 ghost use Rattle.futures.specs.Task.{Covers, Keeps};
 ghost use Rattle.futures.specs.declared.task.Poll.{Poll};
-ghost use Rattle.he_race.specs.declared.faults.ConnectFault.{ConnectFault};
+ghost use Rattle.he_race.specs.declared.faults.AttemptFault.{AttemptFault};
 ghost use Rattle.he_race.specs.declared.limits.TheConstants.{MAX_POLL_TICK};
+ghost use Rattle.he_race.specs.Reach.{AreAmong};
 ghost use Rattle.he_race.specs.Waiting.{WaitsForTick};
 
-use crate::faults::ConnectFault;
+use crate::faults::AttemptFault;
 use crate::limits::MAX_POLL_TICK;
 use futures::task::{Context, Poll};
 
@@ -30,9 +31,12 @@ pub trait Trial: Drop {
     ghost needs: { Self → ℕ → Type 0 } = { λ _ _. ⊥ };
 
     // What a poll at a tick may answer, and the state that it leaves.
-    ghost polls: { Self → ℕ → Poll (Result Self.Conn ConnectFault) → Self → Type 0 };
+    ghost polls: { Self → ℕ → Poll (Result Self.Conn AttemptFault) → Self → Type 0 };
 
     ghost due_tick: { Self → Option ℕ };
+
+    // Which connections it may give: those that go where it was begun for. Each poll keeps it.
+    ghost may_give: { Self → Self.Conn → Type 0 } = { λ _ _. ⊤ };
 
     /// Polls at the tick `now`, at most `MAX_POLL_TICK`. It answers the connection or why there is none; after an
     /// answer it isn't called again.
@@ -40,11 +44,13 @@ pub trait Trial: Drop {
         &mut self,
         now: u64,
         cx: &mut Context<'_>,
-    ) -> Poll<Result<Self::Conn, ConnectFault>>
+    ) -> Poll<Result<Self::Conn, AttemptFault>>
         requires can { can_poll self.old }
         requires in_time { now ≤ MAX_POLL_TICK }
         ensures step { polls self.old now result self.new }
         ensures again { OnPending result (can_poll self.new) }
+        ensures aim { OnPending result (AreAmong (may_give self.new) (may_give self.old)) }
+        ensures gives { IfReady result (λ answer. IfOk answer (may_give self.old)) }
         ensures waits { OnPending result (Covers cx.new (needs self.new)
             ⊎ WaitsForTick polls self.new (due_tick self.new)) }
         ensures kept { Keeps cx.old cx.new };

@@ -3,7 +3,7 @@
 use crate::homes::{V4_A, V6_A};
 use futures::task::{Context, Doorbell, Poll, Solo};
 use he_addr::Ip;
-use he_race::{AttemptFuture, ConnectFault, Connector, Finish, Trial};
+use he_race::{AttemptFuture, AttemptFault, Connector, Finish, Trial};
 use std::test::Fail;
 
 #[derive(Drop)]
@@ -20,7 +20,7 @@ impl Trial for Patient {
 
     ghost due_tick = { λ _. None };
 
-    fn poll_trial(&mut self, _now: u64, cx: &mut Context<'_>) -> Poll<Result<u8, ConnectFault>> {
+    fn poll_trial(&mut self, _now: u64, cx: &mut Context<'_>) -> Poll<Result<u8, AttemptFault>> {
         self.polls = self.polls.saturating_add(1);
         if self.polls < 3 {
             return cx.yield_now();
@@ -47,11 +47,11 @@ impl Connector for OneAddress {
 
     ghost begins = { λ _ _ _ _ _ _. ⊤ };
 
-    fn begin(&mut self, _place: usize, ip: Ip, _now: u64) -> Result<Patient, ConnectFault> {
+    fn begin(&mut self, _place: usize, ip: Ip, _now: u64) -> Result<Patient, AttemptFault> {
         if ip == self.ip {
             Ok(Patient { polls: 0 })
         } else {
-            Err(ConnectFault::Begin)
+            Err(AttemptFault::Begin)
         }
     }
 }
@@ -61,7 +61,7 @@ fn finish<C: Connector>(
     solo: &Solo,
     mut connector: C,
     ip: Ip,
-) -> Option<(u64, Result<C::Conn, ConnectFault>)> {
+) -> Option<(u64, Result<C::Conn, AttemptFault>)> {
     let mut future = AttemptFuture::new(0, ip, 4);
     for tick in 1..10 {
         let mut cx = solo.begin();
@@ -89,7 +89,7 @@ fn connector_of_ones_own(rt: HostRuntime) -> Result<(), Fail> {
     );
     assert_eq!(rt;
         finish(&solo, OneAddress { ip: V6_A }, V4_A),
-        Some((5, Err(ConnectFault::Begin)))
+        Some((5, Err(AttemptFault::Begin)))
     );
     Ok(())
 }

@@ -9,7 +9,7 @@ use futures::task::{Context, Doorbell, Poll, Solo};
 use he_addr::Ip;
 use he_plan::{Mark, Outcome3};
 use he_race::{
-    ConnectFault, Connector, RaceFault, RaceFuture, Raced, Scripted, ScriptedTrial, TickFault,
+    AttemptFault, Connector, RaceFault, RaceFuture, Raced, Scripted, ScriptedTrial, TickFault,
     Ticker, WheelTicker,
 };
 use he_timeline::{Outcome, Timeline};
@@ -99,9 +99,9 @@ impl<'a> Connector for FailsFirst<'a> {
 
     ghost begins = { λ _ _ _ _ _ _. ⊤ };
 
-    fn begin(&mut self, place: usize, ip: Ip, now: u64) -> Result<ScriptedTrial, ConnectFault> {
+    fn begin(&mut self, place: usize, ip: Ip, now: u64) -> Result<ScriptedTrial, AttemptFault> {
         if place < self.faulty {
-            return Err(ConnectFault::Begin);
+            return Err(AttemptFault::Begin);
         }
         self.script.begin(place, ip, now)
     }
