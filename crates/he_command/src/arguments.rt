@@ -16,6 +16,8 @@ pub(crate) enum OptionFault {
     Resolver,
     #[error("invalid value for '--for <ADDRESS>...': not an IPv4 or IPv6 address")]
     Destination,
+    #[error("invalid value for '--record <FILE>': `-` goes with `-z`, since the connection has standard output")]
+    Record,
     #[error("more than 4294967296 files")]
     Files,
     #[error("invalid value for '--html <FILE>': the name of a page ends in `.html`")]

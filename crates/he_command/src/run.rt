@@ -2,22 +2,24 @@
 ghost use Rattle.std.specs.Prelude.{◌≡◌, ◌≢◌, [], Err, IfOk, IsSome, MatchResult, Ok, OnErr, Result};
 ghost use Rattle.clap.specs.Values.{kind_of};
 ghost use Rattle.he_command.specs.Run.{AnswersLine, IsRequest, RunsConnect, RunsLine, RunsLive, RunsNames, RunsRace, RunsRequest, TellsRace, connect_settings};
-ghost use Rattle.he_command.specs.Status.{status_of, status_of_connection, status_of_live};
+ghost use Rattle.he_command.specs.Status.{status_of, status_of_live};
 ghost use Rattle.he_command.specs.Streams.{Shows};
 
 use crate::arguments::OptionFault;
 use crate::asking::Options;
 use crate::command::{Request, read_words};
+use crate::connection::{Connection, run_connection};
 use crate::host::run_host;
 use crate::numbers::{SettingFault, settings_of};
 use crate::pages::run_page;
 use crate::racing::LiveOptions;
+use crate::record::{STANDARD_OUTPUT, keep_live_record, report_record};
 use crate::summing::run_summary;
 use crate::system::{System, columns_of};
 use crate::tasks::run_texts;
 use clap::Error;
 use clap::error::ErrorKind;
-use he_connect::{ConnectFault, ConnectRequest, Ended, Lines, connect};
+use he_connect::{ConnectRequest, Lines};
 use he_inputs::StreamFault;
 use he_live::{FailedAttempt, LiveFault, LiveReport, first_local, live, write_failures};
 use he_plan::Outcome3;
@@ -26,7 +28,6 @@ use he_stream::{FromReader, InputStream, OutputStream, ToWriter, write_whole};
 use he_timeline::{Changes, Settings};
 use std::alloc::Global;
 use std::fmt::Display;
-use std::fs;
 use std::io::Write;
 use std::mem::drop;
 
@@ -182,21 +183,9 @@ fn report_live<R: System, F: Write>(
 {
     report_failures(alloc, &told.failed, options.verbose, faults);
     let status = report_race(end, options.must_connect, faults);
-    match keep_record(rt, options.record, &told.record) {
+    match keep_live_record(rt, alloc, options.record, &told.record) {
         Ok(()) => status,
-        Err(fault) => report(fault, faults),
-    }
-}
-
-// Writes the record of a race that was run to its file, where one is named.
-fn keep_record<R: System>(rt: &R, path: Option<&str>, text: &[u8]) -> Result<(), ConnectFault>
-    ensures { OnErr result (IsSome path.entry × (text.now ≢ [])) }
-{
-    match path {
-        Some(path) if !text.is_empty() => {
-            fs::write(rt, path, text).map_err(|_| ConnectFault::Record)
-        }
-        _ => Ok(()),
+        Err(error) => report_record(options.record, error, faults),
     }
 }
 
@@ -251,27 +240,28 @@ where
         Ok(settings) => settings,
         Err(fault) => return refuse_option(OptionFault::Setting(fault), faults),
     };
-    let request = ConnectRequest {
-        host: options.host,
-        port: options.port,
-        families: options.families,
-        settings,
-        lines: match options.lines {
-            Some(path) => Lines::File(path),
-            None => Lines::Machine,
+    if options.record == Some(STANDARD_OUTPUT) && !options.only_tries {
+        return refuse_option(OptionFault::Record, faults);
+    }
+    let connection = Connection {
+        race: ConnectRequest {
+            host: options.host,
+            port: options.port,
+            families: options.families,
+            settings,
+            lines: match options.lines {
+                Some(path) => Lines::File(path),
+                None => Lines::Machine,
+            },
+            resolver,
+            explains: options.explains,
+            tells_steps: options.tells_steps,
         },
-        resolver,
         record: options.record,
-        explains: options.explains,
-        tells_steps: options.tells_steps,
         only_tries: options.only_tries,
         wait: options.wait,
     };
-    report_connection(
-        connect(rt, alloc, &request, input, output, faults),
-        options.host,
-        faults,
-    )
+    run_connection(rt, alloc, &connection, input, output, faults)
 }
 
 fn settings_asked(options: &Options<'_>) -> Result<Settings, SettingFault>
@@ -279,18 +269,6 @@ fn settings_asked(options: &Options<'_>) -> Result<Settings, SettingFault>
         ≡ Err fault) }
 {
     settings_of(options.changes?).ok_or(SettingFault::Form)
-}
-
-// Says how a connection ended, and answers the exit status.
-fn report_connection<F: Write>(end: Result<Ended, ConnectFault>, host: &str, faults: &mut F) -> u8
-    ensures { result ≡ status_of_connection end }
-{
-    match end {
-        Ok(Ended::NoConnection) => NO_CONNECTION,
-        Ok(Ended::Connected | Ended::Relayed) => DONE,
-        Err(fault) if fault.is_of_host() => report_of(fault, host, faults),
-        Err(fault) => report(fault, faults),
-    }
 }
 
 // Says how a search for names ended, and answers the exit status.
@@ -305,7 +283,7 @@ fn report_names<F: Write>(end: Result<(), TellFault>, host: &str, faults: &mut F
 }
 
 // Writes the line of a fault that is the host's, and answers the exit status.
-fn report_of<E: Display + Drop, F: Write>(fault: E, host: &str, faults: &mut F) -> u8
+pub(crate) fn report_of<E: Display + Drop, F: Write>(fault: E, host: &str, faults: &mut F) -> u8
     ensures { result ≡ FAULT }
 {
     let _ = writeln!(faults, "he: {fault}: {host}");

@@ -1,19 +1,20 @@
 //! The race of a connection that is asked for, on real sockets.
-ghost use Rattle.std.specs.Prelude.{◌≡◌, IfOk, IfErr, is_some};
+ghost use Rattle.std.specs.Prelude.{◌≡◌, IfOk, is_some};
 ghost use Rattle.he_write.specs.Written.{timeline_text};
-ghost use Rattle.he_connect.specs.Connects.{IsBefore, IsExplained, IsRun, RunsFrom};
+ghost use Rattle.he_connect.specs.Races.{IsExplained, IsRun, RunsFrom};
 
-use crate::request::{ConnectRequest, Lines};
+use crate::families::{families_to_try, tell_unasked};
 use crate::fault::ConnectFault;
 use crate::kernel::write_other_sources;
 use crate::lines::read_lines_of;
-use crate::source::{HostAnswers, LookupFaults};
+use crate::request::{ConnectRequest, Lines};
+use crate::source::{FamilyFaults, HostAnswers, LookupFaults};
 use crate::start::start_race;
 use crate::telling::Telling;
 use crate::tried::write_tried;
 use he_live::{Steps, resolving_race_on};
 use he_race::Raced;
-use he_resolver::{Lookup, NamesFault, SystemResolver, Wanted};
+use he_resolver::{Lookup, NamesFault, SystemResolver, Wanted, find_known};
 use he_story::write_story;
 use he_timeline::Timeline;
 use he_write::write_timeline;
@@ -28,29 +29,29 @@ use std::thread::Threads;
 use std::time::Clock;
 use tokio::runtime::{Handle, LocalRuntime};
 
-/// A race that was run.
+/// A race that was run for a connection.
 #[derive(Drop)]
-pub(crate) struct FinishedRace {
+pub struct FinishedRace {
     /// The text of its record.
     pub text: Vec<u8>,
-    /// What is told of it: its explanation, where that is asked for, and where nothing connected what was tried.
+    /// Its story, where that is asked for.
+    pub story: Vec<u8>,
+    /// What is said of it beside its story, in lines: other sources, and where nothing connected what was tried.
     pub told: Vec<u8>,
     /// Why there was no address to connect to, where a look-up found none.
     pub nameless: Option<NamesFault>,
     /// The connection.
-    pub winner: Option<TcpStream>,
+    pub connection: Option<TcpStream>,
 }
 
-// The texts of a race that was run.
-#[derive(Drop)]
-struct RaceTexts {
-    text: Vec<u8>,
-    told: Vec<u8>,
-}
-
-/// Runs the race that is asked for. Each step is told to `faults` as it happens, where that is asked for.
+/// Finds the addresses of the host while it races them, as RFC 8305 says. Each step is told to `faults` as it happens,
+/// where that is asked for; what cannot be written there is passed over.
+///
+/// # Errors
+///
+/// Those of [`ConnectFault`].
 #[tactic(auto, using(crate::proofs::Runs::began_so))]
-pub(crate) fn run_race<R, F>(
+pub fn race<R, F>(
     rt: &R,
     alloc: Global,
     request: &ConnectRequest<'_>,
@@ -60,13 +61,18 @@ where
     F: Write,
     R: Threads + Wait + Clock + RandomSource + AllocGlobal + Net + Files + Sync,
     R: SystemResolver + Copy + Send + 'static,
-    ensures race { IfOk result (λ run. IsRun request.now.settings request.now.families run.text.items
-        (is_some run.winner)) }
-    ensures fault { IfErr result IsBefore }
+    ensures { IfOk result (λ run. IsRun request.now.settings request.now.families request.now.explains
+        run.text.items run.story.items (is_some run.connection)) }
 {
-    let lines = read_lines_of(rt, alloc, request.lines, request.host)?;
-    let start = start_race(alloc, request.settings, request.families, &lines)?;
-    let run = run_from(rt, alloc, request, &start, faults);
+    let known = find_known(rt, alloc, request.host)?;
+    let tried = families_to_try(rt, request, known.is_some())?;
+    if tried != request.families && (request.tells_steps || request.explains) {
+        tell_unasked(tried, faults);
+    }
+    let lines = read_lines_of(rt, alloc, request.lines, known)?;
+    let start = start_race(alloc, request.settings, tried, &lines)?;
+    let request = request.with_families(tried);
+    let run = run_from(rt, alloc, &request, &start, faults);
     drop(start);
     run
 }
@@ -83,8 +89,8 @@ where
     F: Write,
     R: Threads + Wait + Clock + RandomSource + AllocGlobal + Net + Files + Sync,
     R: SystemResolver + Copy + Send + 'static,
-    ensures race { IfOk result (λ run. RunsFrom start.now run.text.items (is_some run.winner)) }
-    ensures fault { IfErr result IsBefore }
+    ensures race { IfOk result (λ run. RunsFrom start.now request.now.explains run.text.items run.story.items
+        (is_some run.connection)) }
 {
     let mut runtime = LocalRuntime::new(rt)?;
     let handle = runtime.handle().clone()?;
@@ -102,7 +108,7 @@ where
         &steps,
         &telling,
     )?;
-    end_with(rt, alloc, request, why.fault(request.families), &steps, raced)
+    end_with(rt, alloc, request, why.families(), &steps, raced)
 }
 
 // The answers of a look-up of the host, which waits in the event loop.
@@ -116,7 +122,6 @@ fn answers_of<'h, R>(
 where
     R: Threads + Wait + Clock + RandomSource + AllocGlobal + Net + Files + Sync,
     R: SystemResolver + Copy + Send + 'static,
-    ensures fault { IfErr result IsBefore }
 {
     let (reactor, timers) = (handle.reactor(), handle.time());
     let wanted = Wanted {
@@ -128,20 +133,20 @@ where
     Ok(HostAnswers::new(alloc, lookup, why))
 }
 
-// What is told of the race, with its connection.
+// What is handed out of the race.
 fn end_with<R: Net>(
     rt: &R,
     alloc: Global,
     request: &ConnectRequest<'_>,
-    nameless: Option<NamesFault>,
+    why: FamilyFaults,
     steps: &Steps,
     raced: Raced<TcpStream>,
 ) -> Result<FinishedRace, ConnectFault>
     ensures text { IfOk result (λ run. run.text.items ≡ timeline_text raced.recorded) }
-    ensures winner { IfOk result (λ run. is_some run.winner ≡ is_some raced.winner) }
-    ensures fault { IfErr result IsBefore }
+    ensures story { IfOk result (λ run. IsExplained request.now.explains raced.recorded run.story.items) }
+    ensures winner { IfOk result (λ run. is_some run.connection ≡ is_some raced.winner) }
 {
-    let texts = texts_of(rt, alloc, request, nameless, steps, &raced);
+    let texts = texts_of(rt, alloc, request, why, steps, &raced);
     let Raced {
         transcript,
         recorded,
@@ -149,12 +154,13 @@ fn end_with<R: Net>(
     } = raced;
     drop(transcript);
     drop(recorded);
-    let RaceTexts { text, told } = texts?;
+    let RaceTexts { text, story, told } = texts?;
     Ok(FinishedRace {
         text,
+        story,
         told,
-        nameless,
-        winner,
+        nameless: why.nameless(request.families),
+        connection: winner,
     })
 }
 
@@ -162,33 +168,41 @@ fn texts_of<R: Net>(
     rt: &R,
     alloc: Global,
     request: &ConnectRequest<'_>,
-    nameless: Option<NamesFault>,
+    why: FamilyFaults,
     steps: &Steps,
     raced: &Raced<TcpStream>,
 ) -> Result<RaceTexts, ConnectFault>
     ensures text { IfOk result (λ texts. texts.text.items ≡ timeline_text raced.now.recorded) }
-    ensures fault { IfErr result IsBefore }
+    ensures story { IfOk result (λ texts. IsExplained request.now.explains raced.now.recorded texts.story.items) }
 {
     let mut text = Vec::new(alloc);
     write_timeline(&raced.recorded, &mut text)?;
-    let mut told = explain(alloc, request.explains, &raced.recorded)?;
+    let story = explain(alloc, request.explains, &raced.recorded)?;
+    let mut told = Vec::new(alloc);
     if request.tells_steps || request.lines == Lines::Machine {
         write_other_sources(rt, &raced.recorded, raced.transcript.attempts(), &mut told)?;
     }
-    if raced.winner.is_none() && nameless.is_none() {
-        write_tried(request, &raced.recorded, &raced.transcript, steps, &mut told)?;
+    if raced.winner.is_none() && why.nameless(request.families).is_none() {
+        write_tried(alloc, request, raced, steps, why, &mut told)?;
     }
-    Ok(RaceTexts { text, told })
+    Ok(RaceTexts { text, story, told })
 }
 
 // The story of a race, where it is asked for.
 fn explain(alloc: Global, is_asked: bool, recorded: &Timeline) -> Result<Vec<u8>, ConnectFault>
-    ensures text { IfOk result (λ text. IsExplained is_asked recorded.now text.items) }
-    ensures fault { IfErr result IsBefore }
+    ensures { IfOk result (λ story. IsExplained is_asked recorded.now story.items) }
 {
-    let mut text = Vec::new(alloc);
+    let mut story = Vec::new(alloc);
     if is_asked {
-        write_story(alloc, recorded, 1, 1, &mut text)?;
+        write_story(alloc, recorded, 1, 1, &mut story)?;
     }
-    Ok(text)
+    Ok(story)
+}
+
+// The texts of a race that was run.
+#[derive(Drop)]
+struct RaceTexts {
+    text: Vec<u8>,
+    story: Vec<u8>,
+    told: Vec<u8>,
 }

@@ -1,4 +1,5 @@
-//! What a connection is asked for.
+//! What is asked for.
+ghost use Rattle.std.specs.Prelude.{◌≡◌};
 
 use he_addr::Family;
 use he_resolver::Choice;
@@ -30,7 +31,7 @@ pub enum Lines<'a> {
     File(&'a str),
 }
 
-/// A connection that is asked for.
+/// A race for a connection that is asked for.
 #[derive(Clone, Copy)]
 pub struct ConnectRequest<'a> {
     /// A name or an address.
@@ -43,15 +44,26 @@ pub struct ConnectRequest<'a> {
     pub lines: Lines<'a>,
     /// Which resolver is asked for the host's addresses.
     pub resolver: Choice,
-    /// The file that the record is written to.
-    pub record: Option<&'a str>,
     /// Whether the race is explained.
     pub explains: bool,
     /// Whether each step is told as it happens.
     pub tells_steps: bool,
-    /// Whether the connection is closed once it is made.
-    pub only_tries: bool,
-    /// How long standard input is waited for once the remote has ended its way, in milliseconds: the command line's
-    /// `--wait`. [`DEFAULT_WAIT`](he_relay::DEFAULT_WAIT) where it is not given.
-    pub wait: u32,
+}
+
+impl<'a> ConnectRequest<'a> {
+    // The same, for these families.
+    pub(crate) fn with_families(&self, families: Families) -> ConnectRequest<'a>
+        ensures { (result.explains ≡ self.now.explains) × (result.settings ≡ self.now.settings) }
+    {
+        ConnectRequest {
+            host: self.host,
+            port: self.port,
+            families,
+            settings: self.settings,
+            lines: self.lines,
+            resolver: self.resolver,
+            explains: self.explains,
+            tells_steps: self.tells_steps,
+        }
+    }
 }

@@ -26,12 +26,11 @@ impl LookupFaults {
         }
     }
 
-    // Why there is no address of those that are tried; None where a family that is tried has some, or none yet.
-    pub(crate) fn fault(&self, families: Families) -> Option<NamesFault> {
-        match families {
-            Families::Only(Family::V6) => self.six.get(),
-            Families::Only(Family::V4) => self.four.get(),
-            Families::Both => Some(first_fault(self.six.get()?, self.four.get()?)),
+    // What is known by now.
+    pub(crate) fn families(&self) -> FamilyFaults {
+        FamilyFaults {
+            six: self.six.get(),
+            four: self.four.get(),
         }
     }
 
@@ -39,6 +38,34 @@ impl LookupFaults {
         match family {
             Family::V6 => self.six.set(Some(fault)),
             Family::V4 => self.four.set(Some(fault)),
+        }
+    }
+}
+
+// Why each family has no address, at a race's end.
+#[derive(Clone, Copy)]
+pub(crate) struct FamilyFaults {
+    six: Option<NamesFault>,
+    four: Option<NamesFault>,
+}
+
+impl FamilyFaults {
+    // Why the family has no address; None where it has some, or was not told in time.
+    pub(crate) fn of(self, family: Family) -> Option<NamesFault> {
+        match family {
+            Family::V6 => self.six,
+            Family::V4 => self.four,
+        }
+    }
+
+    // Why there is no address of those that are tried; None where a family that is tried has some, or none yet, and
+    // where the name has addresses of the other family alone.
+    pub(crate) fn nameless(self, families: Families) -> Option<NamesFault> {
+        match families {
+            Families::Only(family) => self
+                .of(family)
+                .filter(|fault| *fault != NamesFault::NoAddress),
+            Families::Both => Some(first_fault(self.six?, self.four?)),
         }
     }
 }

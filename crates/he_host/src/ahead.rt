@@ -19,7 +19,7 @@ use std::net::Net;
 use std::rt::Files as FileSystem;
 
 // How many bytes of a file of routes or addresses are read: the lines of more routes than a race holds.
-const MOST_BYTES: u64 = 16_384;
+const MOST_BYTES: u64 = 8_192;
 
 // How many routes of a file are asked for, beside the default ones: a race holds those of both families.
 const MOST_ROUTES: usize = 30;

@@ -4,9 +4,26 @@ ghost use Rattle.std.specs.Prelude.{◌≡◌, [], IfNone, IfOk, IfSome};
 ghost use Rattle.he_resolver.specs.Known.{known_of};
 
 use crate::fault::NamesFault;
+use crate::files::{HOSTS, read_file};
 use he_addr::{Family, Ip, read_ip};
 use he_names::read_hosts;
-use std::alloc::Global;
+use std::alloc::{AllocGlobal, Global};
+use std::rt::Files;
+
+/// The addresses of a host that are known without asking: its own, where it is an address, or those that the file of
+/// hosts has; `None` where a name server is asked.
+///
+/// # Errors
+///
+/// `Memory`: an allocation was refused.
+pub fn find_known<R: Files + AllocGlobal>(
+    rt: &R,
+    alloc: Global,
+    host: &str,
+) -> Result<Option<Vec<Ip>>, NamesFault> {
+    let hosts = read_file(rt, alloc, HOSTS)?;
+    known_in(alloc, host.as_bytes(), &hosts)
+}
 
 // The addresses of a host that is an address, or that this file of hosts has an address of.
 pub(crate) fn known_in(

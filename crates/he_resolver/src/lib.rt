@@ -52,6 +52,7 @@ pub mod system;
 pub use choice::Choice;
 pub use failure::{Failure, ServerFault};
 pub use fault::{NamesFault, TellFault, first_fault};
+pub use known::find_known;
 pub use lookup::{Lookup, Wanted};
 pub use naming::write_names;
 pub use system::SystemResolver;

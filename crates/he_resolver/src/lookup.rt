@@ -8,8 +8,8 @@ ghost use Rattle.he_resolver.specs.Needs.{lookup_needs};
 
 use crate::choice::Choice;
 use crate::fault::NamesFault;
-use crate::files::{HOSTS, SETTINGS, read_file};
-use crate::known::known_in;
+use crate::files::{SETTINGS, read_file};
+use crate::known::find_known;
 use crate::plan::plan_of;
 use crate::resolver::Resolver;
 use crate::setup::Setup;
@@ -74,8 +74,7 @@ impl<'h, R: Net + RandomSource + Clock> Lookup<'h, R> {
             return Ok(Lookup { alloc, source });
         }
         let host = wanted.host.as_bytes();
-        let hosts = read_file(rt, alloc, HOSTS)?;
-        if let Some(known) = known_in(alloc, host, &hosts)? {
+        if let Some(known) = find_known(rt, alloc, wanted.host)? {
             let source = Source::Known(Ok(known));
             return Ok(Lookup { alloc, source });
         }
