@@ -1,5 +1,5 @@
 -- What comes of a connection that a line asks for.
-use Rattle.std.specs.Prelude.{◌≡◌, ◌⊎◌, ℕ, List, Bool, true, false, Result}
+use Rattle.std.specs.Prelude.{◌≡◌, ◌⊎◌, ℕ, List, Bool, true, false, IsSome, Result}
 use Rattle.he_connect.specs.Races.{IsRun}
 use Rattle.he_relay.specs.Relays.{Relays}
 use Rattle.he_relay.specs.declared.fault.RelayFault.{RelayFault}
@@ -7,7 +7,7 @@ use Rattle.he_stream.specs.declared.stream.OutputStream as outputs
 use Rattle.he_command.specs.declared.connection.Connection.{Connection}
 use Rattle.he_command.specs.declared.run.TheConstants.{DONE, FAULT, NO_CONNECTION}
 use Rattle.he_command.specs.Status.{status_of}
-use Rattle.he_command.specs.Streams.{TookAll, TookPart, TookRounds, TookRoundsPart}
+use Rattle.he_command.specs.Streams.{IsRefused, TookAll, TookPart, TookRounds, TookRoundsPart}
 
 -- the text of the record went to a file or to the output, or there is no place for it; or that failed, and the output
 -- took a first part of it at most
@@ -39,10 +39,16 @@ EndsRace output only_tries kept won before after status =
 
 -- what comes of a connection: its record has no place or its race was not run, and the output is left alone; or a race
 -- was run for what is asked for, its record is kept, and then what it won is relayed
-abbrev pub RunsConnection : {O : Type 0} → outputs.Ghosts O → Connection → O → O → ℕ → Type 0
-RunsConnection {O} output connection before after status =
+abbrev pub MakesConnection : {O : Type 0} → outputs.Ghosts O → Connection → O → O → ℕ → Type 0
+MakesConnection {O} output connection before after status =
     ((status ≡ FAULT) × (after ≡ before))
     ⊎ ((text story : List ℕ) × (won : Bool) × (between : O) × (kept : ℕ)
     × IsRun connection.race.settings connection.race.families connection.race.explains text story won
     × KeepsRecord output text before between kept
     × EndsRace output connection.only_tries kept won between after status)
+
+-- the same, or the line is refused: a record on standard output goes with a connection that is only tried
+abbrev pub RunsConnection : {I O : Type 0} → outputs.Ghosts O → Connection → I → I → O → O → ℕ → Type 0
+RunsConnection output connection first last before after status =
+    (IsSome connection.record × (connection.only_tries ≡ false) × IsRefused first last before after status)
+    ⊎ MakesConnection output connection before after status

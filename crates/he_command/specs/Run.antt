@@ -100,11 +100,11 @@ connect_settings given =
       floor = Some MIN_FLOOR;
     })
 
--- a connection that is asked for, with these settings
-abbrev pub RunsSettings : {O : Type 0} → outputs.Ghosts O → Options → SettingValues → O → O → ℕ → Type 0
-RunsSettings output options settings before after status =
+-- a connection that the line asks for, with these settings
+abbrev pub RunsSettings : {I O : Type 0} → outputs.Ghosts O → Options → SettingValues → I → I → O → O → ℕ → Type 0
+RunsSettings output options settings first last before after status =
     (connection : Connection) × (connection.race.settings ≡ settings) × (connection.race.families ≡ options.families)
-    × RunsConnection output connection before after status
+    × RunsConnection output connection first last before after status
 
 -- what comes of a connection that is asked for: an option has no value that it may have, and the line is refused; or
 -- that
@@ -113,7 +113,7 @@ RunsConnect output options first last before after status =
     MatchOption options.resolver
     (IsRefused first last before after status)
     (λ _. MatchResult options.changes
-    (λ changes. RunsSettings output options (connect_settings changes) before after status)
+    (λ changes. RunsSettings output options (connect_settings changes) first last before after status)
     (λ _. IsRefused first last before after status))
 
 -- what was asked for was done, and the status tells how that ended; or a setting is none, or out of its range, and the

@@ -1,12 +1,13 @@
 //! A connection that is made, recorded and relayed.
 ghost use Rattle.std.specs.Prelude.{◌≡◌, is_some};
-ghost use Rattle.he_command.specs.Connection.{EndsRace, RelaysTo, RunsConnection};
+ghost use Rattle.he_command.specs.Connection.{EndsRace, MakesConnection, RelaysTo, RunsConnection};
 ghost use Rattle.he_command.specs.Status.{status_of};
 ghost use Rattle.he_command.specs.declared.run.TheConstants.{FAULT};
 
-use crate::record::{discard_record, keep_record, open_record, report_record};
+use crate::arguments::OptionFault;
+use crate::record::{STANDARD_OUTPUT, discard_record, keep_record, open_record, report_record};
 use crate::reports::report_unwritten;
-use crate::run::{DONE, FAULT, NO_CONNECTION, report, report_of};
+use crate::run::{DONE, FAULT, NO_CONNECTION, refuse_option, report, report_of};
 use crate::system::System;
 use he_connect::{ConnectFault, ConnectRequest, FinishedRace, Lines, race};
 use he_relay::{RelayFault, over_socket, relay_standard};
@@ -27,7 +28,7 @@ pub struct Connection<'a> {
     pub wait: u32,
 }
 
-// Races for the connection, keeps the record, and relays to the end.
+// Makes the connection. A line that wants its record on standard output, which the connection has, is refused.
 pub(crate) fn run_connection<R, I, O, F>(
     rt: &R,
     alloc: Global,
@@ -41,7 +42,33 @@ where
     I: InputStream,
     O: OutputStream + Send,
     F: Write,
-    ensures { RunsConnection O.OutputStream connection.now output.old output.new result }
+    ensures { RunsConnection O.OutputStream connection.now input.old input.new output.old output.new result }
+{
+    if !connection.only_tries
+        && connection
+            .record
+            .is_some_and(|path| path == STANDARD_OUTPUT)
+    {
+        return refuse_option(OptionFault::Record, faults);
+    }
+    make_connection(rt, alloc, connection, input, output, faults)
+}
+
+// Races for the connection, keeps the record, and relays to the end.
+fn make_connection<R, I, O, F>(
+    rt: &R,
+    alloc: Global,
+    connection: &Connection<'_>,
+    input: &mut I,
+    output: &mut O,
+    faults: &mut F,
+) -> u8
+where
+    R: System,
+    I: InputStream,
+    O: OutputStream + Send,
+    F: Write,
+    ensures { MakesConnection O.OutputStream connection.now output.old output.new result }
 {
     let place = match open_record(rt, alloc, connection.record) {
         Ok(place) => place,
@@ -141,9 +168,10 @@ fn report_race<F: Write>(fault: ConnectFault, request: &ConnectRequest<'_>, faul
     ensures { result ≡ FAULT }
 {
     match (fault, request.lines) {
-        (ConnectFault::File | ConnectFault::Lines(_) | ConnectFault::OtherLines, Lines::File(path)) => {
-            report_of(fault, path, faults)
-        }
+        (
+            ConnectFault::File | ConnectFault::Lines(_) | ConnectFault::OtherLines,
+            Lines::File(path),
+        ) => { report_of(fault, path, faults) }
         (fault, _) if fault.is_of_host() => report_of(fault, request.host, faults),
         (fault, _) => report(fault, faults),
     }

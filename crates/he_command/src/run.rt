@@ -13,7 +13,7 @@ use crate::host::run_host;
 use crate::numbers::{SettingFault, settings_of};
 use crate::pages::run_page;
 use crate::racing::LiveOptions;
-use crate::record::{STANDARD_OUTPUT, keep_live_record, report_record};
+use crate::record::{keep_live_record, report_record};
 use crate::summing::run_summary;
 use crate::system::{System, columns_of};
 use crate::tasks::run_texts;
@@ -240,10 +240,16 @@ where
         Ok(settings) => settings,
         Err(fault) => return refuse_option(OptionFault::Setting(fault), faults),
     };
-    if options.record == Some(STANDARD_OUTPUT) && !options.only_tries {
-        return refuse_option(OptionFault::Record, faults);
-    }
-    let connection = Connection {
+    let connection = connection_of(options, resolver, settings);
+    run_connection(rt, alloc, &connection, input, output, faults)
+}
+
+// The connection that the line asks for.
+fn connection_of<'a>(options: &Options<'a>, resolver: Choice, settings: Settings) -> Connection<'a>
+    ensures settings { result.race.settings ≡ settings }
+    ensures families { result.race.families ≡ options.now.families }
+{
+    Connection {
         race: ConnectRequest {
             host: options.host,
             port: options.port,
@@ -260,8 +266,7 @@ where
         record: options.record,
         only_tries: options.only_tries,
         wait: options.wait,
-    };
-    run_connection(rt, alloc, &connection, input, output, faults)
+    }
 }
 
 fn settings_asked(options: &Options<'_>) -> Result<Settings, SettingFault>

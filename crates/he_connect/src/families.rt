@@ -38,17 +38,21 @@ fn usable(six: bool, four: bool) -> Families {
     }
 }
 
-// Says which family is not asked for, since this machine has no way for it.
-pub(crate) fn tell_unasked<F: Write>(tried: Families, faults: &mut F) {
-    let _ = match tried {
-        Families::Both => Ok(()),
-        Families::Only(Family::V6) => writeln!(
+// Says which family is not asked for, and why.
+pub(crate) fn tell_unasked<F: Write>(wanted: Families, tried: Families, faults: &mut F) {
+    let Families::Only(family) = tried else {
+        return;
+    };
+    let (record, version, option) = match family {
+        Family::V6 => ("A", "IPv4", "-6"),
+        Family::V4 => ("AAAA", "IPv6", "-4"),
+    };
+    let _ = if wanted == tried {
+        writeln!(faults, "he: 0 ms: {record} not asked ({option})")
+    } else {
+        writeln!(
             faults,
-            "he: 0 ms: A not asked: this machine has no IPv4 address or route beyond its links"
-        ),
-        Families::Only(Family::V4) => writeln!(
-            faults,
-            "he: 0 ms: AAAA not asked: this machine has no IPv6 address or route beyond its links"
-        ),
+            "he: 0 ms: {record} not asked: this machine has no {version} address or route beyond its links"
+        )
     };
 }

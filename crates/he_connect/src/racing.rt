@@ -66,8 +66,8 @@ where
 {
     let known = find_known(rt, alloc, request.host)?;
     let tried = families_to_try(rt, request, known.is_some())?;
-    if tried != request.families && (request.tells_steps || request.explains) {
-        tell_unasked(tried, faults);
+    if request.tells_steps || request.explains {
+        tell_unasked(request.families, tried, faults);
     }
     let lines = read_lines_of(rt, alloc, request.lines, known)?;
     let start = start_race(alloc, request.settings, tried, &lines)?;

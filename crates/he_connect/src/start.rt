@@ -4,8 +4,8 @@ ghost use Rattle.he_timeline.specs.Building.{empty_race};
 ghost use Rattle.he_inputs.specs.Inputs.{HasRaces};
 ghost use Rattle.he_connect.specs.Start.{Starts, lines_text, with_families};
 
-use crate::request::Families;
 use crate::fault::ConnectFault;
+use crate::request::Families;
 use he_addr::Family;
 use he_inputs::read_one_race;
 use he_timeline::limits::{DEFAULT_ATTEMPT, DEFAULT_COUNT, DEFAULT_LIMIT, DEFAULT_RESOLUTION};

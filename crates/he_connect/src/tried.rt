@@ -65,9 +65,8 @@ fn write_failed(
     why: FamilyFaults,
     out: &mut Vec<u8>,
 ) -> Result<(), Memory> {
-    let failed = why
-        .of(family)
-        .filter(|fault| !fault.is_absence() && *fault != NamesFault::NotAsked);
+    let failed = why.of(family).filter(|fault| !fault.is_absence()
+        && *fault != NamesFault::NotAsked);
     if let Some(fault) = failed {
         let record_type = match family {
             Family::V6 => "AAAA",

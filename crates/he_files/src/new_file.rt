@@ -1,7 +1,7 @@
 //! A new file beside the one that it is to replace.
 
 use std::alloc::{AllocError, AllocGlobal, Global};
-use std::fs::{File, canonicalize, metadata, remove_file, rename};
+use std::fs::{File, canonicalize, metadata, remove_file, rename, symlink_metadata};
 use std::io::{Error, ErrorKind};
 use std::random::RandomSource;
 use std::rt::Files;
@@ -18,8 +18,8 @@ pub struct NewName {
 }
 
 /// Opens a new file for writing, beside the one of this path and with the permissions that a new file has (0666 less
-/// the umask). A symbolic link is followed. What is there and is no regular file (a pipe, a terminal, `/dev/null`) is
-/// written in its place.
+/// the umask). A symbolic link is followed. What is there and is no regular file (a pipe, a terminal, `/dev/null`), and
+/// what a link names that is not there, is written in its place.
 ///
 /// # Errors
 ///
@@ -30,12 +30,18 @@ pub fn create_beside<R: Files + RandomSource + AllocGlobal>(
     path: &str,
 ) -> Result<(R::File, NewName), Error> {
     let path = path_of(rt, alloc, path)?;
-    match metadata(rt, path.as_str()) {
-        Ok(there) if !there.is_file() => {
-            let file = File::create(rt, path.as_str())?;
-            Ok((file, NewName { beside: None, path }))
-        }
-        _ => create_new_beside(rt, alloc, path),
+    if is_written_in_place(rt, path.as_str()) {
+        let file = File::create(rt, path.as_str())?;
+        return Ok((file, NewName { beside: None, path }));
+    }
+    create_new_beside(rt, alloc, path)
+}
+
+// Whether what is there is no regular file, or a symbolic link to nothing.
+fn is_written_in_place<R: Files>(rt: &R, path: &str) -> bool {
+    match metadata(rt, path) {
+        Ok(there) => !there.is_file(),
+        Err(_) => symlink_metadata(rt, path).is_ok(),
     }
 }
 

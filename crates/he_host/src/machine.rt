@@ -58,7 +58,10 @@ impl From<io::Error> for MachineFault {
 }
 
 // The bytes of a file; none where it isn't there.
-pub(crate) fn read_if_there<R: FileSystem + AllocGlobal>(rt: &R, path: &str) -> Result<Vec<u8>, MachineFault> {
+pub(crate) fn read_if_there<R: FileSystem + AllocGlobal>(
+    rt: &R,
+    path: &str,
+) -> Result<Vec<u8>, MachineFault> {
     match fs::read(rt, path) {
         Ok(bytes) => Ok(bytes),
         Err(error) => match MachineFault::from(error) {
@@ -84,7 +87,10 @@ fn read_sysfs<R: FileSystem + AllocGlobal>(
     read_if_there(rt, path.as_str())
 }
 
-pub(crate) fn read_link_of<R: FileSystem + AllocGlobal>(rt: &R, name: &str) -> Result<Link, MachineFault> {
+pub(crate) fn read_link_of<R: FileSystem + AllocGlobal>(
+    rt: &R,
+    name: &str,
+) -> Result<Link, MachineFault> {
     let ifindex = read_sysfs(rt, name, "ifindex")?;
     let flags = read_sysfs(rt, name, "flags")?;
     let carrier = read_sysfs(rt, name, "carrier")?;
@@ -209,9 +215,17 @@ fn tell_guesses<R: Net>(
 ) -> Result<(), MachineFault> {
     for source in sources {
         if is_guess(rt, routes, *source) {
-            write_guess(*source, b", since its network is on that one and on another", remarks)?;
+            write_guess(
+                *source,
+                b", since its network is on that one and on another",
+                remarks,
+            )?;
         } else if is_asked_place(routes, *source) {
-            write_guess(*source, b", since the kernel takes it for a route there", remarks)?;
+            write_guess(
+                *source,
+                b", since the kernel takes it for a route there",
+                remarks,
+            )?;
         }
     }
     Ok(())
@@ -238,9 +252,7 @@ pub(crate) fn probe_of(prefix: Prefix) -> Option<Ip> {
 
 // Whether the route is the longest one to the address.
 fn leads(route: Route, routes: &[Route], to: Ip) -> bool {
-    !routes
-        .iter()
-        .any(|other| other.prefix.len() > route.prefix.len() && other.prefix.contains(to))
+    !routes.iter().any(|other| other.prefix.len() > route.prefix.len() && other.prefix.contains(to))
 }
 
 // Tells for which routes the kernel takes another source than the rules do by these lines: rules of policy routing or

@@ -223,7 +223,10 @@ pub fn write_other_source<A: Allocator + Copy>(
     write_ip(taken, out)?;
     write_word(b", and not from ", out)?;
     write_ip(said, out)?;
-    write_word(b" as these lines say: `he host --for ADDRESS` asks it for single addresses\n", out)
+    write_word(
+        b" as these lines say: `he host --for ADDRESS` asks it for single addresses\n",
+        out,
+    )
 }
 
 /// Appends the line for a destination for which the rules take another source than the kernel, whatever lines there
