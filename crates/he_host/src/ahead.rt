@@ -160,7 +160,7 @@ fn has_v4_network<R: FileSystem + AllocGlobal>(rt: &R) -> Result<bool, MachineFa
     let text = read_head(rt, routes_file(Family::V4))?;
     for line in read_lines(rt.alloc(), &text)?.iter() {
         if let Some(read) = read_v4_line(line.text) {
-            if !read.nowhere && Ip::V4(read.destination).scope() > LINK_SCOPE {
+            if !read.nowhere && is_wide(Ip::V4(read.destination)) {
                 return Ok(true);
             }
         }
