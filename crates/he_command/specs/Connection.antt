@@ -1,6 +1,7 @@
 -- What comes of a connection that a line asks for.
-use Rattle.std.specs.Prelude.{◌≡◌, ◌⊎◌, ℕ, List, Bool, true, false, IsSome, Result}
+use Rattle.std.specs.Prelude.{◌≡◌, ◌⊎◌, ℕ, List, Bool, true, false, IsSome, Option, is_some, Result}
 use Rattle.he_connect.specs.Races.{IsRun}
+use Rattle.he_live.specs.declared.dialed.Dialed.{Dialed}
 use Rattle.he_relay.specs.Relays.{Relays}
 use Rattle.he_relay.specs.declared.fault.RelayFault.{RelayFault}
 use Rattle.he_stream.specs.declared.stream.OutputStream as outputs
@@ -42,10 +43,10 @@ EndsRace output only_tries kept won before after status =
 abbrev pub MakesConnection : {O : Type 0} → outputs.Ghosts O → Connection → O → O → ℕ → Type 0
 MakesConnection {O} output connection before after status =
     ((status ≡ FAULT) × (after ≡ before))
-    ⊎ ((text story : List ℕ) × (won : Bool) × (between : O) × (kept : ℕ)
-    × IsRun connection.race.settings connection.race.families connection.race.explains text story won
+    ⊎ ((text story : List ℕ) × (won : Option Dialed) × (between : O) × (kept : ℕ)
+    × IsRun connection.race text story won
     × KeepsRecord output text before between kept
-    × EndsRace output connection.only_tries kept won between after status)
+    × EndsRace output connection.only_tries kept (is_some won) between after status)
 
 -- the same, or the line is refused: a record on standard output goes with a connection that is only tried
 abbrev pub RunsConnection : {I O : Type 0} → outputs.Ghosts O → Connection → I → I → O → O → ℕ → Type 0

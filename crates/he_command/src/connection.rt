@@ -118,7 +118,10 @@ where
     }
     match run.connection {
         Some(_) if connection.only_tries => DONE,
-        Some(stream) => relay(rt, alloc, connection.wait, &stream, input, output, faults),
+        Some(dialed) => {
+            let stream = dialed.into_stream();
+            relay(rt, alloc, connection.wait, &stream, input, output, faults)
+        }
         None => match run.nameless {
             Some(fault) => report_of(fault, connection.race.host, faults),
             None => NO_CONNECTION,

@@ -1,5 +1,5 @@
 //! The race of a connection that is asked for, on real sockets.
-ghost use Rattle.std.specs.Prelude.{◌≡◌, IfOk, is_some};
+ghost use Rattle.std.specs.Prelude.{◌≡◌, IfOk};
 ghost use Rattle.he_write.specs.Written.{timeline_text};
 ghost use Rattle.he_connect.specs.Races.{IsExplained, IsRun, RunsFrom};
 
@@ -12,7 +12,7 @@ use crate::source::{FamilyFaults, HostAnswers, LookupFaults};
 use crate::start::start_race;
 use crate::telling::Telling;
 use crate::tried::write_tried;
-use he_live::{Steps, resolving_race_on};
+use he_live::{Dialed, Steps, resolving_race_on};
 use he_race::Raced;
 use he_resolver::{Lookup, NamesFault, SystemResolver, Wanted, find_known};
 use he_story::write_story;
@@ -21,7 +21,7 @@ use he_write::write_timeline;
 use std::alloc::{AllocGlobal, Global};
 use std::io::Write;
 use std::mem::drop;
-use std::net::{Net, TcpStream};
+use std::net::Net;
 use std::random::RandomSource;
 use std::rt::Files;
 use std::sync::Wait;
@@ -41,7 +41,7 @@ pub struct FinishedRace {
     /// Why there was no address to connect to, where a look-up found none.
     pub nameless: Option<NamesFault>,
     /// The connection.
-    pub connection: Option<TcpStream>,
+    pub connection: Option<Dialed>,
 }
 
 /// Finds the addresses of the host while it races them, as RFC 8305 says. Each step is told to `faults` as it happens,
@@ -61,8 +61,7 @@ where
     F: Write,
     R: Threads + Wait + Clock + RandomSource + AllocGlobal + Net + Files + Sync,
     R: SystemResolver + Copy + Send + 'static,
-    ensures { IfOk result (λ run. IsRun request.now.settings request.now.families request.now.explains
-        run.text.items run.story.items (is_some run.connection)) }
+    ensures { IfOk result (λ run. IsRun request.now run.text.items run.story.items run.connection) }
 {
     let known = find_known(rt, alloc, request.host)?;
     let tried = families_to_try(rt, request, known.is_some())?;
@@ -89,8 +88,8 @@ where
     F: Write,
     R: Threads + Wait + Clock + RandomSource + AllocGlobal + Net + Files + Sync,
     R: SystemResolver + Copy + Send + 'static,
-    ensures race { IfOk result (λ run. RunsFrom start.now request.now.explains run.text.items run.story.items
-        (is_some run.connection)) }
+    ensures race { IfOk result (λ run. RunsFrom start.now request.now.port request.now.explains run.text.items
+        run.story.items run.connection) }
 {
     let mut runtime = LocalRuntime::new(rt)?;
     let handle = runtime.handle().clone()?;
@@ -140,11 +139,11 @@ fn end_with<R: Net>(
     request: &ConnectRequest<'_>,
     why: FamilyFaults,
     steps: &Steps,
-    raced: Raced<TcpStream>,
+    raced: Raced<Dialed>,
 ) -> Result<FinishedRace, ConnectFault>
     ensures text { IfOk result (λ run. run.text.items ≡ timeline_text raced.recorded) }
     ensures story { IfOk result (λ run. IsExplained request.now.explains raced.recorded run.story.items) }
-    ensures winner { IfOk result (λ run. is_some run.connection ≡ is_some raced.winner) }
+    ensures winner { IfOk result (λ run. run.connection ≡ raced.winner) }
 {
     let texts = texts_of(rt, alloc, request, why, steps, &raced);
     let Raced {
@@ -170,7 +169,7 @@ fn texts_of<R: Net>(
     request: &ConnectRequest<'_>,
     why: FamilyFaults,
     steps: &Steps,
-    raced: &Raced<TcpStream>,
+    raced: &Raced<Dialed>,
 ) -> Result<RaceTexts, ConnectFault>
     ensures text { IfOk result (λ texts. texts.text.items ≡ timeline_text raced.now.recorded) }
     ensures story { IfOk result (λ texts. IsExplained request.now.explains raced.now.recorded texts.story.items) }

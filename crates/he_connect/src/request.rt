@@ -53,7 +53,7 @@ pub struct ConnectRequest<'a> {
 impl<'a> ConnectRequest<'a> {
     // The same, for these families.
     pub(crate) fn with_families(&self, families: Families) -> ConnectRequest<'a>
-        ensures { (result.explains ≡ self.now.explains) × (result.settings ≡ self.now.settings) }
+        ensures { (result.port ≡ self.now.port) × (result.explains ≡ self.now.explains) }
     {
         ConnectRequest {
             host: self.host,

@@ -3,13 +3,12 @@
 use crate::request::{ConnectRequest, Families};
 use crate::source::FamilyFaults;
 use he_addr::{Family, Memory, write_ip, write_number};
-use he_live::{Reason, Steps};
+use he_live::{Dialed, Reason, Steps};
 use he_plan::{Line, Mark};
 use he_race::Raced;
 use he_resolver::NamesFault;
 use he_timeline::Timeline;
 use std::alloc::Global;
-use std::net::TcpStream;
 
 /// Appends the line, as `he: no connection to example.org port 443: 2 addresses tried: 2001:db8::1 refused after
 /// 12 ms, 198.51.100.1 no answer in 30000 ms`, with each family whose look-up failed, as `; AAAA: no name server
@@ -22,7 +21,7 @@ use std::net::TcpStream;
 pub(crate) fn write_tried(
     alloc: Global,
     request: &ConnectRequest<'_>,
-    raced: &Raced<TcpStream>,
+    raced: &Raced<Dialed>,
     steps: &Steps,
     why: FamilyFaults,
     out: &mut Vec<u8>,

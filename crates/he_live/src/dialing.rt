@@ -1,10 +1,11 @@
 //! A connection that is being made, to be taken out of the event loop.
 
-ghost use Rattle.std.specs.Prelude.{◌≡◌};
+ghost use Rattle.std.specs.Prelude.{◌≡◌, IfOk};
 ghost use Rattle.futures.specs.Poll.{OnPending};
 ghost use Rattle.futures.specs.Task.{Covers, Keeps};
 ghost use Rattle.tokio.specs.Net.{stream_writable};
 
+use crate::dialed::Dialed;
 use futures::task::{Context, Poll};
 use std::io;
 use std::net::{Net, SocketAddr, TcpStream};
@@ -15,19 +16,18 @@ use tokio::reactor::Handle;
 // The event loop does not give a socket back, so it has one descriptor of it, and another one is kept.
 #[derive(Drop)]
 pub(crate) struct Dialing {
+    to: SocketAddr,
     watched: tokio::net::TcpStream,
     kept: TcpStream,
 }
 
 impl Dialing {
-    pub(crate) fn begin<N: Net>(
-        net: &N,
-        addr: SocketAddr,
-        reactor: &Handle,
-    ) -> io::Result<Dialing> {
-        let kept = TcpStream::from(OwnedFd::from(mio::net::TcpStream::connect(net, addr)?));
+    pub(crate) fn begin<N: Net>(net: &N, to: SocketAddr, reactor: &Handle) -> io::Result<Dialing>
+        ensures { IfOk result (λ dialing. dialing.to ≡ to) }
+    {
+        let kept = TcpStream::from(OwnedFd::from(mio::net::TcpStream::connect(net, to)?));
         let watched = tokio::net::TcpStream::from_std(kept.try_clone()?, reactor)?;
-        Ok(Dialing { watched, kept })
+        Ok(Dialing { to, watched, kept })
     }
 
     // Ready once the connection stands, or with why it does not.
@@ -38,6 +38,7 @@ impl Dialing {
     // and where it failed it tells the fault, which the system tells once.
     pub(crate) fn poll_connected(&mut self, cx: &mut Context<'_>) -> Poll<io::Result<()>>
         ensures waits { OnPending result (Covers cx.new (λ source. source ≡ stream_writable self.new.watched)) }
+        ensures same { self.new.to ≡ self.old.to }
         ensures kept { Keeps cx.old cx.new }
     {
         if self.kept.peer_addr().is_ok() {
@@ -52,8 +53,10 @@ impl Dialing {
     }
 
     // The connection, which blocks, out of the event loop.
-    pub(crate) fn into_stream(self) -> io::Result<TcpStream> {
+    pub(crate) fn into_dialed(self) -> io::Result<Dialed>
+        ensures { IfOk result (λ dialed. dialed.to ≡ self.to) }
+    {
         self.kept.set_nonblocking(false)?;
-        Ok(self.kept)
+        Ok(Dialed::new(self.to, self.kept))
     }
 }

@@ -9,7 +9,7 @@
 //! `he_inputs` reads one from a text, and `TimelineBuilder` of `he_plan` makes one.
 //!
 //! ```text
-//! fn connect<R>(rt: &R, text: &[u8], port: u16) -> Result<Option<TcpStream>, LiveFault>
+//! fn connect<R>(rt: &R, text: &[u8], port: u16) -> Result<Option<Dialed>, LiveFault>
 //! where
 //!     R: Wait + Clock + RandomSource + AllocGlobal + Net,
 //! {
@@ -20,7 +20,8 @@
 //! }
 //! ```
 //!
-//! The stream is std's: its reads and writes wait, and nothing of the race is left but it. `raced.transcript` says
+//! `Dialed::into_stream` gives std's stream: its reads and writes wait, and nothing of the race is left but it.
+//! `raced.transcript` says
 //! what happened, `raced.recorded` is the record, of which `write_timeline` (`he_write`) makes a text that `he replay`
 //! reads, and [`failed_attempts`] says why attempts failed.
 //!
@@ -53,6 +54,7 @@
 #![tactic(auto)]
 
 mod clock;
+pub mod dialed;
 mod dialing;
 pub mod failures;
 pub mod fault;
@@ -62,6 +64,7 @@ pub mod recording;
 mod sockets;
 pub mod steps;
 
+pub use dialed::Dialed;
 pub use failures::{FailedAttempt, failed_attempts, first_local, write_failures};
 pub use fault::LiveFault;
 pub use racing::{live_race, live_race_on, resolving_race_on};

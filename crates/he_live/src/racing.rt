@@ -2,16 +2,19 @@
 ghost use Rattle.std.specs.Prelude.{IfErr, IfOk};
 ghost use Rattle.he_race.specs.Resolving.{ReplaysGiven};
 ghost use Rattle.he_race.specs.Turns.{Replays};
+ghost use Rattle.he_race.specs.Winner.{WinnerGoes};
+ghost use Rattle.he_live.specs.Dials.{goes_to};
 ghost use Rattle.he_live.specs.Live.{IsRunFault};
 
 use crate::clock::LiveTicker;
+use crate::dialed::Dialed;
 use crate::fault::LiveFault;
 use crate::sockets::TcpConnector;
 use crate::steps::{Quiet, Steps, Watcher};
 use he_race::{AnswerSource, RaceFault, RaceFuture, Raced, ResolvingRace};
 use he_timeline::Timeline;
 use std::alloc::{AllocGlobal, Allocator, Global};
-use std::net::{Net, TcpStream};
+use std::net::Net;
 use std::random::RandomSource;
 use std::sync::Wait;
 use std::time::{Clock, Instant};
@@ -25,8 +28,8 @@ use tokio::runtime::LocalRuntime;
 /// alone: what each address does, and where the client was late, is what the record says. Replayed, the record gives
 /// the transcript. What happens to attempts is noted in `steps`, which is new for each race.
 ///
-/// The losers are closed before the call returns. The winner's stream is the caller's as if `TcpStream::connect` had
-/// made it: its reads and writes wait.
+/// The losers are closed before the call returns. The winner goes to the address of the transcript's line that won, at
+/// the port. Its stream is the caller's as if `TcpStream::connect` had made it: its reads and writes wait.
 ///
 /// # Errors
 ///
@@ -41,11 +44,12 @@ pub fn live_race<R, A>(
     timeline: &Timeline<A>,
     port: u16,
     steps: &Steps,
-) -> Result<Raced<TcpStream>, LiveFault>
+) -> Result<Raced<Dialed>, LiveFault>
 where
     R: Wait + Clock + RandomSource + AllocGlobal + Net,
     A: Allocator,
     ensures replays { IfOk result (Replays timeline.now) }
+    ensures winner { IfOk result (WinnerGoes (goes_to port)) }
     ensures fault { IfErr result IsRunFault }
 {
     // The timers count milliseconds from when the event loop is made, so a start just before makes both tick as one.
@@ -66,11 +70,12 @@ pub fn live_race_on<R, A>(
     timeline: &Timeline<A>,
     port: u16,
     steps: &Steps,
-) -> Result<Raced<TcpStream>, LiveFault>
+) -> Result<Raced<Dialed>, LiveFault>
 where
     R: Wait + Clock + RandomSource + AllocGlobal + Net,
     A: Allocator,
     ensures replays { IfOk result (Replays timeline.now) }
+    ensures winner { IfOk result (WinnerGoes (goes_to port)) }
     ensures fault { IfErr result IsRunFault }
 {
     let start = Instant::now(rt)?;
@@ -86,11 +91,12 @@ fn race_from<R, A>(
     timeline: &Timeline<A>,
     port: u16,
     steps: &Steps,
-) -> Result<Raced<TcpStream>, LiveFault>
+) -> Result<Raced<Dialed>, LiveFault>
 where
     R: Wait + Clock + RandomSource + AllocGlobal + Net,
     A: Allocator,
     ensures replays { IfOk result (Replays timeline.now) }
+    ensures winner { IfOk result (WinnerGoes (goes_to port)) }
     ensures fault { IfErr result IsRunFault }
 {
     // A handle of its own, since the run borrows the event loop.
@@ -121,13 +127,14 @@ pub fn resolving_race_on<R, A, S, W>(
     port: u16,
     steps: &Steps,
     watcher: &W,
-) -> Result<Raced<TcpStream>, LiveFault>
+) -> Result<Raced<Dialed>, LiveFault>
 where
     R: Wait + Clock + RandomSource + AllocGlobal + Net,
     A: Allocator,
     S: AnswerSource,
     W: Watcher,
     ensures replays { IfOk result (ReplaysGiven timeline.now) }
+    ensures winner { IfOk result (WinnerGoes (goes_to port)) }
     ensures fault { IfErr result IsRunFault }
 {
     let start = Instant::now(rt)?;

@@ -6,6 +6,7 @@ ghost use Rattle.he_write.specs.Written.{timeline_text};
 ghost use Rattle.he_live.specs.Live.{IsLiveText, IsRunFault, KeepsReport, Lives};
 ghost use Rattle.he_live.specs.Reading.{IsTold, ReadsOne};
 
+use crate::dialed::Dialed;
 use crate::failures::{FailedAttempt, failed_attempts};
 use crate::fault::LiveFault;
 use crate::racing::live_race;
@@ -18,7 +19,7 @@ use he_timeline::{Changes, Timeline};
 use he_write::{write_timeline, write_transcript};
 use std::alloc::{AllocGlobal, Global};
 use std::mem::drop;
-use std::net::{Net, TcpStream};
+use std::net::Net;
 use std::random::RandomSource;
 use std::sync::Wait;
 use std::time::Clock;
@@ -113,7 +114,12 @@ struct LiveOutput {
 }
 
 // Runs the race.
-fn run_race<R>(rt: &R, alloc: Global, timeline: &Timeline, port: u16) -> Result<LiveOutput, LiveFault>
+fn run_race<R>(
+    rt: &R,
+    alloc: Global,
+    timeline: &Timeline,
+    port: u16,
+) -> Result<LiveOutput, LiveFault>
 where
     R: Wait + Clock + RandomSource + AllocGlobal + Net,
     ensures run { IfOk result (λ run. IsLiveText timeline.now run.text.items run.report run.ended) }
@@ -126,7 +132,7 @@ where
     run
 }
 
-fn tell_race(alloc: Global, raced: &Raced<TcpStream>, steps: &Steps) -> Result<LiveOutput, LiveFault>
+fn tell_race(alloc: Global, raced: &Raced<Dialed>, steps: &Steps) -> Result<LiveOutput, LiveFault>
     ensures text { IfOk result (IsTold raced.now.transcript raced.now.recorded) }
     ensures fault { IfErr result IsRunFault }
 {

@@ -1,7 +1,7 @@
 // What each fault leaves, and what is written of a race that is read and run.
 
 use crate::homes::{Lender, ONE, REFUSED, Wanted, race_on};
-use he_live::{LiveFault, Reason, LiveReport, live};
+use he_live::{LiveFault, LiveReport, Reason, live};
 use he_stream::{FromReader, ToWriter};
 use he_timeline::Changes;
 use he_words::{TextFault, TextKind};

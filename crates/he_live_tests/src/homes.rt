@@ -1,7 +1,7 @@
 // Races on real sockets, and what is wanted of them.
 
 use he_inputs::read_one_race;
-use he_live::{LiveFault, Reason, Steps, live_race, live_race_on};
+use he_live::{Dialed, LiveFault, Reason, Steps, live_race, live_race_on};
 use he_plan::{Mark, Outcome3, Transcript};
 use he_race::Raced;
 use he_replay::{Content, TextRequest, replay};
@@ -102,7 +102,7 @@ pub fn replays<R: Lender>(rt: &R, transcript: &[u8], record: &[u8]) -> Result<bo
 /// Whether the race came to what is wanted, and its record replays.
 pub fn is_right<R: Lender>(
     rt: &R,
-    raced: &Raced<TcpStream>,
+    raced: &Raced<Dialed>,
     wanted: &Wanted<'_>,
 ) -> Result<bool, Fail> {
     let mut transcript = Vec::new(rt.alloc());
@@ -115,7 +115,7 @@ pub fn is_right<R: Lender>(
 
 fn is_right_of<R: Lender>(
     rt: &R,
-    raced: Result<Raced<TcpStream>, LiveFault>,
+    raced: Result<Raced<Dialed>, LiveFault>,
     wanted: &Wanted<'_>,
     steps: &Steps,
 ) -> Result<bool, Fail> {

@@ -4,7 +4,7 @@ use crate::homes::{
     End, Lender, ONE, REFUSED, Result3, Wanted, descriptors, free_port, listen, race, replays,
 };
 use he_addr::Ip;
-use he_live::{FailedAttempt, Reason, LiveReport, live};
+use he_live::{FailedAttempt, LiveReport, Reason, live};
 use he_plan::Outcome3;
 use he_stream::{FromReader, ToWriter};
 use he_timeline::Changes;

@@ -6,14 +6,14 @@ use crate::homes::{
 use futures::task::{Context, Poll};
 use he_addr::{Family, Ip};
 use he_inputs::read_one_race;
-use he_live::{Quiet, Reason, Step, StepKind, Steps, Watcher, resolving_race_on};
+use he_live::{Dialed, Quiet, Reason, Step, StepKind, Steps, Watcher, resolving_race_on};
 use he_race::AnswerSource;
 use std::alloc::Global;
 use std::cell::Cell;
 use std::io;
 use std::io::{Read, Write};
 use std::mem::drop;
-use std::net::{IpAddr, Ipv4Addr, Net, TcpListener, TcpStream};
+use std::net::{IpAddr, Ipv4Addr, Net, SocketAddr, TcpListener, TcpStream};
 use std::test::Fail;
 use std::time::{Clock, Duration, Instant};
 use tokio::runtime::LocalRuntime;
@@ -121,7 +121,7 @@ fn resolve<R: Lender + Net, W: Watcher>(
     port: u16,
     wanted: &Wanted<'_>,
     watcher: &W,
-) -> Result<(bool, Option<TcpStream>), Fail> {
+) -> Result<(bool, Option<Dialed>), Fail> {
     let timeline = read_one_race(rt.alloc(), UNKNOWN, false)?;
     let steps = Steps::new(rt.alloc())?;
     let raced = resolving_race_on(
@@ -279,9 +279,14 @@ fn the_winner_outlives_its_loop(rt: HostRuntime) -> Result<(), Fail> {
     let resolved = resolve(&rt, &mut runtime, source, port, &SIX_AT_ONCE, &watcher);
     drop(runtime);
     let (is_right, winner) = resolved?;
-    let Some(mut winner) = winner else {
+    let Some(dialed) = winner else {
         return Err(Fail::new("nothing has won"));
     };
+    let to = dialed.to();
+    let mut winner = dialed.into_stream();
+    assert!(rt;
+        to == SocketAddr::new(IpAddr::V4(Ipv4Addr::LOCALHOST), port) && winner.peer_addr()? == to
+    );
     assert_eq!(rt; descriptors(&rt)?, before.saturating_add(1));
     assert!(rt; is_right && is_connection(&rt, &mut winner, &listener)?);
     assert_eq!(rt;

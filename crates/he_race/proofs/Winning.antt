@@ -166,8 +166,8 @@ module _ {C Conn Run : Type 0} (connector : ConnectorOf C Conn Run) (trial : Tri
             let is : (winner.0 ≡ stop) × (winner.1 ≡ w.made.0) = winner-is t.attempts t.are winner wins in
             let line : slice_get report.lines winner.1 ≡ Some (line_of race (Some winner) w.x) =
             ap (λ (ls : List Line). slice_get ls winner.1) (lines ∙ lines-are t.attempts t.are winner is.0)
-                ∙ ap (λ (n : ℕ). slice_get (map (line_of race (Some winner)) xs) n) is.1
-                ∙ map-at (line_of race (Some winner)) xs w.made.0 w.x here in
+            ∙ ap (λ (n : ℕ). slice_get (map (line_of race (Some winner)) xs) n) is.1
+            ∙ map-at (line_of race (Some winner)) xs w.made.0 w.x here in
             subst (λ (r : Outcome3). GoesAt (connector.reaches c) report.lines r conn) (sym result)
             (subst (λ (l : Option Line). IsSomeAnd l (λ (x : Line). connector.reaches c x.ip conn)) (sym line) w.goes)
 
@@ -244,10 +244,10 @@ module _ {C Conn Run : Type 0} (connector : ConnectorOf C Conn Run) (trial : Tri
             let last : IsNext next.recorder.recorded g.swept.attempts n.x = subst (λ (ys : List Attempt). IsNext next.recorder.recorded ys n.x) (take_all_of g.swept.attempts n.x) (turn (length g.swept.attempts) n.x (get_last g.swept.attempts n.x)) in
             let later : All (λ (o : Unfinished C Conn Run). o.attempt.place < n.o.attempt.place) g.swept.pending =
             All-weaker (λ (o : Unfinished C Conn Run). Contains g.swept.attempts o.attempt) (λ (o : Unfinished C Conn Run). o.attempt.place < n.o.attempt.place)
-                (λ o at.
-                let below : o.attempt.place < length g.swept.attempts = swept-below o.attempt at in
-                let same : n.o.attempt.place ≡ n.x.place = ap (λ (x : Attempt). x.place) n.begins.attempt in
-                omega (arith, last.place)) g.swept.pending held in
+            (λ o at.
+            let below : o.attempt.place < length g.swept.attempts = swept-below o.attempt at in
+            let same : n.o.attempt.place ≡ n.x.place = ap (λ (x : Attempt). x.place) n.begins.attempt in
+            omega (arith, last.place)) g.swept.pending held in
             let own : Leads connector trial (connector.reaches g.swept.connector) n.o = subst (λ (x : Attempt). LeadsTo connector trial (connector.reaches g.swept.connector) x.ip n.o.future) (sym n.begins.attempt) led.after in
             finish (alike-on (connector.reaches c) (connector.reaches g.swept.connector) (connector.reaches c') a.still led.still)
             (subst (λ (xs : List (Unfinished C Conn Run)). All (Leads connector trial (connector.reaches c)) xs) (sym n.next) (All-append (Leads connector trial (connector.reaches c)) g.swept.pending (n.o ∷ []) leads

@@ -78,7 +78,10 @@
 //! | `Ticker` | a `wake_at` that answers Ok has registered in `cx` or yielded, so that the task is polled again |
 //!
 //! What each of them does to its own state is a relation that the implementation states (`polls`, `begins`, `tells`,
-//! `wakes`); the contracts here are said through these relations. The ticks handed to them are at most
+//! `wakes`); the contracts here are said through these relations. Where connections go is a relation too: `reaches` of
+//! the connector, at an address, and `may_give` of a trial, which are the connections that it may give. What `begin`
+//! begins may give only connections that go to its address, and each poll keeps that; left out, they say nothing. The
+//! ticks handed to them are at most
 //! [`limits::MAX_POLL_TICK`]. An implementation may not assume in which order, or how often, attempts are polled,
 //! only that a trial isn't polled again once it has answered. A trial that isn't needed any more is dropped, with
 //! its connection: `Drop` is where a socket closes.
@@ -96,6 +99,8 @@
 //! - What a `RaceFuture` gives replays, for every connector and ticker: its transcript is the one that the rules of
 //!   a race make of its record; the record has the given settings, policy, host and answers; and there is a winner's
 //!   connection exactly where the race was won (`Replays` in `specs/Turns.antt`).
+//! - The winner's connection goes to the address of the transcript's line at the winning place, by what its connector
+//!   says of where connections go (`reaches`; `WinnerGoes` in `specs/Winner.antt`).
 //! - What a `ResolvingRace` gives replays likewise, for every source too: the record has the given settings, policy,
 //!   host and history, each given answer, and of the other families what the source told, at the tick of the turn in
 //!   which it did; a family that has an answer isn't polled (`ReplaysGiven` and `HeardAt` in `specs/Resolving.antt`,
