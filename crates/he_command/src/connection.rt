@@ -44,14 +44,13 @@ where
     F: Write,
     ensures { RunsConnection O.OutputStream connection.now input.old input.new output.old output.new result }
 {
-    if !connection.only_tries
-        && connection
-            .record
-            .is_some_and(|path| path == STANDARD_OUTPUT)
-    {
-        return refuse_option(OptionFault::Record, faults);
+    match connection.record {
+        Some(STANDARD_OUTPUT) if !connection.only_tries => refuse_option(
+            OptionFault::Record,
+            faults,
+        ),
+        _ => make_connection(rt, alloc, connection, input, output, faults),
     }
-    make_connection(rt, alloc, connection, input, output, faults)
 }
 
 // Races for the connection, keeps the record, and relays to the end.

@@ -12,7 +12,7 @@
 //!   for, or one of both.
 //! - The text that is handed out is that of the record of a race that began so, kept what it began with, and replays to
 //!   its transcript; the story that is asked for is that of this record; there is a connection exactly where this race
-//!   was won (`IsRun` in `specs/Races`).
+//!   was won, and it was asked for at the address of the line that won and the port (`IsRun` in `specs/Races`).
 //!
 //! Both promise this if they return: they wait for the system.
 //!
