@@ -23,7 +23,7 @@ use he_connect::{ConnectRequest, Lines};
 use he_inputs::StreamFault;
 use he_live::{FailedAttempt, LiveFault, LiveReport, first_local, live, write_failures};
 use he_plan::Outcome3;
-use he_resolver::{Choice, TellFault, Wanted, write_names};
+use he_resolver::{Choice, LookupReport, TellFault, Wanted, write_names};
 use he_stream::{FromReader, InputStream, OutputStream, ToWriter, write_whole};
 use he_timeline::{Changes, Settings};
 use std::alloc::Global;
@@ -211,7 +211,12 @@ where
                 only: None,
                 choice,
             };
-            report_names(write_names(rt, alloc, output, wanted), host, faults)
+            let mut report = LookupReport::new(alloc);
+            report_names(
+                write_names(rt, alloc, output, wanted, &mut report),
+                host,
+                faults,
+            )
         }
         None => refuse_option(OptionFault::Resolver, faults),
     }

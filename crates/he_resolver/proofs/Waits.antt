@@ -1,5 +1,5 @@
 -- What the families of a host wait for, together.
-use Rattle.std.proofs.Common.{◌≡◌, ◌⊎◌, ℕ, Bool, true, false, ◌&&◌, not, is_some, Option, Some, None, refl, sym, ◌∙◌, subst, inl, inr}
+use Rattle.std.proofs.Common.{◌≡◌, ◌⊎◌, ℕ, Bool, true, false, ◌&&◌, not, is_some, refl, sym, ◌∙◌, subst, inl, inr}
 use Rattle.std.specs.Prelude.{⊤}
 use Rattle.futures.specs.Task.{Covers, Hears, IsArmed, Keeps, Lasting}
 use Rattle.futures.specs.declared.task.context.Context.{Context}

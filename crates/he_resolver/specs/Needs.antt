@@ -1,7 +1,7 @@
 -- Which sources of events a look-up waits for, of its sockets and its timers. What is settled and not yet told waits
 -- for nothing: every source counts as one of its own, so that only a poll that has asked for another one has
 -- registered at all.
-use Rattle.std.specs.Prelude.{ℕ, ◌≡◌, ◌<◌, ◌⊎◌, ⊤, true, false, Bool, List, [], Option, Some, None, IsSomeAnd, is_some, length, slice_index_or}
+use Rattle.std.specs.Prelude.{ℕ, ◌≡◌, ◌<◌, ◌⊎◌, ⊤, true, false, Bool, List, [], Option, IsSomeAnd, is_some, length, slice_index_or}
 use Rattle.futures.specs.Channel.{completed_source}
 use Rattle.futures.specs.Task.{Covers}
 use Rattle.futures.specs.declared.task.context.Context.{Context}

@@ -7,13 +7,13 @@ ghost use Rattle.he_resolver.specs.Needs.{IsTold, Listens, any_needs, family_nee
 
 use crate::fault::NamesFault;
 use crate::limits::{ALONE, MOST_STEPS};
+use crate::log::LookupEventKind;
 use crate::query::Query;
 use crate::replies::Question;
 use crate::setup::Setup;
 use futures::task::{Context, Poll};
 use he_addr::{Family, Ip};
 use std::alloc::Global;
-use std::mem::drop;
 use std::net::{Net, SocketAddr};
 use std::random::RandomSource;
 use std::time::Clock;
@@ -171,13 +171,14 @@ impl FamilyLookup {
         }
         match poll_any(&mut self.queries, setup, question, cx) {
             Poll::Ready((at, answer)) => {
-                drop(self.queries.remove(at));
-                self.take(answer);
+                let query = self.queries.remove(at);
+                self.take(setup, query.server(), answer);
                 Poll::Ready(())
             }
             Poll::Pending => match self.next.poll_due(cx) {
                 Poll::Pending => Poll::Pending,
                 Poll::Ready(()) => {
+                    self.note_slow(setup);
                     self.next = NextServer::Now;
                     Poll::Ready(())
                 }
@@ -203,7 +204,7 @@ impl FamilyLookup {
         };
         self.begun = self.begun.saturating_add(1);
         if let Err(fault) = self.ask(setup, server, question) {
-            self.take(Err(fault));
+            self.take(setup, server, Err(fault));
         }
     }
 
@@ -221,11 +222,26 @@ impl FamilyLookup {
         Ok(())
     }
 
+    // Notes that the server that was asked last has not answered, where there is another one.
+    fn note_slow<R: Clock>(&self, setup: &Setup<'_, R>) {
+        if let (Some(query), Some(next)) = (self.queries.last(), setup.plan.server(self.begun)) {
+            setup.note(self.family, LookupEventKind::Slow(query.server(), next));
+        }
+    }
+
     // Takes what a server told: that there is no such name or no address is an answer, where a server fails the next
     // one is asked.
-    fn take(&mut self, answer: Result<Vec<Ip>, NamesFault>)
+    fn take<R: Clock>(
+        &mut self,
+        setup: &Setup<'_, R>,
+        server: SocketAddr,
+        answer: Result<Vec<Ip>, NamesFault>,
+    )
         ensures settled { self.new.is_settled ≡ self.old.is_settled }
     {
+        if let Some(kind) = LookupEventKind::of_answer(server, &answer) {
+            setup.note(self.family, kind);
+        }
         match answer {
             Err(fault) if fault.is_of_server() => {
                 self.lack = Some(self.lack.unwrap_or(fault));

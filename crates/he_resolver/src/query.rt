@@ -57,6 +57,10 @@ pub(crate) struct Query {
 }
 
 impl Query {
+    pub(crate) fn server(&self) -> SocketAddr {
+        self.server
+    }
+
     // Asks the server, over UDP.
     pub(crate) fn begin<R: Net + RandomSource + Clock>(
         setup: &Setup<'_, R>,

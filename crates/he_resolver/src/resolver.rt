@@ -9,6 +9,7 @@ ghost use Rattle.he_resolver.specs.Needs.{IsTold, family_of, is_settled, names_n
 use crate::family_lookup::FamilyLookup;
 use crate::fault::NamesFault;
 use crate::limits::MOST_STEPS;
+use crate::log::LookupEventKind;
 use crate::setup::Setup;
 use futures::task::{Context, Poll};
 use he_addr::{Family, Ip};
@@ -33,6 +34,9 @@ pub(crate) struct Resolver<'h, R> {
 impl<'h, R: Net + RandomSource + Clock> Resolver<'h, R> {
     // Nothing is sent before the first poll. Where one family alone is wanted, the other isn't asked for.
     pub(crate) fn new(setup: Setup<'h, R>, only: Option<Family>) -> Resolver<'h, R> {
+        if let Some(family) = only {
+            setup.note(other_of(family), LookupEventKind::NotAsked);
+        }
         Resolver {
             place: 0,
             v6: FamilyLookup::new(setup.alloc, Family::V6, only != Some(Family::V4)),

@@ -1,4 +1,4 @@
-use Rattle.std.specs.Prelude.{◌≡◌, ◌*◌}
+use Rattle.std.specs.Prelude.{◌≡◌}
 use Rattle.futures.specs.Task.{Keeps}
 use Rattle.he_resolver.proofs.family_lookup.FamilyLookup.poll.Given as goal
 
