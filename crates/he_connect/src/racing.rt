@@ -94,9 +94,9 @@ where
     let mut runtime = LocalRuntime::new(rt)?;
     let handle = runtime.handle().clone()?;
     let why = LookupFaults::new();
-    let source = answers_of(rt, alloc, &handle, request, &why)?;
     let steps = Steps::new(alloc)?;
-    let telling = Telling::new(alloc, faults, request.tells_steps);
+    let telling = Telling::new(alloc, faults, request);
+    let source = answers_of(rt, alloc, &handle, request, &why, &telling)?;
     let raced = resolving_race_on(
         rt,
         alloc,
@@ -111,14 +111,16 @@ where
 }
 
 // The answers of a look-up of the host, which waits in the event loop.
-fn answers_of<'h, R>(
+fn answers_of<'h, 'f, R, F>(
     rt: &'h R,
     alloc: Global,
     handle: &'h Handle,
     request: &ConnectRequest<'_>,
     why: &'h LookupFaults,
-) -> Result<HostAnswers<'h, R>, ConnectFault>
+    telling: &'h Telling<'f, F>,
+) -> Result<HostAnswers<'h, 'f, R, F>, ConnectFault>
 where
+    F: Write,
     R: Threads + Wait + Clock + RandomSource + AllocGlobal + Net + Files + Sync,
     R: SystemResolver + Copy + Send + 'static,
 {
@@ -129,7 +131,7 @@ where
         choice: request.resolver,
     };
     let lookup = Lookup::new(rt, alloc, reactor, timers, wanted)?;
-    Ok(HostAnswers::new(alloc, lookup, why))
+    Ok(HostAnswers::new(alloc, lookup, why, telling)?)
 }
 
 // What is handed out of the race.

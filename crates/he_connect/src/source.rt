@@ -1,12 +1,14 @@
 //! Where the answers of a connection's race come from.
 
 use crate::request::Families;
+use crate::telling::Telling;
 use futures::task::{Context, Poll};
 use he_addr::{Family, Ip};
 use he_race::AnswerSource;
-use he_resolver::{Lookup, NamesFault, first_fault};
-use std::alloc::Global;
+use he_resolver::{Lookup, LookupLog, NamesFault, first_fault};
+use std::alloc::{AllocError, Global};
 use std::cell::Cell;
+use std::io::Write;
 use std::net::Net;
 use std::random::RandomSource;
 use std::time::Clock;
@@ -72,23 +74,33 @@ impl FamilyFaults {
 
 // The answers of a look-up, which are polled while a race runs. A family that has none is told without addresses.
 #[derive(Drop)]
-pub(crate) struct HostAnswers<'h, R> {
+pub(crate) struct HostAnswers<'h, 'f, R, F> {
     alloc: Global,
     lookup: Lookup<'h, R>,
+    log: LookupLog,
     why: &'h LookupFaults,
+    telling: &'h Telling<'f, F>,
 }
 
-impl<'h, R> HostAnswers<'h, R> {
+impl<'h, 'f, R: Net + RandomSource + Clock, F> HostAnswers<'h, 'f, R, F> {
     pub(crate) fn new(
         alloc: Global,
         lookup: Lookup<'h, R>,
         why: &'h LookupFaults,
-    ) -> HostAnswers<'h, R> {
-        HostAnswers { alloc, lookup, why }
+        telling: &'h Telling<'f, F>,
+    ) -> Result<HostAnswers<'h, 'f, R, F>, AllocError> {
+        let log = lookup.log()?;
+        Ok(HostAnswers {
+            alloc,
+            lookup,
+            log,
+            why,
+            telling,
+        })
     }
 }
 
-impl<'h, R: Net + RandomSource + Clock> AnswerSource for HostAnswers<'h, R> {
+impl<'h, 'f, R: Net + RandomSource + Clock, F: Write> AnswerSource for HostAnswers<'h, 'f, R, F> {
     ghost use Rattle.std.specs.Prelude.{⊤};
     ghost use Rattle.he_resolver.specs.Needs.{lookup_needs};
 
@@ -97,7 +109,9 @@ impl<'h, R: Net + RandomSource + Clock> AnswerSource for HostAnswers<'h, R> {
     ghost hears = { λ _ _ _ _ _. ⊤ };
 
     fn poll_answer(&mut self, family: Family, _now: u64, cx: &mut Context<'_>) -> Poll<Vec<Ip>> {
-        match self.lookup.poll_answer(family, cx) {
+        let polled = self.lookup.poll_answer(family, cx);
+        self.telling.tell_lookup(&self.log);
+        match polled {
             Poll::Pending => Poll::Pending,
             Poll::Ready(Ok(ips)) => Poll::Ready(ips),
             Poll::Ready(Err(fault)) => {
