@@ -17,7 +17,7 @@ _he() {
         compare) options='--set --verbose -v --help -h' ;;
         check) options='--all --help -h' ;;
         live) options='--port --timeout --set --record --must-connect --verbose -v --help -h' ;;
-        host) options='--help -h' ;;
+        host) options='--for --help -h' ;;
         names) options='--resolver --help -h' ;;
         connect) options='-4 -6 -z --timeout --set --wait --host --resolver --record --explain --verbose -v --help -h' ;;
         help) options=$commands ;;

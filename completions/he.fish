@@ -32,6 +32,7 @@ complete -c he -n '__fish_seen_subcommand_from check' -l all -d 'Tell each fault
 complete -c he -n '__fish_seen_subcommand_from live' -l port -x -d 'TCP port, 1 to 65535'
 complete -c he -n '__fish_seen_subcommand_from live' -l must-connect -d 'Status 3 where no connection was made'
 complete -c he -n '__fish_seen_subcommand_from live' -s v -l verbose -d 'Tell each attempt that failed'
+complete -c he -n '__fish_seen_subcommand_from host' -l for -x -d 'Lines for these addresses alone'
 complete -c he -n '__fish_seen_subcommand_from names connect' -l resolver -x -a system -d 'Name server to ask'
 complete -c he -n '__fish_seen_subcommand_from names connect' -a '(__fish_print_hostnames)'
 complete -c he -n '__fish_seen_subcommand_from connect' -s 4 -d 'IPv4 addresses alone'

@@ -6,9 +6,9 @@
  * start of a race.
  *
  * WHAT IS PROVED of each function is said at it, by definitions that stand beside the library's source. It holds where
- * the caller keeps to this: each pointer is not null, not even where the length beside it is 0, and points to as
- * much memory as the length says; the room that is written to, the struct that is told and the text that is read are
- * apart from each other; and nothing else writes to them during the call.
+ * the caller keeps to this: each pointer points to as much memory as the length beside it says; the room that is
+ * written to, the struct that is told and the text that is read are apart from each other; and nothing else writes to
+ * them during the call. A text or a room of length 0 may be a null pointer: that is tested, and not proved.
  *
  * TEXTS OF RACES. A text holds races, one after the other. A race is a line `race 1` or `race 2`, then lines of these
  * kinds in this order, then a line `end`; each line ends with one line feed.
@@ -19,8 +19,8 @@
  *     set limit 30000                 when the race is given up, 1 to 3600000
  *     set floor 10                    (race 2) from the last start to the next, once all have failed
  *     policy ::/0 40 1                a row of the policy table; with none the table of RFC 6724 holds
- *     source 2001:db8::2/64 1         an address of the host, its prefix length, its interface
- *     route ::/0 1                    a route of the host, and its interface
+ *     source 2001:db8::2/64 1         an address of the machine, its prefix length, its interface
+ *     route ::/0 1                    a route of the machine, and its interface
  *     aaaa 20 2001:db8:1::1           the tick at which the IPv6 answer came, and its addresses, or `none`
  *     a 25 198.51.100.1               the IPv4 answer
  *     rtt 2001:db8:1::1 35            (race 2) the round trip time of an address, as known from earlier
@@ -40,6 +40,11 @@
 #ifdef __cplusplus
 extern "C" {
 #endif
+
+/* The version of this header: 10000 times the major version, 100 times the minor one, and the patch. he_version
+ * answers that of the library that is loaded. */
+#define HE_VERSION 10000
+uint32_t he_version(void);
 
 /* What a call answers. */
 enum he_answer {
@@ -69,8 +74,8 @@ enum he_kind {
     HE_NO_DEFAULT_ROW = 10,   /* the policy table has no ::/0 */
     HE_NO_MAPPED_ROW = 11,    /* the policy table has no ::ffff:0:0/96 */
     HE_SHARED_PRECEDENCE = 12, /* a row inside ::ffff:0:0/96 has the precedence of one outside */
-    HE_OTHER_POLICY = 13,     /* another fault of the policy table, of none that there is today */
-    HE_MEMORY = 14            /* malloc refused while the line was read */
+    HE_OTHER_POLICY = 13,     /* told by no call today: a policy row too many is HE_TOO_MANY, a prefix twice HE_REPEATED */
+    HE_MEMORY = 14            /* told by no call: where malloc refuses, the answer is HE_NO_MEMORY, and the kind 0 */
 };
 
 /* What is told of a call, besides its answer. */

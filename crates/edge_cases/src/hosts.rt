@@ -1,4 +1,4 @@
-// The host of each recording of a machine, and what is left out of it.
+// The machine of each recording, and what is left out of it.
 //
 // A recording `NAME` is `NAME.if_inet6`, `NAME.fib_trie`, `NAME.ipv6_route` and `NAME.route`, as `/proc/net` has them,
 // and `NAME.interfaces`, a line for each interface: its name, `ifindex`, `flags`, `carrier` and `type` of

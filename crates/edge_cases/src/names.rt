@@ -58,9 +58,13 @@ fn write_recording(alloc: Global, files: Files<'_>, out: &mut Vec<u8>) -> Result
 
 fn write_settings(alloc: Global, settings: &[u8], out: &mut Vec<u8>) -> Result<(), Memory> {
     out.extend_from_slice(b"servers")?;
-    for ip in &read_servers(alloc, settings)? {
+    for server in &read_servers(alloc, settings)? {
         out.push(b' ')?;
-        write_ip(*ip, out)?;
+        write_ip(server.ip, out)?;
+        if let Some(zone) = server.zone {
+            out.push(b'%')?;
+            out.extend_from_slice(zone)?;
+        }
     }
     out.extend_from_slice(b"\nsearch")?;
     for domain in &read_search(alloc, settings)? {

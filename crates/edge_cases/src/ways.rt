@@ -41,13 +41,11 @@ fn read_way(line: &[u8]) -> Option<Way> {
     if field(line, 0)? != b"way".as_slice() {
         return None;
     }
-    Some(Way {
-        to: read_ip(field(line, 1)?)?,
-        from: read_ip(field(line, 2)?),
-    })
+    let to = read_ip(field(line, 1)?)?;
+    Some(Way::new(to, read_ip(field(line, 2)?)))
 }
 
-/// The lines of the host, and behind them a line `unsaid DESTINATION` for each destination for which the rules take
+/// The lines of the machine, and after them a line `unsaid DESTINATION` for each destination for which the rules take
 /// another source than the kernel; `None` where an allocation was refused.
 pub fn written(alloc: Global, recording: &[u8]) -> Option<Vec<u8>> {
     let mut own = Vec::new(alloc);

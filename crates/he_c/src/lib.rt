@@ -20,3 +20,4 @@ mod next;
 mod step;
 mod telling;
 mod texts;
+mod version;

@@ -1,3 +1,4 @@
+pub mod Connection
 pub mod Pages
 pub mod Run
 pub mod Status

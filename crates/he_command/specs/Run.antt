@@ -5,9 +5,6 @@ use Rattle.clap.specs.Values.{kind_of}
 use Rattle.clap.specs.declared.error.Error.{Error}
 use Rattle.clap.specs.declared.error.kind.ErrorKind.{ErrorKind}
 use Rattle.clap.specs.declared.error.kind.ErrorKind.TheVariants as kinds
-use Rattle.he_connect.specs.Connects.{Connects, Ran}
-use Rattle.he_connect.specs.declared.connecting.Ended.{Ended}
-use Rattle.he_connect.specs.declared.fault.ConnectFault.{ConnectFault}
 use Rattle.he_live.specs.Live.{Lives}
 use Rattle.he_live.specs.declared.fault.LiveFault.{LiveFault}
 use Rattle.he_live.specs.declared.recording.LiveReport.{LiveReport}
@@ -22,11 +19,13 @@ use Rattle.he_stream.specs.declared.stream.InputStream as inputs
 use Rattle.he_stream.specs.declared.stream.OutputStream as outputs
 use Rattle.he_command.specs.declared.asking.Options.{Options}
 use Rattle.he_command.specs.declared.command.Request.{Request}
+use Rattle.he_command.specs.declared.connection.Connection.{Connection}
 use Rattle.he_command.specs.declared.command.Request.TheVariants.{Connect, Host, Live, Names, Page, Summary, Texts}
 use Rattle.he_command.specs.declared.limits.TheConstants.{LEAST_PORT}
 use Rattle.he_command.specs.declared.racing.LiveOptions.{LiveOptions}
 use Rattle.he_command.specs.declared.run.TheConstants.{FAULT, USAGE}
-use Rattle.he_command.specs.Status.{status_of, status_of_connection, status_of_live}
+use Rattle.he_command.specs.Connection.{RunsConnection}
+use Rattle.he_command.specs.Status.{status_of, status_of_live}
 use Rattle.he_command.specs.Pages.{MakesPage}
 use Rattle.he_command.specs.Streams.{Gave, IsRefused, Shows, TookAll, TookPart, TookRounds, TookRoundsPart}
 use Rattle.he_command.specs.Summaries.{Summarizes}
@@ -53,7 +52,7 @@ IsRequest (Texts task texts) = HasTaskWorkers task
 IsRequest (Page path texts) = Unit {0}
 IsRequest (Summary form texts) = Unit {0}
 IsRequest (Live options) = LEAST_PORT ≤ options.port
-IsRequest Host = Unit {0}
+IsRequest (Host destinations) = Unit {0}
 IsRequest (Names host resolver) = Unit {0}
 IsRequest (Connect options) = LEAST_PORT ≤ options.port
 
@@ -101,13 +100,11 @@ connect_settings given =
       floor = Some MIN_FLOOR;
     })
 
--- a connection with these settings was made and relayed, or not
-abbrev pub RunsConnection : {O : Type 0} → outputs.Ghosts O → Options → SettingValues → O → O → ℕ → Type 0
-RunsConnection output options settings before after status =
-    (result : Result Ended ConnectFault)
-    × Connects (Ran settings options.families) (TookRounds output before after) (TookRoundsPart output before after)
-    (after ≡ before) result
-    × (status ≡ status_of_connection result)
+-- a connection that the line asks for, with these settings
+abbrev pub RunsSettings : {I O : Type 0} → outputs.Ghosts O → Options → SettingValues → I → I → O → O → ℕ → Type 0
+RunsSettings output options settings first last before after status =
+    (connection : Connection) × (connection.race.settings ≡ settings) × (connection.race.families ≡ options.families)
+    × RunsConnection output connection first last before after status
 
 -- what comes of a connection that is asked for: an option has no value that it may have, and the line is refused; or
 -- that
@@ -116,7 +113,7 @@ RunsConnect output options first last before after status =
     MatchOption options.resolver
     (IsRefused first last before after status)
     (λ _. MatchResult options.changes
-    (λ changes. RunsConnection output options (connect_settings changes) before after status)
+    (λ changes. RunsSettings output options (connect_settings changes) first last before after status)
     (λ _. IsRefused first last before after status))
 
 -- what was asked for was done, and the status tells how that ended; or a setting is none, or out of its range, and the
@@ -141,8 +138,9 @@ RunsRequest input file page output (Summary form texts) first last before after 
     (λ _. IsRefused first last before after status)
 RunsRequest input file page output (Live options) first last before after status =
     RunsLive input output options first last before after status
-RunsRequest input file page output Host first last before after status =
-    (last ≡ first) × Shows output before after status
+RunsRequest input file page output (Host destinations) first last before after status =
+    (last ≡ first)
+    × MatchOption destinations ((status ≡ USAGE) × (after ≡ before)) (λ _. Shows output before after status)
 RunsRequest input file page output (Names host resolver) first last before after status =
     (last ≡ first) × RunsNames output resolver before after status
 RunsRequest input file page output (Connect options) first last before after status =

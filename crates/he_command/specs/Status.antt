@@ -1,8 +1,5 @@
 -- The exit status that tells how a run ended.
 use Rattle.std.specs.Prelude.{ℕ, Bool, true, Result, Ok, Err}
-use Rattle.he_connect.specs.declared.connecting.Ended.{Ended}
-use Rattle.he_connect.specs.declared.connecting.Ended.TheVariants as ends
-use Rattle.he_connect.specs.declared.fault.ConnectFault.{ConnectFault}
 use Rattle.he_live.specs.declared.fault.LiveFault.{LiveFault}
 use Rattle.he_plan.specs.declared.transcript.Outcome3.{Outcome3}
 use Rattle.he_plan.specs.declared.transcript.Outcome3.TheVariants as results
@@ -19,10 +16,3 @@ status_of_live must (Err fault) = FAULT
 status_of_live true (Ok (results.Exhausted tick)) = NO_CONNECTION
 status_of_live true (Ok (results.Limit tick)) = NO_CONNECTION
 status_of_live must (Ok result) = DONE
-
--- the status of a connection that was asked for
-abbrev pub status_of_connection : Result Ended ConnectFault → ℕ
-status_of_connection (Ok ends.NoConnection) = NO_CONNECTION
-status_of_connection (Ok ends.Connected) = DONE
-status_of_connection (Ok ends.Relayed) = DONE
-status_of_connection (Err fault) = FAULT

@@ -14,6 +14,10 @@ use thiserror::Error;
 pub(crate) enum OptionFault {
     #[error("invalid value for '--resolver <RESOLVER>': neither an address, nor an address and a port, nor `system`")]
     Resolver,
+    #[error("invalid value for '--for <ADDRESS>...': not an IPv4 or IPv6 address")]
+    Destination,
+    #[error("invalid value for '--record <FILE>': `-` goes with `-z`, since the connection has standard output")]
+    Record,
     #[error("more than 4294967296 files")]
     Files,
     #[error("invalid value for '--html <FILE>': the name of a page ends in `.html`")]

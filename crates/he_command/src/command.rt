@@ -5,6 +5,7 @@ ghost use Rattle.he_command.specs.Texts.{HasTaskWorkers};
 
 use crate::arguments::{plain, resolver, resolver_of};
 use crate::asking::{Options, connect_command, options_of};
+use crate::host::{destinations_of, host_command};
 use crate::racing::{LiveOptions, live_command, live_options_of};
 use crate::texts::{
     Task, Texts, alone, check_command, check_of, compare_command, draw_command, draw_of,
@@ -12,6 +13,7 @@ use crate::texts::{
     summary_command, texts_of,
 };
 use clap::{Arg, ArgMatches, Command, Error};
+use he_addr::Ip;
 use he_resolver::Choice;
 use he_summary::Form;
 use std::alloc::{AllocError, Global};
@@ -27,8 +29,9 @@ pub enum Request<'a> {
     Summary(Form, Texts<'a>),
     /// To run the race of the input on real sockets.
     Live(LiveOptions<'a>),
-    /// To write the lines of this machine's addresses and routes.
-    Host,
+    /// To write the lines of this machine's addresses and routes, for these destinations alone where there are some;
+    /// None where a word of the line is no address.
+    Host(Option<Vec<Ip>>),
     /// To find the addresses of a host, by this resolver; None where the line names none that there is.
     Names {
         host: &'a str,
@@ -52,8 +55,6 @@ pub fn takes_text(line: &Result<Request<'_>, Error>) -> bool {
     }
 }
 
-const HOST_ABOUT: &str = "Writes the addresses and routes of this machine as lines of a race";
-
 const NAMES_ABOUT: &str =
     "Finds the addresses of a host, and writes them as the answers of a timeline";
 
@@ -63,38 +64,6 @@ const EXIT_STATUS: &str = "\
 Exit status: 0 when all is done; 1 after a fault, which standard error tells; 2 for a
 command line that is refused; 3 where `connect` or `live --must-connect` made no
 connection.";
-
-const HOST_EXAMPLE: &str = "\
-Reads no input. Standard output has the `source` and `route` lines of this machine, as a
-race of a timeline text has them, from what Linux says in /proc/net and /sys/class/net.
-Standard error has a line for each address and each route that a race has no place for:
-addresses that are not in use yet, routes that lead nowhere, interfaces that are down,
-and what is more than the 64 sources and 64 routes of a race.
-
-Of two routes to one prefix the one with the lower metric is taken. Where no file tells
-the interface of an IPv4 address, the kernel is asked from where it reaches which
-addresses, which sends nothing.
-
-Output, on a machine with one network:
-
-  source 127.0.0.1/8 1
-  source 192.0.2.2/24 2
-  source 2001:db8::2/64 2
-  source ::1/128 1
-  route ::/0 2
-  route 2001:db8::/64 2
-  route 0.0.0.0/0 2
-  route 127.0.0.0/8 1
-  route 192.0.2.0/24 2
-  route ::1/128 1
-
-To make a race of it, and to run that:
-
-  { echo race 1; he host; echo aaaa 0 ::1; echo a 0 127.0.0.1; echo end; } > race.txt
-  he live --port 8080 < race.txt
-
-Exit status: 0 when all is done, whether something was left out or not; 1 after a fault,
-with one line on standard error; 2 for a command line that is refused.";
 
 const NAMES_EXAMPLE: &str = "\
 Standard output has the two answers that a timeline wants, each with the tick
@@ -138,7 +107,7 @@ fn commands<'a>(alloc: Global) -> Result<Vec<Command<'a>>, AllocError> {
     commands.push(compare_command(alloc)?)?;
     commands.push(check_command(alloc)?)?;
     commands.push(live_command(alloc)?)?;
-    commands.push(plain(alloc, "host", HOST_ABOUT, HOST_EXAMPLE))?;
+    commands.push(host_command(alloc)?)?;
     commands.push(names(alloc)?)?;
     commands.push(connect_command(alloc)?)?;
     Ok(commands)
@@ -189,7 +158,7 @@ fn request_of<'a>(
         Some(("compare", compare)) => task_of(alloc, Task::Compare, compare),
         Some(("check", check)) => task_of(alloc, check_of(check), check),
         Some(("live", live)) => Ok(Request::Live(live_options_of(live))),
-        Some(("host", _)) => Ok(Request::Host),
+        Some(("host", host)) => Ok(Request::Host(destinations_of(alloc, host)?)),
         Some(("names", names)) => Ok(Request::Names {
             host: names.get_str("host").unwrap_or(""),
             resolver: resolver_of(names),

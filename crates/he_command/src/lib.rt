@@ -29,11 +29,14 @@
 mod arguments;
 pub mod asking;
 pub mod command;
+pub mod connection;
 mod files;
+pub mod host;
 pub mod limits;
 mod numbers;
 mod pages;
 pub mod racing;
+mod record;
 mod reports;
 pub mod run;
 mod summing;

@@ -1,16 +1,19 @@
 //! What is told of the text of a name: how it ended, and why.
 ghost use Rattle.std.specs.Prelude.{◌≡◌};
 ghost use Rattle.he_command.specs.Status.{status_of};
+ghost use Rattle.he_command.specs.declared.run.TheConstants.{FAULT};
 
 use crate::files::STANDARD_INPUT;
 use crate::run::{DONE, FAULT, report};
 use crate::system::System;
 use he_check::explain_fault;
+use he_inputs::StreamFault;
+use he_stream::OutputStream;
 use he_words::TextFault;
 use std::alloc::Global;
 use std::fmt::Display;
 use std::fs;
-use std::io::{Error, Write};
+use std::io::{Error, ErrorKind, Write};
 
 // Explains a fault of the text of a file. The file is read again: what was read is not kept. Where that can't be, as
 // with standard input, nothing is said; the fault itself stands.
@@ -85,4 +88,18 @@ pub(crate) fn report_in<E: Display + Drop, F: Write>(
         }
         None => report(fault, faults),
     }
+}
+
+// Says that the output can't be written, and why, and answers the exit status. Nothing is said where the reader of a pipe
+// has gone.
+pub(crate) fn report_unwritten<O: OutputStream, F: Write>(output: &O, faults: &mut F) -> u8
+    ensures { result ≡ FAULT }
+{
+    let failure = output.failure();
+    if failure.is_some_and(|error| error.kind() == ErrorKind::BrokenPipe) {
+        return FAULT;
+    }
+    let status = report(StreamFault::Write, faults);
+    tell_reason(failure, faults);
+    status
 }

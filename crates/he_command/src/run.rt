@@ -2,31 +2,32 @@
 ghost use Rattle.std.specs.Prelude.{◌≡◌, ◌≢◌, [], Err, IfOk, IsSome, MatchResult, Ok, OnErr, Result};
 ghost use Rattle.clap.specs.Values.{kind_of};
 ghost use Rattle.he_command.specs.Run.{AnswersLine, IsRequest, RunsConnect, RunsLine, RunsLive, RunsNames, RunsRace, RunsRequest, TellsRace, connect_settings};
-ghost use Rattle.he_command.specs.Status.{status_of, status_of_connection, status_of_live};
+ghost use Rattle.he_command.specs.Status.{status_of, status_of_live};
 ghost use Rattle.he_command.specs.Streams.{Shows};
 
 use crate::arguments::OptionFault;
 use crate::asking::Options;
 use crate::command::{Request, read_words};
+use crate::connection::{Connection, run_connection};
+use crate::host::run_host;
 use crate::numbers::{SettingFault, settings_of};
 use crate::pages::run_page;
 use crate::racing::LiveOptions;
+use crate::record::{keep_live_record, report_record};
 use crate::summing::run_summary;
 use crate::system::{System, columns_of};
 use crate::tasks::run_texts;
 use clap::Error;
 use clap::error::ErrorKind;
-use he_connect::{Asked, ConnectFault, Ended, Lines, connect};
-use he_host::machine::write_machine;
+use he_connect::{ConnectRequest, Lines};
 use he_inputs::StreamFault;
 use he_live::{FailedAttempt, LiveFault, LiveReport, first_local, live, write_failures};
 use he_plan::Outcome3;
-use he_resolver::{Choice, TellFault, Wanted, write_names};
+use he_resolver::{Choice, LookupReport, TellFault, Wanted, write_names};
 use he_stream::{FromReader, InputStream, OutputStream, ToWriter, write_whole};
 use he_timeline::{Changes, Settings};
 use std::alloc::Global;
 use std::fmt::Display;
-use std::fs;
 use std::io::Write;
 use std::mem::drop;
 
@@ -114,7 +115,7 @@ where
             run_summary(rt, alloc, form, &texts, input, output, faults)
         }
         Request::Live(options) => run_live(rt, alloc, &options, input, output, faults),
-        Request::Host => run_host(rt, alloc, output, faults),
+        Request::Host(destinations) => run_host(rt, alloc, destinations, output, faults),
         Request::Names { host, resolver } => {
             run_names(rt, alloc, host, resolver, output, faults)
         }
@@ -182,48 +183,10 @@ fn report_live<R: System, F: Write>(
 {
     report_failures(alloc, &told.failed, options.verbose, faults);
     let status = report_race(end, options.must_connect, faults);
-    match keep_record(rt, options.record, &told.record) {
+    match keep_live_record(rt, alloc, options.record, &told.record) {
         Ok(()) => status,
-        Err(fault) => report(fault, faults),
+        Err(error) => report_record(options.record, error, faults),
     }
-}
-
-// Writes the record of a race that was run to its file, where one is named.
-fn keep_record<R: System>(rt: &R, path: Option<&str>, text: &[u8]) -> Result<(), ConnectFault>
-    ensures { OnErr result (IsSome path.entry × (text.now ≢ [])) }
-{
-    match path {
-        Some(path) if !text.is_empty() => {
-            fs::write(rt, path, text).map_err(|_| ConnectFault::Record)
-        }
-        _ => Ok(()),
-    }
-}
-
-// Writes the lines of this machine, and what is left out of them.
-fn run_host<R, O, F>(rt: &R, alloc: Global, output: &mut O, faults: &mut F) -> u8
-where
-    R: System,
-    O: OutputStream,
-    F: Write,
-    ensures { Shows O.OutputStream output.old output.new result }
-{
-    let mut lines = Vec::new(alloc);
-    let mut remarks = Vec::new(alloc);
-    match write_machine(rt, &mut lines, &mut remarks) {
-        Ok(()) => {
-            let status = report_end(put_lines(&lines, output), faults);
-            let _ = faults.write_all(remarks.as_slice());
-            status
-        }
-        Err(fault) => report(fault, faults),
-    }
-}
-
-fn put_lines<O: OutputStream>(lines: &[u8], output: &mut O) -> Result<(), StreamFault>
-    ensures { Shows O.OutputStream output.old output.new (status_of result) }
-{
-    write_whole(output, lines).map_err(|_| StreamFault::Write)
 }
 
 // Finds the addresses of a host. A resolver that is none is a line that is refused.
@@ -248,7 +211,12 @@ where
                 only: None,
                 choice,
             };
-            report_names(write_names(rt, alloc, output, wanted), host, faults)
+            let mut report = LookupReport::new(alloc);
+            report_names(
+                write_names(rt, alloc, output, wanted, &mut report),
+                host,
+                faults,
+            )
         }
         None => refuse_option(OptionFault::Resolver, faults),
     }
@@ -277,27 +245,33 @@ where
         Ok(settings) => settings,
         Err(fault) => return refuse_option(OptionFault::Setting(fault), faults),
     };
-    let asked = Asked {
-        host: options.host,
-        port: options.port,
-        families: options.families,
-        settings,
-        lines: match options.lines {
-            Some(path) => Lines::File(path),
-            None => Lines::Machine,
+    let connection = connection_of(options, resolver, settings);
+    run_connection(rt, alloc, &connection, input, output, faults)
+}
+
+// The connection that the line asks for.
+fn connection_of<'a>(options: &Options<'a>, resolver: Choice, settings: Settings) -> Connection<'a>
+    ensures settings { result.race.settings ≡ settings }
+    ensures families { result.race.families ≡ options.now.families }
+{
+    Connection {
+        race: ConnectRequest {
+            host: options.host,
+            port: options.port,
+            families: options.families,
+            settings,
+            lines: match options.lines {
+                Some(path) => Lines::File(path),
+                None => Lines::Machine,
+            },
+            resolver,
+            explains: options.explains,
+            tells_steps: options.tells_steps,
         },
-        resolver,
         record: options.record,
-        explains: options.explains,
-        tells_steps: options.tells_steps,
         only_tries: options.only_tries,
         wait: options.wait,
-    };
-    report_connection(
-        connect(rt, alloc, &asked, input, output, faults),
-        options.host,
-        faults,
-    )
+    }
 }
 
 fn settings_asked(options: &Options<'_>) -> Result<Settings, SettingFault>
@@ -305,18 +279,6 @@ fn settings_asked(options: &Options<'_>) -> Result<Settings, SettingFault>
         ≡ Err fault) }
 {
     settings_of(options.changes?).ok_or(SettingFault::Form)
-}
-
-// Says how a connection ended, and answers the exit status.
-fn report_connection<F: Write>(end: Result<Ended, ConnectFault>, host: &str, faults: &mut F) -> u8
-    ensures { result ≡ status_of_connection end }
-{
-    match end {
-        Ok(Ended::NoConnection) => NO_CONNECTION,
-        Ok(Ended::Connected | Ended::Relayed) => DONE,
-        Err(fault) if fault.is_of_host() => report_of(fault, host, faults),
-        Err(fault) => report(fault, faults),
-    }
 }
 
 // Says how a search for names ended, and answers the exit status.
@@ -331,7 +293,7 @@ fn report_names<F: Write>(end: Result<(), TellFault>, host: &str, faults: &mut F
 }
 
 // Writes the line of a fault that is the host's, and answers the exit status.
-fn report_of<E: Display + Drop, F: Write>(fault: E, host: &str, faults: &mut F) -> u8
+pub(crate) fn report_of<E: Display + Drop, F: Write>(fault: E, host: &str, faults: &mut F) -> u8
     ensures { result ≡ FAULT }
 {
     let _ = writeln!(faults, "he: {fault}: {host}");
@@ -391,7 +353,7 @@ fn refuse<F: Write>(error: &Error, faults: &mut F) -> u8
 }
 
 // Says how a command ended, and answers the exit status.
-fn report_end<E: Display + Drop, F: Write>(end: Result<(), E>, faults: &mut F) -> u8
+pub(crate) fn report_end<E: Display + Drop, F: Write>(end: Result<(), E>, faults: &mut F) -> u8
     ensures { result ≡ status_of end }
 {
     match end {

@@ -1,32 +1,48 @@
 -- What a race that was run comes to.
-use Rattle.std.proofs.Common.{◌≡◌, ◌∙◌, ℕ, List, is_some}
-use Rattle.std.specs.Prelude.{Result, Ok, Err, IfOk}
+use Rattle.std.proofs.Common.{◌≡◌, ◌∙◌, ℕ, List, Bool, is_some, ap, subst, sym}
+use Rattle.std.specs.Prelude.{Option, Result, Ok, Err, IfOk, IfSome}
 use Rattle.he_timeline.specs.Race.{Race}
-use Rattle.he_timeline.specs.Settings.{SettingValues}
+use Rattle.he_live.specs.Dials.{goes_to}
+use Rattle.he_live.specs.declared.dialed.Dialed.{Dialed}
 use Rattle.he_race.specs.declared.live.Raced.{Raced}
 use Rattle.he_race.specs.Resolving.{ReplaysGiven}
+use Rattle.he_race.specs.Winner.{GoesAt, WinnerGoes}
 use Rattle.he_write.specs.Written.{timeline_text}
-use Rattle.he_connect.specs.declared.asked.Families.{Families}
+use Rattle.he_connect.specs.declared.request.ConnectRequest.{ConnectRequest}
+use Rattle.he_connect.specs.declared.request.Families.{Families}
 use Rattle.he_connect.specs.declared.fault.ConnectFault.{ConnectFault}
-use Rattle.he_connect.specs.declared.racing.Run.{Run}
-use Rattle.he_connect.specs.Connects.{IsRun, RunsFrom}
+use Rattle.he_connect.specs.declared.racing.FinishedRace.{FinishedRace}
+use Rattle.he_connect.specs.Races.{IsExplained, IsRun, RunsFrom, Tries}
 use Rattle.he_connect.specs.Start.{Starts}
 
-pub ran_so : {Conn : Type 0} (start : Race) (raced : Raced Conn) (result : Result Run ConnectFault)
-    → ReplaysGiven start raced → IfOk result (λ run. run.text.items ≡ timeline_text raced.recorded) → IfOk result (λ run. is_some run.winner ≡ is_some raced.winner)
-    → IfOk result (λ run. RunsFrom start run.text.items (is_some run.winner))
-ran_so start raced (Ok run) replays text winner = record {
+pub ran_so : (start : Race) (port : ℕ) (explains : Bool) (raced : Raced Dialed) (result : Result FinishedRace ConnectFault)
+    → ReplaysGiven start raced → WinnerGoes (goes_to port) raced
+    → IfOk result (λ run. run.text.items ≡ timeline_text raced.recorded)
+    → IfOk result (λ run. IsExplained explains raced.recorded run.story.items)
+    → IfOk result (λ run. run.connection ≡ raced.winner)
+    → IfOk result (λ run. RunsFrom start port explains run.text.items run.story.items run.connection)
+ran_so start port explains raced (Ok run) replays goes text story winner = record {
   recorded = raced.recorded;
   kept = replays.kept;
   report = raced.transcript;
   transcript = replays.transcript;
   written = text;
-  won_so = winner ∙ replays.winner;
+  explained = story;
+  won_so = ap (λ (o : Option Dialed). is_some o) winner ∙ replays.winner;
+  goes = subst (λ (o : Option Dialed). IfSome o (GoesAt (goes_to port) raced.transcript.lines raced.transcript.result)) (sym winner) goes;
 }
-ran_so start raced (Err fault) replays text winner = tt
+ran_so start port explains raced (Err fault) replays goes text story winner = tt
 
-pub began_so : (lines : List ℕ) (settings : SettingValues) (families : Families) (start : Race) (result : Result Run ConnectFault)
-    → Starts lines settings families start → IfOk result (λ run. RunsFrom start run.text.items (is_some run.winner))
-    → IfOk result (λ run. IsRun settings families run.text.items (is_some run.winner))
-began_so lines settings families start (Ok run) starts runs = record { lines = lines; start = start; starts = starts; runs = runs }
-began_so lines settings families start (Err fault) starts runs = tt
+pub began_so : (request : ConnectRequest) (lines : List ℕ) (tried : Families) (start : Race) (result : Result FinishedRace ConnectFault)
+    → Tries request.families tried → Starts lines request.settings tried start
+    → IfOk result (λ run. RunsFrom start request.port request.explains run.text.items run.story.items run.connection)
+    → IfOk result (λ run. IsRun request run.text.items run.story.items run.connection)
+began_so request lines tried start (Ok run) tries starts runs = record {
+  tried = tried;
+  tries = tries;
+  lines = lines;
+  start = start;
+  starts = starts;
+  runs = runs;
+}
+began_so request lines tried start (Err fault) tries starts runs = tt

@@ -1,2 +1,2 @@
-pub mod Connects
+pub mod Races
 pub mod Start

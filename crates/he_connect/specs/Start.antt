@@ -5,8 +5,8 @@ use Rattle.he_timeline.specs.Building.{empty_race, with_answer}
 use Rattle.he_timeline.specs.Race.{Race}
 use Rattle.he_timeline.specs.Settings.{SettingValues}
 use Rattle.he_inputs.specs.Inputs.{HasRaces}
-use Rattle.he_connect.specs.declared.asked.Families.{Families}
-use Rattle.he_connect.specs.declared.asked.Families.TheVariants as tried
+use Rattle.he_connect.specs.declared.request.Families.{Families}
+use Rattle.he_connect.specs.declared.request.Families.TheVariants as tried
 
 -- the race that has these lines alone
 abbrev pub lines_text : List ℕ → List ℕ
@@ -18,7 +18,7 @@ with_families tried.Both race = race
 with_families (tried.Only families.V6) race = with_answer race families.V4 (record { tick = 0; addresses = [] })
 with_families (tried.Only families.V4) race = with_answer race families.V6 (record { tick = 0; addresses = [] })
 
--- the race has the settings, and the host and the policy of the lines
+-- the race has the settings, and the machine and the policy of the lines
 pub record Starts (lines : List ℕ) (settings : SettingValues) (families : Families) (race : Race) : Type 0 where
   pub base : Race
   pub read : HasRaces (lines_text lines) false (base ∷ []) None

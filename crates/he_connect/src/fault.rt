@@ -1,19 +1,14 @@
-//! Why a connection was not made, or not relayed to its end.
-ghost use Rattle.std.specs.Prelude.{◌≡◌};
-ghost use Rattle.he_connect.specs.declared.fault.ConnectFault.TheVariants as faults;
-ghost use Rattle.he_connect.specs.Connects.{IsBefore};
-
+//! Why no race was run.
 use he_host::machine::MachineFault;
 use he_inputs::{InputFault, NotOneRace};
 use he_live::LiveFault;
-use he_relay::RelayFault;
 use he_resolver::NamesFault;
 use he_words::TextFault;
 use std::alloc::{AllocError, AllocFailed};
 use std::io;
 use thiserror::Error;
 
-/// Why a connection was not made, or not relayed to its end. That no address could be connected to is no fault.
+/// Why no race was run to its end. That no address could be connected to is no fault.
 #[derive(Clone, Copy, Debug, PartialEq, Eq, Error)]
 pub enum ConnectFault {
     /// The addresses and routes of this machine cannot be read.
@@ -34,12 +29,6 @@ pub enum ConnectFault {
     /// The sockets' event loop could not be made or failed, or the clock did.
     #[error("cannot run the sockets")]
     Runtime,
-    /// The record cannot be written.
-    #[error("cannot write the file of --record")]
-    Record,
-    /// The relay ended before both ways did.
-    #[error("{0}")]
-    Relay(RelayFault),
     /// An allocation was refused.
     #[error("out of memory")]
     Memory,
@@ -56,24 +45,18 @@ impl ConnectFault {
 }
 
 impl From<AllocError> for ConnectFault {
-    ghost from_gives = { λ _ fault. IsBefore fault };
-
     fn from(_refused: AllocError) -> ConnectFault {
         ConnectFault::Memory
     }
 }
 
 impl<T: Drop> From<AllocFailed<T>> for ConnectFault {
-    ghost from_gives = { λ _ fault. IsBefore fault };
-
     fn from(_refused: AllocFailed<T>) -> ConnectFault {
         ConnectFault::Memory
     }
 }
 
 impl From<MachineFault> for ConnectFault {
-    ghost from_gives = { λ _ fault. IsBefore fault };
-
     fn from(fault: MachineFault) -> ConnectFault {
         match fault {
             MachineFault::NoFiles => ConnectFault::Machine,
@@ -84,8 +67,6 @@ impl From<MachineFault> for ConnectFault {
 
 // Of the text of a file's lines, with a line before them.
 impl From<NotOneRace> for ConnectFault {
-    ghost from_gives = { λ _ fault. IsBefore fault };
-
     fn from(fault: NotOneRace) -> ConnectFault {
         match fault {
             NotOneRace::Fault(InputFault::Text(fault)) => ConnectFault::Lines(TextFault {
@@ -100,16 +81,12 @@ impl From<NotOneRace> for ConnectFault {
 }
 
 impl From<NamesFault> for ConnectFault {
-    ghost from_gives = { λ _ fault. IsBefore fault };
-
     fn from(fault: NamesFault) -> ConnectFault {
         ConnectFault::Name(fault)
     }
 }
 
 impl From<LiveFault> for ConnectFault {
-    ghost from_gives = { λ _ fault. IsBefore fault };
-
     fn from(fault: LiveFault) -> ConnectFault {
         match fault {
             LiveFault::Memory => ConnectFault::Memory,
@@ -120,20 +97,10 @@ impl From<LiveFault> for ConnectFault {
 
 // Of the event loop.
 impl From<io::Error> for ConnectFault {
-    ghost from_gives = { λ _ fault. IsBefore fault };
-
     fn from(error: io::Error) -> ConnectFault {
         match error.kind() {
             io::ErrorKind::OutOfMemory => ConnectFault::Memory,
             _ => ConnectFault::Runtime,
         }
-    }
-}
-
-impl From<RelayFault> for ConnectFault {
-    ghost from_gives = { λ relay fault. fault ≡ faults.Relay relay };
-
-    fn from(fault: RelayFault) -> ConnectFault {
-        ConnectFault::Relay(fault)
     }
 }

@@ -1,4 +1,4 @@
-//! The sources that the kernel takes, beside those that the lines of the host say.
+//! The sources that the kernel takes, beside those that the lines of the machine say.
 
 use he_addr::{Ip, Memory, write_ip};
 use he_host::kernel::ask_source;
@@ -7,7 +7,7 @@ use he_timeline::Timeline;
 use std::net::Net;
 
 /// Appends a line for each address that was tried and that the kernel reaches from another source than the lines of
-/// the host say, as `he: 2001:db8::1 is reached from 2001:db8:5::23, and not from 2001:db8:5::7`.
+/// the machine say, as `he: 2001:db8::1 is reached from 2001:db8:5::23, and not from 2001:db8:5::7`.
 ///
 /// # Errors
 ///

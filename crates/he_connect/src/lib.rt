@@ -1,39 +1,37 @@
-//! A connection to a host by RFC 8305, with standard input and output over it: `he connect`.
+//! A race for a connection to a host by RFC 8305, as `he connect` runs it.
 //!
-//! [`connect`] finds the host's addresses (`he_resolver`) while it races them (`he_live`), each family's as soon as
-//! they are known, with the sources, routes and policy rows of this machine (`he_host`) or of a file. It writes the
-//! record of the race to a file, tells what was tried where nothing connected, explains the race, and relays the
-//! connection (`he_relay`), as far as each of these is asked for.
+//! [`race`] finds the host's addresses (`he_resolver`) while it races them (`he_live`), each family's as soon as they
+//! are known, with the sources, routes and policy rows of this machine (`he_host`) or of a file. It hands out the record
+//! of the race, its story, what is said where nothing connected, and the connection: the caller keeps the record and
+//! relays.
 //!
 //! # What is proved
 //!
-//! - The race begins as [`start_race`](start::start_race) says: with the settings, the host and the policy of the
-//!   lines, and an empty answer for a family that isn't tried (`specs/Start`).
-//! - The text that is written as the record is that of a race that began so, kept what it began with, and replays to
-//!   its transcript; there is a connection exactly where that race was won (`IsRun` in `specs/Connects`).
-//! - An explanation that is asked for is that of the record: a clause of a function inside.
-//! - Nothing is put into the output but by the relay, and of it what `he_relay` says; a fault that is not the relay's
-//!   left the output alone (`Connects`).
+//! - The race begins as [`start_race`](start::start_race) says: with the settings, the machine and the policy of the
+//!   lines, and an empty answer for a family that isn't tried (`specs/Start`). The families are those that are asked
+//!   for, or one of both.
+//! - The text that is handed out is that of the record of a race that began so, kept what it began with, and replays to
+//!   its transcript; the story that is asked for is that of this record; there is a connection exactly where this race
+//!   was won, and it was asked for at the address of the line that won and the port (`IsRun` in `specs/Races`).
 //!
-//! All promise this if they return: they wait for the system.
+//! Both promise this if they return: they wait for the system.
 //!
-//! Only tested: which addresses are found, that anything connects, and when; what the line that tells what was tried
-//! says, and each step; that the record's text is what is in the file; which source the kernel takes, and what is said
-//! of it.
+//! Only tested: which addresses are found, that anything connects, and when; which lines are read, and for which
+//! families this machine has a way; what the line that tells what was tried says, and each step; which source the
+//! kernel takes, and what is said of it.
 #![tactic(auto)]
 
-pub mod asked;
-pub mod connecting;
+mod families;
 pub mod fault;
 mod kernel;
 mod lines;
-mod racing;
+pub mod racing;
+pub mod request;
 mod source;
 pub mod start;
 mod telling;
 mod tried;
 
-pub use asked::{Asked, Families, Lines};
-pub use connecting::{Ended, connect};
 pub use fault::ConnectFault;
-pub use he_relay::DEFAULT_WAIT;
+pub use racing::{FinishedRace, race};
+pub use request::{ConnectRequest, Families, Lines};

@@ -1,33 +1,31 @@
-//! The lines that say the host of a race, and its policy.
-ghost use Rattle.std.specs.Prelude.{IfErr};
-ghost use Rattle.he_connect.specs.Connects.{IsBefore};
+//! The lines that say the machine of a race, and its policy.
 
-use crate::asked::Lines;
 use crate::fault::ConnectFault;
-use he_addr::read_ip;
-use he_host::machine::{write_machine, write_machine_to};
+use crate::request::Lines;
+use he_addr::Ip;
+use he_host::ahead::write_machine_ahead;
+use he_host::taken::write_machine_to;
 use std::alloc::{AllocGlobal, Global};
 use std::net::Net;
 use std::rt::Files;
 use std::{fs, io};
 
-// The lines of this machine or of a file, of which the last one is ended where it isn't. Where the host is an address,
-// the kernel is asked for the way to it; the addresses of a name come while the race runs, which has its lines before.
+// The lines of this machine or of a file, of which the last one is ended where it isn't. Where the host's addresses are
+// known without a look-up, the kernel is asked for the ways to them. Else they come while the race runs, which has its
+// lines before, and it is asked for the ways that there are.
 pub(crate) fn read_lines_of<R: Files + Net + AllocGlobal>(
     rt: &R,
     alloc: Global,
     lines: Lines<'_>,
-    host: &str,
-) -> Result<Vec<u8>, ConnectFault>
-    ensures { IfErr result IsBefore }
-{
+    known: Option<Vec<Ip>>,
+) -> Result<Vec<u8>, ConnectFault> {
     match lines {
         Lines::Machine => {
             let mut text = Vec::new(alloc);
             let mut remarks = Vec::new(alloc);
-            match read_ip(host.as_bytes()) {
-                Some(ip) => write_machine_to(rt, &[ip], &mut text, &mut remarks)?,
-                None => write_machine(rt, &mut text, &mut remarks)?,
+            match known {
+                Some(ips) => write_machine_to(rt, &ips, &mut text, &mut remarks)?,
+                None => write_machine_ahead(rt, &mut text)?,
             }
             Ok(text)
         }
@@ -41,9 +39,7 @@ pub(crate) fn read_lines_of<R: Files + Net + AllocGlobal>(
     }
 }
 
-fn read_file<R: Files + AllocGlobal>(rt: &R, path: &str) -> Result<Vec<u8>, ConnectFault>
-    ensures { IfErr result IsBefore }
-{
+fn read_file<R: Files + AllocGlobal>(rt: &R, path: &str) -> Result<Vec<u8>, ConnectFault> {
     match fs::read(rt, path) {
         Ok(bytes) => Ok(bytes),
         Err(error) if error.kind() == io::ErrorKind::OutOfMemory => Err(ConnectFault::Memory),

@@ -1,19 +1,20 @@
 //! The race of a connection that is asked for, on real sockets.
-ghost use Rattle.std.specs.Prelude.{◌≡◌, IfOk, IfErr, is_some};
+ghost use Rattle.std.specs.Prelude.{◌≡◌, IfOk};
 ghost use Rattle.he_write.specs.Written.{timeline_text};
-ghost use Rattle.he_connect.specs.Connects.{IsBefore, IsExplained, IsRun, RunsFrom};
+ghost use Rattle.he_connect.specs.Races.{IsExplained, IsRun, RunsFrom};
 
-use crate::asked::{Asked, Lines};
+use crate::families::{families_to_try, tell_unasked};
 use crate::fault::ConnectFault;
 use crate::kernel::write_other_sources;
 use crate::lines::read_lines_of;
-use crate::source::{HostAnswers, LookupFaults};
+use crate::request::{ConnectRequest, Lines};
+use crate::source::{FamilyFaults, HostAnswers, LookupFaults};
 use crate::start::start_race;
 use crate::telling::Telling;
 use crate::tried::write_tried;
 use he_live::{Dialed, Steps, resolving_race_on};
 use he_race::Raced;
-use he_resolver::{Lookup, NamesFault, SystemResolver, Wanted};
+use he_resolver::{Lookup, NamesFault, SystemResolver, Wanted, find_known};
 use he_story::write_story;
 use he_timeline::Timeline;
 use he_write::write_timeline;
@@ -28,45 +29,49 @@ use std::thread::Threads;
 use std::time::Clock;
 use tokio::runtime::{Handle, LocalRuntime};
 
-/// A race that was run.
+/// A race that was run for a connection.
 #[derive(Drop)]
-pub(crate) struct Run {
+pub struct FinishedRace {
     /// The text of its record.
     pub text: Vec<u8>,
-    /// What is told of it: its explanation, where that is asked for, and where nothing connected what was tried.
+    /// Its story, where that is asked for.
+    pub story: Vec<u8>,
+    /// What is said of it beside its story, in lines: other sources, and where nothing connected what was tried.
     pub told: Vec<u8>,
     /// Why there was no address to connect to, where a look-up found none.
     pub nameless: Option<NamesFault>,
     /// The connection.
-    pub winner: Option<Dialed>,
+    pub connection: Option<Dialed>,
 }
 
-// The texts of a race that was run.
-#[derive(Drop)]
-struct Texts {
-    text: Vec<u8>,
-    told: Vec<u8>,
-}
-
-/// Runs the race that is asked for. Each step is told to `faults` as it happens, where that is asked for.
+/// Finds the addresses of the host while it races them, as RFC 8305 says. Each step is told to `faults` as it happens,
+/// where that is asked for; what cannot be written there is passed over.
+///
+/// # Errors
+///
+/// Those of [`ConnectFault`].
 #[tactic(auto, using(crate::proofs::Runs::began_so))]
-pub(crate) fn run_race<R, F>(
+pub fn race<R, F>(
     rt: &R,
     alloc: Global,
-    asked: &Asked<'_>,
+    request: &ConnectRequest<'_>,
     faults: &mut F,
-) -> Result<Run, ConnectFault>
+) -> Result<FinishedRace, ConnectFault>
 where
     F: Write,
     R: Threads + Wait + Clock + RandomSource + AllocGlobal + Net + Files + Sync,
     R: SystemResolver + Copy + Send + 'static,
-    ensures race { IfOk result (λ run. IsRun asked.now.settings asked.now.families run.text.items
-        (is_some run.winner)) }
-    ensures fault { IfErr result IsBefore }
+    ensures { IfOk result (λ run. IsRun request.now run.text.items run.story.items run.connection) }
 {
-    let lines = read_lines_of(rt, alloc, asked.lines, asked.host)?;
-    let start = start_race(alloc, asked.settings, asked.families, &lines)?;
-    let run = run_from(rt, alloc, asked, &start, faults);
+    let known = find_known(rt, alloc, request.host)?;
+    let tried = families_to_try(rt, request, known.is_some())?;
+    if request.tells_steps || request.explains {
+        tell_unasked(request.families, tried, faults);
+    }
+    let lines = read_lines_of(rt, alloc, request.lines, known)?;
+    let start = start_race(alloc, request.settings, tried, &lines)?;
+    let request = request.with_families(tried);
+    let run = run_from(rt, alloc, &request, &start, faults);
     drop(start);
     run
 }
@@ -75,73 +80,74 @@ where
 fn run_from<R, F>(
     rt: &R,
     alloc: Global,
-    asked: &Asked<'_>,
+    request: &ConnectRequest<'_>,
     start: &Timeline,
     faults: &mut F,
-) -> Result<Run, ConnectFault>
+) -> Result<FinishedRace, ConnectFault>
 where
     F: Write,
     R: Threads + Wait + Clock + RandomSource + AllocGlobal + Net + Files + Sync,
     R: SystemResolver + Copy + Send + 'static,
-    ensures race { IfOk result (λ run. RunsFrom start.now run.text.items (is_some run.winner)) }
-    ensures fault { IfErr result IsBefore }
+    ensures race { IfOk result (λ run. RunsFrom start.now request.now.port request.now.explains run.text.items
+        run.story.items run.connection) }
 {
     let mut runtime = LocalRuntime::new(rt)?;
     let handle = runtime.handle().clone()?;
     let why = LookupFaults::new();
-    let source = answers_of(rt, alloc, &handle, asked, &why)?;
     let steps = Steps::new(alloc)?;
-    let telling = Telling::new(alloc, faults, asked.tells_steps);
+    let telling = Telling::new(alloc, faults, request);
+    let source = answers_of(rt, alloc, &handle, request, &why, &telling)?;
     let raced = resolving_race_on(
         rt,
         alloc,
         &mut runtime,
         start,
         source,
-        asked.port,
+        request.port,
         &steps,
         &telling,
     )?;
-    end_with(rt, alloc, asked, why.fault(asked.families), &steps, raced)
+    end_with(rt, alloc, request, why.families(), &steps, raced)
 }
 
 // The answers of a look-up of the host, which waits in the event loop.
-fn answers_of<'h, R>(
+fn answers_of<'h, 'f, R, F>(
     rt: &'h R,
     alloc: Global,
     handle: &'h Handle,
-    asked: &Asked<'_>,
+    request: &ConnectRequest<'_>,
     why: &'h LookupFaults,
-) -> Result<HostAnswers<'h, R>, ConnectFault>
+    telling: &'h Telling<'f, F>,
+) -> Result<HostAnswers<'h, 'f, R, F>, ConnectFault>
 where
+    F: Write,
     R: Threads + Wait + Clock + RandomSource + AllocGlobal + Net + Files + Sync,
     R: SystemResolver + Copy + Send + 'static,
-    ensures fault { IfErr result IsBefore }
 {
     let (reactor, timers) = (handle.reactor(), handle.time());
     let wanted = Wanted {
-        host: asked.host,
-        only: asked.families.only(),
-        choice: asked.resolver,
+        host: request.host,
+        only: request.families.only(),
+        choice: request.resolver,
     };
     let lookup = Lookup::new(rt, alloc, reactor, timers, wanted)?;
-    Ok(HostAnswers::new(alloc, lookup, why))
+    Ok(HostAnswers::new(alloc, lookup, why, telling)?)
 }
 
-// What is told of the race, with its connection.
+// What is handed out of the race.
 fn end_with<R: Net>(
     rt: &R,
     alloc: Global,
-    asked: &Asked<'_>,
-    nameless: Option<NamesFault>,
+    request: &ConnectRequest<'_>,
+    why: FamilyFaults,
     steps: &Steps,
     raced: Raced<Dialed>,
-) -> Result<Run, ConnectFault>
+) -> Result<FinishedRace, ConnectFault>
     ensures text { IfOk result (λ run. run.text.items ≡ timeline_text raced.recorded) }
-    ensures winner { IfOk result (λ run. is_some run.winner ≡ is_some raced.winner) }
-    ensures fault { IfErr result IsBefore }
+    ensures story { IfOk result (λ run. IsExplained request.now.explains raced.recorded run.story.items) }
+    ensures winner { IfOk result (λ run. run.connection ≡ raced.winner) }
 {
-    let texts = texts_of(rt, alloc, asked, nameless, steps, &raced);
+    let texts = texts_of(rt, alloc, request, why, steps, &raced);
     let Raced {
         transcript,
         recorded,
@@ -149,46 +155,55 @@ fn end_with<R: Net>(
     } = raced;
     drop(transcript);
     drop(recorded);
-    let Texts { text, told } = texts?;
-    Ok(Run {
+    let RaceTexts { text, story, told } = texts?;
+    Ok(FinishedRace {
         text,
+        story,
         told,
-        nameless,
-        winner,
+        nameless: why.nameless(request.families),
+        connection: winner,
     })
 }
 
 fn texts_of<R: Net>(
     rt: &R,
     alloc: Global,
-    asked: &Asked<'_>,
-    nameless: Option<NamesFault>,
+    request: &ConnectRequest<'_>,
+    why: FamilyFaults,
     steps: &Steps,
     raced: &Raced<Dialed>,
-) -> Result<Texts, ConnectFault>
+) -> Result<RaceTexts, ConnectFault>
     ensures text { IfOk result (λ texts. texts.text.items ≡ timeline_text raced.now.recorded) }
-    ensures fault { IfErr result IsBefore }
+    ensures story { IfOk result (λ texts. IsExplained request.now.explains raced.now.recorded texts.story.items) }
 {
     let mut text = Vec::new(alloc);
     write_timeline(&raced.recorded, &mut text)?;
-    let mut told = explain(alloc, asked.explains, &raced.recorded)?;
-    if asked.tells_steps || asked.lines == Lines::Machine {
+    let story = explain(alloc, request.explains, &raced.recorded)?;
+    let mut told = Vec::new(alloc);
+    if request.tells_steps || request.lines == Lines::Machine {
         write_other_sources(rt, &raced.recorded, raced.transcript.attempts(), &mut told)?;
     }
-    if raced.winner.is_none() && nameless.is_none() {
-        write_tried(asked, &raced.recorded, &raced.transcript, steps, &mut told)?;
+    if raced.winner.is_none() && why.nameless(request.families).is_none() {
+        write_tried(alloc, request, raced, steps, why, &mut told)?;
     }
-    Ok(Texts { text, told })
+    Ok(RaceTexts { text, story, told })
 }
 
 // The story of a race, where it is asked for.
 fn explain(alloc: Global, is_asked: bool, recorded: &Timeline) -> Result<Vec<u8>, ConnectFault>
-    ensures text { IfOk result (λ text. IsExplained is_asked recorded.now text.items) }
-    ensures fault { IfErr result IsBefore }
+    ensures { IfOk result (λ story. IsExplained is_asked recorded.now story.items) }
 {
-    let mut text = Vec::new(alloc);
+    let mut story = Vec::new(alloc);
     if is_asked {
-        write_story(alloc, recorded, 1, 1, &mut text)?;
+        write_story(alloc, recorded, 1, 1, &mut story)?;
     }
-    Ok(text)
+    Ok(story)
+}
+
+// The texts of a race that was run.
+#[derive(Drop)]
+struct RaceTexts {
+    text: Vec<u8>,
+    story: Vec<u8>,
+    told: Vec<u8>,
 }

@@ -1,12 +1,14 @@
 //! Where the answers of a connection's race come from.
 
-use crate::asked::Families;
+use crate::request::Families;
+use crate::telling::Telling;
 use futures::task::{Context, Poll};
 use he_addr::{Family, Ip};
 use he_race::AnswerSource;
-use he_resolver::{Lookup, NamesFault, first_fault};
-use std::alloc::Global;
+use he_resolver::{Lookup, LookupLog, NamesFault, first_fault};
+use std::alloc::{AllocError, Global};
 use std::cell::Cell;
+use std::io::Write;
 use std::net::Net;
 use std::random::RandomSource;
 use std::time::Clock;
@@ -26,12 +28,11 @@ impl LookupFaults {
         }
     }
 
-    // Why there is no address of those that are tried; None where a family that is tried has some, or none yet.
-    pub(crate) fn fault(&self, families: Families) -> Option<NamesFault> {
-        match families {
-            Families::Only(Family::V6) => self.six.get(),
-            Families::Only(Family::V4) => self.four.get(),
-            Families::Both => Some(first_fault(self.six.get()?, self.four.get()?)),
+    // What is known by now.
+    pub(crate) fn families(&self) -> FamilyFaults {
+        FamilyFaults {
+            six: self.six.get(),
+            four: self.four.get(),
         }
     }
 
@@ -43,25 +44,63 @@ impl LookupFaults {
     }
 }
 
-// The answers of a look-up, which are polled while a race runs. A family that has none is told without addresses.
-#[derive(Drop)]
-pub(crate) struct HostAnswers<'h, R> {
-    alloc: Global,
-    lookup: Lookup<'h, R>,
-    why: &'h LookupFaults,
+// Why each family has no address, at a race's end.
+#[derive(Clone, Copy)]
+pub(crate) struct FamilyFaults {
+    six: Option<NamesFault>,
+    four: Option<NamesFault>,
 }
 
-impl<'h, R> HostAnswers<'h, R> {
+impl FamilyFaults {
+    // Why the family has no address; None where it has some, or was not told in time.
+    pub(crate) fn of(self, family: Family) -> Option<NamesFault> {
+        match family {
+            Family::V6 => self.six,
+            Family::V4 => self.four,
+        }
+    }
+
+    // Why there is no address of those that are tried; None where a family that is tried has some, or none yet, and
+    // where the name has addresses of the other family alone.
+    pub(crate) fn nameless(self, families: Families) -> Option<NamesFault> {
+        match families {
+            Families::Only(family) => self
+                .of(family)
+                .filter(|fault| *fault != NamesFault::NoAddress),
+            Families::Both => Some(first_fault(self.six?, self.four?)),
+        }
+    }
+}
+
+// The answers of a look-up, which are polled while a race runs. A family that has none is told without addresses.
+#[derive(Drop)]
+pub(crate) struct HostAnswers<'h, 'f, R, F> {
+    alloc: Global,
+    lookup: Lookup<'h, R>,
+    log: LookupLog,
+    why: &'h LookupFaults,
+    telling: &'h Telling<'f, F>,
+}
+
+impl<'h, 'f, R: Net + RandomSource + Clock, F> HostAnswers<'h, 'f, R, F> {
     pub(crate) fn new(
         alloc: Global,
         lookup: Lookup<'h, R>,
         why: &'h LookupFaults,
-    ) -> HostAnswers<'h, R> {
-        HostAnswers { alloc, lookup, why }
+        telling: &'h Telling<'f, F>,
+    ) -> Result<HostAnswers<'h, 'f, R, F>, AllocError> {
+        let log = lookup.log()?;
+        Ok(HostAnswers {
+            alloc,
+            lookup,
+            log,
+            why,
+            telling,
+        })
     }
 }
 
-impl<'h, R: Net + RandomSource + Clock> AnswerSource for HostAnswers<'h, R> {
+impl<'h, 'f, R: Net + RandomSource + Clock, F: Write> AnswerSource for HostAnswers<'h, 'f, R, F> {
     ghost use Rattle.std.specs.Prelude.{⊤};
     ghost use Rattle.he_resolver.specs.Needs.{lookup_needs};
 
@@ -70,7 +109,9 @@ impl<'h, R: Net + RandomSource + Clock> AnswerSource for HostAnswers<'h, R> {
     ghost hears = { λ _ _ _ _ _. ⊤ };
 
     fn poll_answer(&mut self, family: Family, _now: u64, cx: &mut Context<'_>) -> Poll<Vec<Ip>> {
-        match self.lookup.poll_answer(family, cx) {
+        let polled = self.lookup.poll_answer(family, cx);
+        self.telling.tell_lookup(&self.log);
+        match polled {
             Poll::Pending => Poll::Pending,
             Poll::Ready(Ok(ips)) => Poll::Ready(ips),
             Poll::Ready(Err(fault)) => {

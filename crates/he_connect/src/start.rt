@@ -1,12 +1,11 @@
 //! The race of a connection before anything has happened in it.
-ghost use Rattle.std.specs.Prelude.{◌≡◌, ◌++◌, ◌∷◌, [], IfOk, IfErr, None, codes, false};
+ghost use Rattle.std.specs.Prelude.{◌≡◌, ◌++◌, ◌∷◌, [], IfOk, None, codes, false};
 ghost use Rattle.he_timeline.specs.Building.{empty_race};
 ghost use Rattle.he_inputs.specs.Inputs.{HasRaces};
-ghost use Rattle.he_connect.specs.Connects.{IsBefore};
 ghost use Rattle.he_connect.specs.Start.{Starts, lines_text, with_families};
 
-use crate::asked::Families;
 use crate::fault::ConnectFault;
+use crate::request::Families;
 use he_addr::Family;
 use he_inputs::read_one_race;
 use he_timeline::limits::{DEFAULT_ATTEMPT, DEFAULT_COUNT, DEFAULT_LIMIT, DEFAULT_RESOLUTION};
@@ -27,8 +26,7 @@ pub fn start_race(
     families: Families,
     lines: &[u8],
 ) -> Result<Timeline, ConnectFault>
-    ensures race { IfOk result (Starts lines.now settings families) }
-    ensures fault { IfErr result IsBefore }
+    ensures { IfOk result (Starts lines.now settings families) }
 {
     let base = read_lines(alloc, lines)?;
     let started = start_with(alloc, settings, families, &base);
@@ -36,16 +34,15 @@ pub fn start_race(
     started
 }
 
-// The race that has the host and the policy of another one.
+// The race that has the machine and the policy of another one.
 fn start_with(
     alloc: Global,
     settings: Settings,
     families: Families,
     base: &Timeline,
 ) -> Result<Timeline, ConnectFault>
-    ensures race { IfOk result (λ race. race ≡ with_families families
+    ensures { IfOk result (λ race. race ≡ with_families families
         (empty_race settings base.now.policy base.now.host)) }
-    ensures fault { IfErr result IsBefore }
 {
     let policy = base.policy().copy(alloc)?;
     let host = base.host().copy(alloc)?;
@@ -66,8 +63,7 @@ fn start_with(
 
 // The race of which these are the lines.
 fn read_lines(alloc: Global, lines: &[u8]) -> Result<Timeline, ConnectFault>
-    ensures race { IfOk result (λ base. HasRaces (lines_text lines.now) false (base ∷ []) None) }
-    ensures fault { IfErr result IsBefore }
+    ensures { IfOk result (λ base. HasRaces (lines_text lines.now) false (base ∷ []) None) }
 {
     let mut text = Vec::new(alloc);
     text.extend_from_slice(b"race 1\n")?;
@@ -82,7 +78,7 @@ fn read_lines(alloc: Global, lines: &[u8]) -> Result<Timeline, ConnectFault>
     }
 }
 
-// Whether the lines of a race say more than its host and its policy. Outcomes and what is known from earlier stand
+// Whether the lines of a race say more than its machine and its policy. Outcomes and what is known from earlier stand
 // with an answer alone.
 fn has_others(base: &Timeline) -> bool {
     let settings = base.settings();

@@ -1,8 +1,10 @@
-//! The steps of a race, told as they happen.
+//! The steps of a race and of its look-up, told as they happen.
 
+use crate::request::ConnectRequest;
 use crate::tried::write_reason;
 use he_addr::{Memory, write_ip, write_number};
 use he_live::{Step, StepKind, Watcher};
+use he_resolver::{LookupEvent, LookupEventKind, LookupLog};
 use std::alloc::Global;
 use std::cell::Cell;
 use std::io::Write;
@@ -12,22 +14,48 @@ use std::io::Write;
 pub(crate) struct Telling<'f, F> {
     alloc: Global,
     faults: Cell<Option<&'f mut F>>,
-    is_asked: bool,
+    tells_steps: bool,
+    // An explanation has the race's steps, and not those of its look-up.
+    tells_lookup: bool,
 }
 
 impl<'f, F> Telling<'f, F> {
-    pub(crate) fn new(alloc: Global, faults: &'f mut F, is_asked: bool) -> Telling<'f, F> {
+    pub(crate) fn new(
+        alloc: Global,
+        faults: &'f mut F,
+        request: &ConnectRequest<'_>,
+    ) -> Telling<'f, F> {
         Telling {
             alloc,
             faults: Cell::new(Some(faults)),
-            is_asked,
+            tells_steps: request.tells_steps,
+            tells_lookup: request.tells_steps || request.explains,
+        }
+    }
+}
+
+impl<'f, F: Write> Telling<'f, F> {
+    // Tells what happened in the look-up since the last call; which family is not asked for was told before.
+    pub(crate) fn tell_lookup(&self, log: &LookupLog) {
+        for event in log.take().iter() {
+            if self.tells_lookup && event.kind != LookupEventKind::NotAsked {
+                self.tell_event(*event);
+            }
+        }
+    }
+
+    fn tell_event(&self, event: LookupEvent) {
+        if let Some(faults) = self.faults.replace(None) {
+            let tick = event.tick;
+            let _ = writeln!(faults, "he: {tick} ms: {event}");
+            self.faults.set(Some(faults));
         }
     }
 }
 
 impl<'f, F: Write> Watcher for Telling<'f, F> {
     fn tell(&self, step: Step) {
-        if !self.is_asked {
+        if !self.tells_steps {
             return;
         }
         let mut line = Vec::new(self.alloc);

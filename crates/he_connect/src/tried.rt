@@ -1,31 +1,78 @@
 //! The line that tells what was tried where nothing connected.
 
-use crate::asked::Asked;
+use crate::request::{ConnectRequest, Families};
+use crate::source::FamilyFaults;
 use he_addr::{Family, Memory, write_ip, write_number};
-use he_live::{Reason, Steps};
-use he_plan::{Line, Mark, Transcript};
+use he_live::{Dialed, Reason, Steps};
+use he_plan::{Line, Mark};
+use he_race::Raced;
+use he_resolver::NamesFault;
 use he_timeline::Timeline;
 use std::alloc::Global;
 
 /// Appends the line, as `he: no connection to example.org port 443: 2 addresses tried: 2001:db8::1 refused after
-/// 12 ms, 198.51.100.1 no answer in 30000 ms`.
+/// 12 ms, 198.51.100.1 no answer in 30000 ms`, with each family whose look-up failed, as `; AAAA: no name server
+/// answers`. Where the name has addresses of the other family alone, that is the line: `he: example.org has no IPv6
+/// address`.
 ///
 /// # Errors
 ///
 /// `Memory` where an allocation was refused; a part of the line may be there.
 pub(crate) fn write_tried(
-    asked: &Asked<'_>,
-    recorded: &Timeline,
-    transcript: &Transcript,
+    alloc: Global,
+    request: &ConnectRequest<'_>,
+    raced: &Raced<Dialed>,
     steps: &Steps,
+    why: FamilyFaults,
     out: &mut Vec<u8>,
 ) -> Result<(), Memory> {
+    if let Some(family) = lacking(request.families, why) {
+        return write_lack(request.host, family, out);
+    }
     out.extend_from_slice(b"he: no connection to ")?;
-    out.extend_from_slice(asked.host.as_bytes())?;
+    out.extend_from_slice(request.host.as_bytes())?;
     out.extend_from_slice(b" port ")?;
-    write_number(u64::from(asked.port), out)?;
-    write_attempts(recorded, transcript.attempts(), steps, out)?;
+    write_number(u64::from(request.port), out)?;
+    write_attempts(&raced.recorded, raced.transcript.attempts(), steps, out)?;
+    write_failed(alloc, Family::V6, why, out)?;
+    write_failed(alloc, Family::V4, why, out)?;
     out.push(b'\n')?;
+    Ok(())
+}
+
+// The family that is tried alone, and that the name has no address of.
+fn lacking(families: Families, why: FamilyFaults) -> Option<Family> {
+    families
+        .only()
+        .filter(|family| why.of(*family) == Some(NamesFault::NoAddress))
+}
+
+fn write_lack(host: &str, family: Family, out: &mut Vec<u8>) -> Result<(), Memory> {
+    out.extend_from_slice(b"he: ")?;
+    out.extend_from_slice(host.as_bytes())?;
+    out.extend_from_slice(match family {
+        Family::V6 => b" has no IPv6 address\n",
+        Family::V4 => b" has no IPv4 address\n",
+    })?;
+    Ok(())
+}
+
+// Why the look-up of a family failed, where it did.
+fn write_failed(
+    alloc: Global,
+    family: Family,
+    why: FamilyFaults,
+    out: &mut Vec<u8>,
+) -> Result<(), Memory> {
+    let failed = why.of(family).filter(|fault| !fault.is_absence()
+        && *fault != NamesFault::NotAsked);
+    if let Some(fault) = failed {
+        let record_type = match family {
+            Family::V6 => "AAAA",
+            Family::V4 => "A",
+        };
+        out.extend_from_slice(format!(in alloc; "; {record_type}: {fault}")?.as_bytes())?;
+    }
     Ok(())
 }
 

@@ -3,8 +3,8 @@ use Rattle.std.proofs.Common.{◌≡◌, ℕ, zero, suc, ◌+◌, ◌<◌, ◌�
 use Rattle.std.specs.Option.{unwrap_or}
 use Rattle.std.proofs.lemmas.Bool.{ltb-true, ltb-false}
 use Rattle.std.proofs.lemmas.List.{append-nil, length-take-le}
-use Rattle.he_dns.specs.declared.parts.Part.{Part}
-use Rattle.he_dns.specs.declared.parts.Part.TheVariants.{Root, Label, Pointer}
+use Rattle.he_dns.specs.declared.parts.NamePart.{NamePart}
+use Rattle.he_dns.specs.declared.parts.NamePart.TheVariants.{Root, Label, Pointer}
 use Rattle.he_dns.specs.Names.{AreParts, IsNameAt, IsPartAt, end_of, octets_of}
 use Rattle.he_dns.specs.Reading.{by_part, name_at, name_from, part_at}
 use Rattle.he_dns.proofs.Named.{label_step, pointer_step, root_step}
@@ -12,7 +12,7 @@ use Rattle.he_dns.proofs.Numerals.{allowed, not_refused, part_found, part_stands
 
 -- what is read from a place on, with so many parts left: the parts that stand there
 record Stands (n : ℕ) (m : List ℕ) (b p : ℕ) (e : Option ℕ) (o : List ℕ) (r : List ℕ × ℕ) : Type 0 where
-  parts : List Part
+  parts : List NamePart
   stand : AreParts m b p parts
   few : length parts ≤ n
   octets : r.0 ≡ o ++ octets_of m p parts
@@ -25,7 +25,7 @@ label_len m o p len within =
     omega (arith, length-append o (take (1 + len) (drop p m)), length-take-le (1 + len) (drop p m) room)
 
 -- by what stands at the place
-by_place : (n : ℕ) (m : List ℕ) (b p : ℕ) (e : Option ℕ) (o : List ℕ) (r : List ℕ × ℕ) (part : Option Part) → length o ≤ 254 → part_at m p ≡ part
+by_place : (n : ℕ) (m : List ℕ) (b p : ℕ) (e : Option ℕ) (o : List ℕ) (r : List ℕ × ℕ) (part : Option NamePart) → length o ≤ 254 → part_at m p ≡ part
     → ((b' p' : ℕ) (e' : Option ℕ) (o' : List ℕ) → length o' ≤ 254 → name_from n m b' p' e' o' ≡ Some r → Stands n m b' p' e' o' r)
     → by_part part None (Some (o, unwrap_or e (p + 1)))
     (λ len. cond (ltb 254 (length o + (1 + len))) None (name_from n m b (p + (1 + len)) e (o ++ take (1 + len) (drop p m))))
@@ -79,7 +79,7 @@ name_stands m at name end h =
     record { parts = s.parts; stand = s.stand; few = s.few; octets = s.octets; short = s.short; ends = s.ends }
 
 -- the parts that stand from a place on are read
-parts_found : (parts : List Part) (n : ℕ) (m : List ℕ) (b p : ℕ) (e : Option ℕ) (o : List ℕ) → AreParts m b p parts → length parts ≤ n
+parts_found : (parts : List NamePart) (n : ℕ) (m : List ℕ) (b p : ℕ) (e : Option ℕ) (o : List ℕ) → AreParts m b p parts → length parts ≤ n
     → length (o ++ octets_of m p parts) ≤ 254 → name_from n m b p e o ≡ Some (o ++ octets_of m p parts, unwrap_or e (end_of p parts))
 parts_found [] n m b p e o stand few short = absurd stand
 parts_found (part ∷ parts) zero m b p e o stand few short = absurd (omega arith)

@@ -2,7 +2,7 @@
 use Rattle.std.proofs.Common.{◌≡◌, ℕ, zero, suc, ◌+◌, ◌-◌, ◌<◌, ◌≤◌, List, ◌++◌, Option, Some, None, length, take, drop, refl, sym, ◌∙◌, ap, arith}
 use Rattle.std.specs.Option.{IfSome, unwrap_or}
 use Rattle.std.proofs.lemmas.Bool.{le-ltb, lt-ltb}
-use Rattle.he_dns.specs.declared.parts.Part.TheVariants.{Root, Label, Pointer}
+use Rattle.he_dns.specs.declared.parts.NamePart.TheVariants.{Root, Label, Pointer}
 use Rattle.he_dns.specs.Reading.{part_at, name_from}
 
 -- with parts left, one fewer is left behind the next one

@@ -2,8 +2,8 @@
 use Rattle.std.proofs.Common.{◌≡◌, ℕ, ◌+◌, ◌-◌, ◌*◌, ◌<◌, ◌≤◌, Bool, true, false, cond, ltb, leb, eqb, List, Option, Some, None, length, get_or, refl, sym, ◌∙◌, ap, subst, arith}
 use Rattle.std.specs.Option.{option_and_then}
 use Rattle.std.proofs.lemmas.Bool.{ltb-true, ltb-false, leb-true, eqb-true, eqb-false, lt-ltb, le-ltb, le-leb, lt-leb, ne_eqb}
-use Rattle.he_dns.specs.declared.parts.Part.{Part}
-use Rattle.he_dns.specs.declared.parts.Part.TheVariants.{Root, Label, Pointer}
+use Rattle.he_dns.specs.declared.parts.NamePart.{NamePart}
+use Rattle.he_dns.specs.declared.parts.NamePart.TheVariants.{Root, Label, Pointer}
 use Rattle.he_dns.specs.Names.{IsPartAt}
 use Rattle.he_dns.specs.Numbers.{IsWordAt}
 use Rattle.he_dns.specs.Reading.{label_at, octet_at, part_at, word_at}
@@ -45,25 +45,25 @@ unfolding word_at
 word_found m at word w = rw (lt-ltb (at + 1) (length m) w.within) (ap Some (sym w.value))
 
 -- a part, by the tests of its first octet
-by_first : (m : List ℕ) (at x : ℕ) (part : Part) (z l p : Bool) → at < length m → get_or m at 0 ≡ x → eqb x 0 ≡ z → leb x 63 ≡ l → ltb x 192 ≡ p
+by_first : (m : List ℕ) (at x : ℕ) (part : NamePart) (z l p : Bool) → at < length m → get_or m at 0 ≡ x → eqb x 0 ≡ z → leb x 63 ≡ l → ltb x 192 ≡ p
     → cond z (Some Root) (cond l (label_at m at x) (cond p None (option_and_then (λ second. Some (Pointer ((x - 192) * 256 + second))) (octet_at m (at + 1))))) ≡ Some part
     → IsPartAt m at part
 unfolding label_at
 by_first m at x part true l p lt is hz hl hp h =
-    subst (λ (q : Part). IsPartAt m at q) (some_same Root part h) (lt, is ∙ eqb-true x 0 hz)
+    subst (λ (q : NamePart). IsPartAt m at q) (some_same Root part h) (lt, is ∙ eqb-true x 0 hz)
 by_first m at x part false true p lt is hz hl hp h =
     let a = allowed (ltb (at + x) (length m)) (Some (Label x)) part h in
     let some : x ≡ 0 → ⊥ = eqb-false x 0 hz in
-    subst (λ (q : Part). IsPartAt m at q) (some_same (Label x) part a.1) (omega arith, leb-true x 63 hl, ltb-true (at + x) (length m) a.0, is)
+    subst (λ (q : NamePart). IsPartAt m at q) (some_same (Label x) part a.1) (omega arith, leb-true x 63 hl, ltb-true (at + x) (length m) a.0, is)
 by_first m at x part false false true lt is hz hl hp h = cc
 by_first m at x part false false false lt is hz hl hp h =
     let b = bind_some (octet_at m (at + 1)) (λ second. Some (Pointer ((x - 192) * 256 + second))) part h in
     let second = octet_stands m (at + 1) b.0 b.1 in
     let high : 192 ≤ x = ltb-false x 192 hp in
     let sum : 49152 + ((x - 192) * 256 + b.0) ≡ get_or m at 0 * 256 + get_or m (at + 1) 0 = omega (arith, is, second.1, high) in
-    subst (λ (q : Part). IsPartAt m at q) (some_same (Pointer ((x - 192) * 256 + b.0)) part b.2) (second.0, omega (arith, is, high), sum)
+    subst (λ (q : NamePart). IsPartAt m at q) (some_same (Pointer ((x - 192) * 256 + b.0)) part b.2) (second.0, omega (arith, is, high), sum)
 
-pub part_stands : (m : List ℕ) (at : ℕ) (part : Part) → part_at m at ≡ Some part → IsPartAt m at part
+pub part_stands : (m : List ℕ) (at : ℕ) (part : NamePart) → part_at m at ≡ Some part → IsPartAt m at part
 unfolding part_at
 part_stands m at part h =
     let b = bind_some (octet_at m at)
@@ -72,7 +72,7 @@ part_stands m at part h =
     let first = octet_stands m at b.0 b.1 in
     by_first m at b.0 part (eqb b.0 0) (leb b.0 63) (ltb b.0 192) first.0 first.1 refl refl refl b.2
 
-pub part_found : (m : List ℕ) (at : ℕ) (part : Part) → IsPartAt m at part → part_at m at ≡ Some part
+pub part_found : (m : List ℕ) (at : ℕ) (part : NamePart) → IsPartAt m at part → part_at m at ≡ Some part
 unfolding part_at label_at
 part_found m at Root (lt, is) = rw (octet_found m at lt, is) refl
 part_found m at (Label n) (one, most, within, is) =

@@ -3,13 +3,13 @@
 use Rattle.std.specs.Prelude.{◌≡◌, ℕ, ◌+◌, ◌*◌, ◌<◌, ◌≤◌, Bool, List, [], ◌∷◌, ◌++◌, length, slice_index, take, drop, map}
 use Rattle.std.specs.Char.{to_ascii_lowercase}
 use Rattle.std.specs.Str.{bytes_eq}
-use Rattle.he_dns.specs.declared.parts.Part.{Part}
-use Rattle.he_dns.specs.declared.parts.Part.TheVariants.{Root, Label, Pointer}
+use Rattle.he_dns.specs.declared.parts.NamePart.{NamePart}
+use Rattle.he_dns.specs.declared.parts.NamePart.TheVariants.{Root, Label, Pointer}
 use Rattle.he_dns.specs.Numbers.{max_label, max_name, max_parts}
 
 -- What stands at a place of a name: the octet 0; a label of n octets behind the octet n; or two octets whose highest
 -- two bits are ones, and whose other bits are the place where the name goes on.
-abbrev pub IsPartAt : List ℕ → ℕ → Part → Type 0
+abbrev pub IsPartAt : List ℕ → ℕ → NamePart → Type 0
 IsPartAt message at Root = (at < length message) × (slice_index message at ≡ 0)
 IsPartAt message at (Label n) = (1 ≤ n) × (n ≤ max_label) × (at + n < length message) × (slice_index message at ≡ n)
 IsPartAt message at (Pointer to) =
@@ -18,7 +18,7 @@ IsPartAt message at (Pointer to) =
 
 -- The parts of a name from a place on, up to the root. A label is followed by what stands behind it, a pointer by what
 -- stands where it leads to: at an earlier place than `begin`, where the labels before it began.
-abbrev pub AreParts : List ℕ → ℕ → ℕ → List Part → Type 0
+abbrev pub AreParts : List ℕ → ℕ → ℕ → List NamePart → Type 0
 AreParts message begin at [] = ⊥
 AreParts message begin at (Root ∷ more) = IsPartAt message at Root × (more ≡ [])
 AreParts message begin at (Label n ∷ more) = IsPartAt message at (Label n) × AreParts message begin (at + (1 + n)) more
@@ -26,14 +26,14 @@ AreParts message begin at (Pointer to ∷ more) =
     IsPartAt message at (Pointer to) × (to < begin) × AreParts message to to more
 
 -- the labels among the parts, each behind its length
-abbrev pub octets_of : List ℕ → ℕ → List Part → List ℕ
+abbrev pub octets_of : List ℕ → ℕ → List NamePart → List ℕ
 octets_of message at [] = []
 octets_of message at (Root ∷ more) = []
 octets_of message at (Label n ∷ more) = take (1 + n) (drop at message) ++ octets_of message (at + (1 + n)) more
 octets_of message at (Pointer to ∷ more) = octets_of message to more
 
 -- where the name ends that begins at a place: behind the root, or behind the first pointer
-abbrev pub end_of : ℕ → List Part → ℕ
+abbrev pub end_of : ℕ → List NamePart → ℕ
 end_of at [] = at
 end_of at (Root ∷ more) = at + 1
 end_of at (Label n ∷ more) = end_of (at + (1 + n)) more
@@ -41,7 +41,7 @@ end_of at (Pointer to ∷ more) = at + 2
 
 -- the name that stands at a place, and where it ends there
 pub record IsNameAt (message : List ℕ) (at : ℕ) (name : List ℕ) (end : ℕ) : Type 0 where
-  pub parts : List Part
+  pub parts : List NamePart
   pub stand : AreParts message at at parts
   pub few : length parts ≤ max_parts
   pub octets : name ≡ octets_of message at parts

@@ -16,8 +16,8 @@ use Rattle.he_dns.specs.declared.fault.AnswerFault.TheVariants as faults
 use Rattle.he_dns.specs.declared.fault.NameFault.{NameFault}
 use Rattle.he_dns.specs.declared.fault.NameFault.TheVariants as names
 use Rattle.he_dns.specs.declared.header.Header.{Header}
-use Rattle.he_dns.specs.declared.parts.Part.{Part}
-use Rattle.he_dns.specs.declared.parts.Part.TheVariants.{Root, Label, Pointer}
+use Rattle.he_dns.specs.declared.parts.NamePart.{NamePart}
+use Rattle.he_dns.specs.declared.parts.NamePart.TheVariants.{Root, Label, Pointer}
 use Rattle.he_dns.specs.declared.records.Record.{Record}
 use Rattle.he_dns.specs.Chains.{addresses_of, alias_of}
 use Rattle.he_dns.specs.Header.{flags_fault, is_lame_by}
@@ -48,10 +48,10 @@ word_at message at =
     else None
 
 -- what stands at a place of a name
-unfoldable pub label_at : List ℕ → ℕ → ℕ → Option Part
+unfoldable pub label_at : List ℕ → ℕ → ℕ → Option NamePart
 label_at message at len = if nat_lt (at + len) (length message) then Some (Label len) else None
 
-unfoldable pub part_at : List ℕ → ℕ → Option Part
+unfoldable pub part_at : List ℕ → ℕ → Option NamePart
 part_at message at = octet_at message at >>= λ first.
     if first == 0 then Some Root
     else if nat_le first 63 then label_at message at first
@@ -59,13 +59,13 @@ part_at message at = octet_at message at >>= λ first.
     else octet_at message (at + 1) >>= λ second. Some (Pointer ((first - 192) * 256 + second))
 
 -- the part lies within a message of this length
-abbrev pub IsWithin : ℕ → ℕ → Part → Type 0
+abbrev pub IsWithin : ℕ → ℕ → NamePart → Type 0
 IsWithin len at Root = at < len
 IsWithin len at (Label n) = at + n < len
 IsWithin len at (Pointer to) = at + 1 < len
 
 -- what comes of each part
-abbrev pub by_part : {A : Type 0} → Option Part → A → A → (ℕ → A) → (ℕ → A) → A
+abbrev pub by_part : {A : Type 0} → Option NamePart → A → A → (ℕ → A) → (ℕ → A) → A
 by_part None none root label pointer = none
 by_part (Some Root) none root label pointer = root
 by_part (Some (Label len)) none root label pointer = label len

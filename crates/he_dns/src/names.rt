@@ -5,7 +5,7 @@ ghost use Rattle.he_dns.specs.Reading.{name_at};
 
 use crate::limits::MAX_PARTS;
 use crate::octets::Octets;
-use crate::parts::{Part, part_at};
+use crate::parts::{NamePart, part_at};
 
 // A label behind the octet that tells its length.
 fn label_octets(message: &[u8], at: usize, len: usize) -> &[u8]
@@ -28,12 +28,12 @@ pub(crate) fn read_name(message: &[u8], at: usize) -> Option<(Octets, usize)>
     let mut end = None;
     'parts: for read in 0..MAX_PARTS {
         match part_at(message, place)? {
-            Part::Root => return Some((octets, end.unwrap_or(place + 1))),
-            Part::Label(len) => {
+            NamePart::Root => return Some((octets, end.unwrap_or(place + 1))),
+            NamePart::Label(len) => {
                 octets.append(label_octets(message, place, len))?;
                 place += 1 + len;
             }
-            Part::Pointer(to) => {
+            NamePart::Pointer(to) => {
                 if to >= begin {
                     return None;
                 }

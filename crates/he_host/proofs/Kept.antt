@@ -112,7 +112,7 @@ no_fault sources routes s r =
     (ap (option_map faults.BadSource) s.all_sound)
     (ap (option_map faults.BadRoute) r.all_sound)
 
--- what is kept is a host's, whatever is found
+-- what is kept is a machine's, whatever is found
 pub kept_is_host : (sources : List FoundSource) (routes : List FoundRoute) → host_fault (sources_kept [] sources) (routes_kept [] routes) ≡ None
 kept_is_host sources routes =
     no_fault (sources_kept [] sources) (routes_kept [] routes)

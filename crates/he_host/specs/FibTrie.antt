@@ -8,7 +8,7 @@ use Rattle.he_addr.specs.Reading.{◌>>=◌, ip_of_in}
 use Rattle.he_host.specs.declared.fib_trie.OwnAddress.{OwnAddress}
 use Rattle.he_host.specs.declared.fib_trie.TrieLine.{TrieLine}
 use Rattle.he_host.specs.declared.fib_trie.TrieLine.TheVariants.{Heading, Leaf, Own, Other}
-use Rattle.he_host.specs.declared.fib_trie.Walk.{Walk}
+use Rattle.he_host.specs.declared.fib_trie.TrieState.{TrieState}
 use Rattle.he_host.specs.Parts.{field_of}
 
 -- the line is `/32 host LOCAL`; none where it has fewer fields
@@ -43,27 +43,27 @@ unfoldable pub trie_line : List ℕ → TrieLine
 trie_line line = line_by line (field_of 0 line)
 
 -- where one stands after a line: a heading begins a table, a leaf stands until the next one
-abbrev pub step : Walk → TrieLine → Walk
+abbrev pub step : TrieState → TrieLine → TrieState
 step walk (Heading is_local) = record { is_local = is_local; leaf = None }
 step walk (Leaf leaf) = record { is_local = walk.is_local; leaf = leaf }
 step walk Own = walk
 step walk Other = walk
 
--- the line tells that the leaf is an address of the host
-abbrev pub told : Walk → TrieLine → Bool
+-- the line tells that the leaf is an address of this machine
+abbrev pub told : TrieState → TrieLine → Bool
 told walk Own = walk.is_local
 told walk (Heading is_local) = false
 told walk (Leaf leaf) = false
 told walk Other = false
 
 -- the addresses that the lines tell to one who stands here
-abbrev pub own_from : Walk → List (ℕ × List ℕ) → List OwnAddress
+abbrev pub own_from : TrieState → List (ℕ × List ℕ) → List OwnAddress
 own_from walk [] = []
 own_from walk (line ∷ lines) =
     (if told walk (trie_line line.1) then record { line = line.0; ip = walk.leaf } ∷ [] else [])
     ++ own_from (step walk (trie_line line.1)) lines
 
-abbrev pub nowhere : Walk
+abbrev pub nowhere : TrieState
 nowhere = record { is_local = false; leaf = None }
 
 -- the addresses that all lines tell

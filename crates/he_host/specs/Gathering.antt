@@ -1,4 +1,4 @@
--- Which of the sources and routes that are found a host keeps, and why others are left out.
+-- Which of the sources and routes that are found a machine keeps, and why others are left out.
 use Rattle.std.specs.Prelude.{ℕ, ◌+◌, ◌-◌, ◌*◌, ◌^◌, ◌==◌, ◌&&◌, ◌||◌, ◌++◌, Bool, List, [], ◌∷◌, Result, Ok, Err, length, nat_le, not, if◌then◌else◌}
 use Rattle.std.specs.List.{list_any}
 use Rattle.std.specs.List.Sorted.{IsNonDecreasingBy, IsPermutation, IsStableByKey}
@@ -45,7 +45,7 @@ source_behind kept source =
     else (if list_any (same_source source) kept then Err whys.Repeated
     else (if nat_le SOURCES (length kept) then Err whys.TooMany else Ok source))
 
--- a source that is kept behind these: it is one that a host may have, no address is kept twice, and no more than the
+-- a source that is kept behind these: it is one that a machine may have, no address is kept twice, and no more than the
 -- limit
 unfoldable pub judged_source : List Source → Result Source Why → Result Source Why
 judged_source kept (Err why) = Err why

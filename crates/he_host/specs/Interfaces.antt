@@ -1,4 +1,4 @@
--- The interfaces of the host.
+-- The interfaces of this machine.
 use Rattle.std.specs.Prelude.{ℕ, ◌==◌, ◌&&◌, not, List, [], ◌∷◌, Option, Some, None, if◌then◌else◌}
 use Rattle.std.specs.Str.{bytes_eq}
 use Rattle.he_addr.specs.Reading.{◌>>=◌}

@@ -1,11 +1,11 @@
 -- The lines of a text that aren't empty, with their numbers: lines are counted from 1, the empty ones too.
 use Rattle.std.specs.Prelude.{ℕ, ◌+◌, ◌==◌, List, [], ◌∷◌, length, if◌then◌else◌}
-use Rattle.he_host.specs.declared.lines.Line.{Line}
+use Rattle.he_host.specs.declared.lines.NumberedLine.{NumberedLine}
 use Rattle.he_host.specs.declared.parts.Cut.TheVariants.{Lines}
 use Rattle.he_host.specs.Parts.{parts_of}
 
 -- a line's number and its bytes
-abbrev pub plain : Line → ℕ × List ℕ
+abbrev pub plain : NumberedLine → ℕ × List ℕ
 plain line = (line.number, line.text.now)
 
 abbrev pub numbered_from : ℕ → List (List ℕ) → List (ℕ × List ℕ)

@@ -16,7 +16,7 @@ use Rattle.he_host.specs.declared.interface.Link.{Link}
 use Rattle.he_host.specs.declared.left_out.File.TheVariants as files
 use Rattle.he_host.specs.declared.left_out.Why.{Why}
 use Rattle.he_host.specs.declared.left_out.Why.TheVariants as whys
-use Rattle.he_host.specs.declared.placing.Asked.{Asked}
+use Rattle.he_host.specs.declared.placing.InterfaceAnswer.{InterfaceAnswer}
 use Rattle.he_host.specs.declared.placing.Place.{Place}
 use Rattle.he_host.specs.declared.placing.TheConstants.{LOOPBACK_LEN}
 use Rattle.he_host.specs.Interfaces.{loopback_of}
@@ -52,7 +52,7 @@ connected_from ip best [] = best
 connected_from ip best (found ∷ more) = connected_from ip (longer_read ip best found.read) more
 
 -- where the kernel says that the address is
-abbrev pub asked_for : Ip → List Asked → Option Place
+abbrev pub asked_for : Ip → List InterfaceAnswer → Option Place
 asked_for ip [] = None
 asked_for ip (told ∷ more) =
     if same_ip told.ip ip && not (told.interface == 0) then Some (record { plen = 32; interface = told.interface })
@@ -71,7 +71,7 @@ connected_place told None = asked_place told
 connected_place told (Some route) = Ok (record { plen = route.prefix.len - 96; interface = route.interface })
 
 -- where an IPv4 address is: on the loopback interface, where its connected route is, or else where the kernel says
-unfoldable pub place_of : List Interface → List FoundRoute → List Asked → Ip → Result Place Why
+unfoldable pub place_of : List Interface → List FoundRoute → List InterfaceAnswer → Ip → Result Place Why
 place_of interfaces routes asked ip =
     if is_loopback ip then loopback_place (loopback_of interfaces)
     else connected_place (asked_for ip asked) (connected_from ip None routes)
@@ -85,15 +85,15 @@ source_where ip (Ok place) = Ok (source_at ip place)
 source_where ip (Err why) = Err why
 
 -- the source of an address
-abbrev pub usable_source : List Interface → List FoundRoute → List Asked → Ip → Result Source Why
+abbrev pub usable_source : List Interface → List FoundRoute → List InterfaceAnswer → Ip → Result Source Why
 usable_source interfaces routes asked ip =
     if is_usable ip then source_where ip (place_of interfaces routes asked ip) else Err whys.Unusable
 
-unfoldable pub read_own : List Interface → List FoundRoute → List Asked → Option Ip → Result Source Why
+unfoldable pub read_own : List Interface → List FoundRoute → List InterfaceAnswer → Option Ip → Result Source Why
 read_own interfaces routes asked None = Err whys.Unclear
 read_own interfaces routes asked (Some ip) = usable_source interfaces routes asked ip
 
 -- what an address of /proc/net/fib_trie says
-abbrev pub found_own : List Interface → List FoundRoute → List Asked → OwnAddress → FoundSource
+abbrev pub found_own : List Interface → List FoundRoute → List InterfaceAnswer → OwnAddress → FoundSource
 found_own interfaces routes asked address =
     record { file = files.FibTrie; line = address.line; read = read_own interfaces routes asked address.ip }

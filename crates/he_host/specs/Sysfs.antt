@@ -25,7 +25,7 @@ flags_of text = unwrap_or (hex_in 8 (drop (min (length (first_line text)) 2) (fi
 abbrev pub decimal_of : List ℕ → ℕ
 decimal_of text = unwrap_or (number_in (first_line text)) 0
 
--- the number of an interface, and 0 where it is above 65535, which a host can't have
+-- the number of an interface, and 0 where it is above 65535, which a race can't have
 abbrev pub index_of : List ℕ → ℕ
 index_of text = if nat_lt (decimal_of text) (2 ^ 16) then decimal_of text else 0
 

@@ -1,7 +1,8 @@
--- The host by which the rules take the sources that the kernel takes (RFC 6724 section 5).
+-- The machine by which the rules take the sources that the kernel takes (RFC 6724 section 5).
 use Rattle.std.specs.Prelude.{Bool, true, false, not, List, find, Option, Some, None, Result, Ok, Err, option_map}
 use Rattle.he_addr.specs.declared.ip.Ip.{Ip}
 use Rattle.he_addr.specs.Ip.{mapped_of, same_ip}
+use Rattle.he_addr.specs.Prefix.{PrefixBits}
 use Rattle.he_select.specs.declared.policy.Row.{Row}
 use Rattle.he_select.specs.Hosts.{HostLists}
 use Rattle.he_select.specs.Selection.{selection_input, source_of}
@@ -22,11 +23,15 @@ own_of ip own = find (λ one. same_ip one.source.ip ip) own
 abbrev pub found_own_source : TakenSource → FoundSource
 found_own_source taken = record { file = files.Kernel; line = 0; read = Ok taken.source }
 
--- the route to one address alone, over the interface of the source
-abbrev pub route_over : Ip → TakenSource → Metered
-route_over to taken = record {
+-- one address alone
+abbrev pub one_address : Ip → PrefixBits
+one_address to = record { bits = mapped_of to; len = 128 }
+
+-- the route to these addresses, over the interface of the source
+abbrev pub route_over : PrefixBits → TakenSource → Metered
+route_over prefix taken = record {
   route = record {
-    prefix = record { bits = mapped_of to; len = 128 };
+    prefix = prefix;
     interface = taken.source.interface;
     tunnel = taken.tunnel;
   };
@@ -35,17 +40,17 @@ route_over to taken = record {
   carrier = true;
 }
 
-abbrev pub route_of_own : Ip → Option TakenSource → Result Metered Why
-route_of_own to None = Err whys.Unconnected
-route_of_own to (Some taken) = Ok (route_over to taken)
+abbrev pub route_of_own : PrefixBits → Option TakenSource → Result Metered Why
+route_of_own prefix None = Err whys.Unconnected
+route_of_own prefix (Some taken) = Ok (route_over prefix taken)
 
-abbrev pub route_from : List TakenSource → Ip → Option Ip → Result Metered Why
-route_from own to None = Err whys.Unreachable
-route_from own to (Some from) = route_of_own to (own_of from own)
+abbrev pub route_from : List TakenSource → PrefixBits → Option Ip → Result Metered Why
+route_from own prefix None = Err whys.Unreachable
+route_from own prefix (Some from) = route_of_own prefix (own_of from own)
 
--- the route of a destination; none where the kernel has no way
+-- the route of a way; none where the kernel has no way
 unfoldable pub way_route : List TakenSource → Way → Result Metered Why
-way_route own way = route_from own way.to way.from
+way_route own way = route_from own way.prefix way.from
 
 abbrev pub found_way : List TakenSource → Way → FoundRoute
 found_way own way = record { file = files.Kernel; line = 0; read = way_route own way }

@@ -1,4 +1,4 @@
--- The host of the files: what each says, and what is kept of it.
+-- The machine of the files: what each says, and what is kept of it.
 use Rattle.std.specs.Prelude.{◌≡◌, ◌++◌, false, true, List, [], Option, Some, None, Ok, drop, length, map, min, take, option_to_list}
 use Rattle.he_select.specs.HostFaults.{host_of}
 use Rattle.he_select.specs.Hosts.{HostLists}
@@ -10,7 +10,7 @@ use Rattle.he_host.specs.declared.interface.Interface.{Interface}
 use Rattle.he_host.specs.declared.interface.Link.{Link}
 use Rattle.he_host.specs.declared.left_out.File.TheVariants as files
 use Rattle.he_host.specs.declared.left_out.LeftOut.{LeftOut}
-use Rattle.he_host.specs.declared.placing.Asked.{Asked}
+use Rattle.he_host.specs.declared.placing.InterfaceAnswer.{InterfaceAnswer}
 use Rattle.he_host.specs.FibTrie.{own_addresses}
 use Rattle.he_host.specs.Found.{found_v4_route, found_v6_route, found_v6_source}
 use Rattle.he_host.specs.Gathering.{routes_kept, routes_left, sources_kept, sources_left}
@@ -50,7 +50,7 @@ unfoldable pub v6_sources_in : Files → List Interface → List FoundSource
 v6_sources_in given interfaces = map (found_v6_source interfaces) (numbered given.if_inet6.now)
 
 -- what is found of IPv4 sources, whose places the routes tell
-unfoldable pub v4_sources_in : Files → List Interface → List FoundRoute → List Asked → List FoundSource
+unfoldable pub v4_sources_in : Files → List Interface → List FoundRoute → List InterfaceAnswer → List FoundSource
 v4_sources_in given interfaces routes asked =
     map (found_own interfaces routes asked) (own_addresses (numbered given.fib_trie.now))
 
@@ -58,13 +58,13 @@ v4_sources_in given interfaces routes asked =
 abbrev pub in_turn : List FoundSource → List FoundSource → List FoundSource
 in_turn v4 v6 = take (min (length v4) FIRST) v4 ++ v6 ++ drop (min (length v4) FIRST) v4
 
--- the host is that of what is kept of these, and what is left out is told, of sources first
+-- the machine is that of what is kept of these, and what is left out is told, of sources first
 pub record HasKept (sources_found : List FoundSource) (routes_found : List FoundRoute) (host : HostLists)
     (left : List LeftOut) : Type 0 where
   pub made : Ok host ≡ host_of (sources_kept [] sources_found) (routes_kept [] routes_found)
   pub told : left ≡ sources_left [] sources_found ++ routes_left [] routes_found
 
--- the host of the files, and what is left out of it, with routes that are those of the files by rank
-abbrev pub IsHostOf : Files → List Interface → List FoundRoute → List Asked → HostLists → List LeftOut → Type 0
+-- the machine of the files, and what is left out of it, with routes that are those of the files by rank
+abbrev pub IsHostOf : Files → List Interface → List FoundRoute → List InterfaceAnswer → HostLists → List LeftOut → Type 0
 IsHostOf given interfaces routes asked host left =
     HasKept (in_turn (v4_sources_in given interfaces routes asked) (v6_sources_in given interfaces)) routes host left

@@ -1,4 +1,4 @@
--- The `source` and `route` lines of a host, as a race has them.
+-- The `source` and `route` lines of a machine, as a race has them.
 use Rattle.std.specs.Prelude.{ℕ, ◌++◌, Bool, List, [], ◌∷◌, codes, decimal, true, if◌then◌else◌}
 use Rattle.he_addr.specs.Printing.{prefix_text, source_text}
 use Rattle.he_select.specs.declared.host.Route.{Route}

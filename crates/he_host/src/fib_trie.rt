@@ -1,11 +1,11 @@
-// /proc/net/fib_trie: the tables of IPv4 routes as trees. In the part `Local:` each address of the host stands as a
+// /proc/net/fib_trie: the tables of IPv4 routes as trees. In the part `Local:` each address of this machine stands as a
 // leaf, `|-- 192.0.2.2`, with the line `/32 host LOCAL` below.
 
 ghost use Rattle.std.specs.Prelude.{◌≡◌, map, IfOk};
 ghost use Rattle.he_host.specs.FibTrie.{trie_line, is_own, step, told, own_from, nowhere, own_addresses};
 ghost use Rattle.he_host.specs.Lines.{plain};
 
-use crate::lines::Line;
+use crate::lines::NumberedLine;
 use crate::parts::field;
 use he_addr::{Family, Ip, Memory, read_ip_of};
 use std::alloc::Allocator;
@@ -13,23 +13,23 @@ use std::alloc::Allocator;
 /// What a line says.
 #[derive(Clone, Copy, Debug, PartialEq, Eq)]
 pub enum TrieLine {
-    /// A table begins; whether it is that of the host's own addresses.
+    /// A table begins; whether it is that of this machine's own addresses.
     Heading(bool),
     /// A leaf: an address, or the first one of a network; None where it isn't understood.
     Leaf(Option<Ip>),
-    /// The leaf above is an address of the host.
+    /// The leaf above is an address of this machine.
     Own,
     Other,
 }
 
 /// Where a walk through the file stands: whether in the part `Local:`, and below which leaf.
 #[derive(Clone, Copy, Debug, PartialEq, Eq)]
-pub struct Walk {
+pub struct TrieState {
     pub is_local: bool,
     pub leaf: Option<Ip>,
 }
 
-/// An IPv4 address of the host, with the number of its line; None where it isn't understood.
+/// An IPv4 address of this machine, with the number of its line; None where it isn't understood.
 #[derive(Clone, Copy, Debug, PartialEq, Eq)]
 pub struct OwnAddress {
     pub line: u64,
@@ -76,16 +76,16 @@ fn read_leaf(line: &[u8]) -> Option<Ip>
     read_ip_of(Family::V4, field(line, 1)?)
 }
 
-impl Walk {
-    fn step(self, line: TrieLine) -> Walk
+impl TrieState {
+    fn step(self, line: TrieLine) -> TrieState
         ensures { result ≡ step self line }
     {
         match line {
-            TrieLine::Heading(is_local) => Walk {
+            TrieLine::Heading(is_local) => TrieState {
                 is_local,
                 leaf: None,
             },
-            TrieLine::Leaf(leaf) => Walk {
+            TrieLine::Leaf(leaf) => TrieState {
                 is_local: self.is_local,
                 leaf,
             },
@@ -103,7 +103,7 @@ impl Walk {
     }
 }
 
-/// The host's addresses of all lines.
+/// This machine's addresses of all lines.
 ///
 /// # Errors
 ///
@@ -111,12 +111,12 @@ impl Walk {
 #[tactic(auto, unfolding(crate::specs::FibTrie::own_addresses))]
 pub fn read_own_addresses<A: Allocator + Copy>(
     alloc: A,
-    lines: &[Line<'_>],
+    lines: &[NumberedLine<'_>],
 ) -> Result<Vec<OwnAddress, A>, Memory>
     ensures { IfOk result (λ found. found.items ≡ own_addresses (map plain lines.now)) }
 {
     let mut found = Vec::new(alloc);
-    let mut walk = Walk {
+    let mut walk = TrieState {
         is_local: false,
         leaf: None,
     };

@@ -1,4 +1,4 @@
-// All files together: the host, and what it has no place for.
+// All files together: the machine, and what it has no place for.
 
 ghost use Rattle.std.specs.Prelude.{◌≡◌, ◌++◌, OnOk};
 ghost use Rattle.std.specs.List.{list_any};
@@ -43,7 +43,7 @@ fn rank_of(found: &FoundRoute) -> u128
     rank(found.read)
 }
 
-/// Puts routes in the order in which a host keeps them.
+/// Puts routes in the order in which they are kept.
 ///
 /// # Errors
 ///
@@ -84,7 +84,7 @@ pub fn judge_source(kept: &[Source], read: Result<Source, Why>) -> Result<Source
     }
 }
 
-// Whether the host has a route to the prefix over the same interface.
+// Whether the machine has a route to the prefix over the same interface.
 fn is_known(route: Route, kept: &[Route]) -> bool
     ensures { result ≡ list_any (same_way route) kept.now }
 {

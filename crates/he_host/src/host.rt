@@ -1,4 +1,4 @@
-// The host of the files.
+// The machine of the files.
 
 ghost use Rattle.std.specs.Prelude.{◌≡◌, IfOk, None, Ok};
 ghost use Rattle.he_select.specs.HostFaults.{host_fault, host_of};
@@ -36,7 +36,7 @@ pub struct Files<'t> {
     pub route: &'t [u8],
 }
 
-/// A host and the lines that it has no place for.
+/// A machine and the lines that it has no place for.
 #[derive(Drop)]
 pub struct FoundHost<A: Allocator> {
     pub host: Host<A>,
@@ -146,7 +146,7 @@ fn put_in_turn<A: Allocator + Copy>(
     Ok(turn)
 }
 
-// The host of lists that are a host's.
+// The machine of lists that are a machine's.
 fn make_host<A: Allocator + Copy>(sources: Vec<Source, A>, routes: Vec<Route, A>) -> Host<A>
     requires { host_fault sources.items routes.items ≡ None }
     ensures { Ok result ≡ host_of sources.items routes.items }
@@ -157,7 +157,7 @@ fn make_host<A: Allocator + Copy>(sources: Vec<Source, A>, routes: Vec<Route, A>
     }
 }
 
-// The host that keeps of these sources and routes what there is place for. What is kept is a host's, so that nothing
+// The machine that keeps of these sources and routes what there is place for. What is kept is a machine's, so that nothing
 // but memory is refused.
 pub(crate) fn keep<A: Allocator + Copy>(
     alloc: A,
@@ -175,7 +175,7 @@ pub(crate) fn keep<A: Allocator + Copy>(
     Ok(FoundHost { host, left_out })
 }
 
-/// The host of the files, and the lines that are left out. `around` has the interfaces, the routes as [`find_routes`]
+/// The machine of the files, and the lines that are left out. `around` has the interfaces, the routes as [`find_routes`]
 /// gives them, and where IPv4 addresses are whose place is in no file.
 ///
 /// # Errors

@@ -1,4 +1,4 @@
-// The interfaces of the host.
+// The interfaces of this machine.
 
 ghost use Rattle.std.specs.Prelude.{◌≡◌};
 ghost use Rattle.he_host.specs.Interfaces.{link_of, link_at, loopback_of};
@@ -8,7 +8,7 @@ use crate::parts::field;
 /// What `/sys/class/net` says of an interface.
 #[derive(Clone, Copy, Debug, PartialEq, Eq)]
 pub struct Link {
-    /// Its number in the host's lines: where it is 0 the interface isn't known.
+    /// Its number in its lines: where it is 0 the interface isn't known.
     pub number: u16,
     /// The flag `IFF_UP` (1) of `flags`.
     pub up: bool,

@@ -11,6 +11,13 @@ use std::net::{IpAddr, Ipv4Addr, Ipv6Addr, Net, SocketAddr, UdpSocket};
 // The port of a connect that sends nothing: the discard service.
 const ANY_PORT: u16 = 9;
 
+/// An IPv4 address to which a machine in the internet has a way, by its default route if by any: that of the name
+/// server a.root-servers.net. Nothing is sent to it.
+pub const ROOT_SERVER_V4: Ip = Ip::V4(0xc629_0004);
+
+/// The same for IPv6.
+pub const ROOT_SERVER_V6: Ip = Ip::V6(0x2001_0503_ba3e_0000_0000_0000_0002_0030);
+
 // The longest prefix of a network that has a broadcast address (RFC 3021).
 const LONGEST_NETWORK: u8 = 30;
 
@@ -41,13 +48,10 @@ pub fn ask_source<R: Net>(rt: &R, ip: Ip) -> Option<Ip> {
 
 /// What the kernel answers for a destination.
 pub fn ask_way<R: Net>(rt: &R, to: Ip) -> Way {
-    Way {
-        to,
-        from: ask_source(rt, to),
-    }
+    Way::new(to, ask_source(rt, to))
 }
 
-// Whether it is the broadcast address of a network of this host: the kernel connects to one only where that is asked
+// Whether it is the broadcast address of a network of this machine: the kernel connects to one only where that is asked
 // for, and a route that prohibits an address does so all the same.
 fn is_broadcast<R: Net>(rt: &R, ip: Ip) -> bool {
     let Ok(socket) = UdpSocket::bind(rt, (any_of(ip), 0u16)) else {
@@ -73,7 +77,7 @@ fn is_on_network<R: Net>(rt: &R, address: u32, len: u8) -> bool {
         && ask_source(rt, Ip::V4(other)) == Some(Ip::V4(address))
 }
 
-/// The length of the prefix that an IPv4 address of this host shares with its link: that of the longest network that
+/// The length of the prefix that an IPv4 address of this machine shares with its link: that of the longest network that
 /// has a broadcast address and for which the kernel takes the address; 32 where there is none.
 pub fn ask_len<R: Net>(rt: &R, address: u32) -> u8 {
     for less in 0..LONGEST_NETWORK {

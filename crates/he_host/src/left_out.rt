@@ -1,4 +1,4 @@
-// What a host has no place for, and why.
+// What a race has no place for, and why.
 
 /// The file in which a line stands.
 #[derive(Clone, Copy, Debug, PartialEq, Eq)]
@@ -28,16 +28,16 @@ pub enum Why {
     Down,
     /// The route leads nowhere: unreachable, blackhole and the like.
     Unreachable,
-    /// The route is one of the kernel's own: to an address of the host, to a network of the loopback interface, to
+    /// The route is one of the kernel's own: to an address of this machine, to a network of the loopback interface, to
     /// multicast, or not in use.
     Internal,
     /// No connected route holds the address, so that its interface isn't known.
     Unconnected,
-    /// The host has the same route already.
+    /// The machine has the same route already.
     Again,
-    /// The host has the address already, or a route to the prefix over another interface, with no higher metric.
+    /// The machine has the address already, or a route to the prefix over another interface, with no higher metric.
     Repeated,
-    /// A host holds no more.
+    /// A race holds no more.
     TooMany,
 }
 

@@ -1,18 +1,20 @@
-//! The host's own sources and routes, from what Linux says in `/proc/net` and of each interface in `/sys/class/net`.
+//! This machine's own sources and routes, from what Linux says in `/proc/net` and of each interface in `/sys/class/net`.
 //!
 //! [`machine::write_machine`] appends the `source` and `route` lines of the machine that it runs on, and a line for
 //! each thing that a race has no place for or that is a guess. [`host::find_routes`] and [`host::find_host`] do the
-//! work on the bytes of the files. [`machine::write_machine_to`] appends the lines for some destinations alone, by
+//! work on the bytes of the files. [`taken::write_machine_to`] appends the lines for some destinations alone, by
 //! which the rules take the sources that the kernel takes: it asks the kernel, and reads no routes.
+//! [`ahead::write_machine_ahead`] asks it for the routes that there are, where destinations are not known yet, and
+//! [`ahead::can_use`] whether it has a way for a family.
 //!
 //! Proved, for all bytes: what each line of a file says, by the kernel's columns and flags (`specs/IfInet6`,
 //! `Ipv6Route`, `Ipv4Route`, `FibTrie`, `Sysfs`); routes stand by the lengths of their prefixes (which of IPv4 ones
 //! are 0 to 32), those of one length by their metrics, and those of one rank in the order of the files; an IPv4
-//! address is where the longest connected route is that holds it; what is kept is a host's, whatever the files say, no
+//! address is where the longest connected route is that holds it; what is kept is a machine's, whatever the files say, no
 //! address and no prefix twice and 64 of each at most, and each line that isn't kept is told with its reason
-//! (`specs/Gathering`, `Whole`); the lines that are written are the host's (`specs/Written`).
+//! (`specs/Gathering`, `Whole`); the lines that are written are the machine's (`specs/Written`).
 //!
-//! Proved, whatever the kernel answers: [`ways::find_host_to`] gives the host with the kernel's sources and a route
+//! Proved, whatever the kernel answers: [`ways::find_host_to`] gives the machine with the kernel's sources and a route
 //! for each destination that leads over its source's interface, and [`ways::find_unsaid`] tells just those
 //! destinations for which the rules of he_select take another source of it than the kernel (`specs/Ways`). A source
 //! that is alone on the interface of a destination's route is the destination's, unless one of rules 1 to 3 of RFC
@@ -20,11 +22,12 @@
 //! has an interface of its own.
 //!
 //! Not proved: that no fault is answered where memory suffices (no step of the code answers one of its own); what
-//! `machine` and `kernel` ask of the system, and what the lines that tell what is left out or a guess say. IPv6 routes
+//! `machine`, `kernel`, `taken` and `ahead` ask of the system, and what the lines that tell what is left out or a guess say. IPv6 routes
 //! are those of all tables, which the file does not tell apart; IPv4 routes are those of the main table, and the
 //! others are told by number.
 #![tactic(auto)]
 
+pub mod ahead;
 pub mod fib_trie;
 pub mod found;
 pub mod gathering;
@@ -44,5 +47,6 @@ pub mod placing;
 pub mod reading;
 pub mod remarks;
 pub mod sysfs;
+pub mod taken;
 pub mod ways;
 pub mod writing;

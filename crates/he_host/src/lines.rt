@@ -9,7 +9,7 @@ use std::alloc::Allocator;
 
 /// A line of a text; lines are counted from 1.
 #[derive(Clone, Copy, Debug)]
-pub struct Line<'t> {
+pub struct NumberedLine<'t> {
     pub number: u64,
     pub text: &'t [u8],
 }
@@ -23,7 +23,7 @@ pub struct Line<'t> {
 pub fn read_lines<'t, A: Allocator + Copy>(
     alloc: A,
     text: &'t [u8],
-) -> Result<Vec<Line<'t>, A>, Memory>
+) -> Result<Vec<NumberedLine<'t>, A>, Memory>
     ensures { IfOk result (λ lines. map plain lines.items ≡ numbered text.now) }
 {
     let mut lines = Vec::new(alloc);
@@ -32,7 +32,7 @@ pub fn read_lines<'t, A: Allocator + Copy>(
     while let Some(part) = parts.next() {
         number += 1;
         if !part.is_empty() {
-            lines.push(Line { number, text: part })?;
+            lines.push(NumberedLine { number, text: part })?;
         }
     }
     Ok(lines)

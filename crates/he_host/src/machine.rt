@@ -5,28 +5,25 @@
 use crate::fib_trie::{OwnAddress, read_own_addresses};
 use crate::found::FoundRoute;
 use crate::host::{Files, FoundHost, find_host, find_routes};
-use crate::if_inet6::{make_source, read_address_line};
 use crate::interface::{Interface, Link};
-use crate::kernel::{ask_len, ask_source, ask_way};
+use crate::kernel::{ROOT_SERVER_V4, ROOT_SERVER_V6, ask_source};
 use crate::left_out::Why;
 use crate::lines::read_lines;
 use crate::parts::field;
-use crate::placing::{Around, Asked, find_connected, make_v4_source};
-use crate::remarks::{is_elsewhere, write_guess, write_remarks, write_unsaid, write_unseen_tables};
+use crate::placing::{Around, InterfaceAnswer, find_connected, make_v4_source};
+use crate::remarks::{
+    is_elsewhere, write_guess, write_other_source, write_remarks, write_unseen_tables,
+};
 use crate::sysfs::{Sysfs, make_link};
-use crate::ways::{TakenSource, Way, find_host_to, find_unsaid};
 use crate::writing::write_host;
 use he_addr::prefix::V6_BITS;
-use he_addr::{Ip, Memory};
-use he_select::{Policy, Route, Source};
+use he_addr::{Ip, Memory, Prefix};
+use he_select::{Host, Policy, Route, Source};
 use std::alloc::{AllocError, AllocFailed, AllocGlobal, Global};
 use std::net::Net;
 use std::rt::Files as FileSystem;
 use std::{fs, io};
 use thiserror::Error;
-
-// The place of an interface's name in a line of `/proc/net/if_inet6`.
-const NAME: usize = 5;
 
 /// Why the lines of this machine aren't written.
 #[derive(Clone, Copy, Debug, PartialEq, Eq, Error)]
@@ -61,7 +58,10 @@ impl From<io::Error> for MachineFault {
 }
 
 // The bytes of a file; none where it isn't there.
-fn read_if_there<R: FileSystem + AllocGlobal>(rt: &R, path: &str) -> Result<Vec<u8>, MachineFault> {
+pub(crate) fn read_if_there<R: FileSystem + AllocGlobal>(
+    rt: &R,
+    path: &str,
+) -> Result<Vec<u8>, MachineFault> {
     match fs::read(rt, path) {
         Ok(bytes) => Ok(bytes),
         Err(error) => match MachineFault::from(error) {
@@ -87,7 +87,10 @@ fn read_sysfs<R: FileSystem + AllocGlobal>(
     read_if_there(rt, path.as_str())
 }
 
-fn read_link_of<R: FileSystem + AllocGlobal>(rt: &R, name: &str) -> Result<Link, MachineFault> {
+pub(crate) fn read_link_of<R: FileSystem + AllocGlobal>(
+    rt: &R,
+    name: &str,
+) -> Result<Link, MachineFault> {
     let ifindex = read_sysfs(rt, name, "ifindex")?;
     let flags = read_sysfs(rt, name, "flags")?;
     let carrier = read_sysfs(rt, name, "carrier")?;
@@ -136,10 +139,10 @@ fn destination_of(route: Route) -> Option<u32> {
 }
 
 // The source that the kernel takes for the destinations of a route, with the route's interface.
-fn ask_route<R: Net>(rt: &R, found: FoundRoute) -> Option<Asked> {
+fn ask_route<R: Net>(rt: &R, found: FoundRoute) -> Option<InterfaceAnswer> {
     let metered = found.read.ok()?;
     let ip = ask_source(rt, Ip::V4(destination_of(metered.route)?))?;
-    Some(Asked {
+    Some(InterfaceAnswer {
         ip,
         interface: metered.route.interface,
     })
@@ -161,7 +164,7 @@ fn ask<R: Net + AllocGlobal>(
     rt: &R,
     around: Around<'_, '_, '_>,
     own: &[OwnAddress],
-) -> Result<Vec<Asked>, MachineFault> {
+) -> Result<Vec<InterfaceAnswer>, MachineFault> {
     let mut asked = Vec::new(rt.alloc());
     if !is_open(around, own) {
         return Ok(asked);
@@ -194,7 +197,16 @@ fn is_guess<R: Net>(rt: &R, routes: &[FoundRoute], source: Source) -> bool {
     }
 }
 
-// Tells which of the sources are a guess.
+// Whether the interface of a source is the one of a route for which the kernel takes it, since no connected route
+// holds it.
+fn is_asked_place(routes: &[FoundRoute], source: Source) -> bool {
+    match source.ip {
+        Ip::V4(bits) => bits >> 24 != 127 && find_connected(routes, source.ip).is_none(),
+        Ip::V6(_) => false,
+    }
+}
+
+// Tells of which sources the interface is a guess.
 fn tell_guesses<R: Net>(
     rt: &R,
     routes: &[FoundRoute],
@@ -203,13 +215,71 @@ fn tell_guesses<R: Net>(
 ) -> Result<(), MachineFault> {
     for source in sources {
         if is_guess(rt, routes, *source) {
-            write_guess(*source, remarks)?;
+            write_guess(
+                *source,
+                b", since its network is on that one and on another",
+                remarks,
+            )?;
+        } else if is_asked_place(routes, *source) {
+            write_guess(
+                *source,
+                b", since the kernel takes it for a route there",
+                remarks,
+            )?;
         }
     }
     Ok(())
 }
 
-// The host of the files, where the kernel is asked for what they leave open.
+// An address that the prefix contains: that of a root name server, or the first one behind that of the network.
+pub(crate) fn probe_of(prefix: Prefix) -> Option<Ip> {
+    for ip in [ROOT_SERVER_V4, ROOT_SERVER_V6] {
+        if prefix.contains(ip) {
+            return Some(ip);
+        }
+    }
+    let bits = if prefix.len() == V6_BITS {
+        prefix.bits()
+    } else {
+        prefix.bits().checked_add(1)?
+    };
+    Some(if prefix.is_v4() {
+        Ip::V4((bits & 0xffff_ffff) as u32)
+    } else {
+        Ip::V6(bits)
+    })
+}
+
+// Whether the route is the longest one to the address.
+fn leads(route: Route, routes: &[Route], to: Ip) -> bool {
+    !routes.iter().any(|other| other.prefix.len() > route.prefix.len() && other.prefix.contains(to))
+}
+
+// Tells for which routes the kernel takes another source than the rules do by these lines: rules of policy routing or
+// a source that the route names decide there.
+fn tell_other_sources<R: Net + AllocGlobal>(
+    rt: &R,
+    machine: &Host<Global>,
+    remarks: &mut Vec<u8>,
+) -> Result<(), MachineFault> {
+    let policy = Policy::standard(rt.alloc())?;
+    for route in machine.routes() {
+        let Some(to) = probe_of(route.prefix) else {
+            continue;
+        };
+        if !leads(*route, machine.routes(), to) {
+            continue;
+        }
+        if let (Some(said), Some(taken)) = (machine.source(&policy, to), ask_source(rt, to)) {
+            if said != taken {
+                write_other_source(route.prefix, said, taken, remarks)?;
+            }
+        }
+    }
+    Ok(())
+}
+
+// The machine of the files, where the kernel is asked for what they leave open.
 fn ask_host<R: Net + AllocGlobal>(
     rt: &R,
     files: Files<'_>,
@@ -232,10 +302,11 @@ fn ask_host<R: Net + AllocGlobal>(
     };
     let found = find_host(rt.alloc(), files, around)?;
     tell_guesses(rt, &routes, found.host.sources(), remarks)?;
+    tell_other_sources(rt, &found.host, remarks)?;
     Ok(found)
 }
 
-/// Appends the lines of this machine's host, and a line for each thing that it has no place for or that is a guess.
+/// Appends the lines of this machine, and a line for each thing that it has no place for or that is a guess.
 ///
 /// # Errors
 ///
@@ -267,123 +338,5 @@ pub fn write_machine<R: FileSystem + Net + AllocGlobal>(
     write_host(&found.host, lines)?;
     write_remarks(rt.alloc(), files, &found.left_out, remarks)?;
     write_unseen_tables(rt.alloc(), files.fib_trie, remarks)?;
-    Ok(())
-}
-
-// The name of the interface in a line of `/proc/net/if_inet6`.
-fn interface_in<'t>(line: &'t [u8]) -> Option<&'t str> {
-    std::str::from_utf8(field(line, NAME)?).ok()
-}
-
-// What a line of `/proc/net/if_inet6` says of this address, which counts as on an interface of this number; None where
-// the line is of another one.
-fn read_v6_taken<R: FileSystem + AllocGlobal>(
-    rt: &R,
-    line: &[u8],
-    ip: u128,
-    interface: u16,
-) -> Result<Option<TakenSource>, MachineFault> {
-    let Some(read) = read_address_line(line) else {
-        return Ok(None);
-    };
-    let Some(name) = interface_in(line) else {
-        return Ok(None);
-    };
-    if read.number != ip {
-        return Ok(None);
-    }
-    let mut link = read_link_of(rt, name)?;
-    link.number = interface;
-    match make_source(read, Some(link)) {
-        Ok(source) => Ok(Some(TakenSource {
-            source,
-            tunnel: link.tunnel,
-        })),
-        Err(_) => Ok(None),
-    }
-}
-
-// What `/proc/net/if_inet6` says of an IPv6 address of this host; where it says nothing, the address alone.
-fn find_v6_taken<R: FileSystem + AllocGlobal>(
-    rt: &R,
-    if_inet6: &[u8],
-    ip: u128,
-    interface: u16,
-) -> Result<TakenSource, MachineFault> {
-    for line in read_lines(rt.alloc(), if_inet6)?.iter() {
-        if let Some(taken) = read_v6_taken(rt, line.text, ip, interface)? {
-            return Ok(taken);
-        }
-    }
-    Ok(taken_alone(Ip::V6(ip), V6_BITS, interface))
-}
-
-fn taken_alone(ip: Ip, plen: u8, interface: u16) -> TakenSource {
-    TakenSource {
-        source: Source {
-            ip,
-            plen,
-            interface,
-            deprecated: false,
-            temporary: false,
-        },
-        tunnel: false,
-    }
-}
-
-// The sources that the kernel takes, each once, in the order of the destinations. Each counts as on an interface of
-// its own, numbered from 1: Linux tells no interface of an IPv4 address, and the rules ask only whether two are the
-// same.
-fn find_taken<R: FileSystem + Net + AllocGlobal>(
-    rt: &R,
-    ways: &[Way],
-) -> Result<Vec<TakenSource>, MachineFault> {
-    let if_inet6 = read_if_there(rt, "/proc/net/if_inet6")?;
-    let mut taken = Vec::new(rt.alloc());
-    let mut interface: u16 = 0;
-    for way in ways {
-        let Some(ip) = way.from else {
-            continue;
-        };
-        if is_taken_already(&taken, ip) {
-            continue;
-        }
-        interface = interface.saturating_add(1);
-        taken.push(match ip {
-            Ip::V4(bits) => taken_alone(ip, ask_len(rt, bits), interface),
-            Ip::V6(bits) => find_v6_taken(rt, &if_inet6, bits, interface)?,
-        })?;
-    }
-    Ok(taken)
-}
-
-fn is_taken_already(taken: &[TakenSource], ip: Ip) -> bool {
-    taken.iter().any(|one| one.source.ip == ip)
-}
-
-/// Appends the lines by which the rules take, for each of these destinations, the source that the kernel takes
-/// ([`find_host_to`]), and a line for each destination of which lines can't say it. It reads no routes, however many
-/// there are: the kernel is asked.
-///
-/// # Errors
-///
-/// [`MachineFault::Memory`]: an allocation was refused.
-pub fn write_machine_to<R: FileSystem + Net + AllocGlobal>(
-    rt: &R,
-    destinations: &[Ip],
-    lines: &mut Vec<u8>,
-    remarks: &mut Vec<u8>,
-) -> Result<(), MachineFault> {
-    let mut ways = Vec::new(rt.alloc());
-    for to in destinations {
-        ways.push(ask_way(rt, *to))?;
-    }
-    let taken = find_taken(rt, &ways)?;
-    let found = find_host_to(rt.alloc(), &taken, &ways)?;
-    write_host(&found.host, lines)?;
-    let policy = Policy::standard(rt.alloc())?;
-    for way in find_unsaid(rt.alloc(), &found.host, &policy, &ways)?.iter() {
-        write_unsaid(*way, remarks)?;
-    }
     Ok(())
 }

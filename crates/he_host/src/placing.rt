@@ -17,7 +17,7 @@ pub const LOOPBACK_LEN: u8 = 8;
 
 /// The interface of an address as the kernel told it; 0 for none.
 #[derive(Clone, Copy, Debug, PartialEq, Eq)]
-pub struct Asked {
+pub struct InterfaceAnswer {
     pub ip: Ip,
     pub interface: u16,
 }
@@ -34,7 +34,7 @@ pub struct Place {
 pub struct Around<'i, 'n, 't> {
     pub interfaces: &'i [Interface<'n>],
     pub routes: &'t [FoundRoute],
-    pub asked: &'t [Asked],
+    pub asked: &'t [InterfaceAnswer],
 }
 
 fn is_loopback(ip: Ip) -> bool
@@ -100,7 +100,7 @@ pub fn find_connected(routes: &[FoundRoute], ip: Ip) -> Option<Route>
     best
 }
 
-fn find_asked(asked: &[Asked], ip: Ip) -> Option<Place>
+fn find_asked(asked: &[InterfaceAnswer], ip: Ip) -> Option<Place>
     ensures { result ≡ asked_for ip asked.now }
 {
     for told in asked {
@@ -159,7 +159,7 @@ fn source_at(ip: Ip, place: Place) -> Source
     }
 }
 
-/// The source of an IPv4 address of the host, or why there is none.
+/// The source of an IPv4 address of this machine, or why there is none.
 ///
 /// # Errors
 ///

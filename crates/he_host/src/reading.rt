@@ -10,7 +10,7 @@ use crate::interface::{Interface, read_link};
 use crate::ipv4_route::{make_v4_route, read_v4_line};
 use crate::ipv6_route::{make_route, read_route_line};
 use crate::left_out::{File, Why};
-use crate::lines::Line;
+use crate::lines::NumberedLine;
 use he_addr::Memory;
 use he_select::Source;
 use std::alloc::Allocator;
@@ -62,7 +62,7 @@ pub fn read_v4_route(interfaces: &[Interface<'_>], number: u64, line: &[u8]) -> 
 pub fn find_v6_sources<A: Allocator + Copy>(
     alloc: A,
     interfaces: &[Interface<'_>],
-    lines: &[Line<'_>],
+    lines: &[NumberedLine<'_>],
 ) -> Result<Vec<FoundSource, A>, Memory>
     ensures { IfOk result (λ found. found.items ≡ map (found_v6_source interfaces.now) (map plain lines.now)) }
 {
@@ -84,7 +84,7 @@ pub fn find_v6_sources<A: Allocator + Copy>(
 /// [`Memory`]: an allocation was refused.
 pub fn find_v6_routes<A: Allocator + Copy>(
     interfaces: &[Interface<'_>],
-    lines: &[Line<'_>],
+    lines: &[NumberedLine<'_>],
     found: &mut Vec<FoundRoute, A>,
 ) -> Result<(), Memory>
     ensures { OnOk result (found.new.items ≡ found.old.items ++ map (found_v6_route interfaces.now)
@@ -107,7 +107,7 @@ pub fn find_v6_routes<A: Allocator + Copy>(
 /// [`Memory`]: an allocation was refused.
 pub fn find_v4_routes<A: Allocator + Copy>(
     interfaces: &[Interface<'_>],
-    lines: &[Line<'_>],
+    lines: &[NumberedLine<'_>],
     found: &mut Vec<FoundRoute, A>,
 ) -> Result<(), Memory>
     ensures { OnOk result (found.new.items ≡ found.old.items ++ map (found_v4_route interfaces.now)

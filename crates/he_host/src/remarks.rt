@@ -1,4 +1,4 @@
-// What a host has no place for, and what is a guess in it, told in plain words: a line for each.
+// What a race has no place for, and what is a guess in it, told in plain words: a line for each.
 
 use crate::fib_trie::{OwnAddress, read_own_addresses};
 use crate::found::{FoundRoute, Metered};
@@ -7,7 +7,7 @@ use crate::if_inet6::read_address_line;
 use crate::ipv4_route::{read_mask, read_v4_line};
 use crate::ipv6_route::read_route_line;
 use crate::left_out::{File, LeftOut, Why};
-use crate::lines::{Line, read_lines};
+use crate::lines::{NumberedLine, read_lines};
 use crate::parts::field;
 use crate::placing::holds;
 use crate::ways::Way;
@@ -52,7 +52,7 @@ enum Subject {
 }
 
 // The line with this number. It is the line at its place, but behind an empty one.
-fn line_at<'t>(lines: &[Line<'t>], number: u64) -> Option<&'t [u8]> {
+fn line_at<'t>(lines: &[NumberedLine<'t>], number: u64) -> Option<&'t [u8]> {
     let place = usize::try_from(number).ok()?.checked_sub(1)?;
     let line = lines.get(place)?;
     if line.number == number {
@@ -89,10 +89,10 @@ fn source_subject(line: &[u8]) -> Option<Subject> {
 // The lines of the files, to find in them what is left out.
 #[derive(Drop)]
 struct Read<'t, A: Allocator> {
-    if_inet6: Vec<Line<'t>, A>,
+    if_inet6: Vec<NumberedLine<'t>, A>,
     own: Vec<OwnAddress, A>,
-    ipv6_route: Vec<Line<'t>, A>,
-    route: Vec<Line<'t>, A>,
+    ipv6_route: Vec<NumberedLine<'t>, A>,
+    route: Vec<NumberedLine<'t>, A>,
 }
 
 impl<'t, A: Allocator + Copy> Read<'t, A> {
@@ -188,21 +188,43 @@ pub fn is_elsewhere(routes: &[FoundRoute], source: Source) -> bool {
     false
 }
 
-/// Appends the line for a source whose interface is a guess.
+/// Appends the line for a source whose interface is a guess, for this reason.
 ///
 /// # Errors
 ///
 /// [`Memory`]: an allocation was refused; a part of the line may be there.
 pub fn write_guess<A: Allocator + Copy>(
     source: Source,
+    reason: &[u8],
     out: &mut Vec<u8, A>,
 ) -> Result<(), Memory> {
     write_word(b"he: a guess: the address ", out)?;
     write_ip(source.ip, out)?;
     write_word(b" is taken to be on interface ", out)?;
     write_number(u64::from(source.interface), out)?;
+    write_word(reason, out)?;
+    write_word(b", and nothing tells more\n", out)
+}
+
+/// Appends the line for a route whose destinations the kernel reaches from another source than the rules take.
+///
+/// # Errors
+///
+/// [`Memory`]: an allocation was refused; a part of the line may be there.
+pub fn write_other_source<A: Allocator + Copy>(
+    prefix: Prefix,
+    said: Ip,
+    taken: Ip,
+    out: &mut Vec<u8, A>,
+) -> Result<(), Memory> {
+    write_word(b"he: the kernel reaches ", out)?;
+    write_prefix(prefix, true, out)?;
+    write_word(b" from ", out)?;
+    write_ip(taken, out)?;
+    write_word(b", and not from ", out)?;
+    write_ip(said, out)?;
     write_word(
-        b", since its network is on that one and on another, and nothing tells more\n",
+        b" as these lines say: `he host --for ADDRESS` asks it for single addresses\n",
         out,
     )
 }

@@ -60,7 +60,7 @@ fn read_decimal(text: &[u8]) -> u64
     read_number(first_line(text)).unwrap_or(0)
 }
 
-// The number of an interface; 0 where a host can't have it.
+// The number of an interface; 0 where a race can't have it.
 fn read_index(text: &[u8]) -> u16
     ensures { result ≡ index_of text.now }
 {

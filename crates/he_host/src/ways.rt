@@ -1,7 +1,7 @@
-// The host by which the rules take the sources that the kernel takes: what it answers for destinations, as lines.
+// The machine by which the rules take the sources that the kernel takes: what it answers for destinations, as lines.
 
 ghost use Rattle.std.specs.Prelude.{◌≡◌, filter, map, not, IfOk};
-ghost use Rattle.he_host.specs.Ways.{found_own_source, found_way, is_unsaid, own_of, same_source, way_route};
+ghost use Rattle.he_host.specs.Ways.{found_own_source, found_way, is_unsaid, one_address, own_of, same_source, way_route};
 ghost use Rattle.he_host.specs.Whole.{HasKept};
 
 use crate::found::{FoundRoute, FoundSource, Metered};
@@ -23,10 +23,25 @@ pub struct TakenSource {
 /// What the kernel answers for a destination.
 #[derive(Clone, Copy, Debug, PartialEq, Eq)]
 pub struct Way {
-    /// The destination.
+    /// The destination that the kernel is asked for.
     pub to: Ip,
+    /// The destinations that it stands for: the one that is asked for, or those of a route to it.
+    pub prefix: Prefix,
     /// The source that the kernel takes; `None` where there is no way.
     pub from: Option<Ip>,
+}
+
+impl Way {
+    /// The way to one destination alone.
+    pub fn new(to: Ip, from: Option<Ip>) -> Way
+        ensures { result ≡ record { to = to; prefix = one_address to; from = from } }
+    {
+        Way {
+            to,
+            prefix: Prefix::new(to.mapped(), V6_BITS),
+            from,
+        }
+    }
 }
 
 // What is known of a source.
@@ -41,7 +56,7 @@ fn find_own(own: &[TakenSource], ip: Ip) -> Option<TakenSource>
     None
 }
 
-// The route of a destination alone, over the interface of the source that the kernel takes.
+// The route of a way, over the interface of the source that the kernel takes.
 #[tactic(auto, unfolding(crate::specs::Ways::way_route))]
 fn way_route(own: &[TakenSource], way: Way) -> Result<Metered, Why>
     ensures { result ≡ way_route own.now way }
@@ -52,11 +67,8 @@ fn way_route(own: &[TakenSource], way: Way) -> Result<Metered, Why>
     let Some(taken) = find_own(own, from) else {
         return Err(Why::Unconnected);
     };
-    let Some(prefix) = Prefix::try_new(way.to.mapped(), V6_BITS) else {
-        return Err(Why::Unclear);
-    };
     let route = Route {
-        prefix,
+        prefix: way.prefix,
         interface: taken.source.interface,
         tunnel: taken.tunnel,
     };
@@ -103,8 +115,8 @@ fn find_ways<A: Allocator + Copy>(
     Ok(found)
 }
 
-/// The host that has these sources, and for each destination to which there is a way a route of its own, over the
-/// interface of the source that the kernel takes: 64 of each at most, those that are first.
+/// The machine that has these sources, and for each way that there is a route of its own, over the interface of the
+/// source that the kernel takes: 64 of each at most, those that are first.
 ///
 /// Where each source has an interface of its own, so that rule 5 of RFC 6724 section 5 prefers it to each other one,
 /// the rules take the kernel's source for each destination, unless one of rules 1 to 3 prefers another one.
@@ -143,7 +155,7 @@ fn is_same(said: Option<Ip>, taken: Option<Ip>) -> bool
     }
 }
 
-/// The destinations for which the rules take another source of the host than the kernel, or for which just one of the
+/// The destinations for which the rules take another source of the machine than the kernel, or for which just one of the
 /// two says that there is a way.
 ///
 /// # Errors

@@ -1,4 +1,4 @@
-// The lines of a host, as a race has them.
+// The lines of a machine, as a race has them.
 
 ghost use Rattle.std.specs.Prelude.{◌++◌, OnOk, ◌≡◌};
 ghost use Rattle.he_host.specs.Written.{source_end, source_line, route_line, host_lines, written_sources, written_routes};
@@ -84,7 +84,7 @@ fn write_routes<A: Allocator + Copy>(routes: &[Route], out: &mut Vec<u8, A>) -> 
     Ok(())
 }
 
-/// Appends the `source` and `route` lines of the host.
+/// Appends the `source` and `route` lines of the machine.
 ///
 /// # Errors
 ///

@@ -4,10 +4,10 @@ use Rattle.std.specs.Prelude.{ℕ, List, [], ◌∷◌, Option, None, codes, dro
 use Rattle.std.specs.List.{filter_map, flat_map}
 use Rattle.std.specs.Option.{option_to_list}
 use Rattle.std.specs.Str.{bytes_eq}
-use Rattle.he_addr.specs.declared.ip.Ip.{Ip}
 use Rattle.he_addr.specs.declared.ip.Ip.TheVariants.{V4}
-use Rattle.he_addr.specs.Reading.{ip_in, number_in}
+use Rattle.he_addr.specs.Reading.{number_in}
 use Rattle.he_names.specs.Fields.{fields_of, is_blank, lines_of}
+use Rattle.he_names.specs.Literals.{Zoned, zoned_in}
 
 -- the fields of a line: none where a blank begins it
 unfoldable pub entry_of : List ℕ → List (List ℕ)
@@ -24,20 +24,20 @@ last_of x xs = fold (λ _ next. next) x xs
 
 -- ---- name servers
 
-abbrev pub server_of : List (List ℕ) → Option Ip
-server_of (keyword ∷ address ∷ _) = if bytes_eq keyword (codes "nameserver") then ip_in address else None
+abbrev pub server_of : List (List ℕ) → Option Zoned
+server_of (keyword ∷ address ∷ _) = if bytes_eq keyword (codes "nameserver") then zoned_in address else None
 server_of _ = None
 
 -- 127.0.0.1, the server where the file names none
-abbrev pub own_server : Ip
-own_server = V4 2130706433
+abbrev pub own_server : Zoned
+own_server = (V4 2130706433, None)
 
-abbrev pub or_own : List Ip → List Ip
+abbrev pub or_own : List Zoned → List Zoned
 or_own [] = own_server ∷ []
 or_own (server ∷ servers) = server ∷ servers
 
--- the first three name servers, or the host's own
-abbrev pub servers_in : List ℕ → List Ip
+-- the first three name servers, or the machine's own
+abbrev pub servers_in : List ℕ → List Zoned
 servers_in text = or_own (take 3 (filter_map server_of (entries_of text)))
 
 -- ---- the search list

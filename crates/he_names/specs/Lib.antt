@@ -2,4 +2,9 @@ pub mod Answers
 pub mod Conf
 pub mod Fields
 pub mod Hosts
+pub mod Literals
+pub mod Numeric
 pub mod Order
+pub mod Ports
+pub mod Special
+pub mod Targets

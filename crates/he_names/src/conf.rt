@@ -1,9 +1,10 @@
 //! The file of resolver settings.
 
-ghost use Rattle.std.specs.Prelude.{◌≡◌, IfOk, codes};
-ghost use Rattle.std.specs.Option.{option_to_list};
+ghost use Rattle.std.specs.Prelude.{◌≡◌, IfOk, codes, map};
+ghost use Rattle.std.specs.Option.{option_map, option_to_list};
 ghost use Rattle.std.specs.Str.{bytes_eq};
 ghost use Rattle.he_names.specs.Fields.{texts};
+ghost use Rattle.he_names.specs.Literals.{zoned_of};
 ghost use Rattle.he_names.specs.Conf.{domains_of, entry_of, last_of, last_search, number_behind, numbers_behind, numbers_in, numbers_of, option_in, search_in, server_of, servers_in};
 
 use crate::fields::{fields, is_blank, lines};
@@ -11,19 +12,26 @@ use crate::limits::{
     DEFAULT_ATTEMPTS, DEFAULT_NDOTS, DEFAULT_TIMEOUT, LEAST_ATTEMPTS, LEAST_TIMEOUT, MOST_ATTEMPTS,
     MOST_DOMAINS, MOST_NDOTS, MOST_SERVERS, MOST_TIMEOUT,
 };
-use he_addr::{Ip, Memory, read_ip, read_number};
+use crate::literals::{ZonedIp, read_zoned};
+use he_addr::{Ip, Memory, read_number};
 use std::alloc::{AllocError, Allocator};
 
-const OWN_SERVER: Ip = Ip::V4(0x7f00_0001);
+const OWN_SERVER: ZonedIp<'static> = ZonedIp {
+    ip: Ip::V4(0x7f00_0001),
+    zone: None,
+};
 
 /// The name servers of a file of resolver settings: the first three of them, or 127.0.0.1 where it has none. A line
-/// that is not understood is passed over, and so is an address with a zone.
+/// that is not understood is passed over. A server on the link has its interface as its zone.
 ///
 /// # Errors
 ///
 /// [`Memory`] where an allocation was refused.
-pub fn read_servers<A: Allocator + Copy>(alloc: A, text: &[u8]) -> Result<Vec<Ip, A>, Memory>
-    ensures { IfOk result (λ servers. servers.items ≡ servers_in text.now) }
+pub fn read_servers<'t, A: Allocator + Copy>(
+    alloc: A,
+    text: &'t [u8],
+) -> Result<Vec<ZonedIp<'t>, A>, Memory>
+    ensures { IfOk result (λ servers. map zoned_of servers.items ≡ servers_in text.now) }
 {
     let lines = lines(alloc, text)?;
     let mut servers = Vec::new(alloc);
@@ -143,11 +151,17 @@ fn entry<A: Allocator>(alloc: A, line: &[u8]) -> Result<Vec<&[u8], A>, AllocErro
     }
 }
 
-fn server_of(entry: &[&[u8]]) -> Option<Ip>
-    ensures { result ≡ server_of (texts entry.now) }
+fn server_of<'t>(entry: &[&'t [u8]]) -> Option<ZonedIp<'t>>
+    ensures { option_map zoned_of result ≡ server_of (texts entry.now) }
 {
     match entry {
-        [keyword, address, ..] if is_text(keyword, b"nameserver") => read_ip(address),
+        [keyword, address, ..] => {
+            if is_text(keyword, b"nameserver") {
+                read_zoned(address)
+            } else {
+                None
+            }
+        }
         _ => None,
     }
 }

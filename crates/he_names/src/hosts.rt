@@ -79,7 +79,7 @@ fn find(text: &[u8], mark: u8) -> Option<usize>
 }
 
 // The line up to its comment.
-fn without_comment(line: &[u8]) -> &[u8]
+pub(crate) fn without_comment(line: &[u8]) -> &[u8]
     ensures { result.now ≡ uncommented line.now }
 {
     match find(line, COMMENT) {

@@ -27,3 +27,11 @@ pub const MOST_ATTEMPTS: u64 = 5;
 
 /// The most addresses of an answer that are kept, as many as a line of a timeline has.
 pub const MOST_ADDRESSES: usize = 256;
+
+/// The most bytes of an interface's name on Linux (IFNAMSIZ, less the byte that ends it).
+pub const MOST_INTERFACE_BYTES: usize = 15;
+
+/// The least and the greatest port that can be connected to.
+pub const LEAST_PORT: u64 = 1;
+
+pub const MOST_PORT: u64 = 65_535;

@@ -36,4 +36,5 @@ module _ (Gave : List ℕ → Bool → Type 0) (GaveSoFar Put PutPart : List ℕ
   put_so is_terminal (Err pumps.Input) (Ok done) result (bytes, gave, put) is = told_so result _ is (bytes, put)
   put_so false (Err pumps.Cut) (Ok done) result (bytes, gave, put) is = told_so result _ is (bytes, put)
   put_so true (Err pumps.Cut) (Ok done) result (bytes, gave, put) is = told_so result _ is (bytes, put)
-  put_so is_terminal (Ok sent) (Ok done) result (bytes, gave, put) is = told_so result _ is (bytes, put)
+  put_so is_terminal (Ok sent) (Ok done) result (bytes, gave, put) (inl is) = told_so result _ is (bytes, put)
+  put_so is_terminal (Ok sent) (Ok done) result (bytes, gave, put) (inr (how, traffic, is)) = told_so result _ is (bytes, put)

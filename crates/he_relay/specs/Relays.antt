@@ -25,7 +25,8 @@ abbrev pub IsNotSent : Result (Unit {0}) RelayFault → Type 0
 IsNotSent result = IsBroken result ⊎ ((unsent : Unsent) × (result ≡ Err (faults.Unsent unsent)))
 
 -- the end that is told of two ways, of which the one to the connection and the one from it ended so: what failed is
--- told, of the way to the output first. That the input was cut is a fault, but at a terminal
+-- told, of the way to the output first. That the input was cut is a fault, but at a terminal; and where both ways
+-- ended, the connection may break behind them, before all that was sent has come to the remote
 abbrev pub IsEnd : Bool → Result (Unit {0}) PumpFault → Result (Unit {0}) PumpFault → Result (Unit {0}) RelayFault
     → Type 0
 IsEnd is_terminal sent (Err pumps.Output) result = result ≡ Err faults.Output
@@ -35,7 +36,7 @@ IsEnd is_terminal (Err pumps.Output) (Ok done) result = IsNotSent result
 IsEnd is_terminal (Err pumps.Input) (Ok done) result = result ≡ Err faults.Input
 IsEnd false (Err pumps.Cut) (Ok done) result = result ≡ Err faults.Unread
 IsEnd true (Err pumps.Cut) (Ok done) result = result ≡ Ok tt
-IsEnd is_terminal (Ok sent) (Ok done) result = result ≡ Ok tt
+IsEnd is_terminal (Ok sent) (Ok done) result = (result ≡ Ok tt) ⊎ IsBroken result
 
 -- some bytes were taken, or put: of a socket no contract can say which
 abbrev pub Some : List ℕ → Type 0

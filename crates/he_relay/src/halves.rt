@@ -20,6 +20,8 @@ const STANDARD_INPUT: i32 = 0;
 // To wait as long as it takes.
 const FOREVER: i32 = -1;
 
+const MILLISECOND: i32 = 1;
+
 const BROKEN: i16 = POLLHUP | POLLERR | POLLNVAL;
 
 /// How long standard input is waited for behind the remote's end where nothing else is asked for, in milliseconds.
@@ -109,6 +111,22 @@ impl<'s> SocketConnection<'s> {
         ensures { result ≡ self.now.sends.is_terminal }
     {
         self.sends.is_terminal
+    }
+
+    /// Whether the remote reset it behind the end of both ways, so that bytes that this machine's system took to send
+    /// did not arrive. The end of what was sent is waited for, for as long as standard input is.
+    pub fn was_reset(&self) -> bool {
+        if self.sending.sent == 0 {
+            return false;
+        }
+        let stream = self.sends.stream;
+        for _milliseconds in 0..self.sends.wait {
+            if stream.peer_addr().is_err() {
+                break;
+            }
+            let _ = poll(&mut [], MILLISECOND);
+        }
+        matches!(stream.take_error(), Ok(Some(_)))
     }
 
     /// How it broke off, where a read or a write of it failed.

@@ -22,7 +22,8 @@ use std::thread::Threads;
 /// The first of these that came to pass:
 ///
 /// - `Output` where a write or a flush of the output failed.
-/// - `Broken` where the connection broke, with how it did and how many bytes went over it.
+/// - `Broken` where the connection broke, with how it did and how many bytes went over it; also where both ways ended
+///   and the remote then reset it, so that it has not all that this machine's system took to send.
 /// - `Unsent` where the remote had closed the connection before it took all that the input gave.
 /// - `Input` where a read of the input failed.
 /// - `Unread` where the remote had ended its way, and the input gave nothing for as long as it was waited for, and is
@@ -66,6 +67,7 @@ fn end_of(
         (Ok(()), Err(PumpFault::Output)) => Err(not_sent(connection)),
         (Ok(()), Err(PumpFault::Input)) => Err(RelayFault::Input),
         (Ok(()), Err(PumpFault::Cut)) if !is_terminal => Err(RelayFault::Unread),
+        (Ok(()), Ok(())) if connection.was_reset() => Err(broken(connection, Breakage::Reset)),
         (Ok(()), Ok(()) | Err(PumpFault::Cut)) => Ok(()),
     }
 }

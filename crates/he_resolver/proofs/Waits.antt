@@ -1,45 +1,45 @@
 -- What the families of a host wait for, together.
-use Rattle.std.proofs.Common.{◌≡◌, ◌⊎◌, ℕ, Bool, true, false, ◌&&◌, not, is_some, Option, Some, None, refl, sym, ◌∙◌, subst, inl, inr}
+use Rattle.std.proofs.Common.{◌≡◌, ◌⊎◌, ℕ, Bool, true, false, ◌&&◌, not, is_some, refl, sym, ◌∙◌, subst, inl, inr}
 use Rattle.std.specs.Prelude.{⊤}
 use Rattle.futures.specs.Task.{Covers, Hears, IsArmed, Keeps, Lasting}
 use Rattle.futures.specs.declared.task.context.Context.{Context}
-use Rattle.he_resolver.specs.declared.asking.Asking.{Asking}
+use Rattle.he_resolver.specs.declared.family_lookup.FamilyLookup.{FamilyLookup}
 use Rattle.he_addr.specs.declared.ip.Family.{Family}
 use Rattle.he_addr.specs.declared.ip.Family.TheVariants as families
 use Rattle.he_resolver.specs.declared.gathering.Gathering.{Gathering}
 use Rattle.he_resolver.specs.declared.resolver.Resolver.{Resolver}
-use Rattle.he_resolver.specs.Needs.{IsHeard, IsTold, Listens, asking_needs, gathering_needs, is_settled, lookup_needs, names_needs, other_of, resolver_needs, told_of}
+use Rattle.he_resolver.specs.Needs.{IsHeard, IsTold, Listens, family_needs, gathering_needs, is_settled, lookup_needs, names_needs, other_of, resolver_needs, told_of}
 
 pub covers_kept : (old new : Context) (needs : ℕ → Type 0) → Keeps old new → Covers old needs → Covers new needs
 covers_kept old new needs keeps h = (keeps Lasting.armed h.0, λ s n. keeps (Lasting.hears s) (h.1 s n))
 
-pub listens_kept : (old new : Context) (asking : Asking) → Keeps old new → Listens old asking → Listens new asking
+pub listens_kept : (old new : Context) (asking : FamilyLookup) → Keeps old new → Listens old asking → Listens new asking
 listens_kept old new asking keeps (inl told) = inl told
-listens_kept old new asking keeps (inr covers) = inr (covers_kept old new (asking_needs asking) keeps covers)
+listens_kept old new asking keeps (inr covers) = inr (covers_kept old new (family_needs asking) keeps covers)
 
-pub shared_listens : (cx : Context) (asking shared : Asking) → ((shared ≡ asking) ⊎ IsTold shared) → Listens cx asking → Listens cx shared
+pub shared_listens : (cx : Context) (asking shared : FamilyLookup) → ((shared ≡ asking) ⊎ IsTold shared) → Listens cx asking → Listens cx shared
 shared_listens cx asking shared (inl same) h = subst (Listens cx) (sym same) h
 shared_listens cx asking shared (inr told) h = inl told
 
 -- what is told waits for nothing
-told_needs : (asking : Asking) (s : ℕ) → IsTold asking → asking_needs asking s → ⊥
-unfolding asking_needs
+told_needs : (asking : FamilyLookup) (s : ℕ) → IsTold asking → family_needs asking s → ⊥
+unfolding family_needs
 told_needs asking s told n = let e : true ≡ false = sym told ∙ n.0 in cc
 
-pub names_wait : (cx : Context) (six four : Asking) → Listens cx six → Listens cx four → (is_some six.told && is_some four.told) ≡ false
-    → Covers cx (λ s. asking_needs six s ⊎ asking_needs four s)
+pub names_wait : (cx : Context) (six four : FamilyLookup) → Listens cx six → Listens cx four → (is_some six.told && is_some four.told) ≡ false
+    → Covers cx (λ s. family_needs six s ⊎ family_needs four s)
 names_wait cx six four (inl a) (inl b) some = let e : (is_some six.told && is_some four.told) ≡ true = rw (a, b) refl in cc
 names_wait cx six four (inl a) (inr b) some = (b.0, λ s n. elim n [ inl x ↦ absurd (told_needs six s a x) | inr y ↦ b.1 s y ])
 names_wait cx six four (inr a) (inl b) some = (a.0, λ s n. elim n [ inl x ↦ a.1 s x | inr y ↦ absurd (told_needs four s b y) ])
 names_wait cx six four (inr a) (inr b) some = (a.0, λ s n. elim n [ inl x ↦ a.1 s x | inr y ↦ b.1 s y ])
 
 -- whether it is settled changes nothing that is waited for
-settled_needs : (asking : Asking) (settled : Bool) (s : ℕ) → asking_needs (record asking { is_settled = settled }) s → asking_needs asking s
-unfolding asking_needs
+settled_needs : (asking : FamilyLookup) (settled : Bool) (s : ℕ) → family_needs (record asking { is_settled = settled }) s → family_needs asking s
+unfolding family_needs
 settled_needs asking settled s n = n
 
-same_needs : (old new : Asking) (s : ℕ) → new ≡ record old { is_settled = new.is_settled } → asking_needs new s → asking_needs old s
-same_needs old new s same n = settled_needs old new.is_settled s (subst (λ (a : Asking). asking_needs a s) same n)
+same_needs : (old new : FamilyLookup) (s : ℕ) → new ≡ record old { is_settled = new.is_settled } → family_needs new s → family_needs old s
+same_needs old new s same n = settled_needs old new.is_settled s (subst (λ (a : FamilyLookup). family_needs a s) same n)
 
 -- a poll for one family leaves the other one waiting for all that it needs, or woken where it is settled now what it
 -- is told

@@ -1,7 +1,14 @@
 -- Which fault is told where the families differ, and which faults are of one server alone.
 use Rattle.std.specs.Prelude.{ℕ, Bool, true, false, nat_le, if◌then◌else◌}
+use Rattle.he_names.specs.declared.target.HostFault.{HostFault}
+use Rattle.he_names.specs.declared.target.HostFault.TheVariants as hosts
 use Rattle.he_resolver.specs.declared.fault.NamesFault.{NamesFault}
 use Rattle.he_resolver.specs.declared.fault.NamesFault.TheVariants as faults
+
+-- the fault of a text that names no host
+abbrev pub of_host : HostFault → NamesFault
+of_host hosts.Memory = faults.Memory
+of_host fault = faults.Host fault
 
 -- another server may tell more
 abbrev pub is_of_server : NamesFault → Bool
@@ -15,6 +22,7 @@ abbrev pub rank_of : NamesFault → ℕ
 rank_of faults.Memory = 0
 rank_of faults.Files = 1
 rank_of faults.Runtime = 1
+rank_of (faults.Host fault) = 2
 rank_of (faults.Name fault) = 2
 rank_of faults.System = 2
 rank_of faults.NoSuchName = 3

@@ -1,7 +1,7 @@
 -- Which sources of events a look-up waits for, of its sockets and its timers. What is settled and not yet told waits
 -- for nothing: every source counts as one of its own, so that only a poll that has asked for another one has
 -- registered at all.
-use Rattle.std.specs.Prelude.{ℕ, ◌≡◌, ◌<◌, ◌⊎◌, ⊤, true, false, Bool, List, [], Option, Some, None, IsSomeAnd, is_some, length, slice_index_or}
+use Rattle.std.specs.Prelude.{ℕ, ◌≡◌, ◌<◌, ◌⊎◌, ⊤, true, false, Bool, List, [], Option, IsSomeAnd, is_some, length, slice_index_or}
 use Rattle.futures.specs.Channel.{completed_source}
 use Rattle.futures.specs.Task.{Covers}
 use Rattle.futures.specs.declared.task.context.Context.{Context}
@@ -9,11 +9,11 @@ use Rattle.he_addr.specs.declared.ip.Family.{Family}
 use Rattle.he_addr.specs.declared.ip.Family.TheVariants as families
 use Rattle.tokio.specs.Net.{ConnectNeeds, connect_state, stream_readable, stream_writable}
 use Rattle.tokio.specs.Timers.{sleep_source}
-use Rattle.he_resolver.specs.declared.asking.Asking.{Asking}
-use Rattle.he_resolver.specs.declared.asking.Next.{Next}
-use Rattle.he_resolver.specs.declared.asking.Next.TheVariants.{Now, After, Never}
+use Rattle.he_resolver.specs.declared.family_lookup.FamilyLookup.{FamilyLookup}
+use Rattle.he_resolver.specs.declared.family_lookup.NextServer.{NextServer}
+use Rattle.he_resolver.specs.declared.family_lookup.NextServer.TheVariants.{Now, After, Never}
 use Rattle.he_resolver.specs.declared.gathering.Gathering.{Gathering}
-use Rattle.he_resolver.specs.declared.gathering.Told.{Told}
+use Rattle.he_resolver.specs.declared.gathering.FamilyAnswer.{FamilyAnswer}
 use Rattle.he_resolver.specs.declared.lookup.Lookup.{Lookup}
 use Rattle.he_resolver.specs.declared.lookup.Source.{Source}
 use Rattle.he_resolver.specs.declared.lookup.Source.TheVariants as sources
@@ -23,8 +23,8 @@ use Rattle.he_resolver.specs.declared.query.Transport.TheVariants as transports
 use Rattle.he_resolver.specs.declared.resolver.Resolver.{Resolver}
 use Rattle.he_resolver.specs.declared.streams.Stage.{Stage}
 use Rattle.he_resolver.specs.declared.streams.Stage.TheVariants.{Connecting, Sending, Length, Message, Over}
-use Rattle.he_resolver.specs.declared.streams.Step.{Step}
-use Rattle.he_resolver.specs.declared.streams.Step.TheVariants as steps
+use Rattle.he_resolver.specs.declared.streams.StageOutcome.{StageOutcome}
+use Rattle.he_resolver.specs.declared.streams.StageOutcome.TheVariants as steps
 
 -- ---- one query
 
@@ -37,7 +37,7 @@ stage_needs (Message reading) s = IsSomeAnd reading.state (λ r. s ≡ stream_re
 stage_needs Over s = ⊥
 
 -- a step that waits has registered for all that its stage waits for
-abbrev pub CoversWait : Context → Step → Type 0
+abbrev pub CoversWait : Context → StageOutcome → Type 0
 CoversWait cx (steps.Waits stage) = Covers cx (stage_needs stage)
 CoversWait cx other = ⊤
 
@@ -57,24 +57,24 @@ abbrev pub any_needs : List Query → ℕ → Type 0
 any_needs queries s = (k : ℕ) × (d : Query) × (k < length queries) × query_needs (slice_index_or queries k d) s
 
 -- the time at which the next server is asked; where that is now, all
-abbrev pub next_needs : Next → ℕ → Type 0
-next_needs Now s = ⊤
-next_needs (After timer) s = s ≡ sleep_source timer
-next_needs Never s = ⊥
+abbrev pub next_server_needs : NextServer → ℕ → Type 0
+next_server_needs Now s = ⊤
+next_server_needs (After timer) s = s ≡ sleep_source timer
+next_server_needs Never s = ⊥
 
-abbrev pub IsTold : Asking → Type 0
+abbrev pub IsTold : FamilyLookup → Type 0
 IsTold asking = is_some asking.told ≡ true
 
 -- Until it is told, a family's part waits for each query and for the next server's time; where it has no query under
 -- way it is to be polled again.
-unfoldable pub asking_needs : Asking → ℕ → Type 0
-asking_needs asking s =
+unfoldable pub family_needs : FamilyLookup → ℕ → Type 0
+family_needs asking s =
     (is_some asking.told ≡ false)
-    × ((asking.queries.items ≡ []) ⊎ any_needs asking.queries.items s ⊎ next_needs asking.next s)
+    × ((asking.queries.items ≡ []) ⊎ any_needs asking.queries.items s ⊎ next_server_needs asking.next s)
 
 -- it is told, or has registered for all that it waits for
-abbrev pub Listens : Context → Asking → Type 0
-Listens cx asking = IsTold asking ⊎ Covers cx (asking_needs asking)
+abbrev pub Listens : Context → FamilyLookup → Type 0
+Listens cx asking = IsTold asking ⊎ Covers cx (family_needs asking)
 
 -- ---- both families
 
@@ -83,16 +83,16 @@ other_of families.V6 = families.V4
 other_of families.V4 = families.V6
 
 module _ {R : Type 0} where
-  abbrev pub asking_of : Resolver R → Family → Asking
-  asking_of resolver families.V6 = resolver.v6
-  asking_of resolver families.V4 = resolver.v4
+  abbrev pub family_of : Resolver R → Family → FamilyLookup
+  family_of resolver families.V6 = resolver.v6
+  family_of resolver families.V4 = resolver.v4
 
   abbrev pub is_settled : Resolver R → Family → Bool
-  is_settled resolver family = (asking_of resolver family).is_settled
+  is_settled resolver family = (family_of resolver family).is_settled
 
   -- both parts of the name
   abbrev pub names_needs : Resolver R → ℕ → Type 0
-  names_needs resolver s = asking_needs resolver.v6 s ⊎ asking_needs resolver.v4 s
+  names_needs resolver s = family_needs resolver.v6 s ⊎ family_needs resolver.v4 s
 
   -- A family of which it is settled what is told is to be polled for. Any other waits for both parts, since what one
   -- is told may settle the other.
@@ -109,7 +109,7 @@ module _ {R : Type 0} where
   lookup_needs lookup family s = source_needs lookup.source family s
 
   -- what is told of a family so far
-  abbrev pub told_of : Gathering R → Family → Option Told
+  abbrev pub told_of : Gathering R → Family → Option FamilyAnswer
   told_of gathering families.V6 = gathering.v6
   told_of gathering families.V4 = gathering.v4
 

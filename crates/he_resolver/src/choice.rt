@@ -1,5 +1,9 @@
 //! Which resolver is asked.
 
+ghost use Rattle.std.specs.Prelude.{◌≡◌, IfSome};
+ghost use Rattle.std.specs.Net.Socket.{socket_port};
+ghost use Rattle.he_resolver.specs.Choices.{HasPort};
+
 use crate::limits::SERVER_PORT;
 use he_addr::{Ip, read_ip};
 use std::net::{IpAddr, Ipv4Addr, Ipv6Addr, SocketAddr};
@@ -17,8 +21,10 @@ pub enum Choice {
 
 impl Choice {
     /// The choice that a text names: `system`, or the address of a name server, alone or with a port, as
-    /// `192.0.2.1:5353` and `[2001:db8::1]:5353`; None for any other text. Without a port it is 53.
-    pub fn read(text: &[u8]) -> Option<Choice> {
+    /// `192.0.2.1:5353` and `[2001:db8::1]:5353`; None for any other text, and for port 0. Without a port it is 53.
+    pub fn read(text: &[u8]) -> Option<Choice>
+        ensures port { IfSome result HasPort }
+    {
         if text == b"system".as_slice() {
             return Some(Choice::System);
         }
@@ -26,14 +32,16 @@ impl Choice {
             return Some(Choice::Server(server_at(ip)));
         }
         match SocketAddr::parse_ascii(text) {
-            Ok(server) => Some(Choice::Server(server)),
-            Err(_) => None,
+            Ok(server) if server.port() != 0 => Some(Choice::Server(server)),
+            _ => None,
         }
     }
 }
 
 // A name server at its usual port.
-pub(crate) fn server_at(ip: Ip) -> SocketAddr {
+pub(crate) fn server_at(ip: Ip) -> SocketAddr
+    ensures { socket_port result ≡ 53 }
+{
     let ip = match ip {
         Ip::V4(bits) => IpAddr::V4(Ipv4Addr::from_bits(bits)),
         Ip::V6(bits) => IpAddr::V6(Ipv6Addr::from_bits(bits)),

@@ -96,7 +96,7 @@ pub(crate) fn random_id<R: RandomSource>(rt: &R) -> io::Result<u16> {
     Ok(u16::from_be_bytes(id))
 }
 
-// Any address and port of this host, of the server's family.
+// Any address and port of this machine, of the server's family.
 fn unspecified(server: SocketAddr) -> SocketAddr {
     match server {
         SocketAddr::V4(_) => SocketAddr::from(([0u8, 0, 0, 0], 0u16)),

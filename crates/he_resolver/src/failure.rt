@@ -44,13 +44,28 @@ pub struct ServerFault {
 // The address, with its port where that is not the usual one, and the failure: `192.0.2.1: SERVFAIL`.
 impl fmt::Display for ServerFault {
     fn fmt<W: fmt::Write>(&self, f: &mut fmt::Formatter<W>) -> fmt::Result {
-        let failure = self.failure;
-        if self.server.port() == SERVER_PORT {
-            let ip = self.server.ip();
-            write!(f, "{ip}: {failure}")
-        } else {
-            let server = self.server;
-            write!(f, "{server}: {failure}")
+        let (server, failure) = (ShownServer(self.server), self.failure);
+        write!(f, "{server}: {failure}")
+    }
+}
+
+// The address of a server, with its port where that is not the usual one.
+#[derive(Clone, Copy)]
+pub(crate) struct ShownServer(pub(crate) SocketAddr);
+
+impl fmt::Display for ShownServer {
+    fn fmt<W: fmt::Write>(&self, f: &mut fmt::Formatter<W>) -> fmt::Result {
+        let server = self.0;
+        match server {
+            SocketAddr::V6(six) if six.port() == SERVER_PORT && six.scope_id() != 0 => {
+                let (ip, scope) = (server.ip(), six.scope_id());
+                write!(f, "{ip}%{scope}")
+            }
+            _ if server.port() == SERVER_PORT => {
+                let ip = server.ip();
+                write!(f, "{ip}")
+            }
+            _ => write!(f, "{server}"),
         }
     }
 }

@@ -1,12 +1,13 @@
 //! Why a name has no addresses.
 
 ghost use Rattle.std.specs.Prelude.{◌≡◌, ◌⊎◌};
-ghost use Rattle.he_resolver.specs.Faults.{first_of, is_of_server, rank_of};
+ghost use Rattle.he_resolver.specs.Faults.{first_of, is_of_server, of_host, rank_of};
 ghost use Rattle.he_resolver.specs.declared.fault.NamesFault.TheVariants.{Files, Memory, Runtime};
 ghost use Rattle.he_resolver.specs.declared.fault.TellFault.TheVariants.{Names, Write};
 
 use crate::failure::ServerFault;
 use he_dns::NameFault;
+use he_names::HostFault;
 use he_stream::WriteFault;
 use std::alloc::{AllocError, AllocFailed};
 use std::io;
@@ -20,6 +21,9 @@ const EMFILE: i32 = 24;
 /// Why a name has no addresses.
 #[derive(Clone, Copy, Debug, PartialEq, Eq, Error)]
 pub enum NamesFault {
+    /// The text names no host.
+    #[error(transparent)]
+    Host(HostFault),
     /// The text is no host name.
     #[error("not a host name: {0}")]
     Name(NameFault),
@@ -80,7 +84,7 @@ impl NamesFault {
         match self {
             NamesFault::Memory => 0,
             NamesFault::Files | NamesFault::Runtime => 1,
-            NamesFault::Name(_) | NamesFault::System => 2,
+            NamesFault::Host(_) | NamesFault::Name(_) | NamesFault::System => 2,
             NamesFault::NoSuchName => 3,
             NamesFault::NoAnswer => 4,
             NamesFault::Server(_) => 5,
@@ -103,6 +107,17 @@ impl<T: Drop> From<AllocFailed<T>> for NamesFault {
 
     fn from(_refused: AllocFailed<T>) -> NamesFault {
         NamesFault::Memory
+    }
+}
+
+impl From<HostFault> for NamesFault {
+    ghost from_gives = { λ host fault. fault ≡ of_host host };
+
+    fn from(fault: HostFault) -> NamesFault {
+        match fault {
+            HostFault::Memory => NamesFault::Memory,
+            fault => NamesFault::Host(fault),
+        }
     }
 }
 

@@ -1,6 +1,7 @@
 // Both answers of a host, each with the tick at which it came.
 
 ghost use Rattle.std.specs.Prelude.{◌≡◌, ◌≢◌, ◌&&◌, is_some};
+ghost use Rattle.std.specs.Result.{result_err};
 ghost use Rattle.futures.specs.Task.{Keeps};
 ghost use Rattle.he_resolver.specs.Needs.{IsHeard, gathering_needs, told_of};
 
@@ -17,9 +18,17 @@ use std::time::{Clock, Instant};
 
 // What a family was told, and the milliseconds since the first poll at which that came.
 #[derive(Drop)]
-pub(crate) struct Told {
+pub(crate) struct FamilyAnswer {
     tick: u64,
     answer: Result<Vec<Ip>, NamesFault>,
+}
+
+// Both answers; or, where neither family has an address, why. Beside it why each family has none, where it has none.
+#[derive(Drop)]
+pub(crate) struct Gathered {
+    pub(crate) found: Result<Found, NamesFault>,
+    pub(crate) v6: Option<NamesFault>,
+    pub(crate) v4: Option<NamesFault>,
 }
 
 // Waits for both answers.
@@ -29,8 +38,8 @@ pub(crate) struct Gathering<'h, R> {
     alloc: Global,
     lookup: Lookup<'h, R>,
     start: Option<Instant>,
-    v6: Option<Told>,
-    v4: Option<Told>,
+    v6: Option<FamilyAnswer>,
+    v4: Option<FamilyAnswer>,
 }
 
 impl<'h, R: Net + RandomSource + Clock> Gathering<'h, R> {
@@ -66,7 +75,7 @@ impl<'h, R: Net + RandomSource + Clock> Gathering<'h, R> {
             return;
         }
         if let Poll::Ready(answer) = self.lookup.poll_answer(family, cx) {
-            let told = Some(Told { tick, answer });
+            let told = Some(FamilyAnswer { tick, answer });
             match family {
                 Family::V6 => self.v6 = told,
                 Family::V4 => self.v4 = told,
@@ -89,21 +98,25 @@ impl<'h, R: Net + RandomSource + Clock> Gathering<'h, R> {
         self.v6.is_some() && self.v4.is_some()
     }
 
-    // Both answers; or, where neither family has an address, why. They are given away.
-    fn join(&mut self) -> Result<Found, NamesFault> {
+    // Both answers, which are given away.
+    fn join(&mut self) -> Gathered {
         match (self.v6.take(), self.v4.take()) {
             (Some(v6), Some(v4)) => join(self.alloc, v6, v4),
-            _ => Err(NamesFault::NoAnswer),
+            _ => Gathered {
+                found: Err(NamesFault::NoAnswer),
+                v6: None,
+                v4: None,
+            },
         }
     }
 }
 
 impl<R: Net + RandomSource + Clock> Future for Gathering<'_, R> {
-    type Output = Result<Found, NamesFault>;
+    type Output = Gathered;
 
     ghost needs = { gathering_needs };
 
-    fn poll(&mut self, cx: &mut Context<'_>) -> Poll<Result<Found, NamesFault>> {
+    fn poll(&mut self, cx: &mut Context<'_>) -> Poll<Gathered> {
         let tick = self.tick();
         self.poll_for(Family::V6, tick, cx);
         self.poll_for(Family::V4, tick, cx);
@@ -115,10 +128,33 @@ impl<R: Net + RandomSource + Clock> Future for Gathering<'_, R> {
     }
 }
 
-fn join(alloc: Global, v6: Told, v4: Told) -> Result<Found, NamesFault> {
-    if let (Err(six), Err(four)) = (&v6.answer, &v4.answer) {
-        return Err(first_fault(*six, *four));
+// Both answers, and why each family has none.
+fn join(alloc: Global, v6: FamilyAnswer, v4: FamilyAnswer) -> Gathered
+    ensures six { result.v6 ≡ result_err v6.answer }
+    ensures four { result.v4 ≡ result_err v4.answer }
+{
+    let lacks = (lack_of(&v6.answer), lack_of(&v4.answer));
+    let found = match lacks {
+        (Some(six), Some(four)) => Err(first_fault(six, four)),
+        _ => found_of(alloc, v6, v4),
+    };
+    Gathered {
+        found,
+        v6: lacks.0,
+        v4: lacks.1,
     }
+}
+
+fn lack_of(answer: &Result<Vec<Ip>, NamesFault>) -> Option<NamesFault>
+    ensures { result ≡ result_err answer.now }
+{
+    match answer {
+        Ok(_) => None,
+        Err(fault) => Some(*fault),
+    }
+}
+
+fn found_of(alloc: Global, v6: FamilyAnswer, v4: FamilyAnswer) -> Result<Found, NamesFault> {
     let six = v6.answer.unwrap_or(Vec::new(alloc));
     let four = v4.answer.unwrap_or(Vec::new(alloc));
     match Found::new(alloc, v6.tick, &six, v4.tick, &four)? {

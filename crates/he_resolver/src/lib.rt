@@ -14,7 +14,7 @@
 //! fails, and the first that tells counts, whichever it is. To each the query is sent once a second, `timeout` times
 //! `attempts` times; none answers only where each had that time. A server fails that can't be reached, whose code is
 //! neither 0 nor 3, whose answer can't be read, or that is lame: it tells no address, is no authority, and asks no
-//! other. Not read are the environment, the host's own name, scopes of addresses, and other modules than files and
+//! other. Not read are the environment, the machine's own name, scopes of addresses, and other modules than files and
 //! DNS: for those there is the system's resolver ([`system`]).
 //!
 //! A query has a random id and a port that the kernel chooses, and its socket is connected, so what another peer sends
@@ -30,18 +30,19 @@
 //! tested, on loopback: that queries leave, when, to whom, and what becomes of answers.
 #![tactic(auto)]
 
-mod asked;
-mod asking;
 pub mod choice;
 mod datagrams;
 pub mod failure;
+mod family_lookup;
 pub mod fault;
-mod files;
+pub mod files;
 mod gathering;
-mod known;
+pub mod known;
 pub mod limits;
+pub mod log;
 pub mod lookup;
 pub mod naming;
+mod plan;
 mod query;
 mod replies;
 mod resolver;
@@ -52,6 +53,9 @@ pub mod system;
 pub use choice::Choice;
 pub use failure::{Failure, ServerFault};
 pub use fault::{NamesFault, TellFault, first_fault};
+pub use files::read_scope;
+pub use known::find_known;
+pub use log::{LookupEvent, LookupEventKind, LookupLog};
 pub use lookup::{Lookup, Wanted};
-pub use naming::write_names;
+pub use naming::{LookupReport, write_names};
 pub use system::SystemResolver;

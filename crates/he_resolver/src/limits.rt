@@ -19,5 +19,8 @@ pub const DATAGRAM_ROOM: usize = 4_096;
 /// The most datagrams that are looked at in a row before other work has its turn.
 pub const DATAGRAMS_IN_A_ROW: usize = 64;
 
+/// The most events of a look-up that are kept until they are taken.
+pub const MOST_EVENTS: usize = 1_024;
+
 /// The most steps of one poll of a query before other work has its turn.
 pub const MOST_STEPS: usize = 64;

@@ -6,18 +6,19 @@ ghost use Rattle.futures.specs.Task.{Covers, Keeps};
 ghost use Rattle.he_names.specs.Answers.{IsAnswer};
 ghost use Rattle.he_resolver.specs.Needs.{lookup_needs};
 
-use crate::asked::asked_in;
 use crate::choice::Choice;
 use crate::fault::NamesFault;
-use crate::files::{HOSTS, SETTINGS, read_file};
-use crate::known::known_in;
+use crate::files::{SETTINGS, read_file};
+use crate::known::known_to;
+use crate::log::{LookupEventKind, LookupLog};
+use crate::plan::plan_of;
 use crate::resolver::Resolver;
 use crate::setup::Setup;
 use crate::system::{SystemQuery, SystemResolver};
 use futures::task::{Context, Poll};
 use he_addr::{Family, Ip};
-use he_names::clean_of;
-use std::alloc::{AllocGlobal, Global};
+use he_names::{HostFault, SpecialUse, Target, clean_of, read_host};
+use std::alloc::{AllocError, AllocGlobal, Global};
 use std::net::Net;
 use std::random::RandomSource;
 use std::rt::Files;
@@ -40,8 +41,10 @@ pub struct Wanted<'a> {
 /// (RFC 8305 section 3).
 #[derive(Drop)]
 pub struct Lookup<'h, R> {
+    rt: &'h R,
     alloc: Global,
     source: Source<'h, R>,
+    log: LookupLog,
 }
 
 // Where the addresses come from.
@@ -53,12 +56,14 @@ pub(crate) enum Source<'h, R> {
 }
 
 impl<'h, R: Net + RandomSource + Clock> Lookup<'h, R> {
-    /// Reads the files of the system and takes what they know of the host. Nothing is sent before the first poll; the
-    /// system's own resolver is called at once, in a thread.
+    /// Reads what the host is, and takes what is known of it without asking: an address, the addresses of this machine,
+    /// and what the file of hosts has, unless the system's resolver is asked. Nothing is sent before the first poll;
+    /// the system's own resolver is called at once, in a thread.
     ///
     /// # Errors
     ///
-    /// `Name` where it is no host name; `Runtime` where no thread can be made; `Memory`.
+    /// `Host` and `Name` where it is no host name, or one that is not asked for; `Runtime` where no thread can be made;
+    /// `Memory`.
     pub fn new(
         rt: &'h R,
         alloc: Global,
@@ -69,27 +74,49 @@ impl<'h, R: Net + RandomSource + Clock> Lookup<'h, R> {
     where
         R: Files + AllocGlobal + SystemResolver + Threads + Copy + Send + 'static,
     {
-        if let Choice::System = wanted.choice {
-            let source = Source::System(SystemQuery::begin(*rt, alloc, wanted.host)?);
-            return Ok(Lookup { alloc, source });
+        let log = LookupLog::new(rt, alloc)?;
+        let target = read_host(alloc, wanted.host)?;
+        if let Some(known) = known_to(rt, alloc, &target, wanted.choice)? {
+            note_known(rt, &log, &known);
+            return Ok(Lookup::with(rt, alloc, Source::Known(Ok(known)), log));
         }
-        let host = wanted.host.as_bytes();
-        let hosts = read_file(rt, alloc, HOSTS)?;
-        if let Some(known) = known_in(alloc, host, &hosts)? {
-            let source = Source::Known(Ok(known));
-            return Ok(Lookup { alloc, source });
-        }
-        let settings = read_file(rt, alloc, SETTINGS)?;
-        let asked = asked_in(alloc, host, &settings, wanted.choice)?;
-        let setup = Setup {
+        let source = match (target, wanted.choice) {
+            (Target::Multicast(name) | Target::Name(name), Choice::System) => {
+                Source::System(SystemQuery::begin(*rt, alloc, name.as_str())?)
+            }
+            (Target::Name(name), choice) => {
+                let settings = read_file(rt, alloc, SETTINGS)?;
+                let setup = Setup {
+                    rt,
+                    alloc,
+                    reactor,
+                    timers,
+                    plan: plan_of(rt, alloc, name.as_bytes(), &settings, choice)?,
+                    log: log.share()?,
+                };
+                Source::Servers(Resolver::new(setup, wanted.only))
+            }
+            _ => return Err(NamesFault::Host(HostFault::Special(SpecialUse::Local))),
+        };
+        Ok(Lookup::with(rt, alloc, source, log))
+    }
+
+    fn with(rt: &'h R, alloc: Global, source: Source<'h, R>, log: LookupLog) -> Lookup<'h, R> {
+        Lookup {
             rt,
             alloc,
-            reactor,
-            timers,
-            asked,
-        };
-        let source = Source::Servers(Resolver::new(setup, wanted.only));
-        Ok(Lookup { alloc, source })
+            source,
+            log,
+        }
+    }
+
+    /// What happened in the look-up so far, for a holder that reads it while the look-up goes on.
+    ///
+    /// # Errors
+    ///
+    /// `AllocError` where there are too many holders.
+    pub fn log(&self) -> Result<LookupLog, AllocError> {
+        self.log.share()
     }
 
     /// The addresses of the family, each once and at most 256, or why it has none. Each family is to be polled until
@@ -126,6 +153,9 @@ impl<'h, R: Net + RandomSource + Clock> Lookup<'h, R> {
             Source::System(query) => match query.poll_found(cx) {
                 Poll::Pending => Poll::Pending,
                 Poll::Ready(found) => {
+                    if let Ok(ips) = &found {
+                        note_known(self.rt, &self.log, ips);
+                    }
                     let answer = answer_of(self.alloc, family, &found);
                     self.source = Source::Known(found);
                     let _: Poll<()> = cx.yield_now();
@@ -147,5 +177,13 @@ fn answer_of(
     match found {
         Ok(ips) => Ok(clean_of(alloc, family, ips)?),
         Err(fault) => Err(*fault),
+    }
+}
+
+// Notes how many addresses are known of each family.
+fn note_known<R: Clock>(rt: &R, log: &LookupLog, known: &[Ip]) {
+    for family in [Family::V6, Family::V4] {
+        let count = known.iter().filter(|ip| ip.family() == family).count();
+        log.note(rt, family, LookupEventKind::Known(count));
     }
 }

@@ -5,7 +5,8 @@ ghost use Rattle.he_stream.specs.Output.{PutsPart, PutsWhole};
 ghost use Rattle.he_resolver.specs.Told.{IsNamesText, TellsNames};
 
 use crate::fault::{NamesFault, TellFault};
-use crate::gathering::Gathering;
+use crate::gathering::{Gathered, Gathering};
+use crate::log::LookupEvent;
 use crate::lookup::{Lookup, Wanted};
 use crate::system::SystemResolver;
 use he_names::Found;
@@ -19,19 +20,43 @@ use std::thread::Threads;
 use std::time::Clock;
 use tokio::runtime::LocalRuntime;
 
+/// What is to be said of a look-up beside its answers.
+#[derive(Drop)]
+pub struct LookupReport {
+    /// Why IPv6 has no address, where it has none.
+    pub v6: Option<NamesFault>,
+    /// Why IPv4 has no address, where it has none.
+    pub v4: Option<NamesFault>,
+    /// What happened, in its order.
+    pub events: Vec<LookupEvent>,
+}
+
+impl LookupReport {
+    /// Nothing is to be said.
+    pub fn new(alloc: Global) -> LookupReport {
+        LookupReport {
+            v6: None,
+            v4: None,
+            events: Vec::new(alloc),
+        }
+    }
+}
+
 /// Finds the addresses of a host and writes them as the two answers of a timeline, each with the tick at which it
-/// came, in milliseconds since the host was asked for.
+/// came, in milliseconds since the host was asked for. The report says what happened, and why a family has no address:
+/// that stands in it also where the other one has some, and where the call fails.
 ///
 /// # Errors
 ///
 /// `Names` where the host has no address of either family (`NoSuchName`, `NoAddress`, `NoAnswer`, `Server`, `System`),
-/// is no host name (`Name`), or could not be asked for (`Files`, `Runtime`, `Memory`): then nothing was written. After
+/// is no host name or none to be asked for (`Host`, `Name`), or could not be asked for (`Files`, `Runtime`, `Memory`): then nothing was written. After
 /// `Write` a first part was.
 pub fn write_names<R, O>(
     rt: &R,
     alloc: Global,
     output: &mut O,
     wanted: Wanted<'_>,
+    report: &mut LookupReport,
 ) -> Result<(), TellFault>
 where
     R: Wait + Clock + RandomSource + AllocGlobal + Net + Files + Threads,
@@ -40,7 +65,7 @@ where
     ensures { TellsNames (PutsWhole O.contents O.puts O.flushes output.old output.new)
         (PutsPart O.contents O.puts O.flushes output.old output.new) (output.new ≡ output.old) result }
 {
-    let found = find(rt, alloc, wanted)?;
+    let found = find(rt, alloc, wanted, report)?;
     let text = text_of(alloc, &found)?;
     write_whole(output, text.as_slice())?;
     Ok(())
@@ -56,7 +81,12 @@ fn text_of(alloc: Global, found: &Found) -> Result<Vec<u8>, NamesFault>
 }
 
 // Asks, and waits for both answers.
-fn find<R>(rt: &R, alloc: Global, wanted: Wanted<'_>) -> Result<Found, NamesFault>
+fn find<R>(
+    rt: &R,
+    alloc: Global,
+    wanted: Wanted<'_>,
+    report: &mut LookupReport,
+) -> Result<Found, NamesFault>
 where
     R: Wait + Clock + RandomSource + AllocGlobal + Net + Files + Threads,
     R: SystemResolver + Copy + Send + 'static,
@@ -64,6 +94,11 @@ where
     let mut runtime = LocalRuntime::new(rt)?;
     let handle = runtime.handle().clone()?;
     let lookup = Lookup::new(rt, alloc, handle.reactor(), handle.time(), wanted)?;
-    let gathering = Gathering::new(rt, alloc, lookup);
-    runtime.block_on(rt, gathering)?
+    let log = lookup.log()?;
+    let gathered = runtime.block_on(rt, Gathering::new(rt, alloc, lookup));
+    report.events = log.take();
+    let Gathered { found, v6, v4 } = gathered?;
+    report.v6 = v6;
+    report.v4 = v4;
+    found
 }

@@ -57,6 +57,10 @@ pub(crate) struct Query {
 }
 
 impl Query {
+    pub(crate) fn server(&self) -> SocketAddr {
+        self.server
+    }
+
     // Asks the server, over UDP.
     pub(crate) fn begin<R: Net + RandomSource + Clock>(
         setup: &Setup<'_, R>,
@@ -106,7 +110,7 @@ impl Query {
 
     // Sends the query again, unless it was sent as often as the settings say.
     fn send_again<R: Clock>(&mut self, setup: &Setup<'_, R>) -> Result<(), NamesFault> {
-        if self.sends >= setup.asked.sends() {
+        if self.sends >= setup.plan.sends() {
             return Err(NamesFault::NoAnswer);
         }
         self.sends = self.sends.saturating_add(1);

@@ -4,11 +4,12 @@ ghost use Rattle.std.specs.Prelude.{IfOk, ◌≡◌, ◌⊎◌, ◌&&◌, ⊤, t
 ghost use Rattle.futures.specs.Poll.{OnPending};
 ghost use Rattle.futures.specs.Task.{Covers, Keeps};
 ghost use Rattle.he_names.specs.Answers.{IsAnswer};
-ghost use Rattle.he_resolver.specs.Needs.{IsTold, asking_of, is_settled, names_needs, other_of, resolver_needs};
+ghost use Rattle.he_resolver.specs.Needs.{IsTold, family_of, is_settled, names_needs, other_of, resolver_needs};
 
-use crate::asking::Asking;
+use crate::family_lookup::FamilyLookup;
 use crate::fault::NamesFault;
 use crate::limits::MOST_STEPS;
+use crate::log::LookupEventKind;
 use crate::setup::Setup;
 use futures::task::{Context, Poll};
 use he_addr::{Family, Ip};
@@ -26,17 +27,20 @@ pub(crate) struct Resolver<'h, R> {
     setup: Setup<'h, R>,
     // The name that is asked for, by its place.
     place: usize,
-    v6: Asking,
-    v4: Asking,
+    v6: FamilyLookup,
+    v4: FamilyLookup,
 }
 
 impl<'h, R: Net + RandomSource + Clock> Resolver<'h, R> {
     // Nothing is sent before the first poll. Where one family alone is wanted, the other isn't asked for.
     pub(crate) fn new(setup: Setup<'h, R>, only: Option<Family>) -> Resolver<'h, R> {
+        if let Some(family) = only {
+            setup.note(other_of(family), LookupEventKind::NotAsked);
+        }
         Resolver {
             place: 0,
-            v6: Asking::new(setup.alloc, Family::V6, only != Some(Family::V4)),
-            v4: Asking::new(setup.alloc, Family::V4, only != Some(Family::V6)),
+            v6: FamilyLookup::new(setup.alloc, Family::V6, only != Some(Family::V4)),
+            v4: FamilyLookup::new(setup.alloc, Family::V4, only != Some(Family::V6)),
             setup,
         }
     }
@@ -72,8 +76,8 @@ impl<'h, R: Net + RandomSource + Clock> Resolver<'h, R> {
         }
     }
 
-    fn asking(&self, family: Family) -> &Asking
-        ensures { result.now ≡ asking_of self.now family }
+    fn asking(&self, family: Family) -> &FamilyLookup
+        ensures { result.now ≡ family_of self.now family }
     {
         match family {
             Family::V6 => &self.v6,
@@ -129,7 +133,7 @@ impl<'h, R: Net + RandomSource + Clock> Resolver<'h, R> {
     }
 
     fn is_last(&self) -> bool {
-        self.setup.asked.is_last(self.place)
+        self.setup.plan.is_last(self.place)
     }
 
     // Settles the families of which nothing that is still asked can change what they are told: both, where no more is
@@ -167,7 +171,7 @@ fn other_of(family: Family) -> Family
     }
 }
 
-fn are_told(v6: &Asking, v4: &Asking) -> bool
+fn are_told(v6: &FamilyLookup, v4: &FamilyLookup) -> bool
     ensures { result ≡ (is_some v6.now.told && is_some v4.now.told) }
 {
     v6.is_told() && v4.is_told()
@@ -175,12 +179,12 @@ fn are_told(v6: &Asking, v4: &Asking) -> bool
 
 // Whether no other answer and no other name can change what a family is told: it has addresses; or it has none, and
 // the other has some, or there is no other name.
-fn can_settle(own: &Asking, other: &Asking, is_last: bool) -> bool {
+fn can_settle(own: &FamilyLookup, other: &FamilyLookup, is_last: bool) -> bool {
     own.has_found() || (own.lack().is_some() && (is_last || other.has_found()))
 }
 
 // That there is no such name is said of both families (RFC 8020 section 2).
-fn share_absence(v6: &mut Asking, v4: &mut Asking)
+fn share_absence(v6: &mut FamilyLookup, v4: &mut FamilyLookup)
     ensures six { (v6.new ≡ v6.old) ⊎ IsTold v6.new }
     ensures four { (v4.new ≡ v4.old) ⊎ IsTold v4.new }
     ensures six_settled { v6.new.is_settled ≡ v6.old.is_settled }

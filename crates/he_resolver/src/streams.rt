@@ -75,13 +75,13 @@ impl StreamQuery {
     {
         for _ in 0..MOST_STEPS {
             match replace(&mut self.stage, Stage::Over).step(alloc, cx) {
-                Step::Waits(stage) => {
+                StageOutcome::Waits(stage) => {
                     self.stage = stage;
                     return Poll::Pending;
                 }
-                Step::Goes(stage) => self.stage = stage,
-                Step::Ends(error) => return Poll::Ready(reply_of(error)),
-                Step::Came(stream, message) => {
+                StageOutcome::Goes(stage) => self.stage = stage,
+                StageOutcome::Ends(error) => return Poll::Ready(reply_of(error)),
+                StageOutcome::Came(stream, message) => {
                     if let Some(reply) = read_reply(alloc, &message, self.id, question) {
                         return Poll::Ready(reply);
                     }
@@ -98,7 +98,7 @@ impl StreamQuery {
 
 // What a poll of a stage comes to.
 #[derive(Drop)]
-pub(crate) enum Step {
+pub(crate) enum StageOutcome {
     Waits(Stage),
     Goes(Stage),
     Came(TcpStream, Vec<u8>),
@@ -127,41 +127,41 @@ fn reply_of(error: io::Error) -> Reply {
 }
 
 impl Stage {
-    fn step(self, alloc: Global, cx: &mut Context<'_>) -> Step
+    fn step(self, alloc: Global, cx: &mut Context<'_>) -> StageOutcome
         ensures waits { CoversWait cx.new result }
         ensures kept { Keeps cx.old cx.new }
     {
         match self {
             Stage::Connecting(mut connecting, request) => match connecting.poll(cx) {
-                Poll::Pending => Step::Waits(Stage::Connecting(connecting, request)),
-                Poll::Ready(Ok(stream)) => Step::Goes(Stage::Sending(write_all(
+                Poll::Pending => StageOutcome::Waits(Stage::Connecting(connecting, request)),
+                Poll::Ready(Ok(stream)) => StageOutcome::Goes(Stage::Sending(write_all(
                     stream,
                     Cursor::new(request),
                 ))),
-                Poll::Ready(Err(error)) => Step::Ends(error),
+                Poll::Ready(Err(error)) => StageOutcome::Ends(error),
             },
             Stage::Sending(mut sending) => match sending.poll(cx) {
-                Poll::Pending => Step::Waits(Stage::Sending(sending)),
+                Poll::Pending => StageOutcome::Waits(Stage::Sending(sending)),
                 Poll::Ready(Ok((stream, _))) => match fill(alloc, stream, LENGTH_LEN) {
-                    Ok(reading) => Step::Goes(Stage::Length(reading)),
-                    Err(error) => Step::Ends(error),
+                    Ok(reading) => StageOutcome::Goes(Stage::Length(reading)),
+                    Err(error) => StageOutcome::Ends(error),
                 },
-                Poll::Ready(Err(error)) => Step::Ends(error),
+                Poll::Ready(Err(error)) => StageOutcome::Ends(error),
             },
             Stage::Length(mut reading) => match reading.poll(cx) {
-                Poll::Pending => Step::Waits(Stage::Length(reading)),
+                Poll::Pending => StageOutcome::Waits(Stage::Length(reading)),
                 Poll::Ready(Ok((stream, len))) => match fill(alloc, stream, length_of(&len)) {
-                    Ok(reading) => Step::Goes(Stage::Message(reading)),
-                    Err(error) => Step::Ends(error),
+                    Ok(reading) => StageOutcome::Goes(Stage::Message(reading)),
+                    Err(error) => StageOutcome::Ends(error),
                 },
-                Poll::Ready(Err(error)) => Step::Ends(error),
+                Poll::Ready(Err(error)) => StageOutcome::Ends(error),
             },
             Stage::Message(mut reading) => match reading.poll(cx) {
-                Poll::Pending => Step::Waits(Stage::Message(reading)),
-                Poll::Ready(Ok((stream, message))) => Step::Came(stream, message),
-                Poll::Ready(Err(error)) => Step::Ends(error),
+                Poll::Pending => StageOutcome::Waits(Stage::Message(reading)),
+                Poll::Ready(Ok((stream, message))) => StageOutcome::Came(stream, message),
+                Poll::Ready(Err(error)) => StageOutcome::Ends(error),
             },
-            Stage::Over => Step::Ends(io::ErrorKind::UnexpectedEof.into()),
+            Stage::Over => StageOutcome::Ends(io::ErrorKind::UnexpectedEof.into()),
         }
     }
 }

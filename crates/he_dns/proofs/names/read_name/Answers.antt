@@ -1,6 +1,6 @@
 use Rattle.std.proofs.Common.{◌≡◌, ◌+◌, ◌++◌, ◌≤◌, ◌<◌, Some, None, length, take, drop, sym, ◌∙◌, ap, subst, arith}
 use Rattle.std.specs.Option.{IfSome, unwrap_or}
-use Rattle.he_dns.specs.declared.parts.Part.TheVariants.{Root, Label, Pointer}
+use Rattle.he_dns.specs.declared.parts.NamePart.TheVariants.{Root, Label, Pointer}
 use Rattle.he_dns.specs.Reading.{name_at, name_from, part_at}
 use Rattle.he_dns.proofs.Named.{Left, none_left, root_left, long_left, forward_left, label_left, pointer_left, nothing_left, ended_within}
 use Rattle.he_dns.proofs.names.read_name.Goals as goal

@@ -1,4 +1,4 @@
-use Rattle.std.specs.Prelude.{◌≡◌, ◌*◌}
+use Rattle.std.specs.Prelude.{◌≡◌}
 use Rattle.futures.specs.Task.{Keeps}
 use Rattle.he_resolver.specs.Needs.{is_settled}
 use Rattle.he_resolver.proofs.resolver.Resolver.poll_names.Given as goal

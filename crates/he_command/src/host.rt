@@ -1,0 +1,138 @@
+//! The command `he host`.
+ghost use Rattle.std.specs.Prelude.{◌≡◌, MatchOption};
+ghost use Rattle.he_command.specs.Status.{status_of};
+ghost use Rattle.he_command.specs.Streams.{Shows};
+ghost use Rattle.he_command.specs.declared.run.TheConstants.{USAGE};
+
+use crate::arguments::{OptionFault, plain};
+use crate::run::{refuse_option, report, report_end};
+use crate::system::System;
+use clap::{Arg, ArgAction, ArgMatches, Command};
+use he_addr::{Ip, read_ip};
+use he_host::machine::{MachineFault, write_machine};
+use he_host::taken::write_machine_to;
+use he_inputs::StreamFault;
+use he_stream::{OutputStream, write_whole};
+use std::alloc::{AllocError, Global};
+use std::io::Write;
+
+const HOST_ABOUT: &str = "Writes the addresses and routes of this machine as lines of a race";
+
+const FOR_HELP: &str =
+    "Writes the lines for these destinations alone, as the kernel reaches them: IPv4 or IPv6 addresses";
+
+const HOST_EXAMPLE: &str = "\
+Reads no input. Standard output has the `source` and `route` lines of this machine, as a
+race of a timeline text has them, from what Linux says in /proc/net and /sys/class/net.
+Standard error has a line for each address and each route that a race has no place for:
+addresses that are not in use yet, routes that lead nowhere, interfaces that are down,
+and what is more than the 64 sources and 64 routes of a race.
+
+Of two routes to one prefix the one with the lower metric is taken. Where no file tells
+the interface of an IPv4 address, the kernel is asked from where it reaches which
+addresses, which sends nothing. Standard error says what is a guess, which tables of
+routes are not seen, and which routes the kernel takes from another source, by rules of
+policy routing or a source of the route's own.
+
+With --for there are lines for these destinations alone, by which each is reached from
+the source that the kernel takes; standard error names those of which no lines can say
+it. A destination that is not reached has no route.
+
+Output, on a machine with one network:
+
+  source 127.0.0.1/8 1
+  source 192.0.2.2/24 2
+  source 2001:db8::2/64 2
+  source ::1/128 1
+  route ::/0 2
+  route 2001:db8::/64 2
+  route 0.0.0.0/0 2
+  route 127.0.0.0/8 1
+  route 192.0.2.0/24 2
+  route ::1/128 1
+
+To make a race of it, and to run that:
+
+  { echo race 1; he host; echo aaaa 0 ::1; echo a 0 127.0.0.1; echo end; } > race.txt
+  he live --port 8080 < race.txt
+
+Exit status: 0 when all is done, whether something was left out or not; 1 after a fault,
+with one line on standard error; 2 for a command line that is refused.";
+
+// The command.
+pub(crate) fn host_command<'a>(alloc: Global) -> Result<Command<'a>, AllocError> {
+    let destinations = Arg::new(alloc, "for")
+        .long("for")
+        .value_name("ADDRESS")
+        .num_args(1..)
+        .action(ArgAction::Append)
+        .help(FOR_HELP);
+    plain(alloc, "host", HOST_ABOUT, HOST_EXAMPLE).arg(destinations)
+}
+
+// The destinations that the line names; None where one is no address.
+pub(crate) fn destinations_of(
+    alloc: Global,
+    matches: &ArgMatches<'_>,
+) -> Result<Option<Vec<Ip>>, AllocError> {
+    let mut destinations = Vec::new(alloc);
+    if let Some(texts) = matches.get_strs("for") {
+        for text in texts {
+            match read_ip(text.as_bytes()) {
+                Some(ip) => destinations.push(ip)?,
+                None => return Ok(None),
+            }
+        }
+    }
+    Ok(Some(destinations))
+}
+
+// Writes the lines of this machine, or those for the destinations, and what is left out of them.
+pub(crate) fn run_host<R, O, F>(
+    rt: &R,
+    alloc: Global,
+    destinations: Option<Vec<Ip>>,
+    output: &mut O,
+    faults: &mut F,
+) -> u8
+where
+    R: System,
+    O: OutputStream,
+    F: Write,
+    ensures { MatchOption destinations.entry ((result ≡ USAGE) × (output.new ≡ output.old))
+        (λ _. Shows O.OutputStream output.old output.new result) }
+{
+    let Some(destinations) = destinations else {
+        return refuse_option(OptionFault::Destination, faults);
+    };
+    let mut lines = Vec::new(alloc);
+    let mut remarks = Vec::new(alloc);
+    match write_lines(rt, &destinations, &mut lines, &mut remarks) {
+        Ok(()) => {
+            let status = report_end(put_lines(&lines, output), faults);
+            let _ = faults.write_all(remarks.as_slice());
+            status
+        }
+        Err(fault) => report(fault, faults),
+    }
+}
+
+// The lines of this machine, or those for the destinations, with what is told of them.
+fn write_lines<R: System>(
+    rt: &R,
+    destinations: &[Ip],
+    lines: &mut Vec<u8>,
+    remarks: &mut Vec<u8>,
+) -> Result<(), MachineFault> {
+    if destinations.is_empty() {
+        write_machine(rt, lines, remarks)
+    } else {
+        write_machine_to(rt, destinations, lines, remarks)
+    }
+}
+
+fn put_lines<O: OutputStream>(lines: &[u8], output: &mut O) -> Result<(), StreamFault>
+    ensures { Shows O.OutputStream output.old output.new (status_of result) }
+{
+    write_whole(output, lines).map_err(|_| StreamFault::Write)
+}

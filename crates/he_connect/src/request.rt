@@ -1,0 +1,69 @@
+//! What is asked for.
+ghost use Rattle.std.specs.Prelude.{◌≡◌};
+
+use he_addr::Family;
+use he_resolver::Choice;
+use he_timeline::Settings;
+
+/// The address families that are tried.
+#[derive(Clone, Copy, Debug, PartialEq, Eq)]
+pub enum Families {
+    Both,
+    Only(Family),
+}
+
+impl Families {
+    /// The family that is tried alone, if one is.
+    pub fn only(self) -> Option<Family> {
+        match self {
+            Families::Both => None,
+            Families::Only(family) => Some(family),
+        }
+    }
+}
+
+/// Where the `source`, `route` and `policy` lines of a race come from.
+#[derive(Clone, Copy, Debug, PartialEq, Eq)]
+pub enum Lines<'a> {
+    /// Of this machine.
+    Machine,
+    /// A file has them.
+    File(&'a str),
+}
+
+/// A race for a connection that is asked for.
+#[derive(Clone, Copy)]
+pub struct ConnectRequest<'a> {
+    /// A name or an address.
+    pub host: &'a str,
+    /// 1 to 65,535.
+    pub port: u16,
+    pub families: Families,
+    /// The settings of the race.
+    pub settings: Settings,
+    pub lines: Lines<'a>,
+    /// Which resolver is asked for the host's addresses.
+    pub resolver: Choice,
+    /// Whether the race is explained.
+    pub explains: bool,
+    /// Whether each step is told as it happens.
+    pub tells_steps: bool,
+}
+
+impl<'a> ConnectRequest<'a> {
+    // The same, for these families.
+    pub(crate) fn with_families(&self, families: Families) -> ConnectRequest<'a>
+        ensures { (result.port ≡ self.now.port) × (result.explains ≡ self.now.explains) }
+    {
+        ConnectRequest {
+            host: self.host,
+            port: self.port,
+            families,
+            settings: self.settings,
+            lines: self.lines,
+            resolver: self.resolver,
+            explains: self.explains,
+            tells_steps: self.tells_steps,
+        }
+    }
+}

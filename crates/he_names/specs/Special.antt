@@ -1,0 +1,23 @@
+-- Domain names of special use, which no name server is asked for.
+use Rattle.std.specs.Prelude.{ℕ, ◌-◌, ◌==◌, ◌&&◌, ◌||◌, Bool, List, Option, Some, None, codes, length, slice_index, if◌then◌else◌}
+use Rattle.std.specs.List.{ends_with}
+use Rattle.he_names.specs.declared.special.SpecialUse.{SpecialUse}
+use Rattle.he_names.specs.declared.special.SpecialUse.TheVariants.{Localhost, Local, Onion, Invalid}
+use Rattle.he_names.specs.Numeric.{body_of}
+
+-- whether the name is the domain or lies in it
+abbrev pub is_within : List ℕ → List ℕ → Bool
+is_within name domain =
+    ends_with (λ byte other. byte == other) name domain
+    && (length name == length domain || slice_index name (length name - length domain - 1) == 46)
+
+-- localhost and invalid (RFC 6761 sections 6.3, 6.4), local (RFC 6762 section 3), onion (RFC 7686), and what lies in
+-- them; a dot may end the name
+unfoldable pub special_use : List ℕ → Option SpecialUse
+special_use name =
+    let body = body_of name in
+    if is_within body (codes "localhost") then Some Localhost
+    else if is_within body (codes "local") then Some Local
+    else if is_within body (codes "onion") then Some Onion
+    else if is_within body (codes "invalid") then Some Invalid
+    else None

@@ -1,0 +1,151 @@
+//! Ports, by number or by the name of a service.
+
+ghost use Rattle.std.specs.Prelude.{◌≡◌, IfErr, IfOk};
+ghost use Rattle.std.specs.List.{list_any};
+ghost use Rattle.std.specs.Str.{bytes_eq};
+ghost use Rattle.he_names.specs.Fields.{texts};
+ghost use Rattle.he_names.specs.Ports.{IsNoPort, MeansPort, is_decimal, line_port, port_given, port_in, ports_of, tcp_port};
+ghost use Rattle.he_names.specs.declared.ports.PortFault.TheVariants as faults;
+
+use crate::fields::{fields, lines};
+use crate::hosts::without_comment;
+use crate::limits::{LEAST_PORT, MOST_PORT};
+use crate::literals::cut;
+use crate::numeric::are_digits;
+use he_addr::read_number;
+use std::alloc::{AllocError, AllocFailed, Allocator};
+use thiserror::Error;
+
+const SLASH: u8 = b'/';
+
+/// Why a text names no port.
+#[derive(Clone, Copy, Debug, PartialEq, Eq, Error)]
+pub enum PortFault {
+    /// A number that is no port.
+    #[error("a port is a number from 1 to 65535")]
+    Range,
+    /// The file of services has no such service over TCP.
+    #[error("no such service in /etc/services: write the port's number")]
+    Unknown,
+    /// An allocation was refused.
+    #[error("out of memory")]
+    Memory,
+}
+
+impl From<AllocError> for PortFault {
+    ghost from_gives = { λ _ fault. fault ≡ faults.Memory };
+
+    fn from(_refused: AllocError) -> PortFault {
+        PortFault::Memory
+    }
+}
+
+/// The port that a text names: a number from 1 to 65535, or a service over TCP of a file of services (services(5)), by
+/// its name or another name of it; of several lines the first counts.
+///
+/// # Errors
+///
+/// `Range` where the text has digits alone and is no port; `Unknown` where no line has the service; `Memory`.
+pub fn read_port<A: Allocator + Copy>(
+    alloc: A,
+    services: &[u8],
+    text: &[u8],
+) -> Result<u16, PortFault>
+    ensures port { IfOk result (MeansPort services.now text.now) }
+    ensures fault { IfErr result (IsNoPort services.now text.now) }
+{
+    if is_decimal(text) {
+        return match port_in(text) {
+            Some(port) => Ok(port),
+            None => Err(PortFault::Range),
+        };
+    }
+    let ports = ports_of(alloc, services, text)?;
+    match ports.as_slice() {
+        [port, ..] => Ok(*port),
+        [] => Err(PortFault::Unknown),
+    }
+}
+
+fn is_decimal(text: &[u8]) -> bool
+    ensures { result ≡ is_decimal text.now }
+{
+    !text.is_empty() && are_digits(text)
+}
+
+#[tactic(auto, unfolding(crate::specs::Ports::port_in))]
+fn port_in(text: &[u8]) -> Option<u16>
+    ensures { result ≡ port_in text.now }
+{
+    let number = read_number(text)?;
+    if (LEAST_PORT..=MOST_PORT).contains(&number) {
+        Some(number as u16)
+    } else {
+        None
+    }
+}
+
+#[tactic(auto, unfolding(crate::specs::Ports::tcp_port))]
+fn tcp_port(field: &[u8]) -> Option<u16>
+    ensures { result ≡ tcp_port field.now }
+{
+    let (port, protocol) = cut(field, SLASH)?;
+    if is_text(protocol, b"tcp") {
+        port_in(port)
+    } else {
+        None
+    }
+}
+
+fn ports_of<A: Allocator + Copy>(
+    alloc: A,
+    services: &[u8],
+    service: &[u8],
+) -> Result<Vec<u16, A>, AllocError>
+    ensures { IfOk result (λ ports. ports.items ≡ ports_of service.now services.now) }
+{
+    let lines = lines(alloc, services)?;
+    let mut ports = Vec::new(alloc);
+    for line in &lines {
+        if let Some(port) = line_port(alloc, line, service)? {
+            ports.push(port)?;
+        }
+    }
+    Ok(ports)
+}
+
+// The port that a line gives to the service.
+#[tactic(auto, unfolding(crate::specs::Ports::line_port))]
+fn line_port<A: Allocator + Copy>(
+    alloc: A,
+    line: &[u8],
+    service: &[u8],
+) -> Result<Option<u16>, AllocError>
+    ensures { IfOk result (λ port. port ≡ line_port service.now line.now) }
+{
+    let fields = fields(alloc, without_comment(line))?;
+    Ok(port_given(fields.as_slice(), service))
+}
+
+fn port_given(fields: &[&[u8]], service: &[u8]) -> Option<u16>
+    ensures { result ≡ port_given service.now (texts fields.now) }
+{
+    match fields {
+        [name, port, names @ ..] if is_text(service, name) || has_name(names, service) => {
+            tcp_port(port)
+        }
+        _ => None,
+    }
+}
+
+fn has_name(names: &[&[u8]], service: &[u8]) -> bool
+    ensures { result ≡ list_any (bytes_eq service.now) (texts names.now) }
+{
+    names.iter().any(|name| is_text(service, name))
+}
+
+fn is_text(a: &[u8], b: &[u8]) -> bool
+    ensures { result ≡ bytes_eq a.now b.now }
+{
+    a == b
+}

@@ -1,0 +1,296 @@
+// What one family asks: the servers in their order, beside one another, until one of them tells.
+
+ghost use Rattle.std.specs.Prelude.{◌≡◌, ◌<◌, ◌||◌, is_some, vec_len};
+ghost use Rattle.futures.specs.Poll.{IfReady, OnPending};
+ghost use Rattle.futures.specs.Task.{Covers, IsArmed, Keeps};
+ghost use Rattle.he_resolver.specs.Needs.{IsTold, Listens, any_needs, family_needs, next_server_needs};
+
+use crate::fault::NamesFault;
+use crate::limits::{ALONE, MOST_STEPS};
+use crate::log::LookupEventKind;
+use crate::query::Query;
+use crate::replies::Question;
+use crate::setup::Setup;
+use futures::task::{Context, Poll};
+use he_addr::{Family, Ip};
+use std::alloc::Global;
+use std::net::{Net, SocketAddr};
+use std::random::RandomSource;
+use std::time::Clock;
+use tokio::time::Sleep;
+
+// When the next server is asked.
+#[derive(Drop)]
+pub(crate) enum NextServer {
+    Now,
+    After(Sleep),
+    // There is no other.
+    Never,
+}
+
+// One family's part of a name: what was told, or how far the asking is.
+#[derive(Drop)]
+pub(crate) struct FamilyLookup {
+    family: Family,
+    // The queries that are waited for.
+    queries: Vec<Query>,
+    // How many servers were asked.
+    begun: usize,
+    next: NextServer,
+    // Why the first server that failed told nothing.
+    lack: Option<NamesFault>,
+    told: Option<Result<Vec<Ip>, NamesFault>>,
+    // Whether no other name can change what is told.
+    is_settled: bool,
+}
+
+impl FamilyLookup {
+    // Of a family that isn't wanted that is told and settled at once.
+    pub(crate) fn new(alloc: Global, family: Family, is_wanted: bool) -> FamilyLookup {
+        FamilyLookup {
+            family,
+            queries: Vec::new(alloc),
+            begun: 0,
+            next: NextServer::Now,
+            lack: None,
+            told: if is_wanted {
+                None
+            } else {
+                Some(Err(NamesFault::NotAsked))
+            },
+            is_settled: !is_wanted,
+        }
+    }
+
+    // Asks for another name, unless it is settled what is told.
+    pub(crate) fn start_again(&mut self)
+        ensures { self.new.is_settled ≡ self.old.is_settled }
+    {
+        if !self.is_settled {
+            self.queries.clear();
+            self.begun = 0;
+            self.next = NextServer::Now;
+            self.lack = None;
+            self.told = None;
+        }
+    }
+
+    pub(crate) fn is_told(&self) -> bool
+        ensures { result ≡ is_some self.now.told }
+    {
+        self.told.is_some()
+    }
+
+    // Whether it was told of addresses.
+    pub(crate) fn has_found(&self) -> bool {
+        matches!(&self.told, Some(Ok(_)))
+    }
+
+    // Why there are no addresses, once that was told.
+    pub(crate) fn lack(&self) -> Option<NamesFault> {
+        match &self.told {
+            Some(Err(fault)) => Some(*fault),
+            _ => None,
+        }
+    }
+
+    // The addresses, or why there are none, once that was told.
+    pub(crate) fn told(&self) -> Option<&Result<Vec<Ip>, NamesFault>> {
+        self.told.as_ref()
+    }
+
+    // Whether nothing can change what is told.
+    pub(crate) fn is_settled(&self) -> bool
+        ensures { result ≡ self.now.is_settled }
+    {
+        self.is_settled
+    }
+
+    // Notes that nothing can change it, where that is so.
+    pub(crate) fn settle(&mut self, is_final: bool)
+        ensures { self.new ≡ record self.old { is_settled = self.old.is_settled || is_final } }
+    {
+        self.is_settled = self.is_settled || is_final;
+    }
+
+    // Ends the asking, which was told this.
+    pub(crate) fn tell(&mut self, told: Result<Vec<Ip>, NamesFault>)
+        ensures told { IsTold self.new }
+        ensures settled { self.new.is_settled ≡ self.old.is_settled }
+    {
+        self.queries.clear();
+        self.next = NextServer::Never;
+        self.told = Some(told);
+    }
+
+    // Asks for the name at this place. Ready once it is told what addresses the family has, or why none.
+    pub(crate) fn poll<R: Net + RandomSource + Clock>(
+        &mut self,
+        setup: &Setup<'_, R>,
+        place: usize,
+        cx: &mut Context<'_>,
+    ) -> Poll<()>
+        ensures listens { Listens cx.new self.new }
+        ensures settled { self.new.is_settled ≡ self.old.is_settled }
+        ensures kept { Keeps cx.old cx.new }
+    {
+        let Some(name) = setup.plan.name(place) else {
+            self.tell(Err(NamesFault::NoAnswer));
+            return Poll::Ready(());
+        };
+        let question = Question {
+            name,
+            family: self.family,
+        };
+        for _ in 0..MOST_STEPS {
+            if self.told.is_some() {
+                return Poll::Ready(());
+            }
+            if let Poll::Pending = self.step(setup, question, cx) {
+                return Poll::Pending;
+            }
+        }
+        cx.yield_now()
+    }
+
+    // One step: asks the next server where that is due, or looks what became of the queries.
+    #[tactic(auto, unfolding(crate::specs::Needs::family_needs))]
+    fn step<R: Net + RandomSource + Clock>(
+        &mut self,
+        setup: &Setup<'_, R>,
+        question: Question<'_>,
+        cx: &mut Context<'_>,
+    ) -> Poll<()>
+        ensures waits { OnPending result (Covers cx.new (family_needs self.new)) }
+        ensures settled { self.new.is_settled ≡ self.old.is_settled }
+        ensures kept { Keeps cx.old cx.new }
+    {
+        if self.queries.is_empty() || self.next.is_now() {
+            self.ask_next(setup, question);
+            return Poll::Ready(());
+        }
+        match poll_any(&mut self.queries, setup, question, cx) {
+            Poll::Ready((at, answer)) => {
+                let query = self.queries.remove(at);
+                self.take(setup, query.server(), answer);
+                Poll::Ready(())
+            }
+            Poll::Pending => match self.next.poll_due(cx) {
+                Poll::Pending => Poll::Pending,
+                Poll::Ready(()) => {
+                    self.note_slow(setup);
+                    self.next = NextServer::Now;
+                    Poll::Ready(())
+                }
+            },
+        }
+    }
+
+    // Asks the next server, beside those that are waited for. Where there is none and none is waited for, it is told
+    // that none tells anything.
+    fn ask_next<R: Net + RandomSource + Clock>(
+        &mut self,
+        setup: &Setup<'_, R>,
+        question: Question<'_>,
+    )
+        ensures settled { self.new.is_settled ≡ self.old.is_settled }
+    {
+        let Some(server) = setup.plan.server(self.begun) else {
+            self.next = NextServer::Never;
+            if self.queries.is_empty() {
+                self.tell(Err(self.lack.unwrap_or(NamesFault::NoAnswer)));
+            }
+            return;
+        };
+        self.begun = self.begun.saturating_add(1);
+        if let Err(fault) = self.ask(setup, server, question) {
+            self.take(setup, server, Err(fault));
+        }
+    }
+
+    fn ask<R: Net + RandomSource + Clock>(
+        &mut self,
+        setup: &Setup<'_, R>,
+        server: SocketAddr,
+        question: Question<'_>,
+    ) -> Result<(), NamesFault>
+        ensures settled { self.new.is_settled ≡ self.old.is_settled }
+    {
+        let query = Query::begin(setup, server, question)?;
+        self.queries.push(query)?;
+        self.next = NextServer::After(setup.sleep(ALONE)?);
+        Ok(())
+    }
+
+    // Notes that the server that was asked last has not answered, where there is another one.
+    fn note_slow<R: Clock>(&self, setup: &Setup<'_, R>) {
+        if let (Some(query), Some(next)) = (self.queries.last(), setup.plan.server(self.begun)) {
+            setup.note(self.family, LookupEventKind::Slow(query.server(), next));
+        }
+    }
+
+    // Takes what a server told: that there is no such name or no address is an answer, where a server fails the next
+    // one is asked.
+    fn take<R: Clock>(
+        &mut self,
+        setup: &Setup<'_, R>,
+        server: SocketAddr,
+        answer: Result<Vec<Ip>, NamesFault>,
+    )
+        ensures settled { self.new.is_settled ≡ self.old.is_settled }
+    {
+        if let Some(kind) = LookupEventKind::of_answer(server, &answer) {
+            setup.note(self.family, kind);
+        }
+        match answer {
+            Err(fault) if fault.is_of_server() => {
+                self.lack = Some(self.lack.unwrap_or(fault));
+                self.next = NextServer::Now;
+            }
+            told => self.tell(told),
+        }
+    }
+}
+
+impl NextServer {
+    fn is_now(&self) -> bool {
+        matches!(self, NextServer::Now)
+    }
+
+    // Ready once the next server is to be asked.
+    fn poll_due(&mut self, cx: &mut Context<'_>) -> Poll<()>
+        requires armed { IsArmed cx.old }
+        ensures waits { OnPending result (Covers cx.new (next_server_needs self.new)) }
+        ensures kept { Keeps cx.old cx.new }
+    {
+        match self {
+            NextServer::Now => Poll::Ready(()),
+            NextServer::Never => Poll::Pending,
+            NextServer::After(timer) => match timer.poll_elapsed(cx) {
+                Poll::Pending => Poll::Pending,
+                Poll::Ready(_) => Poll::Ready(()),
+            },
+        }
+    }
+}
+
+// Polls each query in turn, up to the first that has an answer: its place, and the answer.
+fn poll_any<R: Net + RandomSource + Clock>(
+    queries: &mut Vec<Query>,
+    setup: &Setup<'_, R>,
+    question: Question<'_>,
+    cx: &mut Context<'_>,
+) -> Poll<(usize, Result<Vec<Ip>, NamesFault>)>
+    requires some { 0 < vec_len queries.old }
+    ensures within { IfReady result (λ (at, answer). at < vec_len queries.new) }
+    ensures waits { OnPending result (Covers cx.new (any_needs queries.new.items)) }
+    ensures len { vec_len queries.new ≡ vec_len queries.old }
+    ensures kept { Keeps cx.old cx.new }
+{
+    for at in 0..queries.len() {
+        if let Poll::Ready(answer) = queries[at].poll_answer(setup, question, cx) {
+            return Poll::Ready((at, answer));
+        }
+    }
+    Poll::Pending
+}
