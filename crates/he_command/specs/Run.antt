@@ -56,13 +56,14 @@ IsRequest (Host destinations) = Unit {0}
 IsRequest (Names host resolver) = Unit {0}
 IsRequest (Connect options) = LEAST_PORT ≤ options.port
 
--- what comes of a search for names: they were told, or the line names a resolver that is none
+-- what comes of a search for names: they were told, or the line names a resolver that is none. The status is that of a
+-- fault also where one family's look-up failed and the other's addresses were told
 abbrev pub RunsNames : {O : Type 0} → outputs.Ghosts O → Option Choice → O → O → ℕ → Type 0
 RunsNames output None before after status = (status ≡ USAGE) × (after ≡ before)
 RunsNames output (Some choice) before after status =
     (result : Result (Unit {0}) TellFault)
     × TellsNames (TookAll output before after) (TookPart output before after) (after ≡ before) result
-    × (status ≡ status_of result)
+    × ((status ≡ status_of result) ⊎ (status ≡ FAULT))
 
 -- the status tells how a live race ended, or that its record could not be written to the file that was named
 abbrev pub TellsRace : LiveOptions → LiveReport → Result Outcome3 LiveFault → ℕ → Type 0

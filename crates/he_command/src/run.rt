@@ -1,5 +1,5 @@
 //! A whole run of the program over an input, an output and a writer of faults.
-ghost use Rattle.std.specs.Prelude.{◌≡◌, ◌≢◌, [], Err, IfOk, IsSome, MatchResult, Ok, OnErr, Result};
+ghost use Rattle.std.specs.Prelude.{◌≡◌, ◌≢◌, ◌⊎◌, [], Err, IfOk, IsSome, MatchResult, Ok, OnErr, Result};
 ghost use Rattle.clap.specs.Values.{kind_of};
 ghost use Rattle.he_command.specs.Run.{AnswersLine, IsRequest, RunsConnect, RunsLine, RunsLive, RunsNames, RunsRace, RunsRequest, TellsRace, connect_settings};
 ghost use Rattle.he_command.specs.Status.{status_of, status_of_live};
@@ -23,7 +23,7 @@ use he_connect::{ConnectRequest, Lines};
 use he_inputs::StreamFault;
 use he_live::{FailedAttempt, LiveFault, LiveReport, first_local, live, write_failures};
 use he_plan::Outcome3;
-use he_resolver::{Choice, LookupReport, TellFault, Wanted, write_names};
+use he_resolver::{Choice, LookupReport, NamesFault, TellFault, Wanted, write_names};
 use he_stream::{FromReader, InputStream, OutputStream, ToWriter, write_whole};
 use he_timeline::{Changes, Settings};
 use std::alloc::Global;
@@ -211,12 +211,11 @@ where
                 only: None,
                 choice,
             };
-            let mut report = LookupReport::new(alloc);
-            report_names(
-                write_names(rt, alloc, output, wanted, &mut report),
-                host,
-                faults,
-            )
+            let mut lookup = LookupReport::new(alloc);
+            let end = write_names(rt, alloc, output, wanted, &mut lookup);
+            let status = report_names(end, &lookup, host, faults);
+            drop(lookup);
+            status
         }
         None => refuse_option(OptionFault::Resolver, faults),
     }
@@ -282,13 +281,40 @@ fn settings_asked(options: &Options<'_>) -> Result<Settings, SettingFault>
 }
 
 // Says how a search for names ended, and answers the exit status.
-fn report_names<F: Write>(end: Result<(), TellFault>, host: &str, faults: &mut F) -> u8
-    ensures { result ≡ status_of end }
+fn report_names<F: Write>(
+    end: Result<(), TellFault>,
+    lookup: &LookupReport,
+    host: &str,
+    faults: &mut F,
+) -> u8
+    ensures { (result ≡ status_of end) ⊎ (result ≡ FAULT) }
 {
     match end {
-        Ok(()) => DONE,
+        Ok(()) => report_families(lookup, host, faults),
         Err(fault) if fault.is_of_host() => report_of(fault, host, faults),
         Err(fault) => report(fault, faults),
+    }
+}
+
+// Says why the look-up of a family failed whose addresses are not told, and answers the exit status.
+fn report_families<F: Write>(lookup: &LookupReport, host: &str, faults: &mut F) -> u8
+    ensures { (result ≡ DONE) ⊎ (result ≡ FAULT) }
+{
+    let six = report_family("AAAA", lookup.v6, host, faults);
+    let four = report_family("A", lookup.v4, host, faults);
+    if six == DONE { four } else { six }
+}
+
+// That the name has no address of the family is what the answer says, and no fault.
+fn report_family<F: Write>(kind: &str, fault: Option<NamesFault>, host: &str, faults: &mut F) -> u8
+    ensures { (result ≡ DONE) ⊎ (result ≡ FAULT) }
+{
+    match fault {
+        None | Some(NamesFault::NoAddress | NamesFault::NoSuchName | NamesFault::NotAsked) => DONE,
+        Some(fault) => {
+            let _ = writeln!(faults, "he: {kind}: {fault}: {host}");
+            FAULT
+        }
     }
 }
 
