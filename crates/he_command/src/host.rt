@@ -99,7 +99,7 @@ where
     R: System,
     O: OutputStream,
     F: Write,
-    ensures { MatchOption destinations.entry ((result ≡ USAGE) × (output.new ≡ output.old))
+    ensures { MatchOption destinations ((result ≡ USAGE) × (output.new ≡ output.old))
         (λ _. Shows O.OutputStream output.old output.new result) }
 {
     let Some(destinations) = destinations else {
