@@ -1,3 +1,3 @@
 mod InTurn
 mod Adding
-mod Asked
+mod Showing
