@@ -33,16 +33,18 @@ ran_so start port explains raced (Ok run) replays goes text story winner = recor
 }
 ran_so start port explains raced (Err fault) replays goes text story winner = tt
 
-pub began_so : (request : ConnectRequest) (lines : List ℕ) (tried : Families) (start : Race) (result : Result FinishedRace ConnectFault)
+pub began_so : (request asked : ConnectRequest) (lines : List ℕ) (tried : Families) (start : Race) (result : Result FinishedRace ConnectFault)
+    → (asked.port ≡ request.port) × (asked.explains ≡ request.explains)
     → Tries request.families tried → Starts lines request.settings tried start
-    → IfOk result (λ run. RunsFrom start request.port request.explains run.text.items run.story.items run.connection)
+    → IfOk result (λ run. RunsFrom start asked.port asked.explains run.text.items run.story.items run.connection)
     → IfOk result (λ run. IsRun request run.text.items run.story.items run.connection)
-began_so request lines tried start (Ok run) tries starts runs = record {
+began_so request asked lines tried start (Ok run) (port, explains) tries starts runs = record {
   tried = tried;
   tries = tries;
   lines = lines;
   start = start;
   starts = starts;
-  runs = runs;
+  runs = subst (λ (n : ℕ). RunsFrom start n request.explains run.text.items run.story.items run.connection) port
+      (subst (λ (b : Bool). RunsFrom start asked.port b run.text.items run.story.items run.connection) explains runs);
 }
-began_so request lines tried start (Err fault) tries starts runs = tt
+began_so request asked lines tried start (Err fault) same tries starts runs = tt

@@ -50,7 +50,6 @@ pub struct FinishedRace {
 /// # Errors
 ///
 /// Those of [`ConnectFault`].
-#[tactic(auto, using(crate::proofs::Runs::began_so))]
 pub fn race<R, F>(
     rt: &R,
     alloc: Global,

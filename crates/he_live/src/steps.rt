@@ -55,6 +55,8 @@ struct Noted {
     steps: Vec<Cell<Option<Step>>>,
     count: Cell<usize>,
     told: Cell<usize>,
+    // The tick at which the last attempt began.
+    begun: Cell<Option<u64>>,
 }
 
 // An attempt begins, and fails or connects.
@@ -71,6 +73,7 @@ impl Steps {
             steps: no_steps(alloc)?,
             count: Cell::new(0),
             told: Cell::new(0),
+            begun: Cell::new(None),
         };
         Ok(Steps {
             shared: Rc::new(alloc, noted)?,
@@ -97,7 +100,15 @@ impl Steps {
         })
     }
 
+    // The tick at which the last attempt began, once one did.
+    pub(crate) fn last_begun(&self) -> Option<u64> {
+        self.shared.begun.get()
+    }
+
     pub(crate) fn note(&self, step: Step) {
+        if step.what == StepKind::Began {
+            self.shared.begun.set(Some(step.tick));
+        }
         let count = self.shared.count.get();
         if let Some(noted) = self.shared.steps.get(count) {
             noted.set(Some(step));

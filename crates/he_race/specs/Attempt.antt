@@ -24,7 +24,8 @@ module _ {C Conn Run : Type 0} (connector : ConnectorOf C Conn Run) (trial : Tri
   RunAnswers (Err e) next now Pending new = ⊥
   RunAnswers (Err e) next now (Ready f) new = (f ≡ record { tick = now; result = Err e }) × (new ≡ Done (next - 1))
 
-  -- at or after its start a sleeping attempt begins, and is pending: its trial gives connections that go to its address
+  -- at or after its start a sleeping attempt begins, and is pending: its trial gives connections that go to its
+  -- address
   abbrev pub Begins : ℕ → Ip → C → ℕ → C → AttemptFuture C Conn Run → Type 0
   Begins place ip c now c' new =
       (run : Result Run AttemptFault) × connector.begins c place ip now run c' × (new ≡ Connecting run (now + 1) true)

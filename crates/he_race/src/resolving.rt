@@ -45,7 +45,8 @@ impl<C: Connector, S: AnswerSource, T: Ticker> ResolvingRace<C, S, T> {
         ensures source { IfOk result (λ new. new.source ≡ source) }
         ensures connector { IfOk result (λ new. new.race.connector ≡ connector) }
         ensures ticker { IfOk result (λ new. new.race.ticker ≡ ticker) }
-        ensures live { IfOk result (λ new. IsSomeAnd new.race.live (MayPoll C.Connector C.Run.Trial new.race.connector)) }
+        ensures live { IfOk result (λ new. IsSomeAnd new.race.live (MayPoll C.Connector C.Run.Trial
+            new.race.connector)) }
         ensures recorded { IfOk result (λ new. IsSomeAnd new.race.live (λ live. live.recorder.recorded
             ≡ unrecorded timeline.now)) }
         ensures first { IfOk result (λ new. IsSomeAnd new.race.live (IsNew timeline.now)) }
