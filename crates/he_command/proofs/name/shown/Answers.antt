@@ -13,4 +13,4 @@ loop-c-preserved c =
     )
 
 pub returns : goal.returns
-returns c = sym (append-nil _) ∙ rw (chars_of_empty _ c.in_default.ensures.steps.0.0) at c.loop-c.invariant.1
+returns c = sym (append-nil _) ∙ rw (chars_of_empty _ c.in-None.ensures.steps.0.0) at c.loop-c.invariant.1
