@@ -32,9 +32,16 @@ in_turn goes_on Runs [] back first next last before between after one rest (same
 in_turn goes_on Runs (name ∷ more) back first next last before between after one rest (inl (no, fault, runs)) (inl yes) others = cc
 in_turn goes_on Runs (name ∷ more) back first next last before between after one rest (inl (no, fault, runs)) (inr done) others = absurd (fault done)
 in_turn goes_on Runs (name ∷ more) back first next last before between after one rest (inr (own, later, mid, middle, going_own, runs, walked, is)) going others =
-    inr (own, first_fault later rest, mid, middle, going_own, runs,
-    in_turn goes_on Runs more back mid next last middle between after later rest walked (goes goes_on own later one is going) others,
-    rw is (first_of_three own later rest))
+    inr (
+      own,
+      first_fault later rest,
+      mid,
+      middle,
+      going_own,
+      runs,
+      in_turn goes_on Runs more back mid next last middle between after later rest walked (goes goes_on own later one is going) others,
+      rw is (first_of_three own later rest),
+    )
 
 -- one of a front has a fault, and those after it are left out
 pub cut_short : {N I S : Type 0} (Runs : N → I → I → S → S → ℕ → Type 0) (front back : List N) (first last : I) (before after : S) (one : ℕ)
@@ -42,6 +49,13 @@ pub cut_short : {N I S : Type 0} (Runs : N → I → I → S → S → ℕ → T
 cut_short Runs [] back first last before after one (same, kept, done) fault = absurd (fault done)
 cut_short Runs (name ∷ more) back first last before after one (inl (no, wrong, runs)) fault = inl (no, wrong, runs)
 cut_short Runs (name ∷ more) back first last before after one (inr (own, rest, next, between, going, runs, walked, is)) fault =
-    inr (own, rest, next, between, going, runs,
-    cut_short Runs more back next last between after rest walked (λ e. fault (is ∙ both_done own rest (own_done own going) e)),
-    is)
+    inr (
+      own,
+      rest,
+      next,
+      between,
+      going,
+      runs,
+      cut_short Runs more back next last between after rest walked (λ e. fault (is ∙ both_done own rest (own_done own going) e)),
+      is,
+    )

@@ -77,5 +77,9 @@ fn digit(number: u32) -> char
     ensures { result ≡ digit number }
 {
     let number = number as u8;
-    char::from(if number < 10 { b'0' + number } else { b'a' + number - 10 })
+    char::from(if number < 10 {
+        b'0' + number
+    } else {
+        b'a' + number - 10
+    })
 }
