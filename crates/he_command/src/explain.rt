@@ -69,9 +69,10 @@ pub(crate) fn command<'a>(alloc: Global) -> Result<Command<'a>, AllocError> {
 pub(crate) fn task_of(matches: &ArgMatches<'_>) -> Task
     ensures { AsksExplain (found_of matches.now) result }
 {
-    if flag_of(matches, "json") {
+    let (json, lines) = (flag_of(matches, "json"), flag_of(matches, "lines"));
+    if json {
         alone(Content::ExplanationJson)
-    } else if flag_of(matches, "lines") {
+    } else if lines {
         alone(Content::Explanation)
     } else {
         alone(Content::Story)
