@@ -1,7 +1,8 @@
 //! The settings of a race, as a line gives them.
-ghost use Rattle.std.specs.Prelude.{◌≡◌, All, IfOk, Ok, map, true};
+ghost use Rattle.std.specs.Prelude.{◌≡◌, All, IfOk, Ok, codes, map, true};
 ghost use Rattle.clap.specs.Matches.{found_of};
-ghost use Rattle.he_command.specs.Words.{AsksChanges, connect_defaults, connect_settings, is_setting, last_number, number_for};
+ghost use Rattle.he_command.specs.Words.{AsksChanges, HasNumber, connect_defaults, connect_settings, is_setting};
+ghost use Rattle.he_command.specs.Words.{last_number, number_for, values_of};
 
 use crate::refusal::OptionFault;
 use clap::{Arg, ArgAction, ArgMatches, value_parser};
@@ -40,11 +41,11 @@ pub(crate) fn set<'a>(alloc: Global) -> Arg<'a> {
 pub(crate) fn changes_of(matches: &ArgMatches<'_>) -> Result<Changes, OptionFault>
     ensures { IfOk result (AsksChanges ⟦<u32 as FromStr>⟧.from_str_gives (found_of matches.now)) }
 {
-    let texts = matches.get_strs("set").unwrap_or(&[]);
+    let texts = texts_of(matches);
     if !are_settings(texts) {
         return Err(OptionFault::Form);
     }
-    let timeout = matches.get_one::<u32>("timeout").map(u64::from);
+    let timeout = timeout_of(matches);
     Changes::new(
         last_number(b"resolution=", texts),
         last_number(b"attempt=", texts),
@@ -53,6 +54,20 @@ pub(crate) fn changes_of(matches: &ArgMatches<'_>) -> Result<Changes, OptionFaul
         last_number(b"floor=", texts),
     )
     .map_err(OptionFault::Range)
+}
+
+// The texts of `--set`, in order.
+fn texts_of<'a>(matches: &'a ArgMatches<'_>) -> &'a [&'a str]
+    ensures { map (λ text. text.now) result.now ≡ values_of (found_of matches.now) (codes "set") }
+{
+    matches.get_strs("set").unwrap_or(&[])
+}
+
+// The milliseconds of `--timeout`.
+fn timeout_of(matches: &ArgMatches<'_>) -> Option<u64>
+    ensures { HasNumber ⟦<u32 as FromStr>⟧.from_str_gives (found_of matches.now) (codes "timeout") result }
+{
+    Some(u64::from(matches.get_one::<u32>("timeout")?))
 }
 
 // Whether each of the texts gives a setting a number.
