@@ -1,17 +1,23 @@
 -- The settings that a line asks for.
-use Rattle.std.proofs.Common.{◌≡◌, ◌∙◌, ◌≤◌, ◌<◌, ◌+◌, ℕ, Bool, true, false, All, List, Option, Result, Ok, Err, IfOk, MatchResult, codes, if◌then◌else◌, get_or, length, map, refl, sym, subst, take, ap}
+use Rattle.std.proofs.Common.{◌≡◌, ◌∙◌, ◌≤◌, ◌<◌, ◌+◌, ℕ, Bool, true, false, All, List, Option, Some, None, Result, Ok, Err, IfOk, MatchResult, codes, is_some, option_map, if◌then◌else◌, get_or, length, map, refl, sym, subst, take, ap}
 use Rattle.std.specs.Option.{option_or, unwrap_or}
 use Rattle.std.specs.Result.{IsErrAnd}
 use Rattle.std.specs.Borrow.{Bor}
 use Rattle.std.proofs.lemmas.List.{take_all}
 use Rattle.std.proofs.lemmas.List.Elements.{All-map, All-more}
+use Rattle.clap.specs.Matches.{first_value}
 use Rattle.clap.specs.declared.parser.matches.Found.{Found}
+use Rattle.he_replay.specs.declared.race_texts.Content.{Content}
 use Rattle.he_timeline.specs.Changes.{ChangeValues, changes_of, is_out}
 use Rattle.he_timeline.specs.declared.limits.TheConstants.{MAX_RESOLUTION, MIN_ATTEMPT, MAX_ATTEMPT, MIN_COUNT, MAX_COUNT, MIN_LIMIT, MAX_LIMIT, MIN_FLOOR}
 use Rattle.he_timeline.specs.declared.settings.Range.{Range}
 use Rattle.he_timeline.specs.declared.settings.Range.TheVariants.{Resolution, Attempt, Count, Limit, Floor}
-use Rattle.he_command.specs.Words.{AsksChanges, HasNumber, is_setting, last_number, values_of}
+use Rattle.he_command.specs.Requests.{AsksDrawing, AsksTexts, drawn, page_of}
+use Rattle.he_command.specs.Words.{AsksChanges, HasFlag, HasNumber, is_setting, last_number, values_of}
 use Rattle.he_command.specs.declared.refusal.OptionFault.{OptionFault}
+use Rattle.he_command.specs.declared.texts.Task.{Task}
+use Rattle.he_command.specs.declared.texts.Task.TheVariants.{Write}
+use Rattle.he_command.specs.declared.texts.Texts.{Texts}
 
 kept_of : (a b c d e : Bool) (given made : ChangeValues)
     → (if a then Err Resolution else if b then Err Attempt else if c then Err Count else if d then Err Limit else if e then Err Floor else Ok given) ≡ Ok made → given ≡ made
@@ -69,3 +75,28 @@ one_more texts i default bytes answer below before same is given =
 pub each : (texts : List (Bor (List ℕ))) (i : ℕ) → length texts ≤ i → All (λ text. is_setting text.now ≡ true) (take i texts) → All (λ text. is_setting text.now ≡ true) texts
 each texts i end before =
     subst (λ (list : List (Bor (List ℕ))). All (λ text. is_setting text.now ≡ true) list) (take_all i texts end) before
+
+some_now : (text : Option (Bor (List ℕ))) → is_some text ≡ is_some (option_map (λ t. t.now) text)
+some_now None = refl
+some_now (Some text) = refl
+
+-- the texts of a drawing are those that the line asks for
+pub draws : {D E : Type 0} (gives : List ℕ → Result ℕ D → Type 0) (gives32 : List ℕ → Result ℕ E → Type 0) (found : Found) (columns : ℕ) (html page : Option (Bor (List ℕ))) (content : Content) (task : Task) (is_page : Bool) (texts : Texts)
+    → option_map (λ t. t.now) html ≡ first_value found (codes "html") → option_map (λ t. t.now) page ≡ page_of (option_map (λ t. t.now) html) → is_page ≡ is_some html
+    → ((svg : Bool) × (ascii : Bool) × (width : Option ℕ) × HasFlag found (codes "svg") svg × HasFlag found (codes "ascii") ascii × HasNumber gives found (codes "width") width
+    × (content ≡ drawn is_page svg ascii width columns))
+    → task ≡ Write content 1 → AsksTexts gives32 found task texts → AsksDrawing gives gives32 found columns (record texts { page = page })
+draws gives gives32 found columns html page content task is_page texts is_html is_path paged (svg, ascii, width, is_svg, is_ascii, has, is_content) is_task asks = record {
+  svg = svg;
+  is_svg = is_svg;
+  ascii = ascii;
+  is_ascii = is_ascii;
+  width = width;
+  has_width = has;
+  task_is =
+      asks.task_is ∙ is_task
+      ∙ ap (λ (c : Content). Write c 1) (is_content ∙ ap (λ (b : Bool). drawn b svg ascii width columns) (paged ∙ some_now html ∙ ap is_some is_html));
+  changes = asks.changes;
+  files = asks.files;
+  page = is_path ∙ ap page_of is_html;
+}

@@ -1,7 +1,9 @@
 //! `he draw`.
-ghost use Rattle.std.specs.Prelude.{◌≡◌, ◌≤◌, IfOk};
+ghost use Rattle.std.specs.Prelude.{◌≡◌, ◌≤◌, ℕ, Bool, IfOk, Option, codes, if◌then◌else◌, option_map};
 ghost use Rattle.clap.specs.Matches.{found_of};
-ghost use Rattle.he_command.specs.Requests.{AsksDrawing, IsTexts};
+ghost use Rattle.he_draw.specs.declared.look.Look.TheVariants.{Ascii, Unicode};
+ghost use Rattle.he_command.specs.Requests.{AsksDrawing, IsTexts, drawn, page_of};
+ghost use Rattle.he_command.specs.Words.{HasFlag, HasNumber};
 
 use crate::arguments::{files, flag, flag_of, number_of, plain, value, verbose};
 use crate::explain::FILE_HELP;
@@ -93,10 +95,7 @@ pub(crate) fn drawing_of<'a>(
         (found_of matches.now) columns) }
 {
     let html = matches.get_str("html");
-    let page = match html {
-        Some(path) => page_path(path)?,
-        None => None,
-    };
+    let page = page_of(html)?;
     let task = alone(content_of(columns, html.is_some(), matches));
     match texts_of(alloc, task, matches) {
         Ok(texts) => Ok(Texts { page, ..texts }),
@@ -104,27 +103,40 @@ pub(crate) fn drawing_of<'a>(
     }
 }
 
-fn content_of(columns: u16, is_page: bool, matches: &ArgMatches<'_>) -> Content {
+fn content_of(columns: u16, is_page: bool, matches: &ArgMatches<'_>) -> Content
+    ensures { (svg : Bool) × (ascii : Bool) × (width : Option ℕ) × HasFlag (found_of matches.now) (codes "svg") svg
+        × HasFlag (found_of matches.now) (codes "ascii") ascii
+        × HasNumber ⟦<u16 as FromStr>⟧.from_str_gives (found_of matches.now) (codes "width") width
+        × (result ≡ drawn is_page svg ascii width columns) }
+{
+    let (svg, ascii) = (flag_of(matches, "svg"), flag_of(matches, "ascii"));
+    let width = number_of(matches, "width");
     if is_page {
-        return Content::Section;
-    }
-    if flag_of(matches, "svg") {
-        return Content::Image;
-    }
-    let look = if flag_of(matches, "ascii") {
-        Look::Ascii
+        Content::Section
+    } else if svg {
+        Content::Image
     } else {
-        Look::Unicode
-    };
-    Content::Picture {
-        look,
-        width: number_of(matches, "width").unwrap_or(columns),
+        Content::Picture {
+            look: look_of(ascii),
+            width: width.unwrap_or(columns),
+        }
     }
+}
+
+fn look_of(ascii: bool) -> Look
+    ensures { result ≡ (if ascii then Ascii else Unicode) }
+{
+    if ascii { Look::Ascii } else { Look::Unicode }
 }
 
 // The file of a page: one whose name says so, since a text that was named in its place would be lost. None for `-`,
 // standard output.
-fn page_path<'a>(path: &'a str) -> Result<Option<&'a str>, OptionFault> {
+fn page_of<'a>(html: Option<&'a str>) -> Result<Option<&'a str>, OptionFault>
+    ensures { IfOk result (λ page. option_map (λ p. p.now) page ≡ page_of (option_map (λ p. p.now) html)) }
+{
+    let Some(path) = html else {
+        return Ok(None);
+    };
     if path == STANDARD {
         Ok(None)
     } else if path.ends_with(".html") {

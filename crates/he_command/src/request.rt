@@ -97,7 +97,10 @@ fn request_of<'a>(
     match name {
         "connect" => {
             let (changes, resolver) = (changes_of(matches)?, resolver_of(matches)?);
-            Ok(Request::Connect(connect::connection_of(changes, resolver, matches)?))
+            match connect::connection_of(changes, resolver, matches) {
+                Ok(connection) => Ok(Request::Connect(connection)),
+                Err(fault) => Err(Refusal::Option(fault)),
+            }
         }
         "names" => Ok(Request::Names(names::wanted_of(resolver_of(matches)?, matches))),
         "host" => match host::destinations_of(alloc, matches) {

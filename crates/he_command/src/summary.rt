@@ -91,7 +91,7 @@ where
             let put = put_summary(session, texts, form, &mut summary);
             first_fault(added, put)
         }
-        None => FAULT,
+        None => first_fault(added, FAULT),
     }
 }
 

@@ -1,7 +1,8 @@
 //! What is done with texts of races.
-ghost use Rattle.std.specs.Prelude.{◌≡◌, ◌≤◌, IfOk};
+ghost use Rattle.std.specs.Prelude.{◌≡◌, ◌≤◌, IfOk, is_some};
 ghost use Rattle.clap.specs.Matches.{found_of};
 ghost use Rattle.he_command.specs.Requests.{AsksTexts, IsTexts};
+ghost use Rattle.he_command.specs.Run.{head_of};
 ghost use Rattle.he_command.specs.Texts.{HasTaskWorkers, has_headings};
 ghost use Rattle.he_command.specs.declared.texts.Task.TheVariants.{Write};
 
@@ -72,7 +73,9 @@ impl Texts<'_> {
     }
 
     // Whether what is written begins as a page does.
-    pub(crate) fn is_page(&self) -> bool {
+    pub(crate) fn is_page(&self) -> bool
+        ensures { result ≡ is_some (head_of self.now.task) }
+    {
         matches!(
             self.task,
             Task::Write {

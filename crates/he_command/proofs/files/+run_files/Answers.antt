@@ -14,9 +14,9 @@ returns-then-not-texts-clause-done g t c =
 pub returns-clause-done : goal.returns-clause-done
 returns-clause-done g t c =
     let going : (c.args.texts.now.goes_on ≡ true) ⊎ (c.run_files-first.result ≡ 0) =
-      elim c.else-first-ne-DONE.branch [
+    elim c.else-first-ne-DONE.branch [
       | else-first-ne-DONE-via-then-first-ne-DONE+else-not-texts w ↦ inl (search rules)
       | else-first-ne-DONE-via-else-first-ne-DONE w ↦ inr (search rules)
-      ] in
+    ] in
     both_halves _ _ c.args.names.now _ _ _ _ _ _ _ _ _ c.run_files-first.result c.run_files.result c.first_fault.result
     c.split_at.ensures.front c.split_at.ensures.back c.run_files-first.ensures.done going c.run_files.ensures.done c.first_fault.ensures
