@@ -133,8 +133,9 @@ impl<A: Allocator> Board<A> {
         self.merge(first, second)
     }
 
-    /// Settles who took what, for a pass with all parts, beside which there is no other pass: each job that it knows to
-    /// be taken it has taken itself, exactly once, by one of the passes that were rejoined into it. One atomic step.
+    /// Settles who took what, for a pass with all parts, beside which there is no other pass: each job that it knows
+    /// to be taken it has taken itself, exactly once, by one of the passes that were rejoined into it. One atomic
+    /// step.
     pub fn settle(&self, pass: &mut Pass)
         requires own { IsPassOf self.now pass.old }
         requires parts { (notes pass.old).parts ≡ PARTS }

@@ -92,8 +92,8 @@ fn tell_race<F: Write>(run: &FinishedRace, faults: &mut F) {
     let _ = faults.write_all(run.told.as_slice());
 }
 
-// What comes of a race that was run, whose record was kept or not: its connection is relayed where there is one, or let
-// go where it was only tried.
+// What comes of a race that was run, whose record was kept or not: its connection is relayed where there is one, or
+// let go where it was only tried.
 fn end_race<R, I, O, F>(
     rt: &R,
     alloc: Global,

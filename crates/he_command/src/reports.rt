@@ -90,8 +90,8 @@ pub(crate) fn report_in<E: Display + Drop, F: Write>(
     }
 }
 
-// Says that the output can't be written, and why, and answers the exit status. Nothing is said where the reader of a pipe
-// has gone.
+// Says that the output can't be written, and why, and answers the exit status. Nothing is said where the reader of a
+// pipe has gone.
 pub(crate) fn report_unwritten<O: OutputStream, F: Write>(output: &O, faults: &mut F) -> u8
     ensures { result ≡ FAULT }
 {

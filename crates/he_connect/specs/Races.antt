@@ -20,8 +20,8 @@ IsExplained true recorded story = Tells 1 1 recorded [] story
 IsExplained false recorded story = story ≡ []
 
 -- a race that began so was run: its record keeps what it began with and replays, the text is that of the record, and
--- the story, where that is asked for, its own. There is a connection just where it was won, and it goes to the address of
--- the line that won, at the port
+-- the story, where that is asked for, its own. There is a connection just where it was won, and it goes to the address
+-- of the line that won, at the port
 pub record RunsFrom (start : Race) (port : ℕ) (explains : Bool) (text story : List ℕ)
     (connection : Option Dialed) : Type 0 where
   pub recorded : Race
@@ -33,8 +33,8 @@ pub record RunsFrom (start : Race) (port : ℕ) (explains : Bool) (text story : 
   pub won_so : is_some connection ≡ is_won report.result
   pub goes : IfSome connection (GoesAt (goes_to port) report.lines report.result)
 
--- the families that are tried are those that are asked for, or one where both are: this machine may have no way for the
--- other
+-- the families that are tried are those that are asked for, or one where both are: this machine may have no way for
+-- the other
 abbrev pub Tries : Families → Families → Type 0
 Tries wanted tried = (tried ≡ wanted) ⊎ (wanted ≡ families.Both)
 

@@ -11,9 +11,9 @@ use std::io::Write;
 use std::net::Net;
 use std::rt::Files;
 
-// The families that are asked for; where both are, and this machine has a way for one alone, that one (AI_ADDRCONFIG of
-// RFC 3493 section 6.1). Both are tried where the addresses are known without a look-up, as those of `localhost` are,
-// and where the lines are not this machine's.
+// The families that are asked for; where both are, and this machine has a way for one alone, that one (AI_ADDRCONFIG
+// of RFC 3493 section 6.1). Both are tried where the addresses are known without a look-up, as those of `localhost`
+// are, and where the lines are not this machine's.
 pub(crate) fn families_to_try<R: Files + Net + AllocGlobal>(
     rt: &R,
     request: &ConnectRequest<'_>,

@@ -1,18 +1,18 @@
 //! A race for a connection to a host by RFC 8305, as `he connect` runs it.
 //!
 //! [`race`] finds the host's addresses (`he_resolver`) while it races them (`he_live`), each family's as soon as they
-//! are known, with the sources, routes and policy rows of this machine (`he_host`) or of a file. It hands out the record
-//! of the race, its story, what is said where nothing connected, and the connection: the caller keeps the record and
-//! relays.
+//! are known, with the sources, routes and policy rows of this machine (`he_host`) or of a file. It hands out the
+//! record of the race, its story, what is said where nothing connected, and the connection: the caller keeps the
+//! record and relays.
 //!
 //! # What is proved
 //!
 //! - The race begins as [`start_race`](start::start_race) says: with the settings, the machine and the policy of the
 //!   lines, and an empty answer for a family that isn't tried (`specs/Start`). The families are those that are asked
 //!   for, or one of both.
-//! - The text that is handed out is that of the record of a race that began so, kept what it began with, and replays to
-//!   its transcript; the story that is asked for is that of this record; there is a connection exactly where this race
-//!   was won, and it was asked for at the address of the line that won and the port (`IsRun` in `specs/Races`).
+//! - The text that is handed out is that of the record of a race that began so, kept what it began with, and replays
+//!   to its transcript; the story that is asked for is that of this record; there is a connection exactly where this
+//!   race was won, and it was asked for at the address of the line that won and the port (`IsRun` in `specs/Races`).
 //!
 //! Both promise this if they return: they wait for the system.
 //!

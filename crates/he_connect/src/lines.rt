@@ -10,9 +10,9 @@ use std::net::Net;
 use std::rt::Files;
 use std::{fs, io};
 
-// The lines of this machine or of a file, of which the last one is ended where it isn't. Where the host's addresses are
-// known without a look-up, the kernel is asked for the ways to them. Else they come while the race runs, which has its
-// lines before, and it is asked for the ways that there are.
+// The lines of this machine or of a file, of which the last one is ended where it isn't. Where the host's addresses
+// are known without a look-up, the kernel is asked for the ways to them. Else they come while the race runs, which has
+// its lines before, and it is asked for the ways that there are.
 pub(crate) fn read_lines_of<R: Files + Net + AllocGlobal>(
     rt: &R,
     alloc: Global,

@@ -18,8 +18,8 @@ pub struct NewName {
 }
 
 /// Opens a new file for writing, beside the one of this path and with the permissions that a new file has (0666 less
-/// the umask). A symbolic link is followed. What is there and is no regular file (a pipe, a terminal, `/dev/null`), and
-/// what a link names that is not there, is written in its place.
+/// the umask). A symbolic link is followed. What is there and is no regular file (a pipe, a terminal, `/dev/null`),
+/// and what a link names that is not there, is written in its place.
 ///
 /// # Errors
 ///

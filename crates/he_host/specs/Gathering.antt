@@ -45,8 +45,8 @@ source_behind kept source =
     else (if list_any (same_source source) kept then Err whys.Repeated
     else (if nat_le SOURCES (length kept) then Err whys.TooMany else Ok source))
 
--- a source that is kept behind these: it is one that a machine may have, no address is kept twice, and no more than the
--- limit
+-- a source that is kept behind these: it is one that a machine may have, no address is kept twice, and no more than
+-- the limit
 unfoldable pub judged_source : List Source → Result Source Why → Result Source Why
 judged_source kept (Err why) = Err why
 judged_source kept (Ok source) = source_behind kept source

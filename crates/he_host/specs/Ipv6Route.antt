@@ -24,9 +24,9 @@ abbrev pub is_loopback : Option Link → Bool
 is_loopback None = false
 is_loopback (Some link) = link.loopback
 
--- A route of the kernel's own: to an address of this machine that isn't on the loopback interface; to an anycast address;
--- a cached one; the one that leads nowhere with which each table ends; one to a network of the loopback interface,
--- which leads nowhere but to the host's own address; one that isn't in use; one to multicast, ff00::/8.
+-- A route of the kernel's own: to an address of this machine that isn't on the loopback interface; to an anycast
+-- address; a cached one; the one that leads nowhere with which each table ends; one to a network of the loopback
+-- interface, which leads nowhere but to the host's own address; one that isn't in use; one to multicast, ff00::/8.
 unfoldable pub is_internal : RouteLine → Option Link → Bool
 is_internal read link =
     (has read.flags LOCAL && not (is_loopback link))

@@ -123,8 +123,8 @@ fn ask_first<R: Net>(rt: &R, ways: &mut Vec<Way>) -> Result<(), MachineFault> {
 }
 
 /// Appends the lines of this machine for destinations that are not known yet: a route for the default route of each
-/// family and for the routes of the loopback interface, and one for each route that the first lines of `/proc/net` tell;
-/// each over the source that the kernel takes for it. It takes no longer where there are many routes.
+/// family and for the routes of the loopback interface, and one for each route that the first lines of `/proc/net`
+/// tell; each over the source that the kernel takes for it. It takes no longer where there are many routes.
 ///
 /// # Errors
 ///

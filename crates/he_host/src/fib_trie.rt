@@ -1,5 +1,5 @@
-// /proc/net/fib_trie: the tables of IPv4 routes as trees. In the part `Local:` each address of this machine stands as a
-// leaf, `|-- 192.0.2.2`, with the line `/32 host LOCAL` below.
+// /proc/net/fib_trie: the tables of IPv4 routes as trees. In the part `Local:` each address of this machine stands as
+// a leaf, `|-- 192.0.2.2`, with the line `/32 host LOCAL` below.
 
 ghost use Rattle.std.specs.Prelude.{◌≡◌, map, IfOk};
 ghost use Rattle.he_host.specs.FibTrie.{trie_line, is_own, step, told, own_from, nowhere, own_addresses};

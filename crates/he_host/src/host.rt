@@ -157,8 +157,8 @@ fn make_host<A: Allocator + Copy>(sources: Vec<Source, A>, routes: Vec<Route, A>
     }
 }
 
-// The machine that keeps of these sources and routes what there is place for. What is kept is a machine's, so that nothing
-// but memory is refused.
+// The machine that keeps of these sources and routes what there is place for. What is kept is a machine's, so that
+// nothing but memory is refused.
 pub(crate) fn keep<A: Allocator + Copy>(
     alloc: A,
     turn: &[FoundSource],
@@ -175,8 +175,8 @@ pub(crate) fn keep<A: Allocator + Copy>(
     Ok(FoundHost { host, left_out })
 }
 
-/// The machine of the files, and the lines that are left out. `around` has the interfaces, the routes as [`find_routes`]
-/// gives them, and where IPv4 addresses are whose place is in no file.
+/// The machine of the files, and the lines that are left out. `around` has the interfaces, the routes as
+/// [`find_routes`] gives them, and where IPv4 addresses are whose place is in no file.
 ///
 /// # Errors
 ///

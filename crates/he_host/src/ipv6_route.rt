@@ -62,8 +62,8 @@ fn is_loopback(link: Option<Link>) -> bool
     }
 }
 
-/// Whether the route is one of the kernel's own: to an address of this machine that is not on the loopback interface, to
-/// an anycast address, to multicast, cached, not in use, the end of a table, or to a network of the loopback
+/// Whether the route is one of the kernel's own: to an address of this machine that is not on the loopback interface,
+/// to an anycast address, to multicast, cached, not in use, the end of a table, or to a network of the loopback
 /// interface.
 #[tactic(auto, unfolding(crate::specs::Ipv6Route::is_internal))]
 pub fn is_internal(read: RouteLine, link: Option<Link>) -> bool

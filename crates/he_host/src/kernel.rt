@@ -51,8 +51,8 @@ pub fn ask_way<R: Net>(rt: &R, to: Ip) -> Way {
     Way::new(to, ask_source(rt, to))
 }
 
-// Whether it is the broadcast address of a network of this machine: the kernel connects to one only where that is asked
-// for, and a route that prohibits an address does so all the same.
+// Whether it is the broadcast address of a network of this machine: the kernel connects to one only where that is
+// asked for, and a route that prohibits an address does so all the same.
 fn is_broadcast<R: Net>(rt: &R, ip: Ip) -> bool {
     let Ok(socket) = UdpSocket::bind(rt, (any_of(ip), 0u16)) else {
         return false;
@@ -77,8 +77,8 @@ fn is_on_network<R: Net>(rt: &R, address: u32, len: u8) -> bool {
         && ask_source(rt, Ip::V4(other)) == Some(Ip::V4(address))
 }
 
-/// The length of the prefix that an IPv4 address of this machine shares with its link: that of the longest network that
-/// has a broadcast address and for which the kernel takes the address; 32 where there is none.
+/// The length of the prefix that an IPv4 address of this machine shares with its link: that of the longest network
+/// that has a broadcast address and for which the kernel takes the address; 32 where there is none.
 pub fn ask_len<R: Net>(rt: &R, address: u32) -> u8 {
     for less in 0..LONGEST_NETWORK {
         let len = LONGEST_NETWORK - less;

@@ -1,4 +1,5 @@
-//! This machine's own sources and routes, from what Linux says in `/proc/net` and of each interface in `/sys/class/net`.
+//! This machine's own sources and routes, from what Linux says in `/proc/net` and of each interface in
+//! `/sys/class/net`.
 //!
 //! [`machine::write_machine`] appends the `source` and `route` lines of the machine that it runs on, and a line for
 //! each thing that a race has no place for or that is a guess. [`host::find_routes`] and [`host::find_host`] do the
@@ -10,8 +11,8 @@
 //! Proved, for all bytes: what each line of a file says, by the kernel's columns and flags (`specs/IfInet6`,
 //! `Ipv6Route`, `Ipv4Route`, `FibTrie`, `Sysfs`); routes stand by the lengths of their prefixes (which of IPv4 ones
 //! are 0 to 32), those of one length by their metrics, and those of one rank in the order of the files; an IPv4
-//! address is where the longest connected route is that holds it; what is kept is a machine's, whatever the files say, no
-//! address and no prefix twice and 64 of each at most, and each line that isn't kept is told with its reason
+//! address is where the longest connected route is that holds it; what is kept is a machine's, whatever the files say,
+//! no address and no prefix twice and 64 of each at most, and each line that isn't kept is told with its reason
 //! (`specs/Gathering`, `Whole`); the lines that are written are the machine's (`specs/Written`).
 //!
 //! Proved, whatever the kernel answers: [`ways::find_host_to`] gives the machine with the kernel's sources and a route
@@ -22,9 +23,9 @@
 //! has an interface of its own.
 //!
 //! Not proved: that no fault is answered where memory suffices (no step of the code answers one of its own); what
-//! `machine`, `kernel`, `taken` and `ahead` ask of the system, and what the lines that tell what is left out or a guess say. IPv6 routes
-//! are those of all tables, which the file does not tell apart; IPv4 routes are those of the main table, and the
-//! others are told by number.
+//! `machine`, `kernel`, `taken` and `ahead` ask of the system, and what the lines that tell what is left out or a
+//! guess say. IPv6 routes are those of all tables, which the file does not tell apart; IPv4 routes are those of the
+//! main table, and the others are told by number.
 #![tactic(auto)]
 
 pub mod ahead;

@@ -1,4 +1,5 @@
-// The lines by which the rules take the sources that the kernel takes: it is asked, and no table of routes is read whole.
+// The lines by which the rules take the sources that the kernel takes: it is asked, and no table of routes is read
+// whole.
 //
 // Proved is that it is safe and ends; what the system answers is in no contract.
 

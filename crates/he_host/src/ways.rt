@@ -155,8 +155,8 @@ fn is_same(said: Option<Ip>, taken: Option<Ip>) -> bool
     }
 }
 
-/// The destinations for which the rules take another source of the machine than the kernel, or for which just one of the
-/// two says that there is a way.
+/// The destinations for which the rules take another source of the machine than the kernel, or for which just one of
+/// the two says that there is a way.
 ///
 /// # Errors
 ///

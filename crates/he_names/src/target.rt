@@ -24,7 +24,8 @@ pub enum Target {
     OnLink(Ip, Vec<u8>),
     /// This machine: `localhost` and what lies in it (RFC 6761 section 6.3). No name server is asked.
     Loopback,
-    /// A name in `local`, which multicast DNS finds (RFC 6762): the system's resolver may know it, no name server does.
+    /// A name in `local`, which multicast DNS finds (RFC 6762): the system's resolver may know it, no name server
+    /// does.
     Multicast(String),
     /// Any other name, in ASCII and in small letters (UTS 46).
     Name(String),
@@ -108,8 +109,8 @@ impl From<AllocError> for HostFault {
     }
 }
 
-/// What the text names: an address, this machine, or a name to be asked for. An IPv6 address may stand in brackets, and
-/// one in `::ffff:0:0/96` is the IPv4 address that it stands for. A name beyond ASCII is given in ASCII (UTS 46).
+/// What the text names: an address, this machine, or a name to be asked for. An IPv6 address may stand in brackets,
+/// and one in `::ffff:0:0/96` is the IPv4 address that it stands for. A name beyond ASCII is given in ASCII (UTS 46).
 ///
 /// # Errors
 ///

@@ -1,5 +1,5 @@
--- That polls of a race leave each unfinished attempt leading to its own address, and that the connection that comes first
--- is the one of the first attempt that succeeds.
+-- That polls of a race leave each unfinished attempt leading to its own address, and that the connection that comes
+-- first is the one of the first attempt that succeeds.
 use Rattle.std.proofs.Common.{◌≡◌, ℕ, ◌+◌, ◌-◌, ◌≤◌, ◌<◌, ◌⊎◌, ◌&&◌, ◌++◌, Bool, true, false, List, [], ◌∷◌, length, Option, Some, None, Result, Ok, Err, IfOk, nat_lt, refl, sym, ◌∙◌, ap, subst, arith, inl, inr, MatchBool}
 use Rattle.std.specs.List.{All, Contains}
 use Rattle.std.proofs.lemmas.List.Elements.{All-cons, All-head, All-nil, All-tail, All-weaker}
@@ -157,8 +157,8 @@ module _ {C Conn Run : Type 0} (connector : ConnectorOf C Conn Run) (trial : Tri
   abbrev pub NoneWon : Race → List Attempt → Type 0
   NoneWon race xs = (y : Attempt) (d : ℕ) → Contains xs y → HasWon race y d → ⊥
 
-  -- the connection goes to the address of the first attempt that has succeeded, and the attempts that are not polled yet
-  -- come after it
+  -- the connection goes to the address of the first attempt that has succeeded, and the attempts that are not polled
+  -- yet come after it
   pub record FirstWon (c : C) (race : Race) (xs : List Attempt) (conn : Conn) (os : List Held) : Type 0 where
     pub x : Attempt
     pub made : Contains xs x

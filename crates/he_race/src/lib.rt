@@ -70,12 +70,15 @@
 //! What is dropped when: a trial that answers, in the poll that found its answer; all other trials and connections,
 //! in the poll that ends the race, before it returns; on a fault everything but connector and ticker.
 //!
-//! | Trait | Owes |
-//! |---|---|
-//! | `Trial` | a poll that is pending has registered in `cx` at each source that it `needs` (it has registered or yielded where it states none), or `due` names a tick before which every poll is pending, or `due` is None and every later poll is pending |
-//! | `Connector` | a trial that may be polled, or a fault, which is the attempt's failure |
-//! | `AnswerSource` | a poll that is pending has registered in `cx` at each source that it `needs` for the family, or no later poll for its family tells anything |
-//! | `Ticker` | a `wake_at` that answers Ok has registered in `cx` or yielded, so that the task is polled again |
+//! What each trait owes:
+//!
+//! - `Trial`: a poll that is pending has registered in `cx` at each source that it `needs` (it has registered or
+//!   yielded where it states none), or `due` names a tick before which every poll is pending, or `due` is None and
+//!   every later poll is pending.
+//! - `Connector`: a trial that may be polled, or a fault, which is the attempt's failure.
+//! - `AnswerSource`: a poll that is pending has registered in `cx` at each source that it `needs` for the family, or
+//!   no later poll for its family tells anything.
+//! - `Ticker`: a `wake_at` that answers Ok has registered in `cx` or yielded, so that the task is polled again.
 //!
 //! What each of them does to its own state is a relation that the implementation states (`polls`, `begins`, `tells`,
 //! `wakes`); the contracts here are said through these relations. Where connections go is a relation too: `reaches` of

@@ -24,8 +24,8 @@ pub(crate) fn read_file<R: Files + AllocGlobal>(
     }
 }
 
-/// The number of an interface that a zone names by its number or its name (RFC 4007 section 11), as connect(2) takes it;
-/// None where this machine has none of the name.
+/// The number of an interface that a zone names by its number or its name (RFC 4007 section 11), as connect(2) takes
+/// it; None where this machine has none of the name.
 ///
 /// # Errors
 ///

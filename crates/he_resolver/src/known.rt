@@ -14,8 +14,8 @@ use std::rt::Files;
 // The addresses of this machine that every machine has.
 const LOOPBACK: [Ip; 2] = [Ip::V6(1), Ip::V4(0x7f00_0001)];
 
-/// The addresses of a host that are known without asking: its own, where it is an address or this machine, or those that
-/// the file of hosts has; None where a name server is asked.
+/// The addresses of a host that are known without asking: its own, where it is an address or this machine, or those
+/// that the file of hosts has; None where a name server is asked.
 ///
 /// # Errors
 ///

@@ -26,8 +26,8 @@ pub struct LookupEvent {
 pub enum LookupEventKind {
     /// It isn't asked for: the other family is wanted alone.
     NotAsked,
-    /// So many addresses were known without a name server: of the host itself, of the file of hosts, or of the system's
-    /// resolver.
+    /// So many addresses were known without a name server: of the host itself, of the file of hosts, or of the
+    /// system's resolver.
     Known(usize),
     /// The first server has not answered for [`ALONE`] milliseconds, and the second one is asked too.
     Slow(SocketAddr, SocketAddr),
@@ -158,8 +158,8 @@ impl LookupLog {
         })
     }
 
-    /// Hands over the events since the last call, in their order. At most [`MOST_EVENTS`] are kept from one call to the
-    /// next, and none that no memory was granted for.
+    /// Hands over the events since the last call, in their order. At most [`MOST_EVENTS`] are kept from one call to
+    /// the next, and none that no memory was granted for.
     pub fn take(&self) -> Vec<LookupEvent> {
         self.events.replace(Vec::new(self.alloc))
     }

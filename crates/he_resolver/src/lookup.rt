@@ -56,14 +56,14 @@ pub(crate) enum Source<'h, R> {
 }
 
 impl<'h, R: Net + RandomSource + Clock> Lookup<'h, R> {
-    /// Reads what the host is, and takes what is known of it without asking: an address, the addresses of this machine,
-    /// and what the file of hosts has, unless the system's resolver is asked. Nothing is sent before the first poll;
-    /// the system's own resolver is called at once, in a thread.
+    /// Reads what the host is, and takes what is known of it without asking: an address, the addresses of this
+    /// machine, and what the file of hosts has, unless the system's resolver is asked. Nothing is sent before the
+    /// first poll; the system's own resolver is called at once, in a thread.
     ///
     /// # Errors
     ///
-    /// `Host` and `Name` where it is no host name, or one that is not asked for; `Runtime` where no thread can be made;
-    /// `Memory`.
+    /// `Host` and `Name` where it is no host name, or one that is not asked for; `Runtime` where no thread can be
+    /// made; `Memory`.
     pub fn new(
         rt: &'h R,
         alloc: Global,

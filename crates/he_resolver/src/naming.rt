@@ -49,8 +49,8 @@ impl LookupReport {
 /// # Errors
 ///
 /// `Names` where the host has no address of either family (`NoSuchName`, `NoAddress`, `NoAnswer`, `Server`, `System`),
-/// is no host name or none to be asked for (`Host`, `Name`), or could not be asked for (`Files`, `Runtime`, `Memory`): then nothing was written. After
-/// `Write` a first part was.
+/// is no host name or none to be asked for (`Host`, `Name`), or could not be asked for (`Files`, `Runtime`, `Memory`):
+/// then nothing was written. After `Write` a first part was.
 pub fn write_names<R, O>(
     rt: &R,
     alloc: Global,
