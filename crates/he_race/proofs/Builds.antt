@@ -6,8 +6,8 @@ use Rattle.he_timeline.specs.declared.builder.BuildFault.{BuildFault}
 use Rattle.he_timeline.specs.declared.builder.BuildFault.TheVariants as faults
 use Rattle.he_timeline.specs.declared.limits.TheConstants.{MAX_ADDRESSES, MAX_PAUSES, MAX_PAUSE_END, MAX_TICK}
 use Rattle.he_timeline.specs.declared.outcome.Outcome.{Outcome}
-use Rattle.he_timeline.specs.Building.{Becomes, add_answer, add_outcome, add_pause, last_end, with_answer, with_outcome, with_pause}
-use Rattle.he_timeline.specs.Race.{Race, has_outcome, is_in_answer, reply_of}
+use Rattle.he_timeline.specs.Building.{Becomes, add_answer, add_outcome, add_pause, add_rtt, add_used, last_end, with_answer, with_outcome, with_pause, with_rtt, with_used}
+use Rattle.he_timeline.specs.Race.{Race, has_ip, has_outcome, is_in_answer, is_told, reply_of}
 use Rattle.he_timeline.specs.Timeline.{IsRace, are_distinct, are_of, duration_of, is_duration}
 use Rattle.he_timeline.proofs.Bools.{le_test, lt_test, not_le, not_lt}
 use Rattle.he_timeline.proofs.Ranges.{IsRace-with_answer}
@@ -53,6 +53,16 @@ pub outcome-adds : (answer : Result (Unit {0}) BuildFault) (race new : Race) (ip
 outcome-adds answer race new ip outcome lasts known first b =
     let fits : add_outcome ip outcome race ≡ Ok (with_outcome race ip outcome) = rw (lasts, known, first) refl in
     adds answer race new (with_outcome race ip outcome) (subst (Becomes answer race new) fits b)
+
+pub rtt-adds : (answer : Result (Unit {0}) BuildFault) (race new : Race) (ip : Ip) (rtt : ℕ) → is_duration rtt ≡ true → is_in_answer race ip ≡ true → is_told ip race.history.rtts ≡ false → Becomes answer race new (add_rtt ip rtt race) → Adds answer new (with_rtt race ip rtt)
+rtt-adds answer race new ip rtt lasts known first b =
+    let fits : add_rtt ip rtt race ≡ Ok (with_rtt race ip rtt) = rw (lasts, known, first) refl in
+    adds answer race new (with_rtt race ip rtt) (subst (Becomes answer race new) fits b)
+
+pub used-adds : (answer : Result (Unit {0}) BuildFault) (race new : Race) (ip : Ip) → is_in_answer race ip ≡ true → has_ip ip race.history.used ≡ false → Becomes answer race new (add_used ip race) → Adds answer new (with_used race ip)
+used-adds answer race new ip known first b =
+    let fits : add_used ip race ≡ Ok (with_used race ip) = rw (known, first) refl in
+    adds answer race new (with_used race ip) (subst (Becomes answer race new) fits b)
 
 pub answer-adds : (answer : Result (Unit {0}) BuildFault) (race new : Race) (family : Family) (tick : ℕ) (ips : List Ip) → reply_of race family ≡ None → tick ≤ MAX_TICK → length ips ≤ MAX_ADDRESSES → are_of family ips ≡ true → are_distinct ips ≡ true → Becomes answer race new (add_answer family tick ips race) → Adds answer new (with_answer race family (record { tick = tick; addresses = ips }))
 answer-adds answer race new family tick ips none early few own distinct b =

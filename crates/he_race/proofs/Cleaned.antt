@@ -2,7 +2,7 @@
 use Rattle.std.proofs.Common.{◌≡◌, ℕ, zero, suc, ◌+◌, ◌≤◌, ◌<◌, ◌&&◌, ◌||◌, ◌++◌, Bool, true, false, not, List, [], ◌∷◌, if◌then◌else◌, filter, length, take, nat_lt, get_or, refl, sym, ◌∙◌, ap, arith, inl, inr, length-append}
 use Rattle.std.specs.List.{list_all}
 use Rattle.std.proofs.lemmas.Bool.{cases_Bool, cases_lt}
-use Rattle.std.proofs.lemmas.List.{append-nil, length-take, take-append-le, take_all}
+use Rattle.std.proofs.lemmas.List.{append-nil, length-take, map-append, take-append-le, take_all}
 use Rattle.std.proofs.lemmas.List.Elements.{filter-append}
 use Rattle.std.proofs.Math.Seq.{take-suc}
 use Rattle.he_addr.specs.declared.ip.Family.{Family}
@@ -14,13 +14,14 @@ use Rattle.he_timeline.specs.Timeline.{are_distinct, are_of, is_of}
 use Rattle.he_timeline.proofs.Bools.{and_both, and_left, and_right, lt_test, not_lt, or_left_none, or_none, or_right_none}
 use Rattle.he_timeline.proofs.Ranges.{same_ip-sym}
 use Rattle.he_select.proofs.Equality.{ip_from}
-use Rattle.he_race.specs.Heard.{cleaned, each_once}
+use Rattle.he_select.specs.declared.known.Known.{Known}
+use Rattle.he_race.specs.Heard.{cleaned, each_once, ips_of}
 
 -- an address is another one than this
 abbrev is_other : Ip → Ip → Bool
 is_other ip other = not (same_ip ip other)
 
-all_kept : (p q : Ip → Bool) (ips : List Ip) → list_all p ips ≡ true → list_all p (filter q ips) ≡ true
+pub all_kept : (p q : Ip → Bool) (ips : List Ip) → list_all p ips ≡ true → list_all p (filter q ips) ≡ true
 all_kept p q [] h = refl
 all_kept p q (ip ∷ ips) h = by_head (q ip) (all_kept p q ips (and_right (p ip) _ h))
   where
@@ -52,7 +53,7 @@ cleaned-own family told = all_taken (is_of family) MAX_ADDRESSES (each_once (fil
 pub cleaned-few : (family : Family) (told : List Ip) → length (cleaned family told) ≤ MAX_ADDRESSES
 cleaned-few family told = omega (arith, length-take MAX_ADDRESSES (each_once (filter (is_of family) told)))
 
-none_kept : (q : Ip → Bool) (ip : Ip) (ips : List Ip) → has_ip ip ips ≡ false → has_ip ip (filter q ips) ≡ false
+pub none_kept : (q : Ip → Bool) (ip : Ip) (ips : List Ip) → has_ip ip ips ≡ false → has_ip ip (filter q ips) ≡ false
 none_kept q ip [] h = refl
 none_kept q ip (other ∷ ips) h = by_head (q other) (none_kept q ip ips (or_right_none (same_ip other ip) _ h))
   where
@@ -73,10 +74,10 @@ none_other ip (other ∷ ips) = by_head (same_ip ip other) refl (none_other ip i
     by_head true e rest = rest
     by_head false e rest = or_none (same_ip other ip) _ (same_ip-sym other ip ∙ e) rest
 
-not_true : (b : Bool) → b ≡ false → not b ≡ true
+pub not_true : (b : Bool) → b ≡ false → not b ≡ true
 not_true b e = ap not e
 
-from_not : (b : Bool) → not b ≡ true → b ≡ false
+pub from_not : (b : Bool) → not b ≡ true → b ≡ false
 from_not true e = cc
 from_not false e = refl
 
@@ -167,21 +168,22 @@ cleaned-more family told ip = ap (λ (ips : List Ip). take MAX_ADDRESSES (each_o
         none false = refl
 
 -- the step of the loop that cleans
-module _ (family : Family) (told ys : List Ip) (i : ℕ) (d : Ip) (below : i < length told) (was : ys ≡ cleaned family (take i told)) where
+module _ (family : Family) (told : List Known) (ys : List Ip) (i : ℕ) (d : Known) (below : i < length told) (was : ys ≡ cleaned family (ips_of (take i told))) where
   abbrev next_ip : Ip
-  next_ip = get_or told i d
+  next_ip = (get_or told i d).ip
 
   abbrev pub wanted : Bool
   wanted = nat_lt (length ys) MAX_ADDRESSES && (is_of family next_ip && not (has_ip next_ip ys))
 
-  step : cleaned family (take (i + 1) told) ≡ (if wanted then ys ++ next_ip ∷ [] else ys)
+  step : cleaned family (ips_of (take (i + 1) told)) ≡ (if wanted then ys ++ next_ip ∷ [] else ys)
   step =
       let grown : List Ip → List Ip = λ zs. if nat_lt (length zs) MAX_ADDRESSES && (is_of family next_ip && not (has_ip next_ip zs)) then zs ++ next_ip ∷ [] else zs in
       let suc_is : i + 1 ≡ suc i = omega arith in
-      ap (λ (k : ℕ). cleaned family (take k told)) suc_is ∙ ap (cleaned family) (take-suc told i d below) ∙ cleaned-more family (take i told) next_ip ∙ ap grown (sym was)
+      let one_more : ips_of (take (suc i) told) ≡ ips_of (take i told) ++ next_ip ∷ [] = ap ips_of (take-suc told i d below) ∙ map-append (λ (one : Known). one.ip) (take i told) (get_or told i d ∷ []) in
+      ap (λ (k : ℕ). cleaned family (ips_of (take k told))) suc_is ∙ ap (cleaned family) one_more ∙ cleaned-more family (ips_of (take i told)) next_ip ∙ ap grown (sym was)
 
-  pub cleaned_next : (zs : List Ip) → wanted ≡ true → zs ≡ ys ++ next_ip ∷ [] → zs ≡ cleaned family (take (i + 1) told)
+  pub cleaned_next : (zs : List Ip) → wanted ≡ true → zs ≡ ys ++ next_ip ∷ [] → zs ≡ cleaned family (ips_of (take (i + 1) told))
   cleaned_next zs is grown = grown ∙ sym (step ∙ ap (λ (b : Bool). if b then ys ++ next_ip ∷ [] else ys) is)
 
-  pub cleaned_left : wanted ≡ false → ys ≡ cleaned family (take (i + 1) told)
+  pub cleaned_left : wanted ≡ false → ys ≡ cleaned family (ips_of (take (i + 1) told))
   cleaned_left is = sym (step ∙ ap (λ (b : Bool). if b then ys ++ next_ip ∷ [] else ys) is)

@@ -10,6 +10,8 @@ pub mod Failing
 pub mod Finished
 pub mod Heard
 pub mod Held
+pub mod Knowing
+pub mod Learnt
 pub mod Listening
 pub mod Onward
 pub mod Races

@@ -11,8 +11,8 @@ use Rattle.futures.specs.declared.task.Poll.{Poll}
 use Rattle.futures.specs.declared.task.Poll.TheVariants.{Ready, Pending}
 use Rattle.he_addr.specs.declared.ip.Family.{Family}
 use Rattle.he_addr.specs.declared.ip.Family.TheVariants as families
-use Rattle.he_addr.specs.declared.ip.Ip.{Ip}
 use Rattle.he_plan.specs.declared.attempts.Attempt.{Attempt}
+use Rattle.he_select.specs.declared.known.Known.{Known}
 use Rattle.he_timeline.specs.Building.{with_answer}
 use Rattle.he_timeline.specs.Race.{Race, Reply, reply_of}
 use Rattle.he_timeline.proofs.Bools.{not_lt}
@@ -133,9 +133,9 @@ some-none None X e = cc
 some-none (Some a) X e = tt
 
 -- what is told for IPv4 leaves the AAAA answer as it is
-told_four : (race : Race) (now : ℕ) (told : Option (List Ip)) → (with_told race families.V4 now told).aaaa ≡ race.aaaa
+told_four : (race : Race) (now : ℕ) (told : Option (List Known)) → (with_told race families.V4 now told).aaaa ≡ race.aaaa
 told_four race now None = refl
-told_four race now (Some ips) = refl
+told_four race now (Some known) = refl
 
 module _ {S : Type 0} (source : SourceOf S) where
   four_keeps : (s s' : S) (race new : Race) (now : ℕ) → HearsOf source.hears s race families.V4 now s' new → new.aaaa ≡ race.aaaa
@@ -158,11 +158,11 @@ module _ {S : Type 0} (source : SourceOf S) where
   if_none_on X Y (Some reply) f x = tt
 
   -- a family of which nothing more is told stays so
-  silent_on : (s s' : S) (family other : Family) (now : ℕ) (told : Option (List Ip)) → source.hears s family now told s' → IsSilent source.hears s other → IsSilent source.hears s' other
+  silent_on : (s s' : S) (family other : Family) (now : ℕ) (told : Option (List Known)) → source.hears s family now told s' → IsSilent source.hears s other → IsSilent source.hears s' other
   silent_on s s' family other now told step silent = record { at = λ polls. (silent.at ((family, now) ∷ polls) told s' step).1 }
 
   -- a poll for one family leaves the source listening for the other one
-  pub listens_on : (cx cx' : Context) (s s' : S) (family : Family) (now : ℕ) (told : Option (List Ip)) → source.hears s family now told s'
+  pub listens_on : (cx cx' : Context) (s s' : S) (family : Family) (now : ℕ) (told : Option (List Known)) → source.hears s family now told s'
       → ((other : Family) → (other ≡ family → ⊥) → Covers cx (source.needs s other) → Covers cx' (source.needs s' other))
       → (other : Family) → (other ≡ family → ⊥) → ListensFor source cx s other → ListensFor source cx' s' other
   listens_on cx cx' s s' family now told step waits other distinct (inl covers) = inl (waits other distinct covers)

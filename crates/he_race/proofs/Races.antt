@@ -12,6 +12,7 @@ use Rattle.he_plan.specs.declared.transcript.Outcome3.{Outcome3}
 use Rattle.he_plan.specs.declared.transcript.Outcome3.TheVariants as results
 use Rattle.he_plan.specs.Agreement.{AreAlike}
 use Rattle.he_timeline.specs.Race.{Race}
+use Rattle.he_select.specs.declared.known.Known.{Known}
 use Rattle.he_race.specs.declared.connector.Connector.{Ghosts as ConnectorOf}
 use Rattle.he_race.specs.declared.faults.RaceFault.{RaceFault}
 use Rattle.he_race.specs.declared.faults.RaceFault.TheVariants as faults
@@ -239,7 +240,7 @@ module _ {S C Conn Run : Type 0} (hears : Tells S) (connector : ConnectorOf C Co
       still x same = subst (GoneOn connector trial ReplaysGiven live) (sym same) (record { kept = is; later = λ raced g. g })
 
   -- over a source that tells nothing the race is the one of which all answers were given
-  module _ (silent : (s : S) (family : Family) (now : ℕ) (told : Option (List Ip)) (s' : S) → hears s family now told s' → told ≡ None) where
+  module _ (silent : (s : S) (family : Family) (now : ℕ) (told : Option (List Known)) (s' : S) → hears s family now told s' → told ≡ None) where
     unheard_turn : (s s' : S) (c c' : C) (live : Live C Conn Run) (now : ℕ) (step : AfterPoll C Conn Run) → HeardTurn hears connector trial s c live now s' c' step → Turned connector trial c live now c' step
     unheard_turn s s' c c' live now (after_polls.Ended raced) (inl e) = inl e.1
     unheard_turn s s' c c' live now (after_polls.Waits next tick) (inl e) = absurd e

@@ -1,8 +1,8 @@
 -- What a turn of a race is whose answers come while it runs, and what the race gives: the public contracts of
 -- `ResolvingRace` cite it.
-use Rattle.std.specs.Prelude.{ℕ, ◌≡◌, ◌+◌, ◌⊎◌, ⊤, min, nat_le, is_some, MatchBool, List, Option, Some, None, option_map, Result}
+use Rattle.std.specs.Prelude.{ℕ, ◌≡◌, ◌+◌, ◌++◌, ◌⊎◌, ⊤, min, nat_le, is_some, MatchBool, List, Option, Some, None, option_map, Result}
 use Rattle.he_addr.specs.declared.ip.Ip.{Ip}
-use Rattle.he_timeline.specs.Race.{Race, Reply}
+use Rattle.he_timeline.specs.Race.{History, Race, Reply}
 use Rattle.he_plan.specs.Transcript.{IsTranscript}
 use Rattle.he_race.specs.declared.connector.Connector.{Ghosts as ConnectorOf}
 use Rattle.he_race.specs.declared.faults.RaceFault.{RaceFault}
@@ -56,12 +56,23 @@ abbrev pub KeepsAnswer : Option Reply → Option Reply → Type 0
 KeepsAnswer None later = ⊤
 KeepsAnswer (Some reply) later = later ≡ Some reply
 
--- the second race has the first one's settings, policy, host and history, and each answer that the first one has
+-- the second list begins with the first
+pub record BeginsWith {X : Type 0} (first later : List X) : Type 0 where
+  pub more : List X
+  pub is : later ≡ first ++ more
+
+-- what was known stays, and what is learnt comes after it
+pub record KeepsHistory (history later : History) : Type 0 where
+  pub rtts : BeginsWith history.rtts later.rtts
+  pub used : BeginsWith history.used later.used
+
+-- the second race has the first one's settings, policy and host, its history begins with the first one's, and it has
+-- each answer that the first one has
 pub record KeepsGiven (race later : Race) : Type 0 where
   pub settings : later.settings ≡ race.settings
   pub policy : later.policy ≡ race.policy
   pub host : later.host ≡ race.host
-  pub history : later.history ≡ race.history
+  pub history : KeepsHistory race.history later.history
   pub aaaa : KeepsAnswer race.aaaa later.aaaa
   pub a : KeepsAnswer race.a later.a
 

@@ -4,13 +4,14 @@ ghost use Rattle.std.specs.Prelude.{◌≡◌, ◌≤◌, ℕ, List, Option, Non
 ghost use Rattle.futures.specs.Poll.{IfReady, OnPending};
 ghost use Rattle.futures.specs.Task.{Covers, Keeps};
 ghost use Rattle.he_addr.specs.declared.ip.Family.{Family};
-ghost use Rattle.he_addr.specs.declared.ip.Ip.{Ip};
+ghost use Rattle.he_select.specs.declared.known.Known.{Known};
 ghost use Rattle.he_race.specs.declared.limits.TheConstants.{MAX_POLL_TICK};
 ghost use Rattle.he_race.specs.Heard.{IsSilent};
 
 use crate::limits::MAX_POLL_TICK;
 use futures::task::{Context, Poll};
-use he_addr::{Family, Ip};
+use he_addr::Family;
+use he_select::Known;
 
 /// Where the answers of a race come from while it runs, as from a resolver that was asked for AAAA and A at once (RFC
 /// 8305 section 3). Each turn polls it once for each family that has no answer yet, IPv6 first, at the turn's tick.
@@ -24,15 +25,19 @@ pub trait AnswerSource: Drop {
     ghost needs: { Self → Family → ℕ → Type 0 } = { λ _ _ _. ⊥ };
 
     // What a poll for a family at a tick may tell, and the state that it leaves.
-    ghost hears: { Self → Family → ℕ → Option (List Ip) → Self → Type 0 };
+    ghost hears: { Self → Family → ℕ → Option (List Known) → Self → Type 0 };
 
     /// Polls for the family's addresses at the tick `now`, at most `MAX_POLL_TICK`. It answers them, of which there
-    /// may be none; for a family that it has answered it isn't polled again. Of what it answers the race takes the
-    /// addresses of the family, each once, and the first `MAX_ADDRESSES` of them.
-    fn poll_answer(&mut self, family: Family, now: u64, cx: &mut Context<'_>) -> Poll<Vec<Ip>>
+    /// may be none, with what the client knows of each from earlier connections (RFC 8305 section 4), which may be
+    /// nothing; for a family that it has answered it isn't polled again.
+    ///
+    /// Of what it answers the race takes the addresses of the family, each once, and the first `MAX_ADDRESSES` of
+    /// them; and of each of these what is told where it stands first. A round trip time of 0 ms counts as 1, and one
+    /// above 3,600,000 as 3,600,000.
+    fn poll_answer(&mut self, family: Family, now: u64, cx: &mut Context<'_>) -> Poll<Vec<Known>>
         requires in_time { now ≤ MAX_POLL_TICK }
         ensures pending { OnPending result (hears self.old family now None self.new) }
-        ensures ready { IfReady result (λ ips. hears self.old family now (Some ips.items) self.new) }
+        ensures ready { IfReady result (λ known. hears self.old family now (Some known.items) self.new) }
         ensures waits { OnPending result (Covers cx.new (needs self.new family) ⊎ IsSilent hears self.new family) }
         ensures other { (other : Family) → (other ≡ family → ⊥) → Covers cx.old (needs self.old other)
             → Covers cx.new (needs self.new other) }
@@ -48,7 +53,12 @@ impl AnswerSource for NoAnswers {
 
     ghost hears = { λ s family now told left. (told ≡ None) × (left ≡ s) };
 
-    fn poll_answer(&mut self, _family: Family, _now: u64, _cx: &mut Context<'_>) -> Poll<Vec<Ip>> {
+    fn poll_answer(
+        &mut self,
+        _family: Family,
+        _now: u64,
+        _cx: &mut Context<'_>,
+    ) -> Poll<Vec<Known>> {
         Poll::Pending
     }
 }

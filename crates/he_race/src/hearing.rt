@@ -8,15 +8,17 @@ ghost use Rattle.he_timeline.specs.Building.{with_answer};
 ghost use Rattle.he_timeline.specs.Race.{has_ip, reply_of};
 ghost use Rattle.he_timeline.specs.Timeline.{IsRace, are_distinct, are_of, is_of};
 ghost use Rattle.he_plan.specs.RaceState.{IsUnderway};
-ghost use Rattle.he_race.specs.Heard.{Hears, HearsOf, cleaned};
+ghost use Rattle.he_race.specs.Heard.{Hears, HearsOf, cleaned, ips_of, with_heard};
 ghost use Rattle.he_race.specs.Kept.{InTurn};
 ghost use Rattle.he_race.specs.Listening.{ListensFor, SourceListens};
 
 use crate::answers::AnswerSource;
+use crate::learning::add_known;
 use crate::recorder::{Recorder, only_memory};
 use futures::task::{Context, Poll};
 use he_addr::{Family, Ip, Memory};
 use he_plan::{Attempt, RaceState};
+use he_select::Known;
 use he_timeline::limits::MAX_ADDRESSES;
 use he_timeline::{Timeline, TimelineBuilder};
 use std::alloc::Global;
@@ -76,19 +78,20 @@ impl Recorder {
     }
 
     // Records what was told for a family that has no answer, in the turn at the tick.
-    fn answer(&mut self, family: Family, now: u64, told: &[Ip]) -> Result<(), Memory>
+    fn answer(&mut self, family: Family, now: u64, told: &[Known]) -> Result<(), Memory>
         requires turn { InTurn self.old.recorded now self.old.underway.attempts false }
         requires underway { IsUnderway self.old.recorded self.old.underway }
         requires first { reply_of self.old.recorded family ≡ None }
         requires in_time { now ≤ MAX_LIMIT }
-        ensures recorded { OnOk result (self.new.recorded ≡ with_answer self.old.recorded family
-            (record { tick = now; addresses = cleaned family told.now })) }
+        ensures recorded { OnOk result (self.new.recorded ≡ with_heard self.old.recorded family now told.now
+            (cleaned family (ips_of told.now))) }
         ensures attempts { OnOk result (self.new.underway.attempts ≡ self.old.underway.attempts) }
         ensures turn { OnOk result (InTurn self.new.recorded now self.new.underway.attempts false) }
         ensures underway { OnOk result (IsUnderway self.new.recorded self.new.underway) }
     {
         let addresses = cleaned(self.alloc, family, told)?;
         add_answer(&mut self.recorded, family, now, &addresses)?;
+        add_known(&mut self.recorded, told, &addresses)?;
         self.underway = again(
             self.alloc,
             self.recorded.timeline(),
@@ -119,13 +122,13 @@ fn add_answer(
 
 // What a race takes of the addresses that are told for a family: those of the family, each once, at most
 // `MAX_ADDRESSES`.
-fn cleaned(alloc: Global, family: Family, told: &[Ip]) -> Result<Vec<Ip>, Memory>
-    ensures { IfOk result (λ clean. clean.items ≡ cleaned family told.now) }
+fn cleaned(alloc: Global, family: Family, told: &[Known]) -> Result<Vec<Ip>, Memory>
+    ensures { IfOk result (λ clean. clean.items ≡ cleaned family (ips_of told.now)) }
 {
     let mut clean = Vec::new(alloc);
-    for ip in told {
-        if is_wanted(&clean, family, *ip) {
-            clean.push(*ip)?;
+    for one in told {
+        if is_wanted(&clean, family, one.ip) {
+            clean.push(one.ip)?;
         }
     }
     Ok(clean)

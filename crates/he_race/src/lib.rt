@@ -141,6 +141,7 @@ pub mod connector;
 pub mod faults;
 mod hearing;
 pub mod laws;
+mod learning;
 pub mod limits;
 mod live;
 pub mod one;
