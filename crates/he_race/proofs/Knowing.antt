@@ -94,10 +94,10 @@ all_in (ip ∷ ips) =
     (list_all-weaker (λ other. has_ip other ips) (λ other. has_ip other (ip ∷ ips)) ips (λ other h. or_right (same_ip ip other) _ h) (all_in ips))
 
 -- the addresses of an answer stand in it
-pub all-answered : (race : Race) (family : Family) (tick : ℕ) (ips : List Ip) → list_all (is_in_answer (with_answer race family (record { tick = tick; addresses = ips }))) ips ≡ true
-all-answered race families.V6 tick ips =
+all_answered : (race : Race) (family : Family) (tick : ℕ) (ips : List Ip) → list_all (is_in_answer (with_answer race family (record { tick = tick; addresses = ips }))) ips ≡ true
+all_answered race families.V6 tick ips =
     list_all-weaker (λ ip. has_ip ip ips) (is_in_answer (with_answer race families.V6 (record { tick = tick; addresses = ips }))) ips (λ ip h. or_left (has_ip ip ips) _ h) (all_in ips)
-all-answered race families.V4 tick ips =
+all_answered race families.V4 tick ips =
     list_all-weaker (λ ip. has_ip ip ips) (is_in_answer (with_answer race families.V4 (record { tick = tick; addresses = ips }))) ips (λ ip h. or_right (has_ip ip (addresses_of race.aaaa)) _ h) (all_in ips)
 
 module _ (race : Race) (r : IsRace race) where
@@ -138,12 +138,12 @@ module _ (race : Race) (r : IsRace race) where
     same_used families.V6 = refl
     same_used families.V4 = refl
 
-    pub all-untold : list_all (λ ip. not (is_told ip (with_answer race family reply).history.rtts)) ips ≡ true
-    all-untold =
+    all_untold : list_all (λ ip. not (is_told ip (with_answer race family reply).history.rtts)) ips ≡ true
+    all_untold =
         rw (same_rtts family) (list_all-weaker (is_of family) (λ ip. not (is_told ip race.history.rtts)) ips (λ ip of. not_true _ (untold_in ip (unanswered family none ip of) race.history.rtts r.rtts)) own)
 
-    pub all-unused : list_all (λ ip. not (has_ip ip (with_answer race family reply).history.used)) ips ≡ true
-    all-unused =
+    all_unused : list_all (λ ip. not (has_ip ip (with_answer race family reply).history.used)) ips ≡ true
+    all_unused =
         rw (same_used family) (list_all-weaker (is_of family) (λ ip. not (has_ip ip race.history.used)) ips (λ ip of. not_true _ (unused_in ip (unanswered family none ip of) race.history.used r.used)) own)
 
 -- a turn goes on where an answer is recorded in it, with what is told of its addresses
@@ -153,3 +153,16 @@ known-turn race answered new family now known ips xs t none own is valid learnt 
     let all : new ≡ with_heard race family now known ips = learnt ∙ ap (λ (r : Race). with_known r known ips) is in
     subst (λ (r : Race). InTurn r now xs false) (sym all)
     (learnt-turn race t.valid family none now known ips own xs (subst (λ (r : Race). InTurn r now xs false) is one) (subst IsRace all fits))
+
+pub known-answered : (race answered : Race) (family : Family) (reply : Reply) (ips : List Ip) → ips ≡ reply.addresses → answered ≡ with_answer race family reply → list_all (is_in_answer answered) ips ≡ true
+known-answered race answered family reply ips same is =
+    subst (λ (r : Race). list_all (is_in_answer r) ips ≡ true) (sym is)
+    (subst (λ (xs : List Ip). list_all (is_in_answer (with_answer race family reply)) xs ≡ true) (sym same) (all_answered race family reply.tick reply.addresses))
+
+pub known-untold : (race answered : Race) → IsRace race → (family : Family) → reply_of race family ≡ None → (reply : Reply) (ips : List Ip) → are_of family ips ≡ true → answered ≡ with_answer race family reply → list_all (λ ip. not (is_told ip answered.history.rtts)) ips ≡ true
+known-untold race answered r family none reply ips own is =
+    subst (λ (z : Race). list_all (λ ip. not (is_told ip z.history.rtts)) ips ≡ true) (sym is) (all_untold race r family none reply ips own)
+
+pub known-unused : (race answered : Race) → IsRace race → (family : Family) → reply_of race family ≡ None → (reply : Reply) (ips : List Ip) → are_of family ips ≡ true → answered ≡ with_answer race family reply → list_all (λ ip. not (has_ip ip answered.history.used)) ips ≡ true
+known-unused race answered r family none reply ips own is =
+    subst (λ (z : Race). list_all (λ ip. not (has_ip ip z.history.used)) ips ≡ true) (sym is) (all_unused race r family none reply ips own)

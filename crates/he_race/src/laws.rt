@@ -1,23 +1,27 @@
 // What one more answer leaves as it was, as the contract of a function that does nothing.
 
-ghost use Rattle.std.specs.Prelude.{◌≡◌, ℕ, ◌<◌, ◌≤◌, ◌↔◌, List, None, IsTrue, nat_lt};
+ghost use Rattle.std.specs.Prelude.{◌≡◌, ℕ, ◌<◌, ◌≤◌, ◌↔◌, List, None, Some, IsTrue, nat_lt};
 ghost use Rattle.std.specs.List.{list_all};
 ghost use Rattle.he_addr.specs.declared.ip.Family.{Family};
 ghost use Rattle.he_plan.specs.declared.attempts.Attempt.{Attempt};
 ghost use Rattle.he_plan.specs.Attempts.{AreNextInTurn, MayStart, order_at};
-ghost use Rattle.he_timeline.specs.Building.{with_answer};
-ghost use Rattle.he_timeline.specs.Race.{Race, Reply, reply_of};
+ghost use Rattle.he_select.specs.declared.known.Known.{Known};
+ghost use Rattle.he_timeline.specs.Race.{Race, reply_of};
 ghost use Rattle.he_timeline.specs.Timeline.{IsRace};
+ghost use Rattle.he_race.specs.Heard.{with_told};
 
-/// One more answer changes nothing before its tick: neither which ticks an attempt may start at, nor from which list
-/// it takes its address, nor the attempts that were made.
+/// One more answer changes nothing before its tick, and neither does what is told of its addresses from earlier:
+/// neither which ticks an attempt may start at, nor from which list it takes its address, nor the attempts that were
+/// made.
 pub fn one_more_answer_above()
-    ensures starts { (race : Race) (family : Family) (reply : Reply) → IsRace race → reply_of race family ≡ None
-        → (done : List Attempt) (t : ℕ) → t < reply.tick → MayStart race done t
-        ↔ MayStart (with_answer race family reply) done t }
-    ensures order { (race : Race) (family : Family) (reply : Reply) → IsRace race → reply_of race family ≡ None
-        → (t : ℕ) → t < reply.tick → order_at race t ≡ order_at (with_answer race family reply) t }
-    ensures attempts { (race : Race) (family : Family) (reply : Reply) → IsRace race → reply_of race family ≡ None
-        → (attempts : List Attempt) → IsTrue (list_all (λ x. nat_lt x.tick reply.tick) attempts)
-        → AreNextInTurn race attempts → AreNextInTurn (with_answer race family reply) attempts }
+    ensures starts { (race : Race) (family : Family) (now : ℕ) (known : List Known) → IsRace race
+        → reply_of race family ≡ None → (done : List Attempt) (t : ℕ) → t < now → MayStart race done t
+        ↔ MayStart (with_told race family now (Some known)) done t }
+    ensures order { (race : Race) (family : Family) (now : ℕ) (known : List Known) → IsRace race
+        → reply_of race family ≡ None → (t : ℕ) → t < now → order_at race t
+        ≡ order_at (with_told race family now (Some known)) t }
+    ensures attempts { (race : Race) (family : Family) (now : ℕ) (known : List Known) → IsRace race
+        → reply_of race family ≡ None → (attempts : List Attempt)
+        → IsTrue (list_all (λ x. nat_lt x.tick now) attempts) → AreNextInTurn race attempts
+        → AreNextInTurn (with_told race family now (Some known)) attempts }
 {}

@@ -1,11 +1,13 @@
-use Rattle.he_plan.proofs.Later.{attempts-before, order-before, starts-before}
+use Rattle.he_race.specs.Heard.{cleaned, ips_of}
+use Rattle.he_race.proofs.Cleaned.{cleaned-own}
+use Rattle.he_race.proofs.Learnt.{heard-attempts, heard-order, heard-starts}
 use Rattle.he_race.proofs.laws.one_more_answer_above.Goals as goal
 
 pub returns-clause-starts : goal.returns-clause-starts
-returns-clause-starts c = λ race family reply r none. starts-before race r reply family none
+returns-clause-starts c = λ race family now known r none. heard-starts race r family none now known (cleaned family (ips_of known)) (cleaned-own family (ips_of known))
 
 pub returns-clause-order : goal.returns-clause-order
-returns-clause-order c = λ race family reply r none. order-before race r reply family none
+returns-clause-order c = λ race family now known r none. heard-order race r family none now known (cleaned family (ips_of known)) (cleaned-own family (ips_of known))
 
 pub returns-clause-attempts : goal.returns-clause-attempts
-returns-clause-attempts c = λ race family reply r none. attempts-before race r reply family none
+returns-clause-attempts c = λ race family now known r none. heard-attempts race r family none now known (cleaned family (ips_of known)) (cleaned-own family (ips_of known))
