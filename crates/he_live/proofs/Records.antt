@@ -29,7 +29,7 @@ gives_given {C} {Conn} {Run} reaches (Some live) race raced is gives =
           settings = of.kept.settings;
           policy = of.kept.policy;
           host = of.kept.host;
-          history = of.kept.history;
+          history = record { rtts = of.kept.history.rtts; used = of.kept.history.used };
           aaaa = of.kept.aaaa;
           a = of.kept.a;
         };

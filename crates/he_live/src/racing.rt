@@ -102,7 +102,7 @@ where
     // A handle of its own, since the run borrows the event loop.
     let handle = runtime.handle().clone()?;
     let connector = TcpConnector::new(rt, handle.reactor(), port, steps.share()?);
-    let ticker = LiveTicker::new(rt, handle.time(), start, steps, &Quiet);
+    let ticker = LiveTicker::new(rt, handle.time(), start, steps.share()?, Quiet);
     let race = RaceFuture::new(alloc, timeline, connector, ticker)?;
     match runtime.block_on(rt, race)? {
         Ok(raced) => Ok(raced),
@@ -140,7 +140,7 @@ where
     let start = Instant::now(rt)?;
     let handle = runtime.handle().clone()?;
     let connector = TcpConnector::new(rt, handle.reactor(), port, steps.share()?);
-    let ticker = LiveTicker::new(rt, handle.time(), start, steps, watcher);
+    let ticker = LiveTicker::new(rt, handle.time(), start, steps.share()?, watcher);
     let race = ResolvingRace::new(alloc, timeline, connector, source, ticker)?;
     let ended = runtime.block_on(rt, race);
     steps.tell_new(watcher);

@@ -2,7 +2,6 @@
 
 use crate::reason::Reason;
 use he_addr::Ip;
-use he_timeline::limits::MAX_ATTEMPTS;
 use std::alloc::{AllocError, Global};
 use std::cell::Cell;
 use std::rc::Rc;
@@ -42,7 +41,14 @@ impl Watcher for Quiet {
     fn tell(&self, _step: Step) {}
 }
 
-/// The steps of one live race.
+// One that is the caller's still.
+impl<'w, W: Watcher> Watcher for &'w W {
+    fn tell(&self, step: Step) {
+        (**self).tell(step);
+    }
+}
+
+/// The steps of one live race. They grow with its attempts.
 #[derive(Drop)]
 pub struct Steps {
     // What the race's sockets note while the race is run.
@@ -51,9 +57,10 @@ pub struct Steps {
 
 #[derive(Drop)]
 struct Noted {
-    // A place for each step that a race may have, so that one is noted without an allocation.
-    steps: Vec<Cell<Option<Step>>>,
-    count: Cell<usize>,
+    alloc: Global,
+    steps: Cell<Vec<Step>>,
+    // How many attempts have room for their steps.
+    attempts: Cell<usize>,
     told: Cell<usize>,
     // The tick at which the last attempt began.
     begun: Cell<Option<u64>>,
@@ -70,8 +77,9 @@ impl Steps {
     /// `AllocError` where an allocation was refused.
     pub fn new(alloc: Global) -> Result<Steps, AllocError> {
         let noted = Noted {
-            steps: no_steps(alloc)?,
-            count: Cell::new(0),
+            alloc,
+            steps: Cell::new(Vec::new(alloc)),
+            attempts: Cell::new(0),
             told: Cell::new(0),
             begun: Cell::new(None),
         };
@@ -82,22 +90,33 @@ impl Steps {
 
     /// Why the attempt of the place failed; `Other(0)` where no failure of it was noted.
     pub fn reason_of(&self, place: usize) -> Reason {
-        for noted in &self.shared.steps {
-            if let Some(step) = noted.get()
-                && step.place == place
-                && let StepKind::Failed(reason) = step.what
-            {
-                return reason;
-            }
-        }
-        Reason::Other(0)
+        let steps = self.take();
+        let reason = reason_in(&steps, place);
+        self.shared.steps.set(steps);
+        reason
     }
 
-    // The same steps, for another part of the race.
-    pub(crate) fn share(&self) -> Result<Steps, AllocError> {
+    /// The same steps, for another holder.
+    ///
+    /// # Errors
+    ///
+    /// `AllocError` where there are too many holders.
+    pub fn share(&self) -> Result<Steps, AllocError> {
         Ok(Steps {
             shared: self.shared.clone()?,
         })
+    }
+
+    // The same steps for one more attempt, with room for all that it notes.
+    pub(crate) fn for_attempt(&self) -> Result<Steps, AllocError> {
+        let attempts = self.shared.attempts.get().saturating_add(1);
+        let mut steps = self.take();
+        let wanted = attempts.saturating_mul(STEPS_OF_ATTEMPT);
+        let room = steps.reserve(wanted.saturating_sub(steps.len()));
+        self.shared.steps.set(steps);
+        room?;
+        self.shared.attempts.set(attempts);
+        self.share()
     }
 
     // The tick at which the last attempt began, once one did.
@@ -105,33 +124,54 @@ impl Steps {
         self.shared.begun.get()
     }
 
+    // Notes a step of an attempt that has room for it.
     pub(crate) fn note(&self, step: Step) {
         if step.what == StepKind::Began {
             self.shared.begun.set(Some(step.tick));
         }
-        let count = self.shared.count.get();
-        if let Some(noted) = self.shared.steps.get(count) {
-            noted.set(Some(step));
-            self.shared.count.set(count + 1);
-        }
+        let mut steps = self.take();
+        let _ = steps.push(step);
+        self.shared.steps.set(steps);
     }
 
     // Tells the watcher the steps that were noted since it was told.
     pub(crate) fn tell_new<W: Watcher>(&self, watcher: &W) {
-        let (told, count) = (self.shared.told.get(), self.shared.count.get());
-        for noted in self.shared.steps.iter().take(count).skip(told) {
-            if let Some(step) = noted.get() {
+        let (told, count) = (self.shared.told.get(), self.count());
+        self.shared.told.set(count);
+        for at in told..count {
+            if let Some(step) = self.step_at(at) {
                 watcher.tell(step);
             }
         }
-        self.shared.told.set(count);
+    }
+
+    fn count(&self) -> usize {
+        let steps = self.take();
+        let count = steps.len();
+        self.shared.steps.set(steps);
+        count
+    }
+
+    fn step_at(&self, at: usize) -> Option<Step> {
+        let steps = self.take();
+        let step = steps.get(at).copied();
+        self.shared.steps.set(steps);
+        step
+    }
+
+    // The steps, of which none are left until they are put back.
+    fn take(&self) -> Vec<Step> {
+        self.shared.steps.replace(Vec::new(self.shared.alloc))
     }
 }
 
-fn no_steps(alloc: Global) -> Result<Vec<Cell<Option<Step>>>, AllocError> {
-    let mut steps = Vec::with_capacity(alloc, STEPS_OF_ATTEMPT * MAX_ATTEMPTS)?;
-    for _ in 0..STEPS_OF_ATTEMPT * MAX_ATTEMPTS {
-        steps.push(Cell::new(None))?;
+fn reason_in(steps: &[Step], place: usize) -> Reason {
+    for step in steps {
+        if step.place == place
+            && let StepKind::Failed(reason) = step.what
+        {
+            return reason;
+        }
     }
-    Ok(steps)
+    Reason::Other(0)
 }
