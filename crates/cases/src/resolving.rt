@@ -7,7 +7,7 @@ use futures::Future;
 use futures::task::{Context, Poll, Solo};
 use he_addr::{Family, Ip, Memory};
 use he_plan::{Transcript, transcript_of};
-use he_race::{AnswerSource, RaceFault, Raced, ResolvingRace, Scripted, TickFault, Ticker};
+use he_race::{AnswerSource, Known, RaceFault, Raced, ResolvingRace, Scripted, TickFault, Ticker};
 use he_timeline::{Timeline, TimelineBuilder};
 use std::alloc::Global;
 use std::mem::drop;
@@ -97,17 +97,26 @@ fn wait(number: u64, asked: u64) -> u64 {
 #[derive(Drop)]
 struct Reply {
     tick: u64,
-    addresses: Vec<Ip>,
+    addresses: Vec<Known>,
 }
 
 fn reply_of(alloc: Global, timeline: &Timeline, family: Family) -> Result<Option<Reply>, Memory> {
     match timeline.answer(family) {
         Some((tick, ips)) => {
-            let addresses = Vec::from_slice(alloc, ips)?;
+            let addresses = known_of(alloc, timeline, ips)?;
             Ok(Some(Reply { tick, addresses }))
         }
         None => Ok(None),
     }
+}
+
+// The addresses with what the race knows of them.
+fn known_of(alloc: Global, timeline: &Timeline, ips: &[Ip]) -> Result<Vec<Known>, Memory> {
+    let mut known = Vec::new(alloc);
+    for ip in ips {
+        known.push(timeline.known(*ip))?;
+    }
+    Ok(known)
 }
 
 // The answers of a timeline.
@@ -135,7 +144,7 @@ impl AnswerSource for Replies {
 
     ghost hears = { λ _ _ _ _ _. ⊤ };
 
-    fn poll_answer(&mut self, family: Family, now: u64, cx: &mut Context<'_>) -> Poll<Vec<Ip>> {
+    fn poll_answer(&mut self, family: Family, now: u64, cx: &mut Context<'_>) -> Poll<Vec<Known>> {
         match family {
             Family::V6 => tell(&mut self.six, now, cx),
             Family::V4 => tell(&mut self.four, now, cx),
@@ -144,7 +153,7 @@ impl AnswerSource for Replies {
 }
 
 // Tells the answer, where its tick has come.
-fn tell(reply: &mut Option<Reply>, now: u64, cx: &mut Context<'_>) -> Poll<Vec<Ip>>
+fn tell(reply: &mut Option<Reply>, now: u64, cx: &mut Context<'_>) -> Poll<Vec<Known>>
     ensures waits { OnPending result (IsArmed cx.new) }
     ensures kept { Keeps cx.old cx.new }
 {
@@ -191,11 +200,8 @@ pub fn is_heard(
 
 // The transcript that the race has where its answers come at their ticks, if it must be this one of its timeline. The
 // Resolution Delay runs from the A answer's own tick; where the client slept then, the answer counts from its waking.
-// And what is known of addresses stands with their answers.
 fn own_transcript<'a>(timeline: &Timeline, transcript: &'a Transcript) -> Option<&'a Transcript> {
-    let is_known = !timeline.rtts().is_empty() || !timeline.used_addresses().is_empty();
     match timeline.answer(Family::V4) {
-        _ if is_known => None,
         Some((tick, _)) if timeline.seen(tick) != tick => None,
         _ => Some(transcript),
     }

@@ -4,7 +4,7 @@ use crate::request::Families;
 use crate::telling::Telling;
 use futures::task::{Context, Poll};
 use he_addr::{Family, Ip};
-use he_race::AnswerSource;
+use he_race::{AnswerSource, Known, nothing_known};
 use he_resolver::{Lookup, LookupLog, NamesFault, first_fault};
 use std::alloc::{AllocError, Global};
 use std::cell::Cell;
@@ -98,6 +98,17 @@ impl<'h, 'f, R: Net + RandomSource + Clock, F> HostAnswers<'h, 'f, R, F> {
             telling,
         })
     }
+
+    // What the race is told of the family: its addresses, of which nothing is known, or none, and why is noted.
+    fn answer_of(&self, family: Family, told: Result<Vec<Ip>, NamesFault>) -> Vec<Known> {
+        match known_of(self.alloc, told) {
+            Ok(known) => known,
+            Err(fault) => {
+                self.why.note(family, fault);
+                Vec::new(self.alloc)
+            }
+        }
+    }
 }
 
 impl<'h, 'f, R: Net + RandomSource + Clock, F: Write> AnswerSource for HostAnswers<'h, 'f, R, F> {
@@ -108,16 +119,16 @@ impl<'h, 'f, R: Net + RandomSource + Clock, F: Write> AnswerSource for HostAnswe
 
     ghost hears = { λ _ _ _ _ _. ⊤ };
 
-    fn poll_answer(&mut self, family: Family, _now: u64, cx: &mut Context<'_>) -> Poll<Vec<Ip>> {
+    fn poll_answer(&mut self, family: Family, _now: u64, cx: &mut Context<'_>) -> Poll<Vec<Known>> {
         let polled = self.lookup.poll_answer(family, cx);
         self.telling.tell_lookup(&self.log);
         match polled {
             Poll::Pending => Poll::Pending,
-            Poll::Ready(Ok(ips)) => Poll::Ready(ips),
-            Poll::Ready(Err(fault)) => {
-                self.why.note(family, fault);
-                Poll::Ready(Vec::new(self.alloc))
-            }
+            Poll::Ready(told) => Poll::Ready(self.answer_of(family, told)),
         }
     }
+}
+
+fn known_of(alloc: Global, told: Result<Vec<Ip>, NamesFault>) -> Result<Vec<Known>, NamesFault> {
+    nothing_known(alloc, &told?).map_err(|_| NamesFault::Memory)
 }

@@ -7,7 +7,7 @@ use futures::task::{Context, Poll};
 use he_addr::{Family, Ip};
 use he_inputs::read_one_race;
 use he_live::{Dialed, Quiet, Reason, Step, StepKind, Steps, Watcher, resolving_race_on};
-use he_race::AnswerSource;
+use he_race::{AnswerSource, Known, nothing_known};
 use std::alloc::Global;
 use std::cell::Cell;
 use std::io;
@@ -51,7 +51,7 @@ impl AnswerSource for AtTicks {
 
     ghost hears = { λ _ _ _ _ _. ⊤ };
 
-    fn poll_answer(&mut self, family: Family, now: u64, cx: &mut Context<'_>) -> Poll<Vec<Ip>> {
+    fn poll_answer(&mut self, family: Family, now: u64, cx: &mut Context<'_>) -> Poll<Vec<Known>> {
         let (tick, ip) = match family {
             Family::V6 => (self.aaaa, LOOPBACK_6),
             Family::V4 => (self.a, LOOPBACK_4),
@@ -59,9 +59,8 @@ impl AnswerSource for AtTicks {
         if now < tick {
             return cx.yield_now();
         }
-        let mut ips = Vec::new(self.alloc);
-        match ips.push(ip) {
-            Ok(()) => Poll::Ready(ips),
+        match nothing_known(self.alloc, &[ip]) {
+            Ok(known) => Poll::Ready(known),
             Err(_) => cx.yield_now(),
         }
     }

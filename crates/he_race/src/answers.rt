@@ -1,17 +1,19 @@
 // Where the answers of a race come from while it runs.
 
-ghost use Rattle.std.specs.Prelude.{◌≡◌, ◌≤◌, ℕ, List, Option, None, Some, ◌⊎◌};
+ghost use Rattle.std.specs.Prelude.{◌≡◌, ◌≤◌, ℕ, List, Option, None, Some, map, ◌⊎◌, IfOk};
 ghost use Rattle.futures.specs.Poll.{IfReady, OnPending};
 ghost use Rattle.futures.specs.Task.{Covers, Keeps};
 ghost use Rattle.he_addr.specs.declared.ip.Family.{Family};
 ghost use Rattle.he_select.specs.declared.known.Known.{Known};
+ghost use Rattle.he_select.specs.Selection.{nothing_known};
 ghost use Rattle.he_race.specs.declared.limits.TheConstants.{MAX_POLL_TICK};
 ghost use Rattle.he_race.specs.Heard.{IsSilent};
 
 use crate::limits::MAX_POLL_TICK;
 use futures::task::{Context, Poll};
-use he_addr::Family;
+use he_addr::{Family, Ip, Memory};
 use he_select::Known;
+use std::alloc::Global;
 
 /// Where the answers of a race come from while it runs, as from a resolver that was asked for AAAA and A at once (RFC
 /// 8305 section 3). Each turn polls it once for each family that has no answer yet, IPv6 first, at the turn's tick.
@@ -42,6 +44,17 @@ pub trait AnswerSource: Drop {
         ensures other { (other : Family) → (other ≡ family → ⊥) → Covers cx.old (needs self.old other)
             → Covers cx.new (needs self.new other) }
         ensures kept { Keeps cx.old cx.new };
+}
+
+/// The addresses, of which nothing is known: what a source answers that keeps no history.
+pub fn nothing_known(alloc: Global, addresses: &[Ip]) -> Result<Vec<Known>, Memory>
+    ensures { IfOk result (λ known. known.items ≡ map nothing_known addresses.now) }
+{
+    let mut known = Vec::new(alloc);
+    for ip in addresses {
+        known.push(Known::nothing(*ip))?;
+    }
+    Ok(known)
 }
 
 // The source of a race whose answers are all known: it tells nothing.

@@ -55,7 +55,8 @@
 //!
 //! A `ResolvingRace` takes the same turns, and in each of them, after the pause and before the attempts, polls its
 //! source for each family that has no answer, IPv6 first. Of what the source tells, the family's addresses, each
-//! once and at most `MAX_ADDRESSES` of them, count as an answer that came at the turn's tick.
+//! once and at most `MAX_ADDRESSES` of them, count as an answer that came at the turn's tick. What the client knows of
+//! these from earlier connections comes with them (RFC 8305 section 4), and the race chooses by it from then on.
 //!
 //! ```text
 //! let mut race = RaceFuture::new(alloc, &timeline, connector, ticker)?;
@@ -104,10 +105,12 @@
 //!   connection exactly where the race was won (`Replays` in `specs/Turns.antt`).
 //! - The winner's connection goes to the address of the transcript's line at the winning place, by what its connector
 //!   says of where connections go (`reaches`; `WinnerGoes` in `specs/Winner.antt`).
-//! - What a `ResolvingRace` gives replays likewise, for every source too: the record has the given settings, policy,
-//!   host and history, each given answer, and of the other families what the source told, at the tick of the turn in
-//!   which it did; a family that has an answer isn't polled (`ReplaysGiven` and `HeardAt` in `specs/Resolving.antt`,
-//!   `Hears` in `specs/Heard.antt`). One more answer changes nothing before its tick (`laws::one_more_answer_above`).
+//! - What a `ResolvingRace` gives replays likewise, for every source too: the record has the given settings, policy
+//!   and host, each given answer, and of the other families what the source told, at the tick of the turn in which it
+//!   did; its history begins with the given one, and has then what the source told of the addresses of its answers,
+//!   and of no other; a family that has an answer isn't polled (`ReplaysGiven` and `HeardAt` in
+//!   `specs/Resolving.antt`, `Hears` in `specs/Heard.antt`). One more answer, with what is told of its addresses,
+//!   changes nothing before its tick (`laws::one_more_answer_above`).
 //! - In a turn each unfinished attempt is polled once, with an answer and a new state that its trial's relation
 //!   allows; how one that answers ended is recorded, with the ticks since its start, and nothing else is; a pause is
 //!   recorded exactly where something was due before the turn, from there to it; the race ends exactly where the
@@ -130,8 +133,8 @@
 //!
 //! Tested only: that calls succeed where memory is granted, since no contract can say that a growth was refused; a
 //! connector, tickers and a source of a user's own; and that over a source that tells a recorded timeline's answers at
-//! their ticks, the race is the one that `RaceFuture::new` runs. That is so where nothing is known of addresses from
-//! earlier and no pause covers the tick of the A answer: the Resolution Delay runs from where an answer is told.
+//! their ticks, with what is known of their addresses, the race is the one that `RaceFuture::new` runs. That is so
+//! where no pause covers the tick of the A answer: the Resolution Delay runs from where an answer is told.
 #![tactic(auto)]
 
 mod alone;
@@ -154,10 +157,11 @@ pub mod ticker;
 pub mod trial;
 pub mod wheel;
 
-pub use answers::AnswerSource;
+pub use answers::{AnswerSource, nothing_known};
 pub use attempt::{AttemptFuture, Finish};
 pub use connector::Connector;
 pub use faults::{AttemptFault, RaceFault, TickFault};
+pub use he_select::Known;
 pub use live::Raced;
 pub use one::race_one;
 pub use race::RaceFuture;

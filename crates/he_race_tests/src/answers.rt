@@ -4,11 +4,14 @@
 use crate::homes::{PlannedRace, V4_A, V6_A, V6_B, race, unanswered};
 use crate::races::drive;
 use futures::task::{Context, Doorbell, Poll, Solo};
-use he_addr::{Family, Ip};
+use he_addr::{Family, Ip, Memory};
 use he_plan::{Mark, Outcome3};
-use he_race::{AnswerSource, RaceFault, Raced, ResolvingRace, Scripted, TickFault, Ticker};
+use he_race::{
+    AnswerSource, Known, RaceFault, Raced, ResolvingRace, Scripted, TickFault, Ticker,
+    nothing_known,
+};
 use he_timeline::{Outcome, Timeline};
-use std::alloc::{AllocError, Global};
+use std::alloc::Global;
 use std::mem::drop;
 use std::test::Fail;
 
@@ -23,21 +26,22 @@ enum SourceAnswer {
     Many,
 }
 
-fn addresses(alloc: Global, told: SourceAnswer) -> Result<Vec<Ip>, AllocError> {
+fn addresses(alloc: Global, told: SourceAnswer) -> Result<Vec<Known>, Memory> {
     match told {
         SourceAnswer::Nothing => Ok(Vec::new(alloc)),
-        SourceAnswer::One(ip) => Vec::from_slice(alloc, &[ip]),
-        SourceAnswer::Mixed => Vec::from_slice(alloc, &[V4_A, V6_A, V6_A, V4_A, V6_B]),
+        SourceAnswer::One(ip) => nothing_known(alloc, &[ip]),
+        SourceAnswer::Mixed => nothing_known(alloc, &[V4_A, V6_A, V6_A, V4_A, V6_B]),
         SourceAnswer::Many => many(alloc),
     }
 }
 
-fn many(alloc: Global) -> Result<Vec<Ip>, AllocError> {
-    let mut ips = Vec::new(alloc);
+fn many(alloc: Global) -> Result<Vec<Known>, Memory> {
+    let mut known = Vec::new(alloc);
     for i in 0..300u16 {
-        ips.push(Ip::V6(0x2001_0db8_0001_0000_0000_0000_0000_0000 + u128::from(i)))?;
+        let ip = Ip::V6(0x2001_0db8_0001_0000_0000_0000_0000_0000 + u128::from(i));
+        known.push(Known::nothing(ip))?;
     }
-    Ok(ips)
+    Ok(known)
 }
 
 // Tells of each family from a tick on, at each poll, or never.
@@ -53,15 +57,15 @@ impl AnswerSource for Telling {
 
     ghost hears = { λ _ _ _ _ _. ⊤ };
 
-    fn poll_answer(&mut self, family: Family, now: u64, cx: &mut Context<'_>) -> Poll<Vec<Ip>> {
+    fn poll_answer(&mut self, family: Family, now: u64, cx: &mut Context<'_>) -> Poll<Vec<Known>> {
         let told = match family {
             Family::V6 => self.six,
             Family::V4 => self.four,
         };
         if let Some((from, told)) = told {
             if from <= now {
-                if let Ok(ips) = addresses(self.alloc, told) {
-                    return Poll::Ready(ips);
+                if let Ok(known) = addresses(self.alloc, told) {
+                    return Poll::Ready(known);
                 }
             }
         }

@@ -162,6 +162,20 @@ pub fn known_race(alloc: Global, known: &Known) -> Result<Timeline, Fail> {
     finished(builder, filled)
 }
 
+/// A race whose IPv4 address has come, was used before and answers within 40; the IPv6 addresses have not.
+pub fn half_known_race(alloc: Global) -> Result<Timeline, Fail> {
+    let mut builder = empty(alloc, Settings::new(50, 250, 1, 30_000)?, host(alloc)?)?;
+    let filled = fill_half(&mut builder);
+    finished(builder, filled)
+}
+
+fn fill_half(builder: &mut TimelineBuilder) -> Result<(), Fail> {
+    builder.answer(Family::V4, 0, &[V4_A])?;
+    builder.rtt(V4_A, 40)?;
+    builder.used(V4_A)?;
+    Ok(())
+}
+
 /// The first race: its IPv6 address succeeds after 35, and the IPv4 address does what is given.
 pub fn first_race(v4: Option<Outcome>) -> PlannedRace {
     PlannedRace {

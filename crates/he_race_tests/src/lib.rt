@@ -1,5 +1,5 @@
 //! Tests of `he_race`: what one attempt comes to, a ticker that jumps, a race over tickers that misbehave, a race
-//! whose answers come while it runs, connectors of a user's own, and where the winner goes. Recorded races from their
+//! whose answers come while it runs, with what is known of their addresses, connectors of a user's own, and where the winner goes. Recorded races from their
 //! first turn to their end are run by the crate `cases`.
 #![tactic(auto)]
 
@@ -11,6 +11,8 @@ mod attempts;
 mod homes;
 #[cfg(test)]
 mod known;
+#[cfg(test)]
+mod learnt;
 #[cfg(test)]
 mod named;
 #[cfg(test)]

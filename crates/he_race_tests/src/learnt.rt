@@ -1,0 +1,211 @@
+// Races whose answers come with what the client knows of their addresses: by this it chooses among them, and its
+// record has it.
+
+use crate::homes::{
+    Known as KnownRace, V4_A, V6_A, V6_B, first_race, half_known_race, known_race, unanswered,
+};
+use crate::races::{Stepping, drive};
+use futures::task::{Context, Doorbell, Poll, Solo};
+use he_addr::{Family, Ip};
+use he_race::{
+    AnswerSource, Known, RaceFault, Raced, ResolvingRace, Scripted, WheelTicker, race_one,
+};
+use he_timeline::Timeline;
+use std::alloc::Global;
+use std::mem::drop;
+use std::test::Fail;
+
+// Tells this of each family at its first poll.
+#[derive(Clone, Copy, Drop)]
+struct Remembering {
+    alloc: Global,
+    six: &'static [Known],
+    four: &'static [Known],
+}
+
+impl AnswerSource for Remembering {
+    ghost use Rattle.std.specs.Prelude.{⊤};
+
+    ghost hears = { λ _ _ _ _ _. ⊤ };
+
+    fn poll_answer(&mut self, family: Family, _now: u64, cx: &mut Context<'_>) -> Poll<Vec<Known>> {
+        let told = match family {
+            Family::V6 => self.six,
+            Family::V4 => self.four,
+        };
+        match Vec::from_slice(self.alloc, told) {
+            Ok(known) => Poll::Ready(known),
+            Err(_) => cx.yield_now(),
+        }
+    }
+}
+
+const fn known(ip: Ip, rtt: Option<u64>, used: bool) -> Known {
+    Known { ip, rtt, used }
+}
+
+// What is told, and what comes of it: the addresses that are tried, and what the record knows.
+#[derive(Clone, Copy)]
+struct Learnt {
+    six: &'static [Known],
+    four: &'static [Known],
+    tried: &'static [Ip],
+    rtts: &'static [(Ip, u64)],
+    used: &'static [Ip],
+}
+
+fn is_as(alloc: Global, raced: &Raced<()>, wanted: &Learnt) -> Result<bool, Fail> {
+    let mut are_tried = raced.transcript.attempts().len() == wanted.tried.len();
+    for (line, ip) in raced.transcript.attempts().iter().zip(wanted.tried) {
+        are_tried = are_tried && line.ip == *ip;
+    }
+    let replayed = race_one(alloc, &raced.recorded)?;
+    let replays = replayed.attempts() == raced.transcript.attempts()
+        && replayed.result() == raced.transcript.result();
+    drop(replayed);
+    Ok(
+        are_tried
+            && replays
+            && raced.recorded.rtts() == wanted.rtts
+            && raced.recorded.used_addresses() == wanted.used,
+    )
+}
+
+fn is_given(
+    alloc: Global,
+    given: &Option<Result<Raced<()>, RaceFault>>,
+    wanted: &Learnt,
+) -> Result<bool, Fail> {
+    match given {
+        Some(Ok(raced)) => is_as(alloc, raced, wanted),
+        _ => Ok(false),
+    }
+}
+
+// The race from this start, in which the address that succeeds does so after 10.
+fn run(
+    alloc: Global,
+    solo: &Solo,
+    script: &Timeline,
+    start: &Timeline,
+    wanted: &Learnt,
+) -> Result<bool, Fail> {
+    let source = Remembering {
+        alloc,
+        six: wanted.six,
+        four: wanted.four,
+    };
+    let wheel = WheelTicker::new(alloc, script)?;
+    let ticker = Stepping { wheel };
+    let future = ResolvingRace::new(alloc, start, Scripted::new(script), source, ticker)?;
+    let given = drive(solo, future, 40);
+    let is_right = is_given(alloc, &given, wanted);
+    drop(given);
+    is_right
+}
+
+// The same, from a start that there may be.
+fn run_from(
+    alloc: Global,
+    solo: &Solo,
+    succeeds: Ip,
+    start: Result<Timeline, Fail>,
+    wanted: &Learnt,
+) -> Result<bool, Fail> {
+    let start = start?;
+    let script = known_race(
+        alloc,
+        &KnownRace {
+            rtts: &[],
+            used: &[],
+            succeeds,
+        },
+    );
+    let is_right = match &script {
+        Ok(script) => run(alloc, solo, script, &start, wanted),
+        Err(_) => Ok(false),
+    };
+    drop(script);
+    drop(start);
+    is_right
+}
+
+// The address of which a round trip time is known comes first, and so does the one that was used before; where nothing
+// is known, the first that was told.
+#[test]
+fn chooses_by_what_is_told(rt: HostRuntime) -> Result<(), Fail> {
+    let solo = Solo::new(&rt, Doorbell::spinning())?;
+    let alloc: Global = rt.alloc();
+    let nothing = Learnt {
+        six: &[known(V6_A, None, false), known(V6_B, None, false)],
+        four: &[known(V4_A, None, false)],
+        tried: &[V6_A, V4_A, V6_B],
+        rtts: &[],
+        used: &[],
+    };
+    let unknown = unanswered(alloc, &first_race(None));
+    assert_eq!(rt; run_from(alloc, &solo, V6_B, unknown, &nothing)?, true);
+    let by_rtt = Learnt {
+        six: &[known(V6_A, None, true), known(V6_B, Some(30), false)],
+        tried: &[V6_B],
+        rtts: &[(V6_B, 30)],
+        used: &[V6_A],
+        ..nothing
+    };
+    let unknown = unanswered(alloc, &first_race(None));
+    assert_eq!(rt; run_from(alloc, &solo, V6_B, unknown, &by_rtt)?, true);
+    let by_use = Learnt {
+        six: &[known(V6_A, None, false), known(V6_B, None, true)],
+        tried: &[V6_B],
+        used: &[V6_B],
+        ..nothing
+    };
+    let unknown = unanswered(alloc, &first_race(None));
+    assert_eq!(rt; run_from(alloc, &solo, V6_B, unknown, &by_use)?, true);
+    Ok(())
+}
+
+// Of an address that is told twice the first counts, one of the other family is left out with what is known of it, and
+// round trip times are recorded within 1 ms and an hour.
+#[test]
+fn what_is_told_is_cleaned(rt: HostRuntime) -> Result<(), Fail> {
+    let solo = Solo::new(&rt, Doorbell::spinning())?;
+    let alloc: Global = rt.alloc();
+    let mixed = Learnt {
+        six: &[
+            known(V4_A, Some(5), true),
+            known(V6_A, Some(0), false),
+            known(V6_A, Some(9), true),
+            known(V6_B, Some(u64::MAX), true),
+        ],
+        four: &[
+            known(V4_A, Some(3_600_000), false),
+            known(V6_B, Some(2), false),
+        ],
+        tried: &[V6_A],
+        rtts: &[(V6_A, 1), (V6_B, 3_600_000), (V4_A, 3_600_000)],
+        used: &[V6_B],
+    };
+    let unknown = unanswered(alloc, &first_race(None));
+    assert_eq!(rt; run_from(alloc, &solo, V6_A, unknown, &mixed)?, true);
+    Ok(())
+}
+
+// What was known at the start stands first, and of a family whose answer was given nothing is told.
+#[test]
+fn what_was_known_stands_first(rt: HostRuntime) -> Result<(), Fail> {
+    let solo = Solo::new(&rt, Doorbell::spinning())?;
+    let alloc: Global = rt.alloc();
+    let later = Learnt {
+        six: &[known(V6_A, None, false), known(V6_B, Some(7), true)],
+        four: &[known(V4_A, Some(1), true)],
+        tried: &[V6_B],
+        rtts: &[(V4_A, 40), (V6_B, 7)],
+        used: &[V4_A, V6_B],
+    };
+    assert_eq!(rt;
+        run_from(alloc, &solo, V6_B, half_known_race(alloc), &later)?,
+        true
+    );
+    Ok(())
+}
