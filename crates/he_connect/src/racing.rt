@@ -92,10 +92,10 @@ where
 {
     let mut runtime = LocalRuntime::new(rt)?;
     let handle = runtime.handle().clone()?;
-    let why = LookupFaults::new();
+    let why = LookupFaults::new(alloc)?;
     let steps = Steps::new(alloc)?;
     let telling = Telling::new(alloc, faults, request);
-    let source = answers_of(rt, alloc, &handle, request, &why, &telling)?;
+    let source = answers_of(rt, alloc, &handle, request, why.share()?, &telling)?;
     let raced = resolving_race_on(
         rt,
         alloc,
@@ -115,7 +115,7 @@ fn answers_of<'h, 'f, R, F>(
     alloc: Global,
     handle: &'h Handle,
     request: &ConnectRequest<'_>,
-    why: &'h LookupFaults,
+    why: LookupFaults,
     telling: &'h Telling<'f, F>,
 ) -> Result<HostAnswers<'h, 'f, R, F>, ConnectFault>
 where

@@ -11,35 +11,51 @@ use std::cell::Cell;
 use std::io::Write;
 use std::net::Net;
 use std::random::RandomSource;
+use std::rc::Rc;
 use std::time::Clock;
 
-// Why each family has no address.
+// Why each family has no address, for the look-up of one race and for whoever tells its end.
 #[derive(Drop)]
 pub(crate) struct LookupFaults {
+    shared: Rc<FaultCells>,
+}
+
+#[derive(Drop)]
+struct FaultCells {
     six: Cell<Option<NamesFault>>,
     four: Cell<Option<NamesFault>>,
 }
 
 impl LookupFaults {
-    pub(crate) fn new() -> LookupFaults {
-        LookupFaults {
+    pub(crate) fn new(alloc: Global) -> Result<LookupFaults, AllocError> {
+        let cells = FaultCells {
             six: Cell::new(None),
             four: Cell::new(None),
-        }
+        };
+        Ok(LookupFaults {
+            shared: Rc::new(alloc, cells)?,
+        })
+    }
+
+    // The same, for another holder.
+    pub(crate) fn share(&self) -> Result<LookupFaults, AllocError> {
+        Ok(LookupFaults {
+            shared: self.shared.clone()?,
+        })
     }
 
     // What is known by now.
     pub(crate) fn families(&self) -> FamilyFaults {
         FamilyFaults {
-            six: self.six.get(),
-            four: self.four.get(),
+            six: self.shared.six.get(),
+            four: self.shared.four.get(),
         }
     }
 
     fn note(&self, family: Family, fault: NamesFault) {
         match family {
-            Family::V6 => self.six.set(Some(fault)),
-            Family::V4 => self.four.set(Some(fault)),
+            Family::V6 => self.shared.six.set(Some(fault)),
+            Family::V4 => self.shared.four.set(Some(fault)),
         }
     }
 }
@@ -78,7 +94,7 @@ pub(crate) struct HostAnswers<'h, 'f, R, F> {
     alloc: Global,
     lookup: Lookup<'h, R>,
     log: LookupLog,
-    why: &'h LookupFaults,
+    why: LookupFaults,
     telling: &'h Telling<'f, F>,
 }
 
@@ -86,7 +102,7 @@ impl<'h, 'f, R: Net + RandomSource + Clock, F> HostAnswers<'h, 'f, R, F> {
     pub(crate) fn new(
         alloc: Global,
         lookup: Lookup<'h, R>,
-        why: &'h LookupFaults,
+        why: LookupFaults,
         telling: &'h Telling<'f, F>,
     ) -> Result<HostAnswers<'h, 'f, R, F>, AllocError> {
         let log = lookup.log()?;

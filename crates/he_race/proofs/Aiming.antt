@@ -1,6 +1,6 @@
 -- That polls of a race leave each unfinished attempt leading to its own address, and that the connection that comes
 -- first is the one of the first attempt that succeeds.
-use Rattle.std.proofs.Common.{◌≡◌, ℕ, ◌+◌, ◌-◌, ◌≤◌, ◌<◌, ◌⊎◌, ◌&&◌, ◌++◌, Bool, true, false, List, [], ◌∷◌, length, Option, Some, None, Result, Ok, Err, IfOk, nat_lt, refl, sym, ◌∙◌, ap, subst, arith, inl, inr, MatchBool}
+use Rattle.std.proofs.Common.{◌≡◌, ℕ, ◌+◌, ◌-◌, ◌≤◌, ◌<◌, ◌⊎◌, ◌&&◌, ◌++◌, Bool, true, false, List, [], ◌∷◌, Option, Some, None, Result, Ok, Err, IfOk, nat_lt, refl, sym, ◌∙◌, ap, subst, arith, inl, inr, MatchBool}
 use Rattle.std.specs.List.{All, Contains}
 use Rattle.std.proofs.lemmas.List.Elements.{All-cons, All-head, All-nil, All-tail, All-weaker}
 use Rattle.futures.specs.declared.task.Poll.{Poll}
@@ -10,7 +10,6 @@ use Rattle.he_addr.specs.declared.ip.Ip.{Ip}
 use Rattle.he_plan.specs.declared.attempts.Attempt.{Attempt}
 use Rattle.he_plan.specs.Attempts.{AreNextInTurn}
 use Rattle.he_plan.proofs.Growing.{outcome-others, outcome-own}
-use Rattle.he_timeline.specs.declared.outcome.Outcome.{Outcome}
 use Rattle.he_timeline.specs.declared.outcome.Outcome.TheVariants as outcomes
 use Rattle.he_timeline.specs.Building.{with_outcome}
 use Rattle.he_timeline.specs.Race.{Race, has_outcome, outcome_of}

@@ -1,9 +1,8 @@
 -- What is learnt of addresses with their answer concerns them alone: it changes nothing before the answer's tick.
-use Rattle.std.proofs.Common.{◌≡◌, ℕ, zero, suc, ◌+◌, ◌≤◌, ◌<◌, ◌↔◌, ◌⊎◌, ◌&&◌, ◌||◌, ◌++◌, Bool, true, false, not, List, [], ◌∷◌, if◌then◌else◌, filter, find, map, length, take, Option, Some, None, MatchOption, IfSome, IsSomeAnd, nat_le, nat_lt, refl, sym, ◌∙◌, ap, subst, arith, inl, inr}
+use Rattle.std.proofs.Common.{◌≡◌, ℕ, zero, suc, ◌+◌, ◌≤◌, ◌<◌, ◌↔◌, ◌&&◌, ◌||◌, ◌++◌, Bool, true, false, not, List, [], ◌∷◌, if◌then◌else◌, filter, find, map, length, take, Option, Some, None, MatchOption, IfSome, IsSomeAnd, nat_le, nat_lt, refl, sym, ◌∙◌, ap, subst, inl, inr}
 use Rattle.std.specs.Prelude.{cond, option_and_then, option_map}
 use Rattle.std.specs.List.{All, list_all, list_any, slice_get}
 use Rattle.std.specs.Option.{option_map_or}
-use Rattle.std.proofs.lemmas.Bool.{cases_lt}
 use Rattle.std.proofs.lemmas.List.Elements.{All-weaker}
 use Rattle.std.proofs.lemmas.List.Folds.{list_any-append}
 use Rattle.he_addr.specs.Ip.{is_usable, is_v6, same_ip}
@@ -18,8 +17,8 @@ use Rattle.he_select.proofs.Equality.{ip_from}
 use Rattle.he_timeline.specs.declared.outcome.Outcome.{Outcome}
 use Rattle.he_timeline.specs.declared.outcome.Outcome.TheVariants as outcomes
 use Rattle.he_timeline.specs.Building.{with_answer}
-use Rattle.he_timeline.specs.Race.{History, Race, Reply, addresses_of, has_ip, is_told, known_of as told_in, outcome_in, outcome_of, reply_of, told_of, usable_addresses}
-use Rattle.he_timeline.specs.Seen.{IsLeast, is_paused, seen}
+use Rattle.he_timeline.specs.Race.{History, Race, Reply, addresses_of, has_ip, is_told, known_of as told_in, outcome_of, reply_of, told_of, usable_addresses}
+use Rattle.he_timeline.specs.Seen.{seen}
 use Rattle.he_timeline.specs.declared.limits.TheConstants.{MAX_ADDRESSES, MAX_TICK}
 use Rattle.he_timeline.specs.Timeline.{IsRace, are_distinct, are_of, is_answer, is_of}
 use Rattle.he_timeline.proofs.Bools.{and_left, and_right, clash, lt_from, or_left_none, or_none, or_right_none}
@@ -27,8 +26,8 @@ use Rattle.he_plan.specs.declared.attempts.Attempt.{Attempt}
 use Rattle.he_plan.specs.Alternating.{interlace}
 use Rattle.he_plan.specs.Attempts.{AreNextInTurn, HasWaited, HaveFailed, IsNext, MayBegin, MayFollow, MayStart, has_failed, has_failed_by, is_untried, last_of, order, order_at, received, received_of}
 use Rattle.he_plan.proofs.Later.{attempts-before, order-before, received-before, starts-before}
-use Rattle.he_race.specs.Heard.{rtt_told, rtts_told, used_told, with_heard, with_history}
-use Rattle.he_race.specs.Kept.{InTurn, taken}
+use Rattle.he_race.specs.Heard.{rtt_told, rtts_told, used_told, with_heard}
+use Rattle.he_race.specs.Kept.{InTurn}
 use Rattle.he_race.specs.Recording.{EndedBy}
 use Rattle.he_race.proofs.Cleaned.{all_kept, none_kept}
 use Rattle.he_race.proofs.Recorded.{all_before}

@@ -11,9 +11,9 @@ use Rattle.futures.specs.declared.task.Poll.{Poll}
 use Rattle.futures.specs.declared.task.Poll.TheVariants.{Ready, Pending}
 use Rattle.he_addr.specs.declared.ip.Family.{Family}
 use Rattle.he_addr.specs.declared.ip.Family.TheVariants as families
+use Rattle.he_addr.specs.declared.ip.Ip.{Ip}
 use Rattle.he_plan.specs.declared.attempts.Attempt.{Attempt}
 use Rattle.he_select.specs.declared.known.Known.{Known}
-use Rattle.he_timeline.specs.Building.{with_answer}
 use Rattle.he_timeline.specs.Race.{Race, Reply, reply_of}
 use Rattle.he_timeline.proofs.Bools.{not_lt}
 use Rattle.he_race.specs.declared.answers.AnswerSource.{Ghosts as SourceOf}
@@ -28,7 +28,7 @@ use Rattle.he_race.specs.declared.live.Live.{Live}
 use Rattle.he_race.specs.declared.live.Unfinished.{Unfinished}
 use Rattle.he_race.specs.declared.trial.Trial.{Ghosts as TrialOf}
 use Rattle.he_race.specs.Attempt.{Begins}
-use Rattle.he_race.specs.Heard.{HearsFrom, HearsOf, IsSilent, with_told}
+use Rattle.he_race.specs.Heard.{HearsFrom, HearsOf, IsSilent, with_heard, with_told}
 use Rattle.he_race.specs.Listening.{AllListen, HeardListens, Listens, ListensFor, RaceHears, RaceListens, SourceListens, TurnHears, TurnListens}
 use Rattle.he_race.specs.Polling.{AllListenAfter, EndsWith, GoesOn, HeardListensAfter, LeftBy, PollsAt, TurnHearsAfter, TurnListensAfter, TurnsFrom}
 use Rattle.he_race.specs.Recording.{slept}
@@ -112,13 +112,14 @@ module _ {C Conn Run : Type 0} (connector : ConnectorOf C Conn Run) (trial : Tri
   race-listens cx cx' x y was live e f keeps (inl still) = rw (e, f) (inl still)
   race-listens cx cx' x y was live e f keeps (inr all) = rw (e, f) (inr (all_kept cx cx' live.unfinished.items keeps all))
 
-answered : (race : Race) (family : Family) (reply : Reply) (X : Type 0) → IfNone (reply_of (with_answer race family reply) family) X
-answered race families.V6 reply X = tt
-answered race families.V4 reply X = tt
+heard : (race : Race) (family : Family) (now : ℕ) (known : List Known) (ips : List Ip) (X : Type 0) → IfNone (reply_of (with_heard race family now known ips) family) X
+heard race families.V6 now known ips X = tt
+heard race families.V4 now known ips X = tt
 
-pub answered-family : {A E : Type 0} (r : Result A E) (race new : Race) (family : Family) (reply : Reply) (X : Type 0) → OnOk r (new ≡ with_answer race family reply) → OnOk r (IfNone (reply_of new family) X)
-answered-family (Err e) race new family reply X h = tt
-answered-family (Ok x) race new family reply X h = subst (λ (z : Race). IfNone (reply_of z family) X) (sym h) (answered race family reply X)
+-- a family that was heard has an answer
+pub heard-family : {A E : Type 0} (r : Result A E) (race new : Race) (family : Family) (now : ℕ) (known : List Known) (ips : List Ip) (X : Type 0) → OnOk r (new ≡ with_heard race family now known ips) → OnOk r (IfNone (reply_of new family) X)
+heard-family (Err e) race new family now known ips X h = tt
+heard-family (Ok x) race new family now known ips X h = subst (λ (z : Race). IfNone (reply_of z family) X) (sym h) (heard race family now known ips X)
 
 pub on_ok : {A E : Type 0} (r : Result A E) (X : Type 0) → X → OnOk r X
 on_ok (Err e) X x = tt

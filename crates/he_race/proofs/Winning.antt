@@ -1,5 +1,5 @@
 -- That the connection that a race gives goes to the address of the line that won.
-use Rattle.std.proofs.Common.{◌≡◌, ℕ, zero, suc, ◌+◌, ◌≤◌, ◌<◌, ◌⊎◌, ◌++◌, Bool, true, false, if◌then◌else◌, List, [], ◌∷◌, length, take, map, filter, get_or, nat_le, nat_lt, min, MatchBool, Option, Some, None, IfSome, IsSomeAnd, is_some, refl, sym, ◌∙◌, ap, subst, arith, inl, inr}
+use Rattle.std.proofs.Common.{◌≡◌, ℕ, zero, suc, ◌+◌, ◌≤◌, ◌<◌, ◌⊎◌, ◌++◌, Bool, true, false, if◌then◌else◌, List, [], ◌∷◌, length, take, map, filter, nat_le, nat_lt, min, MatchBool, Option, Some, None, IfSome, IsSomeAnd, is_some, refl, sym, ◌∙◌, ap, subst, arith, inl, inr}
 use Rattle.std.specs.List.{All, Contains, list_all, slice_get}
 use Rattle.std.proofs.lemmas.List.{append-nil, length-take}
 use Rattle.std.proofs.lemmas.List.Elements.{All-append, All-cons, All-nil, All-weaker}
@@ -10,9 +10,8 @@ use Rattle.he_plan.specs.declared.finish.Fate.{Fate}
 use Rattle.he_plan.specs.declared.finish.Fate.TheVariants.{Succeeded, Failed, Running}
 use Rattle.he_plan.specs.declared.transcript.Line.{Line}
 use Rattle.he_plan.specs.declared.transcript.Outcome3.{Outcome3}
-use Rattle.he_plan.specs.declared.transcript.Outcome3.TheVariants as results
 use Rattle.he_plan.specs.Attempts.{AreAttempts, AreNextInTurn, IsNext}
-use Rattle.he_plan.specs.Finish.{ComesFirst, IsSuccess, IsWinner, fate_by, fate_of, finish_of}
+use Rattle.he_plan.specs.Finish.{ComesFirst, IsWinner, fate_by, fate_of, finish_of}
 use Rattle.he_plan.specs.Transcript.{IsTranscript, Report, line_of, lines_of, result_of}
 use Rattle.he_plan.proofs.Lawful.{attempts-below, attempts-prefix}
 use Rattle.he_plan.proofs.Stopping.{late_success}
@@ -22,7 +21,6 @@ use Rattle.he_timeline.specs.Race.{Race, outcome_in, outcome_of}
 use Rattle.futures.specs.declared.task.Poll.TheVariants.{Pending}
 use Rattle.he_race.specs.declared.attempt.AttemptFuture.TheVariants.{Sleeping}
 use Rattle.he_race.specs.declared.connector.Connector.{Ghosts as ConnectorOf}
-use Rattle.he_race.specs.declared.live.AfterPoll.{AfterPoll}
 use Rattle.he_race.specs.declared.live.AfterPoll.TheVariants as after_polls
 use Rattle.he_race.specs.declared.live.Live.{Live}
 use Rattle.he_race.specs.declared.live.Raced.{Raced}
@@ -34,8 +32,8 @@ use Rattle.he_race.specs.Kept.{FailedBelow, IsLive, IsUnfinished, are_untold, fi
 use Rattle.he_race.specs.Reach.{ReachAlike}
 use Rattle.he_race.specs.Recording.{EndsRace, slept}
 use Rattle.he_race.specs.Resolving.{HeardAt, HeardFrom, HeardTurn}
-use Rattle.he_race.specs.Turns.{ArePolled, BeginsNext, EndsPolled, Goes, PolledAt, PolledFrom, StartsOne, Sweep, Turned, begun, unpolled}
-use Rattle.he_race.specs.Winner.{AreInOrder, GoesAt, IsAhead, IsAimed, MayPoll, WinnerGoes}
+use Rattle.he_race.specs.Turns.{ArePolled, BeginsNext, EndsPolled, Goes, PolledAt, PolledFrom, StartsOne, Sweep, Turned, unpolled}
+use Rattle.he_race.specs.Winner.{AreInOrder, GoesAt, IsAimed, MayPoll, WinnerGoes}
 use Rattle.he_race.proofs.Aiming.{Aiming, FirstWon, IsFirst, Leads, Led, NoneWon, aiming-all, alike-itself, alike-on, all-lead-as, leads-poll, order-more}
 use Rattle.he_race.proofs.Ending.{success-stop, won-stop}
 use Rattle.he_race.proofs.Heard.{heard-same}

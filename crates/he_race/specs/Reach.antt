@@ -1,5 +1,4 @@
 -- Where connections go: the clauses of `Trial` and `Connector` cite it.
-use Rattle.std.specs.Prelude.{ℕ}
 use Rattle.he_addr.specs.declared.ip.Ip.{Ip}
 
 -- each connection of the first kind is of the second

@@ -1,6 +1,6 @@
 -- Where the connections of a race go: each attempt that is being made leads to its own address, so that the winner
 -- goes to the address of the line that won. The public contracts of `RaceFuture` and `ResolvingRace` cite it.
-use Rattle.std.specs.Prelude.{ℕ, ◌<◌, ⊤, List, [], ◌∷◌, Option, IfSome, IsSomeAnd, slice_get}
+use Rattle.std.specs.Prelude.{◌<◌, ⊤, List, [], ◌∷◌, IfSome, IsSomeAnd, slice_get}
 use Rattle.std.specs.List.{All}
 use Rattle.he_addr.specs.declared.ip.Ip.{Ip}
 use Rattle.he_plan.specs.declared.transcript.Line.{Line}

@@ -40,10 +40,6 @@ impl AnswerSource for Remembering {
     }
 }
 
-const fn known(ip: Ip, rtt: Option<u64>, used: bool) -> Known {
-    Known { ip, rtt, used }
-}
-
 // What is told, and what comes of it: the addresses that are tried, and what the record knows.
 #[derive(Clone, Copy)]
 struct Learnt {
@@ -104,31 +100,163 @@ fn run(
     is_right
 }
 
-// The same, from a start that there may be.
 fn run_from(
     alloc: Global,
     solo: &Solo,
     succeeds: Ip,
-    start: Result<Timeline, Fail>,
+    start: &Timeline,
     wanted: &Learnt,
 ) -> Result<bool, Fail> {
-    let start = start?;
-    let script = known_race(
-        alloc,
-        &KnownRace {
-            rtts: &[],
-            used: &[],
-            succeeds,
-        },
-    );
-    let is_right = match &script {
-        Ok(script) => run(alloc, solo, script, &start, wanted),
-        Err(_) => Ok(false),
+    let planned = KnownRace {
+        rtts: &[],
+        used: &[],
+        succeeds,
     };
+    let script = known_race(alloc, &planned)?;
+    let is_right = run(alloc, solo, &script, start, wanted);
     drop(script);
+    is_right
+}
+
+// The same, where nothing is known at the start.
+fn run_new(alloc: Global, solo: &Solo, succeeds: Ip, wanted: &Learnt) -> Result<bool, Fail> {
+    let start = unanswered(alloc, &first_race(None))?;
+    let is_right = run_from(alloc, solo, succeeds, &start, wanted);
     drop(start);
     is_right
 }
+
+// The same, where the IPv4 address is known at the start.
+fn run_half(alloc: Global, solo: &Solo, succeeds: Ip, wanted: &Learnt) -> Result<bool, Fail> {
+    let start = half_known_race(alloc)?;
+    let is_right = run_from(alloc, solo, succeeds, &start, wanted);
+    drop(start);
+    is_right
+}
+
+// Nothing is known: the first that was told comes first.
+const NOTHING: Learnt = Learnt {
+    six: &[
+        Known {
+            ip: V6_A,
+            rtt: None,
+            used: false,
+        },
+        Known {
+            ip: V6_B,
+            rtt: None,
+            used: false,
+        },
+    ],
+    four: &[Known {
+        ip: V4_A,
+        rtt: None,
+        used: false,
+    }],
+    tried: &[V6_A, V4_A, V6_B],
+    rtts: &[],
+    used: &[],
+};
+
+const BY_RTT: Learnt = Learnt {
+    six: &[
+        Known {
+            ip: V6_A,
+            rtt: None,
+            used: true,
+        },
+        Known {
+            ip: V6_B,
+            rtt: Some(30),
+            used: false,
+        },
+    ],
+    tried: &[V6_B],
+    rtts: &[(V6_B, 30)],
+    used: &[V6_A],
+    ..NOTHING
+};
+
+const BY_USE: Learnt = Learnt {
+    six: &[
+        Known {
+            ip: V6_A,
+            rtt: None,
+            used: false,
+        },
+        Known {
+            ip: V6_B,
+            rtt: None,
+            used: true,
+        },
+    ],
+    tried: &[V6_B],
+    used: &[V6_B],
+    ..NOTHING
+};
+
+const MIXED: Learnt = Learnt {
+    six: &[
+        Known {
+            ip: V4_A,
+            rtt: Some(5),
+            used: true,
+        },
+        Known {
+            ip: V6_A,
+            rtt: Some(0),
+            used: false,
+        },
+        Known {
+            ip: V6_A,
+            rtt: Some(9),
+            used: true,
+        },
+        Known {
+            ip: V6_B,
+            rtt: Some(u64::MAX),
+            used: true,
+        },
+    ],
+    four: &[
+        Known {
+            ip: V4_A,
+            rtt: Some(3_600_000),
+            used: false,
+        },
+        Known {
+            ip: V6_B,
+            rtt: Some(2),
+            used: false,
+        },
+    ],
+    tried: &[V6_A],
+    rtts: &[(V6_A, 1), (V6_B, 3_600_000), (V4_A, 3_600_000)],
+    used: &[V6_B],
+};
+
+const LATER: Learnt = Learnt {
+    six: &[
+        Known {
+            ip: V6_A,
+            rtt: None,
+            used: false,
+        },
+        Known {
+            ip: V6_B,
+            rtt: Some(7),
+            used: true,
+        },
+    ],
+    four: &[Known {
+        ip: V4_A,
+        rtt: Some(1),
+        used: true,
+    }],
+    tried: &[V6_B],
+    rtts: &[(V4_A, 40), (V6_B, 7)],
+    used: &[V4_A, V6_B],
+};
 
 // The address of which a round trip time is known comes first, and so does the one that was used before; where nothing
 // is known, the first that was told.
@@ -136,32 +264,9 @@ fn run_from(
 fn chooses_by_what_is_told(rt: HostRuntime) -> Result<(), Fail> {
     let solo = Solo::new(&rt, Doorbell::spinning())?;
     let alloc: Global = rt.alloc();
-    let nothing = Learnt {
-        six: &[known(V6_A, None, false), known(V6_B, None, false)],
-        four: &[known(V4_A, None, false)],
-        tried: &[V6_A, V4_A, V6_B],
-        rtts: &[],
-        used: &[],
-    };
-    let unknown = unanswered(alloc, &first_race(None));
-    assert_eq!(rt; run_from(alloc, &solo, V6_B, unknown, &nothing)?, true);
-    let by_rtt = Learnt {
-        six: &[known(V6_A, None, true), known(V6_B, Some(30), false)],
-        tried: &[V6_B],
-        rtts: &[(V6_B, 30)],
-        used: &[V6_A],
-        ..nothing
-    };
-    let unknown = unanswered(alloc, &first_race(None));
-    assert_eq!(rt; run_from(alloc, &solo, V6_B, unknown, &by_rtt)?, true);
-    let by_use = Learnt {
-        six: &[known(V6_A, None, false), known(V6_B, None, true)],
-        tried: &[V6_B],
-        used: &[V6_B],
-        ..nothing
-    };
-    let unknown = unanswered(alloc, &first_race(None));
-    assert_eq!(rt; run_from(alloc, &solo, V6_B, unknown, &by_use)?, true);
+    assert_eq!(rt; run_new(alloc, &solo, V6_B, &NOTHING)?, true);
+    assert_eq!(rt; run_new(alloc, &solo, V6_B, &BY_RTT)?, true);
+    assert_eq!(rt; run_new(alloc, &solo, V6_B, &BY_USE)?, true);
     Ok(())
 }
 
@@ -171,23 +276,7 @@ fn chooses_by_what_is_told(rt: HostRuntime) -> Result<(), Fail> {
 fn what_is_told_is_cleaned(rt: HostRuntime) -> Result<(), Fail> {
     let solo = Solo::new(&rt, Doorbell::spinning())?;
     let alloc: Global = rt.alloc();
-    let mixed = Learnt {
-        six: &[
-            known(V4_A, Some(5), true),
-            known(V6_A, Some(0), false),
-            known(V6_A, Some(9), true),
-            known(V6_B, Some(u64::MAX), true),
-        ],
-        four: &[
-            known(V4_A, Some(3_600_000), false),
-            known(V6_B, Some(2), false),
-        ],
-        tried: &[V6_A],
-        rtts: &[(V6_A, 1), (V6_B, 3_600_000), (V4_A, 3_600_000)],
-        used: &[V6_B],
-    };
-    let unknown = unanswered(alloc, &first_race(None));
-    assert_eq!(rt; run_from(alloc, &solo, V6_A, unknown, &mixed)?, true);
+    assert_eq!(rt; run_new(alloc, &solo, V6_A, &MIXED)?, true);
     Ok(())
 }
 
@@ -196,16 +285,6 @@ fn what_is_told_is_cleaned(rt: HostRuntime) -> Result<(), Fail> {
 fn what_was_known_stands_first(rt: HostRuntime) -> Result<(), Fail> {
     let solo = Solo::new(&rt, Doorbell::spinning())?;
     let alloc: Global = rt.alloc();
-    let later = Learnt {
-        six: &[known(V6_A, None, false), known(V6_B, Some(7), true)],
-        four: &[known(V4_A, Some(1), true)],
-        tried: &[V6_B],
-        rtts: &[(V4_A, 40), (V6_B, 7)],
-        used: &[V4_A, V6_B],
-    };
-    assert_eq!(rt;
-        run_from(alloc, &solo, V6_B, half_known_race(alloc), &later)?,
-        true
-    );
+    assert_eq!(rt; run_half(alloc, &solo, V6_B, &LATER)?, true);
     Ok(())
 }
