@@ -1,3 +1,6 @@
-mod Spelled
+mod Asking
+mod Faithful
+mod Faulty
+mod Standing
 mod Tells
 mod Waits

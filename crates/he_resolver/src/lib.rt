@@ -53,7 +53,7 @@ pub mod system;
 pub use choice::Choice;
 pub use failure::{Failure, ServerFault};
 pub use fault::{NamesFault, TellFault, first_fault};
-pub use files::read_scope;
+pub use files::{find_scope, read_scope};
 pub use known::find_known;
 pub use log::{LookupEvent, LookupEventKind, LookupLog};
 pub use lookup::{Lookup, Wanted};
