@@ -136,6 +136,7 @@ impl FamilyLookup {
     }
 
     // Asks for the name at this place. Ready once it is told what addresses the family has, or why none.
+    #[tactic(auto, using(crate::proofs::Asking::heard_of_one))]
     pub(crate) fn poll<R: Net + RandomSource + Clock>(
         &mut self,
         setup: &Setup<'_, R>,
@@ -168,7 +169,7 @@ impl FamilyLookup {
     }
 
     // One step: asks the next server where that is due, or looks what became of the queries.
-    #[tactic(auto, unfolding(crate::specs::Needs::family_needs))]
+    #[tactic(auto, unfolding(crate::specs::Needs::family_needs), using(crate::proofs::Asking::hears_asked, crate::proofs::Asking::hears_same, crate::proofs::Asking::hears_taken))]
     fn step<R: Net + RandomSource + Clock>(
         &mut self,
         setup: &Setup<'_, R>,

@@ -106,7 +106,7 @@ impl<'h, R: Net + RandomSource + Clock> Lookup<'h, R> {
     }
 
     fn with(rt: &'h R, alloc: Global, source: Source<'h, R>, log: LookupLog) -> Lookup<'h, R>
-        ensures { result.source ≡ source }
+        ensures { result.source ≡ source.entry }
     {
         Lookup {
             rt,

@@ -40,7 +40,7 @@ impl<'h, R: Net + RandomSource + Clock> Resolver<'h, R> {
     pub(crate) fn new(setup: Setup<'h, R>, only: Option<Family>) -> Resolver<'h, R>
         ensures asks { AsksFor only result }
         ensures faithful { IsFaithful result }
-        ensures plan { result.setup.plan ≡ setup.plan }
+        ensures plan { result.setup.plan ≡ setup.entry.plan }
     {
         if let Some(family) = only {
             setup.note(other_of(family), LookupEventKind::NotAsked);

@@ -12,6 +12,6 @@ returns-clause-waits g c = λ pending.
 
 pub returns-clause-faithful : goal.returns-clause-faithful
 returns-clause-faithful g c = λ before. (
-  part_polled _ _ _ _ _ c.poll.ensures.same c.share_absence.ensures.six_same c.poll.ensures.heard c.share_absence.ensures.six_told before.0,
-  part_polled _ _ _ _ _ c.poll-2.ensures.same c.share_absence.ensures.four_same c.poll-2.ensures.heard c.share_absence.ensures.four_told before.1,
+  part_polled _ _ c.args.self.now.v6 c.poll.new.self c.share_absence.new.v6 c.poll.ensures.same c.share_absence.ensures.six_same c.poll.ensures.heard c.share_absence.ensures.six_told before.0,
+  part_polled _ _ c.args.self.now.v4 c.poll-2.new.self c.share_absence.new.v4 c.poll-2.ensures.same c.share_absence.ensures.four_same c.poll-2.ensures.heard c.share_absence.ensures.four_told before.1,
 )
