@@ -1,5 +1,5 @@
 -- What a family's look-up comes to with each step.
-use Rattle.std.proofs.Common.{◌≡◌, ◌≤◌, ◌∙◌, ℕ, List, [], Option, Some, None, Ok, Err, length, slice_get, inl, inr, refl, subst, sym}
+use Rattle.std.proofs.Common.{◌≡◌, ◌≤◌, ◌∙◌, ℕ, List, [], Option, Some, None, Ok, Err, length, slice_get, vec_len, inl, inr, refl, subst, sym}
 use Rattle.std.proofs.lemmas.Option.{slice_get_cases}
 use Rattle.he_addr.specs.declared.ip.Family.{Family}
 use Rattle.he_dns.specs.Texts.{HostName}
@@ -17,7 +17,7 @@ past {X = X} xs i none = elim (slice_get_cases xs i).1 [
 
 -- every server was asked
 pub asked_all : (plan : QueryPlan) (old : FamilyLookup) (told : Option Told) (fault : NamesFault) → told ≡ Some (Err fault)
-    → slice_get plan.servers.items old.begun ≡ None → old.queries.items ≡ [] → AsksNext plan old told
+    → slice_get plan.servers.items old.begun ≡ None → vec_len old.queries ≡ 0 → AsksNext plan old told
 asked_all plan old told fault is none empty = subst (AsksNext plan old) (sym is) (inr (inr (past plan.servers.items old.begun none, empty)))
 
 -- nothing is told anew
@@ -37,7 +37,7 @@ pub hears_taken : (octets : List ℕ) (family : Family) (answer : Told) (old new
     → IsHeardOf octets family answer → Takes answer old new → HearsOf octets family old.told new.told
 hears_taken octets family (Ok ips) old new heard taken = subst (HearsOf octets family old.told) (sym taken) (inr heard)
 hears_taken octets family (Err fault) old new heard (inl goes) =
-    subst (HearsOf octets family old.told) (sym goes.1) (hears_same octets family old.told)
+    subst (HearsOf octets family old.told) (sym goes.1.0) (hears_same octets family old.told)
 hears_taken octets family (Err fault) old new heard (inr told) = subst (HearsOf octets family old.told) (sym told.1) (inr tt)
 
 -- of one of the names

@@ -1,4 +1,5 @@
 mod Asking
+mod Beginning
 mod Faithful
 mod Faulty
 mod Standing

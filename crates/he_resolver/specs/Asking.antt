@@ -1,5 +1,5 @@
 -- How a family's look-up goes on: a server that fails leaves it to the next one, and any other answer ends it.
-use Rattle.std.specs.Prelude.{ℕ, ◌≡◌, ◌⊎◌, ◌≤◌, ⊤, true, false, List, [], Option, Some, None, Ok, Err, is_some, length}
+use Rattle.std.specs.Prelude.{ℕ, ◌≡◌, ◌⊎◌, ◌≤◌, ⊤, true, false, Option, Some, None, Ok, Err, length, vec_len}
 use Rattle.he_resolver.specs.Faults.{is_of_server}
 use Rattle.he_resolver.specs.Heard.{Told}
 use Rattle.he_resolver.specs.declared.family_lookup.FamilyLookup.{FamilyLookup}
@@ -26,4 +26,4 @@ AsksNext plan old None = ⊤
 AsksNext plan old (Some (Ok ips)) = old.told ≡ Some (Ok ips)
 AsksNext plan old (Some (Err fault)) =
     (is_of_server fault ≡ false) ⊎ (old.told ≡ Some (Err fault))
-    ⊎ ((length plan.servers.items ≤ old.begun) × (old.queries.items ≡ []))
+    ⊎ ((length plan.servers.items ≤ old.begun) × (vec_len old.queries ≡ 0))

@@ -10,10 +10,9 @@ ghost use Rattle.he_resolver.specs.Needs.{lookup_needs};
 
 use crate::choice::Choice;
 use crate::fault::NamesFault;
-use crate::files::{SETTINGS, read_file};
 use crate::known::known_to;
 use crate::log::{LookupEventKind, LookupLog};
-use crate::plan::plan_of;
+use crate::plan::plan_for;
 use crate::resolver::Resolver;
 use crate::setup::Setup;
 use crate::system::{SystemQuery, SystemResolver};
@@ -84,25 +83,29 @@ impl<'h, R: Net + RandomSource + Clock> Lookup<'h, R> {
             note_known(rt, &log, &known);
             return Ok(Lookup::with(rt, alloc, Source::Known(Ok(known)), log));
         }
-        let source = match (target, wanted.choice) {
-            (Target::Multicast(name) | Target::Name(name), Choice::System) => {
-                Source::System(SystemQuery::begin(*rt, alloc, name.as_str())?)
+        match (target, wanted.choice) {
+            (Target::Multicast(name), Choice::System) => {
+                let query = SystemQuery::begin(*rt, alloc, name.as_str())?;
+                Ok(Lookup::with(rt, alloc, Source::System(query), log))
+            }
+            (Target::Name(name), Choice::System) => {
+                let query = SystemQuery::begin(*rt, alloc, name.as_str())?;
+                Ok(Lookup::with(rt, alloc, Source::System(query), log))
             }
             (Target::Name(name), choice) => {
-                let settings = read_file(rt, alloc, SETTINGS)?;
                 let setup = Setup {
                     rt,
                     alloc,
                     reactor,
                     timers,
-                    plan: plan_of(rt, alloc, name.as_bytes(), &settings, choice)?,
+                    plan: plan_for(rt, alloc, name.as_bytes(), choice)?,
                     log: log.share()?,
                 };
-                Source::Servers(Resolver::new(setup, wanted.only))
+                let resolver = Resolver::new(setup, wanted.only);
+                Ok(Lookup::with(rt, alloc, Source::Servers(resolver), log))
             }
-            _ => return Err(NamesFault::Host(HostFault::Special(SpecialUse::Local))),
-        };
-        Ok(Lookup::with(rt, alloc, source, log))
+            _ => Err(NamesFault::Host(HostFault::Special(SpecialUse::Local))),
+        }
     }
 
     fn with(rt: &'h R, alloc: Global, source: Source<'h, R>, log: LookupLog) -> Lookup<'h, R>

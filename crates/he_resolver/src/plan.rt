@@ -9,7 +9,7 @@ ghost use Rattle.he_resolver.specs.Plans.{AreServers, AreSpelled, IsAbsent, IsPl
 
 use crate::choice::{Choice, server_at};
 use crate::fault::NamesFault;
-use crate::files::read_scope;
+use crate::files::{SETTINGS, read_file, read_scope};
 use crate::limits::SERVER_PORT;
 use he_addr::Ip;
 use he_dns::{Name, NameFault};
@@ -56,8 +56,22 @@ impl QueryPlan {
     }
 }
 
+// What is asked for a host, by the file of resolver settings of this machine.
+pub(crate) fn plan_for<R: Files + AllocGlobal>(
+    rt: &R,
+    alloc: Global,
+    host: &[u8],
+    choice: Choice,
+) -> Result<QueryPlan, NamesFault>
+    ensures { IfOk result (λ plan. (settings : _) × IsPlan host.now settings choice plan) }
+{
+    let settings = read_file(rt, alloc, SETTINGS)?;
+    let plan = plan_of(rt, alloc, host, &settings, choice)?;
+    Ok(plan)
+}
+
 // What is asked for a host, by a file of resolver settings.
-pub(crate) fn plan_of<R: Files + AllocGlobal>(
+fn plan_of<R: Files + AllocGlobal>(
     rt: &R,
     alloc: Global,
     host: &[u8],
