@@ -1,5 +1,5 @@
 -- What a family's look-up comes to with each step.
-use Rattle.std.proofs.Common.{◌≡◌, ◌≤◌, ◌∙◌, ℕ, List, [], Option, Some, None, Ok, Err, length, slice_get, vec_len, inl, inr, refl, subst, sym}
+use Rattle.std.proofs.Common.{◌≡◌, ◌≤◌, ◌∙◌, ℕ, List, Option, Some, None, Ok, Err, length, slice_get, vec_len, inl, inr, refl, subst, sym}
 use Rattle.std.proofs.lemmas.Option.{slice_get_cases}
 use Rattle.he_addr.specs.declared.ip.Family.{Family}
 use Rattle.he_dns.specs.Texts.{HostName}

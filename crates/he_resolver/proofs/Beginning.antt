@@ -23,9 +23,11 @@ begins_asking text choice only target name bytes plan resolver source named mean
     subst (BeginsFor text choice only) (sym from) (
       targets.Name name,
       subst (Means text) named means,
-      planned.0,
-      subst (λ (p : QueryPlan). IsPlan (string_bytes name) planned.0 choice p) (sym is)
-      (subst (λ (host : List ℕ). IsPlan host planned.0 choice plan) same planned.1),
-      asks,
-      faithful,
+      (
+        planned.0,
+        subst (λ (p : QueryPlan). IsPlan (string_bytes name) planned.0 choice p) (sym is)
+            (subst (λ (host : List ℕ). IsPlan host planned.0 choice plan) same planned.1),
+        asks,
+        faithful,
+      ),
     )

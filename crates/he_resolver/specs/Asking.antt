@@ -1,5 +1,5 @@
 -- How a family's look-up goes on: a server that fails leaves it to the next one, and any other answer ends it.
-use Rattle.std.specs.Prelude.{ℕ, ◌≡◌, ◌⊎◌, ◌≤◌, ⊤, true, false, Option, Some, None, Ok, Err, length, vec_len}
+use Rattle.std.specs.Prelude.{◌≡◌, ◌⊎◌, ◌≤◌, ⊤, true, false, Option, Some, None, Ok, Err, length, vec_len}
 use Rattle.he_resolver.specs.Faults.{is_of_server}
 use Rattle.he_resolver.specs.Heard.{Told}
 use Rattle.he_resolver.specs.declared.family_lookup.FamilyLookup.{FamilyLookup}

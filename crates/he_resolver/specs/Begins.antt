@@ -1,5 +1,5 @@
 -- What a look-up begins with.
-use Rattle.std.specs.Prelude.{ℕ, ◌≡◌, ◌<◌, ⊤, true, false, List, Option, Some, None, Ok, Err, length, string_bytes}
+use Rattle.std.specs.Prelude.{ℕ, ◌≡◌, true, false, List, Option, Some, None, Ok, Err, string_bytes}
 use Rattle.he_addr.specs.declared.ip.Family.{Family}
 use Rattle.he_addr.specs.declared.ip.Family.TheVariants as families
 use Rattle.he_names.specs.Targets.{Means}
@@ -9,7 +9,6 @@ use Rattle.he_resolver.specs.Heard.{IsFaithful}
 use Rattle.he_resolver.specs.Known.{AsksSystem, IsKnown}
 use Rattle.he_resolver.specs.Plans.{IsPlan}
 use Rattle.he_resolver.specs.declared.choice.Choice.{Choice}
-use Rattle.he_resolver.specs.declared.choice.Choice.TheVariants as choices
 use Rattle.he_resolver.specs.declared.family_lookup.FamilyLookup.{FamilyLookup}
 use Rattle.he_resolver.specs.declared.fault.NamesFault.TheVariants as faults
 use Rattle.he_resolver.specs.declared.lookup.Source.{Source}

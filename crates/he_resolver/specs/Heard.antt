@@ -12,7 +12,6 @@ use Rattle.he_names.specs.Answers.{cleaned}
 use Rattle.he_resolver.specs.declared.datagrams.Datagrams.{Datagrams}
 use Rattle.he_resolver.specs.declared.family_lookup.FamilyLookup.{FamilyLookup}
 use Rattle.he_resolver.specs.declared.fault.NamesFault.{NamesFault}
-use Rattle.he_resolver.specs.declared.lookup.Lookup.{Lookup}
 use Rattle.he_resolver.specs.declared.lookup.Source.{Source}
 use Rattle.he_resolver.specs.declared.lookup.Source.TheVariants as sources
 use Rattle.he_resolver.specs.declared.query.Transport.{Transport}
@@ -22,7 +21,6 @@ use Rattle.he_resolver.specs.declared.replies.Reply.TheVariants as replies
 use Rattle.he_resolver.specs.declared.resolver.Resolver.{Resolver}
 use Rattle.he_resolver.specs.declared.streams.Stage.{Stage}
 use Rattle.he_resolver.specs.declared.streams.Stage.TheVariants as stages
-use Rattle.he_resolver.specs.declared.streams.StreamQuery.{StreamQuery}
 
 -- ---- one message
 
@@ -71,7 +69,8 @@ HearsOf octets family old (Some told) = (Some told ≡ old) ⊎ IsHeardOf octets
 -- addresses are those that some message answers to the query for one of the names
 abbrev pub AreHeard : List HostName → Family → List Ip → Type 0
 AreHeard names family ips =
-    (place : ℕ) × (name : HostName) × (slice_get names place ≡ Some name) × (id : ℕ) × IsAnswered id name.octets family ips
+    (place : ℕ) × (name : HostName) × (slice_get names place ≡ Some name) × (id : ℕ)
+    × IsAnswered id name.octets family ips
 
 -- so is what was told so far
 abbrev pub IsHeardOfOne : List HostName → Family → Option Told → Type 0

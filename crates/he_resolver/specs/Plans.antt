@@ -62,6 +62,7 @@ AreServers other settings servers = StandFor IsServer IsAbsent (servers_in setti
 
 -- what is asked for a host by a file of resolver settings
 pub record IsPlan (host settings : List ℕ) (choice : Choice) (plan : QueryPlan) : Type 0 where
-  pub names : AreSpelled (names_of host (option_in (codes "ndots:") 0 1 15 settings) (search_in settings)) plan.names.items
+  pub names : AreSpelled (names_of host (option_in (codes "ndots:") 0 1 15 settings) (search_in settings))
+      plan.names.items
   pub servers : AreServers choice settings plan.servers.items
   pub sends : plan.sends ≡ option_in (codes "timeout:") 1 5 30 settings * option_in (codes "attempts:") 1 2 5 settings

@@ -39,7 +39,8 @@ impl Datagrams {
         question: Question<'_>,
         room: Option<u16>,
     ) -> Result<Option<Datagrams>, NamesFault>
-        ensures sent { IfOk result (λ query. IfSome query (IsSent question.entry.name.now.octets question.entry.family)) }
+        ensures sent { IfOk result (λ query. IfSome query (IsSent question.entry.name.now.octets
+            question.entry.family)) }
     {
         let id = random_id(setup.rt)?;
         let query = write_query(setup.alloc, id, question.name, question.family, room)?;

@@ -7,7 +7,6 @@ ghost use Rattle.he_resolver.specs.declared.fault.NamesFault.TheVariants.{NotAsk
 ghost use Rattle.he_resolver.specs.Asking.{AsksNext, IsSame, Takes};
 ghost use Rattle.he_resolver.specs.Heard.{HearsOf, IsHeardOf, IsHeardOfOne};
 ghost use Rattle.he_resolver.specs.Needs.{Listens, any_needs, family_needs, next_server_needs};
-
 ghost use Rattle.std.specs.Option.{option_map};
 
 use crate::fault::NamesFault;
@@ -302,7 +301,8 @@ fn poll_any<R: Net + RandomSource + Clock>(
 ) -> Poll<(usize, Result<Vec<Ip>, NamesFault>)>
     requires some { 0 < vec_len queries.old }
     ensures within { IfReady result (λ (at, answer). at < vec_len queries.new) }
-    ensures heard { IfReady result (λ (at, answer). IsHeardOf question.entry.name.now.octets question.entry.family answer) }
+    ensures heard { IfReady result (λ (at, answer). IsHeardOf question.entry.name.now.octets question.entry.family
+        answer) }
     ensures waits { OnPending result (Covers cx.new (any_needs queries.new.items)) }
     ensures len { vec_len queries.new ≡ vec_len queries.old }
     ensures kept { Keeps cx.old cx.new }

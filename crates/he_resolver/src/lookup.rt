@@ -74,7 +74,8 @@ impl<'h, R: Net + RandomSource + Clock> Lookup<'h, R> {
     ) -> Result<Lookup<'h, R>, NamesFault>
     where
         R: Files + AllocGlobal + SystemResolver + Threads + Copy + Send + 'static,
-        ensures begins { IfOk result (λ lookup. BeginsFor wanted.entry.host.now wanted.entry.choice wanted.entry.only lookup.source) }
+        ensures begins { IfOk result (λ lookup. BeginsFor wanted.entry.host.now wanted.entry.choice wanted.entry.only
+            lookup.source) }
         ensures sound { IfOk result (λ lookup. IsSound lookup.source) }
     {
         let log = LookupLog::new(rt, alloc)?;

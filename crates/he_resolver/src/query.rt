@@ -1,6 +1,6 @@
 // What one name server is asked: over UDP, and over TCP where its answer is cut off (RFC 7766 section 5).
 
-ghost use Rattle.std.specs.Prelude.{◌≡◌, IfSome};
+ghost use Rattle.std.specs.Prelude.{IfSome};
 ghost use Rattle.futures.specs.Poll.{IfReady, OnPending};
 ghost use Rattle.futures.specs.Task.{Covers, Keeps};
 ghost use Rattle.he_resolver.specs.Heard.{IsHeardOf, RepliesTo, id_of};
@@ -34,7 +34,8 @@ impl Transport {
         question: Question<'_>,
         cx: &mut Context<'_>,
     ) -> Poll<Reply>
-        ensures heard { IfReady result (RepliesTo (id_of self.old) question.entry.name.now.octets question.entry.family) }
+        ensures heard { IfReady result (RepliesTo (id_of self.old) question.entry.name.now.octets
+            question.entry.family) }
         ensures waits { OnPending result (Covers cx.new (transport_needs self.new)) }
         ensures kept { Keeps cx.old cx.new }
     {

@@ -1,6 +1,6 @@
 // Name servers that are asked for a host.
 
-ghost use Rattle.std.specs.Prelude.{◌≡◌, ◌⊎◌, ◌&&◌, ◌||◌, Err, IfErr, IfOk, None, Some, ⊤, true, false, is_some, not};
+ghost use Rattle.std.specs.Prelude.{◌≡◌, ◌⊎◌, ◌&&◌, Err, IfOk, Some, ⊤, true, false, is_some, not};
 ghost use Rattle.futures.specs.Poll.{OnPending};
 ghost use Rattle.futures.specs.Task.{Covers, Keeps};
 ghost use Rattle.he_names.specs.Answers.{IsAnswer};

@@ -51,7 +51,8 @@ impl StreamQuery {
         question: Question<'_>,
         room: Option<u16>,
     ) -> Result<StreamQuery, NamesFault>
-        ensures sends { IfOk result (λ query. IsToSend query.id question.entry.name.now.octets question.entry.family query.stage) }
+        ensures sends { IfOk result (λ query. IsToSend query.id question.entry.name.now.octets question.entry.family
+            query.stage) }
     {
         let id = random_id(setup.rt)?;
         let message = write_query(setup.alloc, id, question.name, question.family, room)?;
