@@ -1,3 +1,7 @@
-mod Spelled
+mod Asking
+mod Beginning
+mod Faithful
+mod Faulty
+mod Standing
 mod Tells
 mod Waits

@@ -16,6 +16,19 @@ is_of_server faults.NoAnswer = true
 is_of_server (faults.Server fault) = true
 is_of_server fault = false
 
+-- a name server said that there is nothing
+abbrev pub is_absence : NamesFault → Bool
+is_absence faults.NoSuchName = true
+is_absence faults.NoAddress = true
+is_absence fault = false
+
+-- the machine failed, and not the host
+abbrev pub is_of_host : NamesFault → Bool
+is_of_host faults.Files = false
+is_of_host faults.Runtime = false
+is_of_host faults.Memory = false
+is_of_host fault = true
+
 -- The order in which faults are told: that of the machine first, then what holds for both families, then that no
 -- server answered or that one failed, and what holds for one family last.
 abbrev pub rank_of : NamesFault → ℕ

@@ -1,7 +1,12 @@
+pub mod Asking
+pub mod Begins
 pub mod Choices
+pub mod Events
 pub mod Faults
+pub mod Heard
 pub mod Known
 pub mod Needs
 pub mod Plans
 pub mod Replies
+pub mod Scopes
 pub mod Told

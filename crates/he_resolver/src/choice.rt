@@ -1,8 +1,9 @@
 //! Which resolver is asked.
 
-ghost use Rattle.std.specs.Prelude.{◌≡◌, IfSome};
-ghost use Rattle.std.specs.Net.Socket.{socket_port};
-ghost use Rattle.he_resolver.specs.Choices.{HasPort};
+ghost use Rattle.std.specs.Prelude.{◌≡◌, IfNone, IfSome};
+ghost use Rattle.std.specs.Net.Socket.{socket_scope_id};
+ghost use Rattle.he_resolver.specs.Choices.{NamesChoice, NamesNone};
+ghost use Rattle.he_resolver.specs.Plans.{IsAt};
 
 use crate::limits::SERVER_PORT;
 use he_addr::{Ip, read_ip};
@@ -23,7 +24,8 @@ impl Choice {
     /// The choice that a text names: `system`, or the address of a name server, alone or with a port, as
     /// `192.0.2.1:5353` and `[2001:db8::1]:5353`; None for any other text, and for port 0. Without a port it is 53.
     pub fn read(text: &[u8]) -> Option<Choice>
-        ensures port { IfSome result HasPort }
+        ensures some { IfSome result (NamesChoice text.now) }
+        ensures none { IfNone result (NamesNone text.now) }
     {
         if text == b"system".as_slice() {
             return Some(Choice::System);
@@ -40,7 +42,8 @@ impl Choice {
 
 // A name server at its usual port.
 pub(crate) fn server_at(ip: Ip) -> SocketAddr
-    ensures { socket_port result ≡ 53 }
+    ensures at { IsAt ip result }
+    ensures scope { socket_scope_id result ≡ 0 }
 {
     let ip = match ip {
         Ip::V4(bits) => IpAddr::V4(Ipv4Addr::from_bits(bits)),

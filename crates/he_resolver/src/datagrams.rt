@@ -1,9 +1,10 @@
 // A query over UDP (RFC 1035 section 4.2.1).
 
-ghost use Rattle.std.specs.Prelude.{◌≡◌};
-ghost use Rattle.futures.specs.Poll.{OnPending};
+ghost use Rattle.std.specs.Prelude.{◌≡◌, IfOk, IfSome};
+ghost use Rattle.futures.specs.Poll.{IfReady, OnPending};
 ghost use Rattle.futures.specs.Task.{Covers, Keeps};
 ghost use Rattle.tokio.specs.Net.{stream_readable};
+ghost use Rattle.he_resolver.specs.Heard.{IsSent, RepliesTo};
 
 use crate::failure::Failure;
 use crate::fault::NamesFault;
@@ -37,7 +38,10 @@ impl Datagrams {
         server: SocketAddr,
         question: Question<'_>,
         room: Option<u16>,
-    ) -> Result<Option<Datagrams>, NamesFault> {
+    ) -> Result<Option<Datagrams>, NamesFault>
+        ensures sent { IfOk result (λ query. IfSome query (IsSent question.entry.name.now.octets
+            question.entry.family)) }
+    {
         let id = random_id(setup.rt)?;
         let query = write_query(setup.alloc, id, question.name, question.family, room)?;
         let socket = UdpSocket::bind(setup.rt, unspecified(server))?;
@@ -66,6 +70,8 @@ impl Datagrams {
         question: Question<'_>,
         cx: &mut Context<'_>,
     ) -> Poll<Reply>
+        ensures heard { IfReady result (RepliesTo self.old.id question.entry.name.now.octets question.entry.family) }
+        ensures id { self.new.id ≡ self.old.id }
         ensures waits { OnPending result (Covers cx.new (λ s. s ≡ stream_readable self.new.socket)) }
         ensures kept { Keeps cx.old cx.new }
     {

@@ -1,9 +1,13 @@
 // What one family asks: the servers in their order, beside one another, until one of them tells.
 
-ghost use Rattle.std.specs.Prelude.{◌≡◌, ◌<◌, ◌||◌, is_some, vec_len};
+ghost use Rattle.std.specs.Prelude.{◌≡◌, ◌<◌, ◌||◌, ◌⊎◌, Err, None, Some, if◌then◌else◌, is_some, not, vec_len};
 ghost use Rattle.futures.specs.Poll.{IfReady, OnPending};
 ghost use Rattle.futures.specs.Task.{Covers, IsArmed, Keeps};
-ghost use Rattle.he_resolver.specs.Needs.{IsTold, Listens, any_needs, family_needs, next_server_needs};
+ghost use Rattle.he_resolver.specs.declared.fault.NamesFault.TheVariants.{NotAsked};
+ghost use Rattle.he_resolver.specs.Asking.{AsksNext, IsSame, Takes};
+ghost use Rattle.he_resolver.specs.Heard.{HearsOf, IsHeardOf, IsHeardOfOne};
+ghost use Rattle.he_resolver.specs.Needs.{Listens, any_needs, family_needs, next_server_needs};
+ghost use Rattle.std.specs.Option.{option_map};
 
 use crate::fault::NamesFault;
 use crate::limits::{ALONE, MOST_STEPS};
@@ -46,7 +50,11 @@ pub(crate) struct FamilyLookup {
 
 impl FamilyLookup {
     // Of a family that isn't wanted that is told and settled at once.
-    pub(crate) fn new(alloc: Global, family: Family, is_wanted: bool) -> FamilyLookup {
+    pub(crate) fn new(alloc: Global, family: Family, is_wanted: bool) -> FamilyLookup
+        ensures family { result.family ≡ family }
+        ensures told { result.told ≡ (if is_wanted then None else Some (Err NotAsked)) }
+        ensures settled { result.is_settled ≡ not is_wanted }
+    {
         FamilyLookup {
             family,
             queries: Vec::new(alloc),
@@ -64,7 +72,8 @@ impl FamilyLookup {
 
     // Asks for another name, unless it is settled what is told.
     pub(crate) fn start_again(&mut self)
-        ensures { self.new.is_settled ≡ self.old.is_settled }
+        ensures same { IsSame self.old self.new }
+        ensures told { (self.new.told ≡ self.old.told) ⊎ (self.new.told ≡ None) }
     {
         if !self.is_settled {
             self.queries.clear();
@@ -95,7 +104,9 @@ impl FamilyLookup {
     }
 
     // The addresses, or why there are none, once that was told.
-    pub(crate) fn told(&self) -> Option<&Result<Vec<Ip>, NamesFault>> {
+    pub(crate) fn told(&self) -> Option<&Result<Vec<Ip>, NamesFault>>
+        ensures { option_map (λ told. told.now) result ≡ self.now.told }
+    {
         self.told.as_ref()
     }
 
@@ -115,8 +126,8 @@ impl FamilyLookup {
 
     // Ends the asking, which was told this.
     pub(crate) fn tell(&mut self, told: Result<Vec<Ip>, NamesFault>)
-        ensures told { IsTold self.new }
-        ensures settled { self.new.is_settled ≡ self.old.is_settled }
+        ensures told { self.new.told ≡ Some told }
+        ensures same { IsSame self.old self.new }
     {
         self.queries.clear();
         self.next = NextServer::Never;
@@ -124,6 +135,7 @@ impl FamilyLookup {
     }
 
     // Asks for the name at this place. Ready once it is told what addresses the family has, or why none.
+    #[tactic(auto, using(crate::proofs::Asking::heard_of_one))]
     pub(crate) fn poll<R: Net + RandomSource + Clock>(
         &mut self,
         setup: &Setup<'_, R>,
@@ -131,7 +143,9 @@ impl FamilyLookup {
         cx: &mut Context<'_>,
     ) -> Poll<()>
         ensures listens { Listens cx.new self.new }
-        ensures settled { self.new.is_settled ≡ self.old.is_settled }
+        ensures same { IsSame self.old self.new }
+        ensures heard { IsHeardOfOne setup.now.plan.names.items self.old.family self.old.told
+            → IsHeardOfOne setup.now.plan.names.items self.old.family self.new.told }
         ensures kept { Keeps cx.old cx.new }
     {
         let Some(name) = setup.plan.name(place) else {
@@ -154,7 +168,7 @@ impl FamilyLookup {
     }
 
     // One step: asks the next server where that is due, or looks what became of the queries.
-    #[tactic(auto, unfolding(crate::specs::Needs::family_needs))]
+    #[tactic(auto, unfolding(crate::specs::Needs::family_needs), using(crate::proofs::Asking::hears_asked, crate::proofs::Asking::hears_same, crate::proofs::Asking::hears_taken))]
     fn step<R: Net + RandomSource + Clock>(
         &mut self,
         setup: &Setup<'_, R>,
@@ -162,7 +176,8 @@ impl FamilyLookup {
         cx: &mut Context<'_>,
     ) -> Poll<()>
         ensures waits { OnPending result (Covers cx.new (family_needs self.new)) }
-        ensures settled { self.new.is_settled ≡ self.old.is_settled }
+        ensures same { IsSame self.old self.new }
+        ensures heard { HearsOf question.entry.name.now.octets question.entry.family self.old.told self.new.told }
         ensures kept { Keeps cx.old cx.new }
     {
         if self.queries.is_empty() || self.next.is_now() {
@@ -193,7 +208,8 @@ impl FamilyLookup {
         setup: &Setup<'_, R>,
         question: Question<'_>,
     )
-        ensures settled { self.new.is_settled ≡ self.old.is_settled }
+        ensures same { IsSame self.old self.new }
+        ensures asks { AsksNext setup.now.plan self.old self.new.told }
     {
         let Some(server) = setup.plan.server(self.begun) else {
             self.next = NextServer::Never;
@@ -214,7 +230,8 @@ impl FamilyLookup {
         server: SocketAddr,
         question: Question<'_>,
     ) -> Result<(), NamesFault>
-        ensures settled { self.new.is_settled ≡ self.old.is_settled }
+        ensures same { IsSame self.old self.new }
+        ensures told { self.new.told ≡ self.old.told }
     {
         let query = Query::begin(setup, server, question)?;
         self.queries.push(query)?;
@@ -237,7 +254,8 @@ impl FamilyLookup {
         server: SocketAddr,
         answer: Result<Vec<Ip>, NamesFault>,
     )
-        ensures settled { self.new.is_settled ≡ self.old.is_settled }
+        ensures same { IsSame self.old self.new }
+        ensures takes { Takes answer self.old self.new }
     {
         if let Some(kind) = LookupEventKind::of_answer(server, &answer) {
             setup.note(self.family, kind);
@@ -283,6 +301,8 @@ fn poll_any<R: Net + RandomSource + Clock>(
 ) -> Poll<(usize, Result<Vec<Ip>, NamesFault>)>
     requires some { 0 < vec_len queries.old }
     ensures within { IfReady result (λ (at, answer). at < vec_len queries.new) }
+    ensures heard { IfReady result (λ (at, answer). IsHeardOf question.entry.name.now.octets question.entry.family
+        answer) }
     ensures waits { OnPending result (Covers cx.new (any_needs queries.new.items)) }
     ensures len { vec_len queries.new ≡ vec_len queries.old }
     ensures kept { Keeps cx.old cx.new }

@@ -1,7 +1,7 @@
 //! Why a name has no addresses.
 
 ghost use Rattle.std.specs.Prelude.{◌≡◌, ◌⊎◌};
-ghost use Rattle.he_resolver.specs.Faults.{first_of, is_of_server, of_host, rank_of};
+ghost use Rattle.he_resolver.specs.Faults.{first_of, is_absence, is_of_host, is_of_server, of_host, rank_of};
 ghost use Rattle.he_resolver.specs.declared.fault.NamesFault.TheVariants.{Files, Memory, Runtime};
 ghost use Rattle.he_resolver.specs.declared.fault.TellFault.TheVariants.{Names, Write};
 
@@ -58,7 +58,9 @@ pub enum NamesFault {
 
 impl NamesFault {
     /// Whether the host is what the fault is about, so that a line that tells the fault is to name it.
-    pub fn is_of_host(self) -> bool {
+    pub fn is_of_host(self) -> bool
+        ensures { result ≡ is_of_host self }
+    {
         !matches!(
             self,
             NamesFault::Files | NamesFault::Runtime | NamesFault::Memory
@@ -66,7 +68,9 @@ impl NamesFault {
     }
 
     /// Whether a name server said that there is nothing.
-    pub fn is_absence(self) -> bool {
+    pub fn is_absence(self) -> bool
+        ensures { result ≡ is_absence self }
+    {
         matches!(self, NamesFault::NoSuchName | NamesFault::NoAddress)
     }
 

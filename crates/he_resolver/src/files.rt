@@ -1,7 +1,12 @@
 //! The files of the system.
 
+ghost use Rattle.std.specs.Prelude.{◌≡◌, IfErr, IfOk};
+ghost use Rattle.he_resolver.specs.Scopes.{FindsScope, MayBeScope};
+ghost use Rattle.he_resolver.specs.declared.fault.NamesFault.TheVariants.{Memory};
+
 use crate::fault::NamesFault;
 use he_addr::read_number;
+use he_names::{HostFault, Target, read_host};
 use std::alloc::{AllocGlobal, Global};
 use std::rt::Files;
 use std::str::from_utf8;
@@ -16,7 +21,9 @@ pub(crate) fn read_file<R: Files + AllocGlobal>(
     rt: &R,
     alloc: Global,
     path: &str,
-) -> Result<Vec<u8>, NamesFault> {
+) -> Result<Vec<u8>, NamesFault>
+    ensures { IfErr result (λ fault. fault ≡ Memory) }
+{
     match fs::read(rt, path) {
         Ok(text) => Ok(text),
         Err(error) if error.kind() == io::ErrorKind::OutOfMemory => Err(NamesFault::Memory),
@@ -34,7 +41,9 @@ pub fn read_scope<R: Files + AllocGlobal>(
     rt: &R,
     alloc: Global,
     zone: &[u8],
-) -> Result<Option<u32>, NamesFault> {
+) -> Result<Option<u32>, NamesFault>
+    ensures { IfOk result (MayBeScope zone.now) }
+{
     if let Some(number) = read_number(zone) {
         return Ok(u32::try_from(number).ok());
     }
@@ -50,5 +59,27 @@ pub fn read_scope<R: Files + AllocGlobal>(
     match read_number(digits) {
         Some(number) => Ok(u32::try_from(number).ok()),
         None => Ok(None),
+    }
+}
+
+/// The number of the interface that stands with a host's link-local address, as connect(2) takes it; 0 for every other
+/// host.
+///
+/// # Errors
+///
+/// `Host` where the text names no host, or an interface that this machine has not; `Memory`.
+pub fn find_scope<R: Files + AllocGlobal>(
+    rt: &R,
+    alloc: Global,
+    host: &str,
+) -> Result<u32, NamesFault>
+    ensures { IfOk result (FindsScope host.now) }
+{
+    match read_host(alloc, host)? {
+        Target::OnLink(_, interface) => match read_scope(rt, alloc, &interface)? {
+            Some(scope) => Ok(scope),
+            None => Err(NamesFault::Host(HostFault::Interface)),
+        },
+        _ => Ok(0),
     }
 }

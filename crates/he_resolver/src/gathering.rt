@@ -14,9 +14,9 @@ use he_names::Found;
 use std::alloc::Global;
 use std::net::Net;
 use std::random::RandomSource;
-use std::time::{Clock, Instant};
+use std::time::Clock;
 
-// What a family was told, and the milliseconds since the first poll at which that came.
+// What a family was told, and the milliseconds since the look-up began at which that came.
 #[derive(Drop)]
 pub(crate) struct FamilyAnswer {
     tick: u64,
@@ -34,35 +34,20 @@ pub(crate) struct Gathered {
 // Waits for both answers.
 #[derive(Drop)]
 pub(crate) struct Gathering<'h, R> {
-    clock: &'h R,
     alloc: Global,
     lookup: Lookup<'h, R>,
-    start: Option<Instant>,
     v6: Option<FamilyAnswer>,
     v4: Option<FamilyAnswer>,
 }
 
 impl<'h, R: Net + RandomSource + Clock> Gathering<'h, R> {
-    pub(crate) fn new(clock: &'h R, alloc: Global, lookup: Lookup<'h, R>) -> Gathering<'h, R> {
+    pub(crate) fn new(alloc: Global, lookup: Lookup<'h, R>) -> Gathering<'h, R> {
         Gathering {
-            clock,
             alloc,
             lookup,
-            start: None,
             v6: None,
             v4: None,
         }
-    }
-
-    // The whole milliseconds since the first poll; 0 where the clock fails.
-    fn tick(&mut self) -> u64 {
-        let Ok(now) = Instant::now(self.clock) else {
-            return 0;
-        };
-        let start = self.start.unwrap_or(now);
-        self.start = Some(start);
-        let millis = now.saturating_duration_since(start).as_millis();
-        millis.min(u128::from(u64::MAX)) as u64
     }
 
     // Polls for the family, where it isn't told, and notes what it is told at this tick.
@@ -117,7 +102,7 @@ impl<R: Net + RandomSource + Clock> Future for Gathering<'_, R> {
     ghost needs = { gathering_needs };
 
     fn poll(&mut self, cx: &mut Context<'_>) -> Poll<Gathered> {
-        let tick = self.tick();
+        let tick = self.lookup.tick();
         self.poll_for(Family::V6, tick, cx);
         self.poll_for(Family::V4, tick, cx);
         if self.are_told() {

@@ -22,12 +22,17 @@
 //! asked for over TCP. A datagram of the answer may have 1,232 bytes (RFC 6891); a server that can't read that is
 //! asked again without it.
 //!
-//! What the contracts say: a family is told addresses of its own, none twice, at most 256; where a poll is pending, it
-//! has registered at every socket and timer that the family waits for, and where it settles what the other family is
-//! told, the task is polled again (`specs/Needs`); [`write_names`] writes the two lines, and after any fault but
-//! `Write` nothing; and, of functions inside, what a message comes to (`specs/Replies`), behind which faults another
-//! server is asked and which fault is told (`specs/Faults`), what the file of hosts knows (`specs/Known`). Only
-//! tested, on loopback: that queries leave, when, to whom, and what becomes of answers.
+//! What the contracts say: a look-up begins with what is known of the host, or with the names and the servers that are
+//! to be asked, for both families or one (`specs/Begins`, `Known`, `Plans`); a family is told its own addresses, none
+//! twice, at most 256, of all that a message answers to the question for one of these names, or of what is known
+//! (`specs/Heard`); where a poll is pending, it has registered at every socket and timer that the family waits for,
+//! and where it settles what the other family is told, the task is polled again (`specs/Needs`); [`write_names`]
+//! writes the two lines, and after any fault but `Write` nothing (`specs/Told`); which word names which resolver
+//! (`specs/Choices`), which interface a zone (`specs/Scopes`). And, of functions inside: what a message comes to
+//! (`specs/Replies`), that answers are taken of the id that was sent, when the next server is asked (`specs/Asking`),
+//! after which faults, and which fault is told (`specs/Faults`), and which event an answer is (`specs/Events`). What a
+//! log holds is in no clause, since it is shared. Only tested, on loopback: that queries leave, when, to whom, and
+//! that it is a server's message that is read.
 #![tactic(auto)]
 
 pub mod choice;
@@ -53,7 +58,7 @@ pub mod system;
 pub use choice::Choice;
 pub use failure::{Failure, ServerFault};
 pub use fault::{NamesFault, TellFault, first_fault};
-pub use files::read_scope;
+pub use files::{find_scope, read_scope};
 pub use known::find_known;
 pub use log::{LookupEvent, LookupEventKind, LookupLog};
 pub use lookup::{Lookup, Wanted};

@@ -1,5 +1,8 @@
 //! What happened in a look-up.
 
+ghost use Rattle.std.specs.Prelude.{◌≡◌};
+ghost use Rattle.he_resolver.specs.Events.{event_of};
+
 use crate::failure::{Failure, ServerFault, ShownServer};
 use crate::fault::NamesFault;
 use crate::limits::{ALONE, MOST_EVENTS};
@@ -48,7 +51,9 @@ impl LookupEventKind {
     pub(crate) fn of_answer(
         server: SocketAddr,
         answer: &Result<Vec<Ip>, NamesFault>,
-    ) -> Option<LookupEventKind> {
+    ) -> Option<LookupEventKind>
+        ensures { result ≡ event_of server answer.now }
+    {
         match answer {
             Ok(ips) => Some(LookupEventKind::Addresses(ips.len(), server)),
             Err(NamesFault::NoAddress) => Some(LookupEventKind::NoAddress(server)),

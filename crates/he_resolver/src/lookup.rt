@@ -1,17 +1,18 @@
 //! A look-up of a host's addresses that is polled, as a race polls it.
 
-ghost use Rattle.std.specs.Prelude.{◌≢◌, IfOk};
+ghost use Rattle.std.specs.Prelude.{◌≡◌, ◌≢◌, IfOk};
 ghost use Rattle.futures.specs.Poll.{IfReady, OnPending};
 ghost use Rattle.futures.specs.Task.{Covers, Keeps};
 ghost use Rattle.he_names.specs.Answers.{IsAnswer};
+ghost use Rattle.he_resolver.specs.Begins.{BeginsFor};
+ghost use Rattle.he_resolver.specs.Heard.{IsSound, Tells, TellsKnown, asked_names};
 ghost use Rattle.he_resolver.specs.Needs.{lookup_needs};
 
 use crate::choice::Choice;
 use crate::fault::NamesFault;
-use crate::files::{SETTINGS, read_file};
 use crate::known::known_to;
 use crate::log::{LookupEventKind, LookupLog};
-use crate::plan::plan_of;
+use crate::plan::plan_for;
 use crate::resolver::Resolver;
 use crate::setup::Setup;
 use crate::system::{SystemQuery, SystemResolver};
@@ -73,6 +74,9 @@ impl<'h, R: Net + RandomSource + Clock> Lookup<'h, R> {
     ) -> Result<Lookup<'h, R>, NamesFault>
     where
         R: Files + AllocGlobal + SystemResolver + Threads + Copy + Send + 'static,
+        ensures begins { IfOk result (λ lookup. BeginsFor wanted.entry.host.now wanted.entry.choice wanted.entry.only
+            lookup.source) }
+        ensures sound { IfOk result (λ lookup. IsSound lookup.source) }
     {
         let log = LookupLog::new(rt, alloc)?;
         let target = read_host(alloc, wanted.host)?;
@@ -80,34 +84,45 @@ impl<'h, R: Net + RandomSource + Clock> Lookup<'h, R> {
             note_known(rt, &log, &known);
             return Ok(Lookup::with(rt, alloc, Source::Known(Ok(known)), log));
         }
-        let source = match (target, wanted.choice) {
-            (Target::Multicast(name) | Target::Name(name), Choice::System) => {
-                Source::System(SystemQuery::begin(*rt, alloc, name.as_str())?)
+        match (target, wanted.choice) {
+            (Target::Multicast(name), Choice::System) => {
+                let query = SystemQuery::begin(*rt, alloc, name.as_str())?;
+                Ok(Lookup::with(rt, alloc, Source::System(query), log))
+            }
+            (Target::Name(name), Choice::System) => {
+                let query = SystemQuery::begin(*rt, alloc, name.as_str())?;
+                Ok(Lookup::with(rt, alloc, Source::System(query), log))
             }
             (Target::Name(name), choice) => {
-                let settings = read_file(rt, alloc, SETTINGS)?;
                 let setup = Setup {
                     rt,
                     alloc,
                     reactor,
                     timers,
-                    plan: plan_of(rt, alloc, name.as_bytes(), &settings, choice)?,
+                    plan: plan_for(rt, alloc, name.as_bytes(), choice)?,
                     log: log.share()?,
                 };
-                Source::Servers(Resolver::new(setup, wanted.only))
+                let resolver = Resolver::new(setup, wanted.only);
+                Ok(Lookup::with(rt, alloc, Source::Servers(resolver), log))
             }
-            _ => return Err(NamesFault::Host(HostFault::Special(SpecialUse::Local))),
-        };
-        Ok(Lookup::with(rt, alloc, source, log))
+            _ => Err(NamesFault::Host(HostFault::Special(SpecialUse::Local))),
+        }
     }
 
-    fn with(rt: &'h R, alloc: Global, source: Source<'h, R>, log: LookupLog) -> Lookup<'h, R> {
+    fn with(rt: &'h R, alloc: Global, source: Source<'h, R>, log: LookupLog) -> Lookup<'h, R>
+        ensures { result.source ≡ source.entry }
+    {
         Lookup {
             rt,
             alloc,
             source,
             log,
         }
+    }
+
+    // The whole milliseconds since the look-up began, as its events have them; 0 where the clock fails.
+    pub(crate) fn tick(&self) -> u64 {
+        self.log.tick(self.rt)
     }
 
     /// What happened in the look-up so far, for a holder that reads it while the look-up goes on.
@@ -139,6 +154,9 @@ impl<'h, R: Net + RandomSource + Clock> Lookup<'h, R> {
         cx: &mut Context<'_>,
     ) -> Poll<Result<Vec<Ip>, NamesFault>>
         ensures answer { IfReady result (λ told. IfOk told (λ ips. IsAnswer family ips.items)) }
+        ensures told { IsSound self.old.source → IfReady result (Tells self.new.source family) }
+        ensures sound { IsSound self.old.source → IsSound self.new.source }
+        ensures names { asked_names self.new.source ≡ asked_names self.old.source }
         ensures waits { OnPending result (Covers cx.new (lookup_needs self.new family)) }
         ensures other { (other : _) → other ≢ family → Covers cx.old (lookup_needs self.old other)
             → Covers cx.new (lookup_needs self.new other) }
@@ -172,7 +190,8 @@ fn answer_of(
     family: Family,
     found: &Result<Vec<Ip>, NamesFault>,
 ) -> Result<Vec<Ip>, NamesFault>
-    ensures { IfOk result (λ ips. IsAnswer family ips.items) }
+    ensures answer { IfOk result (λ ips. IsAnswer family ips.items) }
+    ensures told { TellsKnown found.now family result }
 {
     match found {
         Ok(ips) => Ok(clean_of(alloc, family, ips)?),

@@ -95,7 +95,7 @@ where
     let handle = runtime.handle().clone()?;
     let lookup = Lookup::new(rt, alloc, handle.reactor(), handle.time(), wanted)?;
     let log = lookup.log()?;
-    let gathered = runtime.block_on(rt, Gathering::new(rt, alloc, lookup));
+    let gathered = runtime.block_on(rt, Gathering::new(alloc, lookup));
     report.events = log.take();
     let Gathered { found, v6, v4 } = gathered?;
     report.v6 = v6;

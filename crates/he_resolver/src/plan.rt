@@ -1,14 +1,15 @@
 // What is asked for a host, and of whom.
 
-ghost use Rattle.std.specs.Prelude.{◌≡◌, ◌*◌, ◌≢◌, IfOk, OnOk, codes, map, slice_get};
+ghost use Rattle.std.specs.Prelude.{◌≡◌, ◌≢◌, IfOk, IfSome, MatchOption, OnOk, Some, codes, map, slice_get};
 ghost use Rattle.he_dns.specs.declared.fault.NameFault.TheVariants as faults;
 ghost use Rattle.he_names.specs.Conf.{option_in, search_in};
+ghost use Rattle.he_names.specs.Literals.{zoned_of};
 ghost use Rattle.he_names.specs.Order.{names_of};
-ghost use Rattle.he_resolver.specs.Plans.{AreChosen, AreSpelled};
+ghost use Rattle.he_resolver.specs.Plans.{AreServers, AreSpelled, IsAbsent, IsPlan, IsServer, StandFor};
 
 use crate::choice::{Choice, server_at};
 use crate::fault::NamesFault;
-use crate::files::read_scope;
+use crate::files::{SETTINGS, read_file, read_scope};
 use crate::limits::SERVER_PORT;
 use he_addr::Ip;
 use he_dns::{Name, NameFault};
@@ -30,7 +31,9 @@ pub(crate) struct QueryPlan {
 
 impl QueryPlan {
     // The name at this place, where there are so many.
-    pub(crate) fn name(&self, place: usize) -> Option<&Name> {
+    pub(crate) fn name(&self, place: usize) -> Option<&Name>
+        ensures { IfSome result (λ name. slice_get self.now.names.items place ≡ Some name.now) }
+    {
         self.names.get(place)
     }
 
@@ -53,19 +56,29 @@ impl QueryPlan {
     }
 }
 
+// What is asked for a host, by the file of resolver settings of this machine.
+pub(crate) fn plan_for<R: Files + AllocGlobal>(
+    rt: &R,
+    alloc: Global,
+    host: &[u8],
+    choice: Choice,
+) -> Result<QueryPlan, NamesFault>
+    ensures { IfOk result (λ plan. (settings : _) × IsPlan host.now settings choice plan) }
+{
+    let settings = read_file(rt, alloc, SETTINGS)?;
+    let plan = plan_of(rt, alloc, host, &settings, choice)?;
+    Ok(plan)
+}
+
 // What is asked for a host, by a file of resolver settings.
-pub(crate) fn plan_of<R: Files + AllocGlobal>(
+fn plan_of<R: Files + AllocGlobal>(
     rt: &R,
     alloc: Global,
     host: &[u8],
     settings: &[u8],
     choice: Choice,
 ) -> Result<QueryPlan, NamesFault>
-    ensures names { IfOk result (λ plan. AreSpelled (names_of host.now (option_in (codes "ndots:") 0 1 15 settings.now)
-        (search_in settings.now)) plan.names.items) }
-    ensures servers { IfOk result (λ plan. AreChosen choice plan.servers.items) }
-    ensures sends { IfOk result (λ plan. plan.sends ≡ option_in (codes "timeout:") 1 5 30 settings.now * option_in
-        (codes "attempts:") 1 2 5 settings.now) }
+    ensures { IfOk result (IsPlan host.now settings.now choice) }
 {
     Ok(QueryPlan {
         names: names_of(alloc, host, settings)?,
@@ -80,19 +93,31 @@ fn servers_of<R: Files + AllocGlobal>(
     settings: &[u8],
     choice: Choice,
 ) -> Result<Vec<SocketAddr>, NamesFault>
-    ensures { IfOk result (λ servers. AreChosen choice servers.items) }
+    ensures { IfOk result (λ servers. AreServers choice settings.now servers.items) }
 {
-    let mut servers = Vec::new(alloc);
-    if let Choice::Server(server) = choice {
-        servers.push(server)?;
-        return Ok(servers);
-    }
-    for server in &read_servers(alloc, settings)? {
-        if let Some(address) = address_of(rt, alloc, *server)? {
-            servers.push(address)?;
+    match choice {
+        Choice::Server(server) => Ok(Vec::from_slice(alloc, &[server])?),
+        Choice::Configured | Choice::System => {
+            addresses_of(rt, alloc, &read_servers(alloc, settings)?)
         }
     }
-    Ok(servers)
+}
+
+// Where the servers are asked.
+fn addresses_of<R: Files + AllocGlobal>(
+    rt: &R,
+    alloc: Global,
+    servers: &[ZonedIp<'_>],
+) -> Result<Vec<SocketAddr>, NamesFault>
+    ensures { IfOk result (λ addresses. StandFor IsServer IsAbsent (map zoned_of servers.now) addresses.items) }
+{
+    let mut addresses = Vec::new(alloc);
+    for server in servers {
+        if let Some(address) = address_of(rt, alloc, *server)? {
+            addresses.push(address)?;
+        }
+    }
+    Ok(addresses)
 }
 
 // Where a server is asked; None where this machine has no such interface.
@@ -100,7 +125,10 @@ fn address_of<R: Files + AllocGlobal>(
     rt: &R,
     alloc: Global,
     server: ZonedIp<'_>,
-) -> Result<Option<SocketAddr>, NamesFault> {
+) -> Result<Option<SocketAddr>, NamesFault>
+    ensures { IfOk result (λ address. MatchOption address (IsAbsent (zoned_of server.entry))
+        (IsServer (zoned_of server.entry))) }
+{
     match (server.ip, server.zone) {
         (Ip::V6(bits), Some(zone)) => match read_scope(rt, alloc, zone)? {
             Some(scope) => {

@@ -1,8 +1,9 @@
 // What one name server is asked: over UDP, and over TCP where its answer is cut off (RFC 7766 section 5).
 
-ghost use Rattle.std.specs.Prelude.{◌≡◌};
-ghost use Rattle.futures.specs.Poll.{OnPending};
+ghost use Rattle.std.specs.Prelude.{IfSome};
+ghost use Rattle.futures.specs.Poll.{IfReady, OnPending};
 ghost use Rattle.futures.specs.Task.{Covers, Keeps};
+ghost use Rattle.he_resolver.specs.Heard.{IsHeardOf, RepliesTo, id_of};
 ghost use Rattle.he_resolver.specs.Needs.{query_needs, transport_needs};
 
 use crate::datagrams::Datagrams;
@@ -33,6 +34,8 @@ impl Transport {
         question: Question<'_>,
         cx: &mut Context<'_>,
     ) -> Poll<Reply>
+        ensures heard { IfReady result (RepliesTo (id_of self.old) question.entry.name.now.octets
+            question.entry.family) }
         ensures waits { OnPending result (Covers cx.new (transport_needs self.new)) }
         ensures kept { Keeps cx.old cx.new }
     {
@@ -85,6 +88,7 @@ impl Query {
         question: Question<'_>,
         cx: &mut Context<'_>,
     ) -> Poll<Result<Vec<Ip>, NamesFault>>
+        ensures heard { IfReady result (IsHeardOf question.entry.name.now.octets question.entry.family) }
         ensures waits { OnPending result (Covers cx.new (query_needs self.new)) }
         ensures kept { Keeps cx.old cx.new }
     {
@@ -127,7 +131,10 @@ impl Query {
         reply: Reply,
         setup: &Setup<'_, R>,
         question: Question<'_>,
-    ) -> Option<Result<Vec<Ip>, NamesFault>> {
+    ) -> Option<Result<Vec<Ip>, NamesFault>>
+        ensures { (id : _) → RepliesTo id question.entry.name.now.octets question.entry.family reply
+            → IfSome result (IsHeardOf question.entry.name.now.octets question.entry.family) }
+    {
         match reply {
             Reply::Addresses(ips) => Some(Ok(ips)),
             Reply::NoAddress => Some(Err(NamesFault::NoAddress)),

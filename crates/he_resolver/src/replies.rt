@@ -1,6 +1,7 @@
 // What the messages of a name server come to.
 
-ghost use Rattle.std.specs.Prelude.{◌≡◌};
+ghost use Rattle.std.specs.Prelude.{◌≡◌, IfSome};
+ghost use Rattle.he_resolver.specs.Heard.{RepliesTo};
 ghost use Rattle.he_resolver.specs.Replies.{ComesTo, TellsAddresses, failure_of, fault_reply};
 
 use crate::failure::Failure;
@@ -34,7 +35,8 @@ pub(crate) fn read_reply(
     id: u16,
     question: Question<'_>,
 ) -> Option<Reply>
-    ensures { ComesTo message.now id question.entry.name.now.octets question.entry.family result }
+    ensures comes { ComesTo message.now id question.entry.name.now.octets question.entry.family result }
+    ensures heard { IfSome result (RepliesTo id question.entry.name.now.octets question.entry.family) }
 {
     match read_answer(alloc, message, id, question.name, question.family) {
         Ok(ips) => Some(reply_of(message, ips)),

@@ -1,9 +1,13 @@
 // Name servers that are asked for a host.
 
-ghost use Rattle.std.specs.Prelude.{IfOk, ◌≡◌, ◌⊎◌, ◌&&◌, ⊤, true, false, is_some, not};
+ghost use Rattle.std.specs.Prelude.{◌≡◌, ◌⊎◌, ◌&&◌, Err, IfOk, Some, ⊤, true, false, is_some, not};
 ghost use Rattle.futures.specs.Poll.{OnPending};
 ghost use Rattle.futures.specs.Task.{Covers, Keeps};
 ghost use Rattle.he_names.specs.Answers.{IsAnswer};
+ghost use Rattle.he_resolver.specs.declared.fault.NamesFault.TheVariants.{NoSuchName};
+ghost use Rattle.he_resolver.specs.Asking.{IsSame};
+ghost use Rattle.he_resolver.specs.Begins.{AsksFor};
+ghost use Rattle.he_resolver.specs.Heard.{IsFaithful, TellsHeard, names_of};
 ghost use Rattle.he_resolver.specs.Needs.{IsTold, family_of, is_settled, names_needs, other_of, resolver_needs};
 
 use crate::family_lookup::FamilyLookup;
@@ -33,7 +37,11 @@ pub(crate) struct Resolver<'h, R> {
 
 impl<'h, R: Net + RandomSource + Clock> Resolver<'h, R> {
     // Nothing is sent before the first poll. Where one family alone is wanted, the other isn't asked for.
-    pub(crate) fn new(setup: Setup<'h, R>, only: Option<Family>) -> Resolver<'h, R> {
+    pub(crate) fn new(setup: Setup<'h, R>, only: Option<Family>) -> Resolver<'h, R>
+        ensures asks { AsksFor only result }
+        ensures faithful { IsFaithful result }
+        ensures plan { result.setup.plan ≡ setup.entry.plan }
+    {
         if let Some(family) = only {
             setup.note(other_of(family), LookupEventKind::NotAsked);
         }
@@ -51,6 +59,8 @@ impl<'h, R: Net + RandomSource + Clock> Resolver<'h, R> {
         ensures waits { OnPending result (Covers cx.new (resolver_needs self.new family)) }
         ensures other { Covers cx.old (resolver_needs self.old (other_of family))
             → Covers cx.new (resolver_needs self.new (other_of family)) }
+        ensures faithful { IsFaithful self.old → IsFaithful self.new }
+        ensures names { names_of self.new ≡ names_of self.old }
         ensures kept { Keeps cx.old cx.new }
     {
         let other = other_of(family);
@@ -67,7 +77,8 @@ impl<'h, R: Net + RandomSource + Clock> Resolver<'h, R> {
 
     // The addresses of the family, each once and at most 256, or why there are none, once that is settled.
     pub(crate) fn answer(&self, family: Family) -> Result<Vec<Ip>, NamesFault>
-        ensures { IfOk result (λ ips. IsAnswer family ips.items) }
+        ensures answer { IfOk result (λ ips. IsAnswer family ips.items) }
+        ensures told { IsFaithful self.now → TellsHeard (names_of self.now) family result }
     {
         match self.asking(family).told() {
             Some(Ok(ips)) => Ok(clean_of(self.setup.alloc, family, ips)?),
@@ -95,6 +106,8 @@ impl<'h, R: Net + RandomSource + Clock> Resolver<'h, R> {
     fn poll_names(&mut self, cx: &mut Context<'_>) -> bool
         ensures waits { result ≡ false → Covers cx.new (names_needs self.new) }
         ensures settled { (family : _) → is_settled self.new family ≡ is_settled self.old family }
+        ensures faithful { IsFaithful self.old → IsFaithful self.new }
+        ensures names { names_of self.new ≡ names_of self.old }
         ensures kept { Keeps cx.old cx.new }
     {
         for _ in 0..MOST_STEPS {
@@ -104,18 +117,29 @@ impl<'h, R: Net + RandomSource + Clock> Resolver<'h, R> {
             if !self.goes_on() {
                 return true;
             }
-            self.place = self.place.saturating_add(1);
-            self.v6.start_again();
-            self.v4.start_again();
+            self.go_on();
         }
         let _: Poll<()> = cx.yield_now();
         false
+    }
+
+    // Both families begin anew, with the next name.
+    fn go_on(&mut self)
+        ensures settled { (family : _) → is_settled self.new family ≡ is_settled self.old family }
+        ensures faithful { IsFaithful self.old → IsFaithful self.new }
+        ensures names { names_of self.new ≡ names_of self.old }
+    {
+        self.place = self.place.saturating_add(1);
+        self.v6.start_again();
+        self.v4.start_again();
     }
 
     // Both families go on with the name. Whether both are told.
     fn poll_name(&mut self, cx: &mut Context<'_>) -> bool
         ensures waits { result ≡ false → Covers cx.new (names_needs self.new) }
         ensures settled { (family : _) → is_settled self.new family ≡ is_settled self.old family }
+        ensures faithful { IsFaithful self.old → IsFaithful self.new }
+        ensures names { names_of self.new ≡ names_of self.old }
         ensures kept { Keeps cx.old cx.new }
     {
         let _: Poll<()> = self.v6.poll(&self.setup, self.place, cx);
@@ -143,6 +167,8 @@ impl<'h, R: Net + RandomSource + Clock> Resolver<'h, R> {
         ensures kept { (family : _) → is_settled self.old family ≡ true → is_settled self.new family ≡ true }
         ensures six { self.new.v6 ≡ record self.old.v6 { is_settled = self.new.v6.is_settled } }
         ensures four { self.new.v4 ≡ record self.old.v4 { is_settled = self.new.v4.is_settled } }
+        ensures faithful { IsFaithful self.old → IsFaithful self.new }
+        ensures names { names_of self.new ≡ names_of self.old }
     {
         let is_last = self.is_last();
         let v6 = is_over || can_settle(&self.v6, &self.v4, is_last);
@@ -187,8 +213,10 @@ fn can_settle(own: &FamilyLookup, other: &FamilyLookup, is_last: bool) -> bool {
 fn share_absence(v6: &mut FamilyLookup, v4: &mut FamilyLookup)
     ensures six { (v6.new ≡ v6.old) ⊎ IsTold v6.new }
     ensures four { (v4.new ≡ v4.old) ⊎ IsTold v4.new }
-    ensures six_settled { v6.new.is_settled ≡ v6.old.is_settled }
-    ensures four_settled { v4.new.is_settled ≡ v4.old.is_settled }
+    ensures six_same { IsSame v6.old v6.new }
+    ensures four_same { IsSame v4.old v4.new }
+    ensures six_told { (v6.new.told ≡ v6.old.told) ⊎ (v6.new.told ≡ Some (Err NoSuchName)) }
+    ensures four_told { (v4.new.told ≡ v4.old.told) ⊎ (v4.new.told ≡ Some (Err NoSuchName)) }
 {
     if v6.lack() == Some(NamesFault::NoSuchName) && !v4.is_told() {
         v4.tell(Err(NamesFault::NoSuchName));

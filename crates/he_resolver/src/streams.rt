@@ -1,8 +1,10 @@
 // A query over TCP (RFC 1035 section 4.2.2): each message stands behind its length in two bytes.
 
-ghost use Rattle.std.specs.Prelude.{◌≡◌};
-ghost use Rattle.futures.specs.Poll.{OnPending};
+ghost use Rattle.std.specs.Prelude.{◌≡◌, ◌++◌, IfOk, length};
+ghost use Rattle.std.specs.Int.{to_be_bytes, w16};
+ghost use Rattle.futures.specs.Poll.{IfReady, OnPending};
 ghost use Rattle.futures.specs.Task.{Covers, Keeps};
+ghost use Rattle.he_resolver.specs.Heard.{IsToSend, RepliesTo};
 ghost use Rattle.he_resolver.specs.Needs.{CoversWait, stage_needs};
 
 use crate::datagrams::random_id;
@@ -48,14 +50,13 @@ impl StreamQuery {
         server: SocketAddr,
         question: Question<'_>,
         room: Option<u16>,
-    ) -> Result<StreamQuery, NamesFault> {
+    ) -> Result<StreamQuery, NamesFault>
+        ensures sends { IfOk result (λ query. IsToSend query.id question.entry.name.now.octets question.entry.family
+            query.stage) }
+    {
         let id = random_id(setup.rt)?;
         let message = write_query(setup.alloc, id, question.name, question.family, room)?;
-        let Ok(len) = u16::try_from(message.len()) else {
-            return Err(NamesFault::Runtime);
-        };
-        let mut request = Vec::from_slice(setup.alloc, &len.to_be_bytes())?;
-        request.extend_from_slice(&message)?;
+        let request = framed(setup.alloc, &message)?;
         let connecting = TcpStream::connect(setup.rt, server, setup.reactor);
         Ok(StreamQuery {
             stage: Stage::Connecting(connecting, request),
@@ -70,6 +71,8 @@ impl StreamQuery {
         question: Question<'_>,
         cx: &mut Context<'_>,
     ) -> Poll<Reply>
+        ensures heard { IfReady result (RepliesTo self.old.id question.entry.name.now.octets question.entry.family) }
+        ensures id { self.new.id ≡ self.old.id }
         ensures waits { OnPending result (Covers cx.new (stage_needs self.new.stage)) }
         ensures kept { Keeps cx.old cx.new }
     {
@@ -96,6 +99,18 @@ impl StreamQuery {
     }
 }
 
+// The message behind its length.
+fn framed(alloc: Global, message: &[u8]) -> Result<Vec<u8>, NamesFault>
+    ensures { IfOk result (λ request. request.items ≡ to_be_bytes w16 (length message.now) ++ message.now) }
+{
+    let Ok(len) = u16::try_from(message.len()) else {
+        return Err(NamesFault::Runtime);
+    };
+    let mut request = Vec::from_slice(alloc, &len.to_be_bytes())?;
+    request.extend_from_slice(message)?;
+    Ok(request)
+}
+
 // What a poll of a stage comes to.
 #[derive(Drop)]
 pub(crate) enum StageOutcome {
@@ -119,7 +134,9 @@ fn length_of(bytes: &[u8]) -> usize {
 }
 
 // A connection that isn't made or breaks off.
-fn reply_of(error: io::Error) -> Reply {
+fn reply_of(error: io::Error) -> Reply
+    ensures { (id : _) (octets : _) (family : _) → RepliesTo id octets family result }
+{
     match error.kind() {
         io::ErrorKind::OutOfMemory => Reply::Memory,
         _ => Reply::Failure(Failure::Unreachable),

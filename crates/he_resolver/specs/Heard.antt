@@ -1,0 +1,125 @@
+-- What is told of a name comes of a message that a name server sent (RFC 1035 section 4.1), by what he_dns says of it.
+use Rattle.std.specs.Prelude.{◌≡◌, ◌⊎◌, ⊤, ℕ, List, [], ◌++◌, Option, Some, None, Result, Ok, Err, length, slice_get}
+use Rattle.std.specs.Global.{Vec}
+use Rattle.std.specs.Int.{w16, to_be_bytes}
+use Rattle.he_addr.specs.declared.ip.Family.{Family}
+use Rattle.he_addr.specs.declared.ip.Family.TheVariants as families
+use Rattle.he_addr.specs.declared.ip.Ip.{Ip}
+use Rattle.he_dns.specs.Answers.{Answers}
+use Rattle.he_dns.specs.Queries.{query_of}
+use Rattle.he_dns.specs.Texts.{HostName}
+use Rattle.he_names.specs.Answers.{cleaned}
+use Rattle.he_resolver.specs.declared.datagrams.Datagrams.{Datagrams}
+use Rattle.he_resolver.specs.declared.family_lookup.FamilyLookup.{FamilyLookup}
+use Rattle.he_resolver.specs.declared.fault.NamesFault.{NamesFault}
+use Rattle.he_resolver.specs.declared.lookup.Source.{Source}
+use Rattle.he_resolver.specs.declared.lookup.Source.TheVariants as sources
+use Rattle.he_resolver.specs.declared.query.Transport.{Transport}
+use Rattle.he_resolver.specs.declared.query.Transport.TheVariants as transports
+use Rattle.he_resolver.specs.declared.replies.Reply.{Reply}
+use Rattle.he_resolver.specs.declared.replies.Reply.TheVariants as replies
+use Rattle.he_resolver.specs.declared.resolver.Resolver.{Resolver}
+use Rattle.he_resolver.specs.declared.streams.Stage.{Stage}
+use Rattle.he_resolver.specs.declared.streams.Stage.TheVariants as stages
+
+-- ---- one message
+
+-- a message with this id answers the addresses to the query for the family of the name with these octets
+abbrev pub IsAnswered : ℕ → List ℕ → Family → List Ip → Type 0
+IsAnswered id octets family ips = (message : List ℕ) × Answers message id octets family ips
+
+-- the addresses of a reply are those that a message with the id answers
+abbrev pub RepliesTo : ℕ → List ℕ → Family → Reply → Type 0
+RepliesTo id octets family (replies.Addresses ips) = IsAnswered id octets family ips.items
+RepliesTo id octets family other = ⊤
+
+-- ---- what was sent
+
+-- the query that was sent over UDP has the id of which answers are taken
+abbrev pub IsSent : List ℕ → Family → Datagrams → Type 0
+IsSent octets family datagrams = (room : Option ℕ) × (datagrams.query.items ≡ query_of datagrams.id octets family room)
+
+-- so has the one that is sent over TCP, behind its length in two bytes (RFC 1035 section 4.2.2)
+abbrev pub IsToSend : ℕ → List ℕ → Family → Stage → Type 0
+IsToSend id octets family (stages.Connecting connecting request) =
+    (room : Option ℕ) × (query : List ℕ) × (query ≡ query_of id octets family room)
+    × (request.items ≡ to_be_bytes w16 (length query) ++ query)
+IsToSend id octets family other = ⊥
+
+-- the id of which answers are taken
+abbrev pub id_of : Transport → ℕ
+id_of (transports.Datagrams datagrams) = datagrams.id
+id_of (transports.Stream stream) = stream.id
+
+-- ---- one family of a name
+
+abbrev pub Told : Type 0
+Told = Result (Vec Ip) NamesFault
+
+-- addresses that are told are those that some message answers to the query for the name with these octets
+abbrev pub IsHeardOf : List ℕ → Family → Told → Type 0
+IsHeardOf octets family (Ok ips) = (id : ℕ) × IsAnswered id octets family ips.items
+IsHeardOf octets family (Err fault) = ⊤
+
+-- what was told is as it was, or is now heard
+abbrev pub HearsOf : List ℕ → Family → Option Told → Option Told → Type 0
+HearsOf octets family old None = ⊤
+HearsOf octets family old (Some told) = (Some told ≡ old) ⊎ IsHeardOf octets family told
+
+-- addresses are those that some message answers to the query for one of the names
+abbrev pub AreHeard : List HostName → Family → List Ip → Type 0
+AreHeard names family ips =
+    (place : ℕ) × (name : HostName) × (slice_get names place ≡ Some name) × (id : ℕ)
+    × IsAnswered id name.octets family ips
+
+-- so is what was told so far
+abbrev pub IsHeardOfOne : List HostName → Family → Option Told → Type 0
+IsHeardOfOne names family None = ⊤
+IsHeardOfOne names family (Some (Ok ips)) = AreHeard names family ips.items
+IsHeardOfOne names family (Some (Err fault)) = ⊤
+
+-- the family's part of a look-up, which was told so
+abbrev pub IsPart : List HostName → Family → FamilyLookup → Type 0
+IsPart names family asking = (asking.family ≡ family) × IsHeardOfOne names family asking.told
+
+-- ---- what is told
+
+-- the family's addresses, cleaned, of all that a message answers for one of the names
+abbrev pub TellsHeard : List HostName → Family → Told → Type 0
+TellsHeard names family (Ok ips) =
+    (all : List Ip) × AreHeard names family all × (ips.items ≡ cleaned family all)
+TellsHeard names family (Err fault) = ⊤
+
+-- the family's addresses, cleaned, of all that is known without asking a name server
+abbrev pub TellsKnown : Told → Family → Told → Type 0
+TellsKnown (Ok all) family (Ok ips) = ips.items ≡ cleaned family all.items
+TellsKnown (Err why) family told = told ≡ Err why
+TellsKnown known family (Err fault) = ⊤
+
+-- ---- both families
+
+module _ {R : Type 0} where
+  abbrev pub names_of : Resolver R → List HostName
+  names_of resolver = resolver.setup.plan.names.items
+
+  -- each family has been told what was heard of one of the names that are to be asked
+  abbrev pub IsFaithful : Resolver R → Type 0
+  IsFaithful resolver =
+      IsPart (names_of resolver) families.V6 resolver.v6 × IsPart (names_of resolver) families.V4 resolver.v4
+
+  -- ---- a look-up
+
+  abbrev pub IsSound : Source R → Type 0
+  IsSound (sources.Servers resolver) = IsFaithful resolver
+  IsSound other = ⊤
+
+  -- the names that name servers are asked for; none where no name server is asked
+  abbrev pub asked_names : Source R → List HostName
+  asked_names (sources.Servers resolver) = names_of resolver
+  asked_names other = []
+
+  -- what is told of a family: of what was heard, or of what is known, also by the system
+  abbrev pub Tells : Source R → Family → Told → Type 0
+  Tells (sources.Known known) family told = TellsKnown known family told
+  Tells (sources.Servers resolver) family told = TellsHeard (names_of resolver) family told
+  Tells (sources.System query) family told = ⊥
