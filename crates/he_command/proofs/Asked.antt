@@ -12,8 +12,8 @@ use Rattle.he_timeline.specs.Changes.{ChangeValues, changes_of, is_out}
 use Rattle.he_timeline.specs.declared.limits.TheConstants.{MAX_RESOLUTION, MIN_ATTEMPT, MAX_ATTEMPT, MIN_COUNT, MAX_COUNT, MIN_LIMIT, MAX_LIMIT, MIN_FLOOR}
 use Rattle.he_timeline.specs.declared.settings.Range.{Range}
 use Rattle.he_timeline.specs.declared.settings.Range.TheVariants.{Resolution, Attempt, Count, Limit, Floor}
-use Rattle.he_command.specs.Requests.{AsksDrawing, AsksTexts, drawn, page_of}
-use Rattle.he_command.specs.Words.{AsksChanges, HasFlag, HasNumber, is_setting, last_number, values_of}
+use Rattle.he_command.specs.Requests.{AsksDrawing, AsksTexts, IsDrawn, page_of}
+use Rattle.he_command.specs.Words.{AsksChanges, HasNumber, is_setting, last_number, values_of}
 use Rattle.he_command.specs.declared.refusal.OptionFault.{OptionFault}
 use Rattle.he_command.specs.declared.texts.Task.{Task}
 use Rattle.he_command.specs.declared.texts.Task.TheVariants.{Write}
@@ -81,22 +81,21 @@ some_now None = refl
 some_now (Some text) = refl
 
 -- the texts of a drawing are those that the line asks for
-pub draws : {D E : Type 0} (gives : List ℕ → Result ℕ D → Type 0) (gives32 : List ℕ → Result ℕ E → Type 0) (found : Found) (columns : ℕ) (html page : Option (Bor (List ℕ))) (content : Content) (task : Task) (is_page : Bool) (texts : Texts)
+draws : {D E : Type 0} (gives : List ℕ → Result ℕ D → Type 0) (gives32 : List ℕ → Result ℕ E → Type 0) (found : Found) (columns : ℕ) (html page : Option (Bor (List ℕ))) (content : Content) (task : Task) (is_page : Bool) (texts : Texts)
     → option_map (λ t. t.now) html ≡ first_value found (codes "html") → option_map (λ t. t.now) page ≡ page_of (option_map (λ t. t.now) html) → is_page ≡ is_some html
-    → ((svg : Bool) × (ascii : Bool) × (width : Option ℕ) × HasFlag found (codes "svg") svg × HasFlag found (codes "ascii") ascii × HasNumber gives found (codes "width") width
-    × (content ≡ drawn is_page svg ascii width columns))
-    → task ≡ Write content 1 → AsksTexts gives32 found task texts → AsksDrawing gives gives32 found columns (record texts { page = page })
-draws gives gives32 found columns html page content task is_page texts is_html is_path paged (svg, ascii, width, is_svg, is_ascii, has, is_content) is_task asks = record {
-  svg = svg;
-  is_svg = is_svg;
-  ascii = ascii;
-  is_ascii = is_ascii;
-  width = width;
-  has_width = has;
-  task_is =
-      asks.task_is ∙ is_task
-      ∙ ap (λ (c : Content). Write c 1) (is_content ∙ ap (λ (b : Bool). drawn b svg ascii width columns) (paged ∙ some_now html ∙ ap is_some is_html));
-  changes = asks.changes;
-  files = asks.files;
-  page = is_path ∙ ap page_of is_html;
-}
+    → IsDrawn gives found is_page columns content → task ≡ Write content 1 → AsksTexts gives32 found task (option_map (λ t. t.now) page) texts
+    → AsksDrawing gives gives32 found columns texts
+draws gives gives32 found columns html page content task is_page texts is_html is_path paged drawn is_task asks = (
+  content,
+  subst (λ (b : Bool). IsDrawn gives found b columns content) (paged ∙ some_now html ∙ ap is_some is_html) drawn,
+  subst (λ (t : Task). AsksTexts gives32 found t (page_of (first_value found (codes "html"))) texts) is_task
+      (subst (λ (p : Option (List ℕ)). AsksTexts gives32 found task p texts) (is_path ∙ ap page_of is_html) asks),
+)
+
+pub all_drawn : {D E F : Type 0} (gives : List ℕ → Result ℕ D → Type 0) (gives32 : List ℕ → Result ℕ E → Type 0) (found : Found) (columns : ℕ) (html page : Option (Bor (List ℕ))) (content : Content) (task : Task) (is_page : Bool) (result : Result Texts F)
+    → option_map (λ t. t.now) html ≡ first_value found (codes "html") → option_map (λ t. t.now) page ≡ page_of (option_map (λ t. t.now) html) → is_page ≡ is_some html
+    → IsDrawn gives found is_page columns content → task ≡ Write content 1 → IfOk result (AsksTexts gives32 found task (option_map (λ t. t.now) page))
+    → IfOk result (AsksDrawing gives gives32 found columns)
+all_drawn gives gives32 found columns html page content task is_page (Ok texts) is_html is_path paged drawn is_task asks =
+    draws gives gives32 found columns html page content task is_page texts is_html is_path paged drawn is_task asks
+all_drawn gives gives32 found columns html page content task is_page (Err refusal) is_html is_path paged drawn is_task asks = tt

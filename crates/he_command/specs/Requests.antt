@@ -31,25 +31,30 @@ IsRequest (requests.Live options) = LEAST_PORT ≤ options.port
 IsRequest (requests.Connect connection) = LEAST_PORT ≤ connection.race.port
 IsRequest _ = Unit {0}
 
--- the files of the line, with its settings, of which each race has those in place of its own
+-- whether a task tells each fault of a text, and so goes on after one
+abbrev pub tells_faults : Task → Bool
+tells_faults (Check is_all) = is_all
+tells_faults _ = false
+
+-- the files of the line, with its settings, of which each race has those in place of its own, and the file of a page
 pub record AsksTexts {E : Type 0} (gives : List ℕ → Result ℕ E → Type 0) (found : Found) (task : Task)
-    (texts : Texts) : Type 0 where
+    (page : Option (List ℕ)) (texts : Texts) : Type 0 where
   pub task_is : texts.task ≡ task
   pub changes : AsksChanges gives found texts.changes
   pub files : map (λ file. file.now) texts.files.items ≡ values_of found (codes "file")
-  pub page : texts.page ≡ None
-  pub going : Bool
-  pub goes : HasFlag found (codes "keep-going") going
+  pub page_is : option_map (λ path. path.now) texts.page ≡ page
+  pub keep_going : Bool
+  pub keeps : HasFlag found (codes "keep-going") keep_going
+  pub goes : texts.goes_on ≡ (keep_going || tells_faults task)
 
 -- a transcript, as JSON or not, by so many workers
-pub record AsksReplay {E : Type 0} (gives : List ℕ → Result ℕ E → Type 0) (found : Found) (task : Task) : Type 0 where
-  pub json : Bool
-  pub is_json : HasFlag found (codes "json") json
-  pub workers : Option ℕ
-  pub has_workers : HasNumber gives found (codes "workers") workers
-  pub task_is : task
-      ≡ Write (if json then contents.TranscriptJson else contents.Transcript)
-      (min (max (unwrap_or workers DEFAULT_WORKERS) 1) 64)
+abbrev pub AsksReplay : {E : Type 0} → (List ℕ → Result ℕ E → Type 0) → Found → Task → Type 0
+AsksReplay gives found task =
+    (json : Bool) × (workers : Option ℕ) × HasFlag found (codes "json") json
+    × HasNumber gives found (codes "workers") workers
+    × (task
+    ≡ Write (if json then contents.TranscriptJson else contents.Transcript)
+    (min (max (unwrap_or workers DEFAULT_WORKERS) 1) 64))
 
 abbrev pub AsksOrder : Found → Task → Type 0
 AsksOrder found task =
@@ -75,32 +80,30 @@ abbrev pub page_of : Option (List ℕ) → Option (List ℕ)
 page_of None = None
 page_of (Some path) = if bytes_eq path (codes "-") then None else Some path
 
--- what is drawn of each race, on a terminal of so many columns
+-- what is drawn of each race, on a terminal of so many columns: a part of a page, or what the flags say
 abbrev pub drawn : Bool → Bool → Bool → Option ℕ → ℕ → Content
 drawn true svg ascii width columns = contents.Section
 drawn false true ascii width columns = contents.Image
 drawn false false ascii width columns =
     contents.Picture (if ascii then looks.Ascii else looks.Unicode) (unwrap_or width columns)
 
--- the files of the line, of which that is drawn; a page goes to the file that --html names, or to the output by `-`
-pub record AsksDrawing {D E : Type 0} (gives : List ℕ → Result ℕ D → Type 0) (gives32 : List ℕ → Result ℕ E → Type 0)
-    (found : Found) (columns : ℕ) (texts : Texts) : Type 0 where
-  pub svg : Bool
-  pub is_svg : HasFlag found (codes "svg") svg
-  pub ascii : Bool
-  pub is_ascii : HasFlag found (codes "ascii") ascii
-  pub width : Option ℕ
-  pub has_width : HasNumber gives found (codes "width") width
-  pub task_is : texts.task ≡ Write (drawn (is_some (first_value found (codes "html"))) svg ascii width columns) 1
-  pub changes : AsksChanges gives32 found texts.changes
-  pub files : map (λ file. file.now) texts.files.items ≡ values_of found (codes "file")
-  pub page : option_map (λ path. path.now) texts.page ≡ page_of (first_value found (codes "html"))
+abbrev pub IsDrawn : {E : Type 0} → (List ℕ → Result ℕ E → Type 0) → Found → Bool → ℕ → Content → Type 0
+IsDrawn gives found is_page columns content =
+    (svg ascii : Bool) × (width : Option ℕ) × HasFlag found (codes "svg") svg × HasFlag found (codes "ascii") ascii
+    × HasNumber gives found (codes "width") width × (content ≡ drawn is_page svg ascii width columns)
+
+-- that is drawn of the texts; a page goes to the file that --html names, or to the output by `-`
+abbrev pub AsksDrawing : {D E : Type 0} → (List ℕ → Result ℕ D → Type 0) → (List ℕ → Result ℕ E → Type 0) → Found → ℕ
+    → Texts → Type 0
+AsksDrawing gives gives32 found columns texts =
+    (content : Content) × IsDrawn gives found (is_some (first_value found (codes "html"))) columns content
+    × AsksTexts gives32 found (Write content 1) (page_of (first_value found (codes "html"))) texts
 
 -- the port of the line
-pub record IsPort {E : Type 0} (gives : List ℕ → Result ℕ E → Type 0) (found : Found) (port : ℕ) : Type 0 where
-  pub given : Option ℕ
-  pub has : HasNumber gives found (codes "port") given
-  pub is : port ≡ max (unwrap_or given LEAST_PORT) LEAST_PORT
+abbrev pub IsPort : {E : Type 0} → (List ℕ → Result ℕ E → Type 0) → Found → ℕ → Type 0
+IsPort gives found port =
+    (given : Option ℕ) × HasNumber gives found (codes "port") given
+    × (port ≡ max (unwrap_or given LEAST_PORT) LEAST_PORT)
 
 -- the port of the line, and these settings
 pub record AsksLive {E : Type 0} (gives : List ℕ → Result ℕ E → Type 0) (found : Found) (changes : ChangeValues)

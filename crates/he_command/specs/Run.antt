@@ -62,27 +62,39 @@ abbrev pub head_of : Task → Option (List ℕ)
 head_of (Write Section workers) = Some head_text
 head_of _ = None
 
--- what comes of a task, whether it is to sum up or another
+-- the texts were written below the head, or there was a fault in that, and nothing was read
+abbrev pub WritesBelow : {I F O : Type 0} → inputs.Ghosts I → inputs.Ghosts F → outputs.Ghosts O → Texts → I → I → O
+    → O → ℕ → Type 0
+WritesBelow {I} {F} {O} input file output texts first last before after status =
+    ((between : O) × (old new : Option Sums) × HasHeading output (head_of texts.task) before between
+    × RunsTexts input file output texts first last (between, old) (after, new) status)
+    ⊎ ((status ≡ FAULT) × (last ≡ first) × LacksHeading output (head_of texts.task) before after)
+
+-- what comes of a task: what comes of summing up, or of another
 abbrev pub OfTask : Task → (Form → Type 0) → Type 0 → Type 0
 OfTask (Summarize form) Sums Others = Sums form
 OfTask _ Sums Others = Others
 
--- the texts were written below the head, or there was a fault in that, and nothing was read; or they were summed up
+-- the texts were summed up, or written
 abbrev pub WritesTexts : {I F O : Type 0} → inputs.Ghosts I → inputs.Ghosts F → outputs.Ghosts O → Texts → I → I → O
     → O → ℕ → Type 0
-WritesTexts {I} {F} {O} input file output texts first last before after status =
+WritesTexts input file output texts first last before after status =
     OfTask texts.task
     (λ form. SumsUp output form (RunsTexts input file output texts first last) before after status)
-    (((between : O) × (old : Option Sums) × (new : Option Sums) × HasHeading output (head_of texts.task) before between
-    × RunsTexts input file output texts first last (between, old) (after, new) status)
-    ⊎ ((status ≡ FAULT) × (last ≡ first) × LacksHeading output (head_of texts.task) before after))
+    (WritesBelow input file output texts first last before after status)
 
--- that was done in a file that was made for it, and the file has its name; or that failed
+-- that was done in a file that was made for it
+abbrev pub FillsFile : {I F P : Type 0} → inputs.Ghosts I → inputs.Ghosts F → outputs.Ghosts P → Texts → I → I → ℕ
+    → Type 0
+FillsFile {I} {F} {P} input file page texts first last status =
+    (made written : P) × WritesTexts input file page texts first last made written status
+
+-- and the file has its name; or that failed, or the file could not be made, and nothing was read
 abbrev pub WritesFile : {I F P : Type 0} → inputs.Ghosts I → inputs.Ghosts F → outputs.Ghosts P → Texts → I → I → ℕ
     → Type 0
-WritesFile {I} {F} {P} input file page texts first last status =
-    ((made : P) × (written : P) × (one : ℕ) × WritesTexts input file page texts first last made written one
-    × ((status ≡ one) ⊎ (status ≡ FAULT)))
+WritesFile input file page texts first last status =
+    ((one : ℕ) × FillsFile input file page texts first last one
+    × ((status ≡ one) ⊎ ((one ≡ DONE) × (status ≡ FAULT))))
     ⊎ ((status ≡ FAULT) × (last ≡ first))
 
 -- what comes of the texts that a line names, in the output or in the file that it names for it

@@ -1,7 +1,7 @@
 //! What the words of several commands have in common.
-ghost use Rattle.std.specs.Prelude.{◌≡◌, ◌≤◌, ℕ, IfOk, Option, codes, length, map, max};
-ghost use Rattle.std.specs.Option.{unwrap_or};
+ghost use Rattle.std.specs.Prelude.{◌≡◌, ◌≤◌, IfOk, codes, length, map};
 ghost use Rattle.clap.specs.Matches.{found_of};
+ghost use Rattle.he_command.specs.Requests.{IsPort};
 ghost use Rattle.he_command.specs.Words.{HasFlag, HasNumber, values_of};
 ghost use Rattle.he_command.specs.declared.limits.TheConstants.{LEAST_PORT, MOST_FILES};
 
@@ -122,8 +122,7 @@ pub(crate) fn number_of(matches: &ArgMatches<'_>, id: &str) -> Option<u16>
 // The port that the line gives.
 pub(crate) fn port_of(matches: &ArgMatches<'_>) -> u16
     ensures some { LEAST_PORT ≤ result }
-    ensures is { (given : Option ℕ) × HasNumber ⟦<u16 as FromStr>⟧.from_str_gives (found_of matches.now) (codes "port")
-        given × (result ≡ max (unwrap_or given LEAST_PORT) LEAST_PORT) }
+    ensures is { IsPort ⟦<u16 as FromStr>⟧.from_str_gives (found_of matches.now) result }
 {
     number_of(matches, "port")
         .unwrap_or(LEAST_PORT)

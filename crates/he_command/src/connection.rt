@@ -27,16 +27,11 @@ pub struct Connection<'a> {
 }
 
 // Races for the connection, keeps the record, and relays to the end.
-pub(crate) fn run_connect<R, I, O, F>(
+pub(crate) fn run_connect<R: System, I: InputStream, O: OutputStream + Send, F: Write>(
     session: &mut Session<'_, '_, R, O, F>,
     connection: &Connection<'_>,
     input: &mut I,
 ) -> u8
-where
-    R: System,
-    I: InputStream,
-    O: OutputStream + Send,
-    F: Write,
     ensures { MakesConnection O.OutputStream connection.now session.old.output session.new.output result }
 {
     let (rt, alloc) = (session.system, session.alloc);
@@ -68,18 +63,13 @@ fn tell_race<F: Write>(run: &FinishedRace, faults: &mut F) {
 
 // What comes of a race that was run, whose record was kept or not: its connection is relayed where there is one, or
 // let go where it was only tried.
-fn end_race<R, I, O, F>(
+fn end_race<R: System, I: InputStream, O: OutputStream + Send, F: Write>(
     session: &mut Session<'_, '_, R, O, F>,
     connection: &Connection<'_>,
     kept: u8,
     run: FinishedRace,
     input: &mut I,
 ) -> u8
-where
-    R: System,
-    I: InputStream,
-    O: OutputStream + Send,
-    F: Write,
     ensures { EndsRace O.OutputStream connection.now.only_tries kept (is_some run.connection)
         session.old.output session.new.output result }
 {
@@ -105,17 +95,12 @@ where
 }
 
 // Relays standard input and output over the connection, and answers the exit status.
-fn relay<R, I, O, F>(
+fn relay<R: System, I: InputStream, O: OutputStream + Send, F: Write>(
     session: &mut Session<'_, '_, R, O, F>,
     wait: u32,
     stream: &TcpStream,
     input: &mut I,
 ) -> u8
-where
-    R: System,
-    I: InputStream,
-    O: OutputStream + Send,
-    F: Write,
     ensures { RelaysTo O.OutputStream session.old.output session.new.output result }
 {
     let (rt, alloc) = (session.system, session.alloc);

@@ -1,9 +1,8 @@
 //! `he draw`.
-ghost use Rattle.std.specs.Prelude.{◌≡◌, ◌≤◌, ℕ, Bool, IfOk, Option, codes, if◌then◌else◌, option_map};
+ghost use Rattle.std.specs.Prelude.{◌≡◌, IfOk, if◌then◌else◌, option_map};
 ghost use Rattle.clap.specs.Matches.{found_of};
 ghost use Rattle.he_draw.specs.declared.look.Look.TheVariants.{Ascii, Unicode};
-ghost use Rattle.he_command.specs.Requests.{AsksDrawing, IsTexts, drawn, page_of};
-ghost use Rattle.he_command.specs.Words.{HasFlag, HasNumber};
+ghost use Rattle.he_command.specs.Requests.{AsksDrawing, IsDrawn, IsTexts, page_of};
 
 use crate::arguments::{files, flag, flag_of, number_of, plain, value, verbose};
 use crate::explain::FILE_HELP;
@@ -97,17 +96,11 @@ pub(crate) fn drawing_of<'a>(
     let html = matches.get_str("html");
     let page = page_of(html)?;
     let task = alone(content_of(columns, html.is_some(), matches));
-    match texts_of(alloc, task, matches) {
-        Ok(texts) => Ok(Texts { page, ..texts }),
-        Err(refusal) => Err(refusal),
-    }
+    texts_of(alloc, task, page, matches)
 }
 
 fn content_of(columns: u16, is_page: bool, matches: &ArgMatches<'_>) -> Content
-    ensures { (svg : Bool) × (ascii : Bool) × (width : Option ℕ) × HasFlag (found_of matches.now) (codes "svg") svg
-        × HasFlag (found_of matches.now) (codes "ascii") ascii
-        × HasNumber ⟦<u16 as FromStr>⟧.from_str_gives (found_of matches.now) (codes "width") width
-        × (result ≡ drawn is_page svg ascii width columns) }
+    ensures { IsDrawn ⟦<u16 as FromStr>⟧.from_str_gives (found_of matches.now) is_page columns result }
 {
     let (svg, ascii) = (flag_of(matches, "svg"), flag_of(matches, "ascii"));
     let width = number_of(matches, "width");
@@ -132,7 +125,7 @@ fn look_of(ascii: bool) -> Look
 // The file of a page: one whose name says so, since a text that was named in its place would be lost. None for `-`,
 // standard output.
 fn page_of<'a>(html: Option<&'a str>) -> Result<Option<&'a str>, OptionFault>
-    ensures { IfOk result (λ page. option_map (λ p. p.now) page ≡ page_of (option_map (λ p. p.now) html)) }
+    ensures { IfOk result (λ page. option_map (λ p. p.now) page ≡ page_of (option_map (λ p. p.now) html.entry)) }
 {
     let Some(path) = html else {
         return Ok(None);

@@ -19,17 +19,12 @@ use std::mem::drop;
 
 // Does what is asked for with the texts that the line names, or with that of the input where it names none: with all
 // of them, or up to the first that has a fault.
-pub(crate) fn run_all<R, I, O, F>(
+pub(crate) fn run_all<R: System, I: InputStream, O: OutputStream, F: Write>(
     session: &mut Session<'_, '_, R, O, F>,
     texts: &Texts<'_>,
     input: &mut I,
     sums: &mut Option<Summary<Global>>,
 ) -> u8
-where
-    R: System,
-    I: InputStream,
-    O: OutputStream,
-    F: Write,
     requires task { HasTaskWorkers texts.now.task }
     requires may { MayAddAll sums.old (length texts.now.files.items + 1) }
     ensures { RunsAll texts.now.goes_on (RunsOne O.OutputStream texts.now)
@@ -46,18 +41,13 @@ where
 }
 
 // Does it with the texts of these names. They are halved, so that no number of names is a deep recursion.
-fn run_files<R, I, O, F>(
+fn run_files<R: System, I: InputStream, O: OutputStream, F: Write>(
     session: &mut Session<'_, '_, R, O, F>,
     texts: &Texts<'_>,
     names: &[&str],
     input: &mut I,
     sums: &mut Option<Summary<Global>>,
 ) -> u8
-where
-    R: System,
-    I: InputStream,
-    O: OutputStream,
-    F: Write,
     requires task { HasTaskWorkers texts.now.task }
     requires may { MayAddAll sums.old (length names.now + 1) }
     ensures done { RunsFiles texts.now.goes_on (RunsFile (RunsOne O.OutputStream texts.now)
@@ -66,7 +56,9 @@ where
     ensures more { (more : ℕ) → MayAddAll sums.old (length names.now + more) → MayAddAll sums.new more }
 {
     if let [name] = names {
-        return run_name(session, texts, name, input, sums);
+        let status = run_name(session, texts, name, input, sums);
+        session.unread = session.unread.saturating_add(usize::from(status != DONE));
+        return status;
     }
     let (front, back) = names.split_at(names.len() / 2);
     if back.is_empty() {
@@ -90,44 +82,13 @@ fn tell_unread<F: Write>(task: Task, unread: usize, faults: &mut F) {
 }
 
 // Does it with the text of a name.
-fn run_name<R, I, O, F>(
+fn run_name<R: System, I: InputStream, O: OutputStream, F: Write>(
     session: &mut Session<'_, '_, R, O, F>,
     texts: &Texts<'_>,
     path: &str,
     input: &mut I,
     sums: &mut Option<Summary<Global>>,
 ) -> u8
-where
-    R: System,
-    I: InputStream,
-    O: OutputStream,
-    F: Write,
-    requires task { HasTaskWorkers texts.now.task }
-    requires may { (more : ℕ) × MayAddAll sums.old (more + 1) }
-    ensures done { RunsFile (RunsOne O.OutputStream texts.now)
-        I.InputStream ⟦<FromReader<R::File> as InputStream>⟧ path.entry input.old input.new
-        (session.old.output, sums.old) (session.new.output, sums.new) result }
-    ensures more { (more : ℕ) → MayAddAll sums.old (more + 1) → MayAddAll sums.new more }
-{
-    let status = read_name(session, texts, path, input, sums);
-    if status != DONE {
-        session.unread = session.unread.saturating_add(1);
-    }
-    status
-}
-
-fn read_name<R, I, O, F>(
-    session: &mut Session<'_, '_, R, O, F>,
-    texts: &Texts<'_>,
-    path: &str,
-    input: &mut I,
-    sums: &mut Option<Summary<Global>>,
-) -> u8
-where
-    R: System,
-    I: InputStream,
-    O: OutputStream,
-    F: Write,
     requires task { HasTaskWorkers texts.now.task }
     requires may { (more : ℕ) × MayAddAll sums.old (more + 1) }
     ensures done { RunsFile (RunsOne O.OutputStream texts.now)

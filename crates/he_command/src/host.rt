@@ -87,11 +87,10 @@ fn push(ip: Ip, destinations: &mut Vec<Ip>) -> Result<(), AllocError> {
 }
 
 // Writes the lines of this machine, or those for the destinations, and what is left out of them.
-pub(crate) fn run_host<R, O, F>(session: &mut Session<'_, '_, R, O, F>, destinations: &[Ip]) -> u8
-where
-    R: System,
-    O: OutputStream,
-    F: Write,
+pub(crate) fn run_host<R: System, O: OutputStream, F: Write>(
+    session: &mut Session<'_, '_, R, O, F>,
+    destinations: &[Ip],
+) -> u8
     ensures { Shows O.OutputStream session.old.output session.new.output result }
 {
     let mut lines = Vec::new(session.alloc);

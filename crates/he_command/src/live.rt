@@ -120,16 +120,11 @@ pub(crate) fn options_of<'a>(changes: Changes, matches: &ArgMatches<'a>) -> Live
 }
 
 // Runs the race of the input. The file of its record is made before.
-pub(crate) fn run_live<R, I, O, F>(
+pub(crate) fn run_live<R: System, I: InputStream, O: OutputStream, F: Write>(
     session: &mut Session<'_, '_, R, O, F>,
     options: &LiveOptions<'_>,
     input: &mut I,
 ) -> u8
-where
-    R: System,
-    I: InputStream,
-    O: OutputStream,
-    F: Write,
     ensures { RunsLive I.InputStream O.OutputStream options.now input.old input.new session.old.output
         session.new.output result }
 {
@@ -155,17 +150,12 @@ where
 }
 
 // Runs the race of the input, and says why attempts failed and how it ended.
-fn run_race<R, I, O, F>(
+fn run_race<R: System, I: InputStream, O: OutputStream, F: Write>(
     session: &mut Session<'_, '_, R, O, F>,
     options: &LiveOptions<'_>,
     input: &mut I,
     told: &mut LiveReport,
 ) -> u8
-where
-    R: System,
-    I: InputStream,
-    O: OutputStream,
-    F: Write,
     ensures { RunsRace I.InputStream O.OutputStream options.now input.old input.new session.old.output
         session.new.output result }
 {

@@ -35,8 +35,11 @@ options ndots, timeout and attempts count as resolv.conf(5) has them. With
 `--resolver system` all of it is left to the system (getaddrinfo), which gives
 both families at once.
 
-Exit status: 0 if an address was found; 1 after a fault, as where there is no
-such name; 2 for a line that is refused.";
+Where the look-up of a family failed, standard error says why; what the other
+gave is written.
+
+Exit status: 0 if an address was found and no look-up failed; 1 after a fault,
+as where there is no such name; 2 for a line that is refused.";
 
 pub(crate) fn command<'a>(alloc: Global) -> Result<Command<'a>, AllocError> {
     let host = word(alloc, "host", "HOST", HOST_HELP);
@@ -54,11 +57,10 @@ pub(crate) fn wanted_of<'a>(choice: Choice, matches: &ArgMatches<'a>) -> Wanted<
 }
 
 // Finds the addresses of a host.
-pub(crate) fn run_names<R, O, F>(session: &mut Session<'_, '_, R, O, F>, wanted: Wanted<'_>) -> u8
-where
-    R: System,
-    O: OutputStream,
-    F: Write,
+pub(crate) fn run_names<R: System, O: OutputStream, F: Write>(
+    session: &mut Session<'_, '_, R, O, F>,
+    wanted: Wanted<'_>,
+) -> u8
     ensures { RunsNames O.OutputStream session.old.output session.new.output result }
 {
     let (rt, alloc) = (session.system, session.alloc);

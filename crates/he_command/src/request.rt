@@ -126,7 +126,7 @@ fn files_request<'a>(
 {
     match name {
         "draw" => draw::drawing_of(alloc, columns, matches),
-        _ => texts_of(alloc, task_of(name, matches), matches),
+        _ => texts_of(alloc, task_of(name, matches), None, matches),
     }
 }
 

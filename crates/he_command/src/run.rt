@@ -25,16 +25,11 @@ use std::io::Write;
 
 /// Runs the command line `words`, of which the first is the program's name, and answers the exit status. Output and
 /// help that was asked for go to the session's output; what is wrong goes to its faults.
-pub fn run_words<'a, R, I, O, F>(
+pub fn run_words<'a, R: System, I: InputStream, O: OutputStream + Send, F: Write>(
     session: &mut Session<'_, '_, R, O, F>,
     words: &'a [&'a str],
     input: &mut I,
 ) -> u8
-where
-    R: System,
-    I: InputStream,
-    O: OutputStream + Send,
-    F: Write,
     ensures { (line : Result Request Refusal) × IfOk line IsRequest
         × RunsLine I.InputStream ⟦<FromReader<R::File> as InputStream>⟧ ⟦<ToWriter<R::File> as OutputStream>⟧
         O.OutputStream line input.old input.new session.old.output session.new.output result }
@@ -44,16 +39,11 @@ where
 }
 
 /// Runs what a command line asks for, and answers the exit status.
-pub fn run_line<R, I, O, F>(
+pub fn run_line<R: System, I: InputStream, O: OutputStream + Send, F: Write>(
     session: &mut Session<'_, '_, R, O, F>,
     line: Result<Request<'_>, Refusal>,
     input: &mut I,
 ) -> u8
-where
-    R: System,
-    I: InputStream,
-    O: OutputStream + Send,
-    F: Write,
     requires { IfOk line IsRequest }
     ensures { RunsLine I.InputStream ⟦<FromReader<R::File> as InputStream>⟧ ⟦<ToWriter<R::File> as OutputStream>⟧
         O.OutputStream line.entry input.old input.new session.old.output session.new.output result }
@@ -69,10 +59,10 @@ where
 }
 
 // Answers a line that asks for nothing that is done.
-fn refuse<R, O, F>(session: &mut Session<'_, '_, R, O, F>, refusal: &Refusal) -> u8
-where
-    O: OutputStream,
-    F: Write,
+fn refuse<R, O: OutputStream, F: Write>(
+    session: &mut Session<'_, '_, R, O, F>,
+    refusal: &Refusal,
+) -> u8
     ensures { Refuses O.OutputStream refusal.now session.old.output session.new.output result }
 {
     match refusal {
@@ -88,10 +78,10 @@ where
 }
 
 // Answers words that ask for help or the version, or that are wrong.
-fn answer_line<R, O, F>(session: &mut Session<'_, '_, R, O, F>, error: &Error) -> u8
-where
-    O: OutputStream,
-    F: Write,
+fn answer_line<R, O: OutputStream, F: Write>(
+    session: &mut Session<'_, '_, R, O, F>,
+    error: &Error,
+) -> u8
     ensures { AnswersLine O.OutputStream (kind_of error.now) session.old.output session.new.output result }
 {
     if error.kind() == ErrorKind::OutOfMemory {

@@ -34,14 +34,11 @@ pub(crate) fn put_text<O: OutputStream>(text: &[u8], output: &mut O) -> Result<(
 }
 
 // Puts a text into the output, and answers the exit status.
-pub(crate) fn put_all<R, O, F>(
+pub(crate) fn put_all<R, O: OutputStream, F: Write>(
     session: &mut Session<'_, '_, R, O, F>,
     text: &[u8],
     explains: bool,
 ) -> u8
-where
-    O: OutputStream,
-    F: Write,
     ensures { PutsText O.OutputStream text.now session.old.output session.new.output result }
 {
     match put_text(text, &mut session.output) {
@@ -52,13 +49,10 @@ where
 
 // Says that the output can't be written, and why where that is asked for or a file is named, and answers the exit
 // status. Nothing is said where the reader of a pipe has gone.
-pub(crate) fn report_unwritten<R, O, F>(
+pub(crate) fn report_unwritten<R, O: OutputStream, F: Write>(
     session: &mut Session<'_, '_, R, O, F>,
     explains: bool,
 ) -> u8
-where
-    O: OutputStream,
-    F: Write,
     ensures status { result ≡ FAULT }
     ensures output { session.new.output ≡ session.old.output }
 {

@@ -67,17 +67,12 @@ pub(crate) fn task_of(matches: &ArgMatches<'_>) -> Task
 }
 
 // Writes the summary of the texts that the line names; of that of the input where it names none.
-pub(crate) fn sum_up<R, I, O, F>(
+pub(crate) fn sum_up<R: System, I: InputStream, O: OutputStream, F: Write>(
     session: &mut Session<'_, '_, R, O, F>,
     texts: &Texts<'_>,
     form: Form,
     input: &mut I,
 ) -> u8
-where
-    R: System,
-    I: InputStream,
-    O: OutputStream,
-    F: Write,
     requires { IsTexts texts.now }
     ensures { SumsUp O.OutputStream form
         (RunsTexts I.InputStream ⟦<FromReader<R::File> as InputStream>⟧ O.OutputStream texts.now
@@ -96,15 +91,12 @@ where
 }
 
 // Writes the summary, and answers the exit status.
-fn put_summary<R, O, F>(
+fn put_summary<R, O: OutputStream, F: Write>(
     session: &mut Session<'_, '_, R, O, F>,
     texts: &Texts<'_>,
     form: Form,
     summary: &mut Summary<Global>,
 ) -> u8
-where
-    O: OutputStream,
-    F: Write,
     ensures { PutsSummary O.OutputStream form summary.old session.old.output session.new.output result }
 {
     let mut text = Vec::new(session.alloc);

@@ -32,17 +32,12 @@ pub(crate) struct Text<'t> {
 }
 
 // Does what is asked for with one text, and tells how that ended.
-pub(crate) fn run_text<R, I, O, F>(
+pub(crate) fn run_text<R: System, I: InputStream, O: OutputStream, F: Write>(
     session: &mut Session<'_, '_, R, O, F>,
     text: Text<'_>,
     input: &mut I,
     sums: &mut Option<Summary<Global>>,
 ) -> u8
-where
-    R: System,
-    I: InputStream,
-    O: OutputStream,
-    F: Write,
     requires task { HasTaskWorkers text.texts.now.task }
     requires may { (more : ℕ) × MayAddAll sums.old (more + 1) }
     ensures done { RunsOne O.OutputStream text.entry.texts.now (shown_name text.entry.name) I I.InputStream
@@ -57,17 +52,13 @@ where
 }
 
 // Does it with one text, below its heading where it has one. What a check tells of it stands in `told` then.
-fn run_headed<R, I, O, F>(
+fn run_headed<R: System, I: InputStream, O: OutputStream, F>(
     session: &mut Session<'_, '_, R, O, F>,
     text: Text<'_>,
     input: &mut I,
     sums: &mut Option<Summary<Global>>,
     told: &mut Vec<u8>,
 ) -> Result<(), StreamFault>
-where
-    R: System,
-    I: InputStream,
-    O: OutputStream,
     requires task { HasTaskWorkers text.texts.now.task }
     requires may { (more : ℕ) × MayAddAll sums.old (more + 1) }
     ensures done { RunsHeaded I.InputStream O.OutputStream text.entry.texts.now.task text.entry.texts.now.changes
@@ -128,17 +119,13 @@ fn name_in_page(alloc: Global, name: &str) -> Result<Vec<u8>, Memory>
 }
 
 // Does it with one text. What a check tells of it stands in `told` then.
-fn run_task<R, I, O, F>(
+fn run_task<R: System, I: InputStream, O: OutputStream, F>(
     session: &mut Session<'_, '_, R, O, F>,
     texts: &Texts<'_>,
     input: &mut I,
     sums: &mut Option<Summary<Global>>,
     told: &mut Vec<u8>,
 ) -> Result<(), StreamFault>
-where
-    R: System,
-    I: InputStream,
-    O: OutputStream,
     requires task { HasTaskWorkers texts.now.task }
     requires may { (more : ℕ) × MayAddAll sums.old (more + 1) }
     ensures done { RunsTask I.InputStream O.OutputStream texts.now.task texts.now.changes input.old input.new
@@ -186,18 +173,13 @@ fn add_text<I: InputStream>(
 }
 
 // Says how it ended and what is told, and answers the exit status.
-fn tell_end<R, I, O, F>(
+fn tell_end<R: System, I: InputStream, O: OutputStream, F: Write>(
     session: &mut Session<'_, '_, R, O, F>,
     text: Text<'_>,
     end: Result<(), StreamFault>,
     input: &I,
     told: &[u8],
 ) -> u8
-where
-    R: System,
-    I: InputStream,
-    O: OutputStream,
-    F: Write,
     ensures status { result ≡ status_of end }
     ensures output { session.new.output ≡ session.old.output }
 {

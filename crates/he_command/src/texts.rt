@@ -1,8 +1,7 @@
 //! What is done with texts of races.
-ghost use Rattle.std.specs.Prelude.{◌≡◌, ◌≤◌, IfOk, is_some};
+ghost use Rattle.std.specs.Prelude.{◌≡◌, ◌≤◌, IfOk, option_map};
 ghost use Rattle.clap.specs.Matches.{found_of};
-ghost use Rattle.he_command.specs.Requests.{AsksTexts, IsTexts};
-ghost use Rattle.he_command.specs.Run.{head_of};
+ghost use Rattle.he_command.specs.Requests.{AsksTexts, IsTexts, tells_faults};
 ghost use Rattle.he_command.specs.Texts.{HasTaskWorkers, has_headings};
 ghost use Rattle.he_command.specs.declared.texts.Task.TheVariants.{Write};
 
@@ -32,8 +31,13 @@ pub enum Task {
 
 impl Task {
     // Whether what it tells of a text has each fault.
-    pub(crate) fn tells_faults(self) -> bool {
-        matches!(self, Task::Check { is_all: true })
+    pub(crate) fn tells_faults(self) -> bool
+        ensures { result ≡ tells_faults self }
+    {
+        match self {
+            Task::Check { is_all } => is_all,
+            _ => false,
+        }
     }
 }
 
@@ -71,30 +75,19 @@ impl Texts<'_> {
     {
         self.files.len() > 1
     }
-
-    // Whether what is written begins as a page does.
-    pub(crate) fn is_page(&self) -> bool
-        ensures { result ≡ is_some (head_of self.now.task) }
-    {
-        matches!(
-            self.task,
-            Task::Write {
-                content: Content::Section,
-                ..
-            }
-        )
-    }
 }
 
-// The texts that the line names, with which this is done.
+// The texts that the line names, with which this is done, in the output or in the file of this page.
 pub(crate) fn texts_of<'a>(
     alloc: Global,
     task: Task,
+    page: Option<&'a str>,
     matches: &ArgMatches<'a>,
 ) -> Result<Texts<'a>, Refusal>
     requires { HasTaskWorkers task }
     ensures is { IfOk result IsTexts }
-    ensures asks { IfOk result (AsksTexts ⟦<u32 as FromStr>⟧.from_str_gives (found_of matches.now) task) }
+    ensures asks { IfOk result (AsksTexts ⟦<u32 as FromStr>⟧.from_str_gives (found_of matches.now) task
+        (option_map (λ path. path.now) page.entry)) }
 {
     Ok(Texts {
         task,
@@ -102,6 +95,6 @@ pub(crate) fn texts_of<'a>(
         files: files_of(alloc, matches)?,
         goes_on: flag_of(matches, "keep-going") || task.tells_faults(),
         explains: flag_of(matches, "verbose") || matches!(task, Task::Check { .. }),
-        page: None,
+        page,
     })
 }

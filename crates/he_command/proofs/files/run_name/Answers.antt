@@ -2,7 +2,7 @@ use Rattle.std.proofs.Common.{◌∙◌, rules}
 use Rattle.he_stream.specs.contracts.reader.FromReaderInputStream.TheImpl.{ghosts}
 use Rattle.he_command.specs.Texts.{RunsOne}
 use Rattle.he_command.proofs.InTurn.{of_file}
-use Rattle.he_command.proofs.files.read_name.Goals as goal
+use Rattle.he_command.proofs.files.run_name.Goals as goal
 
 pub returns-in-Ok-open-clause-done : goal.returns-in-Ok-open-clause-done
 returns-in-Ok-open-clause-done g c =
