@@ -1,27 +1,56 @@
-# Completion of the command line of he in bash. Installed as PREFIX/share/bash-completion/completions/he, or read by
-# hand: . completions/he.bash
+# Completion of the command line of he in bash. Written by scripts/manual --write from the help of the program.
+# Installed as PREFIX/share/bash-completion/completions/he, or read by hand: . completions/he.bash
+_he_hosts() {
+    compgen -A hostname -- "$1"
+    [ -r ~/.ssh/known_hosts ] && compgen -W "$(sed 's/^[|@].*//; s/[ ,].*//; s/^\[\(.*\)\].*/\1/' ~/.ssh/known_hosts)" -- "$1"
+}
+
 _he() {
-    local word=${COMP_WORDS[COMP_CWORD]} before=${COMP_WORDS[COMP_CWORD - 1]} command=
-    local commands='replay order explain draw summary compare check live host names connect help' options=
-    [ "$COMP_CWORD" -gt 1 ] && command=${COMP_WORDS[1]}
-    case $before in
-        --workers | --width | --port | --resolver | --timeout | --wait | --set) COMPREPLY=(); return ;;
+    local word=${COMP_WORDS[COMP_CWORD]} before=${COMP_WORDS[COMP_CWORD - 1]} command=${COMP_WORDS[1]} options= words=
+    COMPREPLY=()
+    # bash parts words at `=`
+    [ "$word" = = ] && word=
+    [ "$before" = = ] && before=${COMP_WORDS[COMP_CWORD - 2]}
+    if [ "$COMP_CWORD" -eq 1 ]; then
+        mapfile -t COMPREPLY < <(compgen -W 'connect names host live replay explain draw summary compare order check help --help -h --version -V' -- "$word")
+        return
+    fi
+    case "$command $before" in
+        "connect --timeout" | "connect --wait" | "live --timeout")
+            return ;;
+        "connect --set" | "live --set" | "replay --set" | "explain --set" | "draw --set" | "summary --set" | "compare --set")
+            compopt -o nospace; mapfile -t COMPREPLY < <(compgen -W 'attempt= resolution= count= limit= floor=' -- "$word"); return ;;
+        "connect --host" | "connect --record" | "live --record" | "draw --html")
+            compopt -o filenames; mapfile -t COMPREPLY < <(compgen -f -- "$word"); return ;;
+        "connect --resolver" | "names --resolver")
+            mapfile -t COMPREPLY < <(compgen -W system -- "$word"); return ;;
+        "live --port")
+            return ;;
+        "replay --workers" | "draw --width")
+            return ;;
     esac
     case $command in
-        '') options="$commands --help --version -h -V" ;;
-        replay) options='--workers --set --json --verbose -v --help -h' ;;
-        order) options='--json --verbose -v --help -h' ;;
-        explain) options='--lines --set --json --verbose -v --help -h' ;;
-        draw) options='--ascii --width --svg --html --set --verbose -v --help -h' ;;
-        summary) options='--json --set --verbose -v --help -h' ;;
-        compare) options='--set --verbose -v --help -h' ;;
-        check) options='--all --help -h' ;;
-        live) options='--port --timeout --set --record --must-connect --verbose -v --help -h' ;;
-        host) options='--for --help -h' ;;
-        names) options='--resolver --help -h' ;;
-        connect) options='-4 -6 -z --timeout --set --wait --host --resolver --record --explain --verbose -v --help -h' ;;
-        help) options=$commands ;;
+        connect) options='-4 -6 -z --timeout --set --wait --host --resolver --record --explain --verbose -v --help -h' words=HOST ;;
+        names) options='--resolver --help -h' words=HOST ;;
+        host) options='--help -h' words= ;;
+        live) options='--port --timeout --set --record --must-connect --verbose -v --help -h' words= ;;
+        replay) options='--workers --set --json --verbose -v --help -h' words=FILE ;;
+        explain) options='--lines --set --json --verbose -v --help -h' words=FILE ;;
+        draw) options='--ascii --width --svg --html --set --verbose -v --help -h' words=FILE ;;
+        summary) options='--json --keep-going --set --verbose -v --help -h' words=FILE ;;
+        compare) options='--set --verbose -v --help -h' words=FILE ;;
+        order) options='--json --verbose -v --help -h' words=FILE ;;
+        check) options='--all --help -h' words=FILE ;;
+        help) options='' words=COMMAND ;;
     esac
-    mapfile -t COMPREPLY < <(compgen -W "$options" -- "$word")
+    case $word in
+        -*) mapfile -t COMPREPLY < <(compgen -W "$options" -- "$word") ;;
+        *)
+            case $words in
+                FILE) compopt -o filenames; mapfile -t COMPREPLY < <(compgen -f -- "$word") ;;
+                HOST) mapfile -t COMPREPLY < <(_he_hosts "$word" | sort -u) ;;
+                COMMAND) mapfile -t COMPREPLY < <(compgen -W 'connect names host live replay explain draw summary compare order check help' -- "$word") ;;
+            esac ;;
+    esac
 }
-complete -o default -F _he he
+complete -F _he he

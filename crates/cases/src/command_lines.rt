@@ -4,9 +4,10 @@ use crate::command_rows::{Row, Streams};
 use crate::example::Counts;
 use crate::glance_rows::GLANCE_ROWS;
 use crate::host_rows::HOST_ROWS;
+use crate::refused_rows::REFUSED_ROWS;
 use crate::telling_rows::TELLING_ROWS;
 use crate::text_rows::TEXT_ROWS;
-use he_command::{System, run_words};
+use he_command::{Session, System, run_words};
 use he_stream::{FromReader, ToWriter};
 use std::alloc::Global;
 use std::io;
@@ -38,22 +39,20 @@ where
 {
     let (words, text, streams, status, output, fault) = row;
     let mut input = FromReader::new(reader_of(text, *streams));
-    let mut written = ToWriter::new(writer_of(rt.alloc(), *streams));
-    let mut faults = FakeWriter::new(rt.alloc()).with_room(faults_room);
-    let got = run_words(
+    let mut session = Session {
         system,
-        rt.alloc(),
-        words,
-        &mut input,
-        &mut written,
-        &mut faults,
-    );
-    let is_told = faults_room == 0 || faults.held().starts_with(fault);
-    let is_quiet = !fault.is_empty() || faults.calls() == 0;
-    let is_written = written.writer().held().starts_with(output);
+        alloc: rt.alloc(),
+        output: ToWriter::new(writer_of(rt.alloc(), *streams)),
+        faults: FakeWriter::new(rt.alloc()).with_room(faults_room),
+        file: None,
+        unread: 0,
+    };
+    let got = run_words(&mut session, words, &mut input);
+    let is_told = faults_room == 0 || session.faults.held().starts_with(fault);
+    let is_quiet = !fault.is_empty() || session.faults.calls() == 0;
+    let is_written = session.output.writer().held().starts_with(output);
     drop(input);
-    drop(written);
-    drop(faults);
+    drop(session);
     got == *status && is_written && is_told && is_quiet
 }
 
@@ -72,6 +71,7 @@ where
     run_rows(rt, system, "telling", &TELLING_ROWS, &mut counts)?;
     run_rows(rt, system, "glance", &GLANCE_ROWS, &mut counts)?;
     run_rows(rt, system, "host", &HOST_ROWS, &mut counts)?;
+    run_rows(rt, system, "refused", &REFUSED_ROWS, &mut counts)?;
     Ok(counts)
 }
 

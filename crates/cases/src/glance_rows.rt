@@ -64,7 +64,7 @@ const EXPLANATION_JSON: &[u8] =
 \"own\":35,\"before\":40}],\"events\":[{\"tick\":20,\"event\":\"answer\"";
 
 /// Those that draw it, sum it up, or write JSON.
-pub static GLANCE_ROWS: [Row; 20] = [
+pub static GLANCE_ROWS: [Row; 23] = [
     (
         &["he", "draw", "--ascii", "--width", "60"],
         TEXT,
@@ -179,7 +179,7 @@ pub static GLANCE_ROWS: [Row; 20] = [
         b"",
     ),
     (
-        &["he", "explain", "--lines", "--json"],
+        &["he", "explain", "--json"],
         TEXT,
         Streams::Whole,
         0,
@@ -217,5 +217,36 @@ pub static GLANCE_ROWS: [Row; 20] = [
         0,
         SUMMARY_OF_TWO,
         b"",
+    ),
+    (
+        &[
+            "he",
+            "summary",
+            "--keep-going",
+            "-",
+            "nowhere.timeline",
+            "explained-no-answer.timeline",
+        ],
+        TEXT,
+        Streams::Whole,
+        1,
+        SUMMARY_OF_TWO,
+        b"he: nowhere.timeline: No such file or directory",
+    ),
+    (
+        &["he", "draw", "--html", "-"],
+        TEXT,
+        Streams::Whole,
+        0,
+        b"<!DOCTYPE html>\n",
+        b"",
+    ),
+    (
+        &["he", "draw", "--html", "-"],
+        TEXT,
+        Streams::Room(9),
+        1,
+        b"<!DOCTYPE",
+        WRITE_LINE,
     ),
 ];

@@ -25,7 +25,7 @@ pub static HOST_ROWS: [Row; 14] = [
         TEXT,
         Streams::Whole,
         0,
-        b"Writes the addresses and routes of this machine",
+        b"Write the addresses and routes of this machine",
         b"",
     ),
     (
@@ -82,7 +82,7 @@ pub static HOST_ROWS: [Row; 14] = [
         TEXT,
         Streams::Whole,
         0,
-        b"Finds the addresses of a host",
+        b"Find the addresses of a host",
         b"",
     ),
     (
@@ -106,7 +106,7 @@ pub static HOST_ROWS: [Row; 14] = [
         TEXT,
         Streams::Whole,
         0,
-        b"Connects to a host by RFC 8305",
+        b"Connect to a host, and relay",
         b"",
     ),
 ];

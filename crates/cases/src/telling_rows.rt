@@ -86,7 +86,7 @@ he: line 3: warning: this race has no a line, so it can't be exhausted: for an a
 ";
 
 /// Those that explain, compare or check it.
-pub static TELLING_ROWS: [Row; 29] = [
+pub static TELLING_ROWS: [Row; 33] = [
     (&["he", "explain"], TEXT, Streams::Whole, 0, STORY, b""),
     (
         &["he", "explain"],
@@ -157,7 +157,7 @@ pub static TELLING_ROWS: [Row; 29] = [
         TEXT,
         Streams::Whole,
         0,
-        b"Reads timelines of races and writes why",
+        b"Explain why races went as they did",
         b"",
     ),
     (
@@ -253,7 +253,7 @@ pub static TELLING_ROWS: [Row; 29] = [
         TEXT,
         Streams::Whole,
         0,
-        b"Checks timelines of races",
+        b"Check timelines, and explain their faults",
         b"",
     ),
     (&["he", "explain", "-"], TEXT, Streams::Whole, 0, STORY, b""),
@@ -285,7 +285,7 @@ pub static TELLING_ROWS: [Row; 29] = [
         Streams::Room(3),
         1,
         b"==>",
-        b"he: -: cannot write the output\n",
+        WRITE_LINE,
     ),
     (
         &["he", "explain", "--lines", "-", "-"],
@@ -310,5 +310,37 @@ pub static TELLING_ROWS: [Row; 29] = [
         0,
         b"1 race, 9 lines\n0 races, 0 lines\n",
         b"he: -: line 1: warning: the input has no race",
+    ),
+    (
+        &["he", "check", "--all", "nowhere.timeline", "-"],
+        TEXT,
+        Streams::Whole,
+        1,
+        b"1 race, 9 lines\n",
+        b"he: nowhere.timeline: No such file or directory",
+    ),
+    (
+        &["he", "check", "nowhere.timeline", "-"],
+        TEXT,
+        Streams::Whole,
+        1,
+        b"",
+        b"he: nowhere.timeline: No such file or directory",
+    ),
+    (
+        &["he", "check", "no\x1b[31mwhere\x7f"],
+        TEXT,
+        Streams::Whole,
+        1,
+        b"",
+        b"he: no\\x1b[31mwhere\\x7f: No such file or directory",
+    ),
+    (
+        &["he", "check"],
+        b"race 1\nset timeout 100\nend\n",
+        Streams::Whole,
+        1,
+        b"",
+        b"he: line 2: word\n  set timeout 100\n      ^^^^^^^\nno such setting: the time after which a race is given up is `limit`\n",
     ),
 ];

@@ -126,7 +126,7 @@ pub static TEXT_ROWS: [Row; 49] = [
         TEXT,
         Streams::Whole,
         0,
-        b"Replays Happy Eyeballs races",
+        b"Connect to hosts as Happy Eyeballs has it",
         b"",
     ),
     (
@@ -134,7 +134,7 @@ pub static TEXT_ROWS: [Row; 49] = [
         TEXT,
         Streams::Whole,
         0,
-        b"Reads timelines of races and writes what happens",
+        b"Replay the races of timelines, and write what happens",
         b"",
     ),
     (
@@ -142,7 +142,7 @@ pub static TEXT_ROWS: [Row; 49] = [
         TEXT,
         Streams::Whole,
         0,
-        b"Reads timelines of races and writes the order",
+        b"Write the addresses of each race in their order",
         b"",
     ),
     (
@@ -166,7 +166,7 @@ pub static TEXT_ROWS: [Row; 49] = [
         TEXT,
         Streams::FailsToFlush,
         1,
-        b"Replays Happy Eyeballs races",
+        b"Connect to hosts as Happy Eyeballs has it",
         WRITE_LINE,
     ),
     (
@@ -263,7 +263,7 @@ pub static TEXT_ROWS: [Row; 49] = [
         TEXT,
         Streams::Whole,
         0,
-        b"Races real connections",
+        b"Run one race on real sockets",
         b"",
     ),
     (

@@ -17,6 +17,9 @@ const ANSWER_HEAD: usize = 2;
 
 const NO_HEADER: &str = "a race begins with the line `race 1` or `race 2`";
 
+const OTHER_VERSION: &str =
+    "a race begins with the line `race 1` or `race 2`: the number is the version of the format, not that of the race";
+
 type Found = (WrongPart, Sentence);
 
 // What is wrong with the line, by the kind of its fault. Where no check tells, it is what is said of that kind.
@@ -46,11 +49,10 @@ fn kind_sentence(place: Place<'_>, kind: TextKind) -> Option<Found> {
 fn general_sentence(kind: TextKind) -> &'static str {
     match kind {
         TextKind::Header => NO_HEADER,
-        TextKind::Word =>
-            "a word or a keyword of this line is none, or too few or too many tokens stand on it",
+        TextKind::Word => "unknown keyword, or the wrong number of words",
         TextKind::Number => "a number is one to ten digits without leading zeros",
-        TextKind::Address => "an address is none, or may not stand here",
-        TextKind::Prefix => "a prefix or a source is none",
+        TextKind::Address => "not a valid address, or one that may not stand here",
+        TextKind::Prefix => "not a valid prefix or source",
         TextKind::Repeated => "something is given twice that may be given once",
         TextKind::Range => "a number is out of its range",
         TextKind::TooMany => "there is more of something than there may be",
@@ -104,7 +106,10 @@ fn header_sentence(line: &[u8]) -> Option<Found> {
     let sentence = if line.starts_with(b"\xef\xbb\xbf".as_slice()) {
         "a text begins with its first line, without a byte order mark"
     } else {
-        NO_HEADER
+        match line.strip_prefix(b"race ".as_slice()) {
+            Some(number) if number.iter().all(|byte| byte.is_ascii_digit()) => OTHER_VERSION,
+            _ => NO_HEADER,
+        }
     };
     Some((WrongPart::Line, Sentence::Plain(sentence)))
 }

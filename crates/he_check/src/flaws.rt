@@ -122,6 +122,9 @@ fn name_flaw(place: Place<'_>, text: &[u8]) -> Option<Sentence> {
     match Name::read(text) {
         Some(Name::Floor) if !place.is_newer() => Some(Sentence::Newer("floor")),
         Some(_) => None,
+        None if text == b"timeout".as_slice() => Some(Sentence::Plain(
+            "no such setting: the time after which a race is given up is `limit`",
+        )),
         None if place.is_newer() => Some(Sentence::Plain(
             "no such setting: known are resolution, attempt, count, limit and floor",
         )),
@@ -231,5 +234,7 @@ fn outcome_flaw(text: &[u8]) -> Option<Sentence> {
     if text == b"ok".as_slice() || text == b"fail".as_slice() {
         return None;
     }
-    Some(Sentence::Plain("a connection ends by `ok` or `fail`"))
+    Some(Sentence::Plain(
+        "a connection ends by `ok` or `fail`: a refusal is `fail`, and a silent address has no line",
+    ))
 }

@@ -1,3 +1,4 @@
 mod InTurn
 mod Adding
+mod Showing
 mod Asked

@@ -1,14 +1,14 @@
 -- What comes of a connection that a line asks for.
-use Rattle.std.specs.Prelude.{◌≡◌, ◌⊎◌, ℕ, List, Bool, true, false, IsSome, Option, is_some, Result}
+use Rattle.std.specs.Prelude.{◌≡◌, ◌⊎◌, ℕ, List, Bool, true, false, Option, is_some, Result}
 use Rattle.he_connect.specs.Races.{IsRun}
 use Rattle.he_live.specs.declared.dialed.Dialed.{Dialed}
 use Rattle.he_relay.specs.Relays.{Relays}
 use Rattle.he_relay.specs.declared.fault.RelayFault.{RelayFault}
 use Rattle.he_stream.specs.declared.stream.OutputStream as outputs
 use Rattle.he_command.specs.declared.connection.Connection.{Connection}
-use Rattle.he_command.specs.declared.run.TheConstants.{DONE, FAULT, NO_CONNECTION}
+use Rattle.he_command.specs.declared.reports.TheConstants.{DONE, FAULT, NO_CONNECTION}
 use Rattle.he_command.specs.Status.{status_of}
-use Rattle.he_command.specs.Streams.{IsRefused, TookAll, TookPart, TookRounds, TookRoundsPart}
+use Rattle.he_command.specs.Streams.{TookAll, TookPart, TookRounds, TookRoundsPart}
 
 -- the text of the record went to a file or to the output, or there is no place for it; or that failed, and the output
 -- took a first part of it at most
@@ -47,9 +47,3 @@ MakesConnection {O} output connection before after status =
     × IsRun connection.race text story won
     × KeepsRecord output text before between kept
     × EndsRace output connection.only_tries kept (is_some won) between after status)
-
--- the same, or the line is refused: a record on standard output goes with a connection that is only tried
-abbrev pub RunsConnection : {I O : Type 0} → outputs.Ghosts O → Connection → I → I → O → O → ℕ → Type 0
-RunsConnection output connection first last before after status =
-    (IsSome connection.record × (connection.only_tries ≡ false) × IsRefused first last before after status)
-    ⊎ MakesConnection output connection before after status

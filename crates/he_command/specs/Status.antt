@@ -1,9 +1,14 @@
 -- The exit status that tells how a run ended.
-use Rattle.std.specs.Prelude.{ℕ, Bool, true, Result, Ok, Err}
+use Rattle.std.specs.Prelude.{ℕ, zero, suc, Bool, true, Result, Ok, Err}
 use Rattle.he_live.specs.declared.fault.LiveFault.{LiveFault}
 use Rattle.he_plan.specs.declared.transcript.Outcome3.{Outcome3}
 use Rattle.he_plan.specs.declared.transcript.Outcome3.TheVariants as results
-use Rattle.he_command.specs.declared.run.TheConstants.{DONE, FAULT, NO_CONNECTION}
+use Rattle.he_command.specs.declared.reports.TheConstants.{DONE, FAULT, NO_CONNECTION}
+
+-- the status of what comes first, or of what comes then where all was done
+abbrev pub first_fault : ℕ → ℕ → ℕ
+first_fault zero then = then
+first_fault (suc first) then = suc first
 
 -- the status that tells how a command ended
 abbrev pub status_of : {Fault : Type 0} → Result (Unit {0}) Fault → ℕ

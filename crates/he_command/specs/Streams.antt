@@ -4,7 +4,7 @@ use Rattle.he_stream.specs.Input.{Gives, GivesSoFar}
 use Rattle.he_stream.specs.Output.{PutsAndEnds, PutsInRounds, PutsPart, PutsRoundsPart, PutsWhole}
 use Rattle.he_stream.specs.declared.stream.InputStream as inputs
 use Rattle.he_stream.specs.declared.stream.OutputStream as outputs
-use Rattle.he_command.specs.declared.run.TheConstants.{DONE, FAULT, USAGE}
+use Rattle.he_command.specs.declared.reports.TheConstants.{DONE, FAULT}
 
 -- these bytes, and then it ended or broke off; or it did neither yet
 abbrev pub Gave : {I : Type 0} → inputs.Ghosts I → I → I → List ℕ → Bool → Type 0
@@ -30,12 +30,12 @@ TookToTheEnd output before after = PutsAndEnds output.contents output.puts outpu
 abbrev pub TookRoundsPart : {O : Type 0} → outputs.Ghosts O → O → O → List ℕ → Type 0
 TookRoundsPart output before after = PutsRoundsPart output.contents output.puts output.flushes before after
 
--- the output took a text, or a first part of one until that failed, or nothing for want of memory
-abbrev pub Shows : {O : Type 0} → outputs.Ghosts O → O → O → ℕ → Type 0
-Shows output before after status =
-    ((status ≡ DONE) × (text : List ℕ) × TookAll output before after text)
-    ⊎ ((status ≡ FAULT) × (((text : List ℕ) × TookPart output before after text) ⊎ (after ≡ before)))
+-- the output took the text, or a first part of it until that failed
+abbrev pub PutsText : {O : Type 0} → outputs.Ghosts O → List ℕ → O → O → ℕ → Type 0
+PutsText output text before after status =
+    ((status ≡ DONE) × TookAll output before after text) ⊎ ((status ≡ FAULT) × TookPart output before after text)
 
--- the line is refused: nothing is read or written
-abbrev pub IsRefused : {I O : Type 0} → I → I → O → O → ℕ → Type 0
-IsRefused first last before after status = (status ≡ USAGE) × (last ≡ first) × (after ≡ before)
+-- that of some text, or nothing for want of memory
+abbrev pub Shows : {O : Type 0} → outputs.Ghosts O → O → O → ℕ → Type 0
+Shows {O} output before after status =
+    ((text : List ℕ) × PutsText output text before after status) ⊎ ((status ≡ FAULT) × (after ≡ before))

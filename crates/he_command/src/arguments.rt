@@ -1,34 +1,24 @@
 //! What the words of several commands have in common.
-ghost use Rattle.std.specs.Prelude.{◌≤◌};
-ghost use Rattle.he_command.specs.declared.limits.TheConstants.{LEAST_PORT};
+ghost use Rattle.std.specs.Prelude.{◌≡◌, ◌≤◌, IfOk, codes, length, map};
+ghost use Rattle.clap.specs.Matches.{found_of};
+ghost use Rattle.he_command.specs.Requests.{IsPort};
+ghost use Rattle.he_command.specs.Words.{HasFlag, HasNumber, values_of};
+ghost use Rattle.he_command.specs.declared.limits.TheConstants.{LEAST_PORT, MOST_FILES};
 
-use crate::limits::LEAST_PORT;
-use crate::numbers::SettingFault;
+use crate::limits::{LEAST_PORT, MOST_FILES};
+use crate::refusal::{OptionFault, Refusal};
 use clap::{Arg, ArgAction, ArgMatches, Command, value_parser};
 use he_resolver::Choice;
 use std::alloc::Global;
-use thiserror::Error;
+use std::str::FromStr;
 
-// Which option has no value that it may have.
-#[derive(Clone, Copy, Debug, PartialEq, Eq, Error)]
-pub(crate) enum OptionFault {
-    #[error("invalid value for '--resolver <RESOLVER>': neither an address, nor an address and a port, nor `system`")]
-    Resolver,
-    #[error("invalid value for '--for <ADDRESS>...': not an IPv4 or IPv6 address")]
-    Destination,
-    #[error("invalid value for '--record <FILE>': `-` goes with `-z`, since the connection has standard output")]
-    Record,
-    #[error("more than 4294967296 files")]
-    Files,
-    #[error("invalid value for '--html <FILE>': the name of a page ends in `.html`")]
-    Page,
-    #[error("invalid value for '--set <NAME=N>': {0}")]
-    Setting(SettingFault),
-}
+const RESOLVER_HELP: &str = "The name server to ask: ADDRESS, ADDRESS:PORT or\n\
+[ADDRESS]:PORT; `system` for the system's own\nresolver; default is /etc/resolv.conf";
 
-const RESOLVER_HELP: &str =
-    "A name server in place of those of /etc/resolv.conf: ADDRESS or ADDRESS:PORT, IPv6 with a port as [ADDRESS]:PORT; \
-or `system`, the system's own resolver";
+const JSON_HELP: &str = "Write one JSON object for each race, each on a line";
+
+const VERBOSE_HELP: &str =
+    "Explain the fault of a file as `he check` does,\nand say why a file can't be read or written";
 
 // A command without arguments.
 pub(crate) fn plain<'a>(
@@ -42,45 +32,99 @@ pub(crate) fn plain<'a>(
 
 // An option without a value.
 pub(crate) fn flag<'a>(alloc: Global, id: &'a str, help: &'a str) -> Arg<'a> {
-    Arg::new(alloc, id).action(ArgAction::SetTrue).help(help)
+    Arg::new(alloc, id)
+        .long(id)
+        .action(ArgAction::SetTrue)
+        .help(help)
 }
 
-// An option with the name of a file.
-pub(crate) fn file<'a>(alloc: Global, id: &'a str, help: &'a str) -> Arg<'a> {
-    Arg::new(alloc, id).value_name("FILE").help(help)
+// An option with a value, or with one word for each use.
+pub(crate) fn value<'a>(alloc: Global, id: &'a str, name: &'a str, help: &'a str) -> Arg<'a> {
+    Arg::new(alloc, id).long(id).value_name(name).help(help)
 }
 
-// The TCP port that is connected to. It must be given.
-pub(crate) fn port<'a>(alloc: Global, value: &'a str, help: &'a str) -> Arg<'a> {
-    Arg::new(alloc, "port")
-        .value_name(value)
-        .value_parser(value_parser!(u16).range(i64::from(LEAST_PORT)..=i64::from(u16::MAX)))
+// A word that must stand on the line.
+pub(crate) fn word<'a>(alloc: Global, id: &'a str, name: &'a str, help: &'a str) -> Arg<'a> {
+    Arg::new(alloc, id)
+        .value_name(name)
         .required(true)
         .help(help)
 }
 
+// Whether races are written as JSON.
+pub(crate) fn json<'a>(alloc: Global) -> Arg<'a> {
+    flag(alloc, "json", JSON_HELP)
+}
+
+// Whether a fault is explained.
+pub(crate) fn verbose<'a>(alloc: Global) -> Arg<'a> {
+    flag(alloc, "verbose", VERBOSE_HELP).short('v')
+}
+
+// The files that are read.
+pub(crate) fn files<'a>(alloc: Global, help: &'a str) -> Arg<'a> {
+    Arg::new(alloc, "file")
+        .value_name("FILE")
+        .action(ArgAction::Append)
+        .help(help)
+}
+
+// The TCP port of an argument.
+pub(crate) fn port(argument: Arg<'_>) -> Arg<'_> {
+    argument
+        .value_parser(value_parser!(u16).range(i64::from(LEAST_PORT)..=i64::from(u16::MAX)))
+        .required(true)
+}
+
 // The resolver of `he names` and `he connect`.
 pub(crate) fn resolver<'a>(alloc: Global) -> Arg<'a> {
-    Arg::new(alloc, "resolver")
-        .long("resolver")
-        .value_name("RESOLVER")
-        .help(RESOLVER_HELP)
+    value(alloc, "resolver", "RESOLVER", RESOLVER_HELP)
+}
+
+// The files that the line names, in order.
+pub(crate) fn files_of<'a>(alloc: Global, matches: &ArgMatches<'a>) -> Result<Vec<&'a str>, Refusal>
+    ensures are { IfOk result (λ files. map (λ file. file.now) files.items
+        ≡ values_of (found_of matches.now) (codes "file")) }
+    ensures few { IfOk result (λ files. length files.items ≤ MOST_FILES) }
+{
+    let files = match matches.get_strs("file") {
+        Some(files) => Vec::from_slice(alloc, files)?,
+        None => Vec::new(alloc),
+    };
+    if files.len() > MOST_FILES {
+        return Err(Refusal::Option(OptionFault::Files));
+    }
+    Ok(files)
 }
 
 // The resolver that the line names: that of the system's settings where it names none.
-pub(crate) fn resolver_of(matches: &ArgMatches<'_>) -> Option<Choice> {
+pub(crate) fn resolver_of(matches: &ArgMatches<'_>) -> Result<Choice, OptionFault> {
     match matches.get_str("resolver") {
-        Some(text) => Choice::read(text.as_bytes()),
-        None => Some(Choice::Configured),
+        Some(text) => Choice::read(text.as_bytes()).ok_or(OptionFault::Resolver),
+        None => Ok(Choice::Configured),
     }
 }
 
-// The port. clap has tested that it is there, and its range, but has no clause on a subcommand's arguments.
-pub(crate) fn port_of(matches: &ArgMatches<'_>) -> u16
-    ensures { LEAST_PORT ≤ result }
+// Whether the line has this flag.
+pub(crate) fn flag_of(matches: &ArgMatches<'_>, id: &str) -> bool
+    ensures { HasFlag (found_of matches.now) id.now result }
 {
-    matches
-        .get_one::<u16>("port")
+    matches.get_flag(id)
+}
+
+// The number that the line gives this option. clap has tested its range, but has no clause on a subcommand's arguments.
+pub(crate) fn number_of(matches: &ArgMatches<'_>, id: &str) -> Option<u16>
+    ensures { HasNumber ⟦<u16 as FromStr>⟧.from_str_gives (found_of matches.now) id.now result }
+{
+    matches.get_one::<u16>(id)
+}
+
+// The port that the line gives.
+pub(crate) fn port_of(matches: &ArgMatches<'_>) -> u16
+    ensures some { LEAST_PORT ≤ result }
+    ensures is { IsPort ⟦<u16 as FromStr>⟧.from_str_gives (found_of matches.now) result }
+{
+    number_of(matches, "port")
         .unwrap_or(LEAST_PORT)
         .max(LEAST_PORT)
 }

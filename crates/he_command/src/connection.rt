@@ -1,18 +1,16 @@
 //! A connection that is made, recorded and relayed.
 ghost use Rattle.std.specs.Prelude.{◌≡◌, is_some};
-ghost use Rattle.he_command.specs.Connection.{EndsRace, MakesConnection, RelaysTo, RunsConnection};
+ghost use Rattle.he_command.specs.Connection.{EndsRace, KeepsRecord, MakesConnection, RelaysTo};
 ghost use Rattle.he_command.specs.Status.{status_of};
-ghost use Rattle.he_command.specs.declared.run.TheConstants.{FAULT};
+ghost use Rattle.he_command.specs.declared.reports.TheConstants.{FAULT};
 
-use crate::arguments::OptionFault;
-use crate::record::{STANDARD_OUTPUT, discard_record, keep_record, open_record, report_record};
-use crate::reports::report_unwritten;
-use crate::run::{DONE, FAULT, NO_CONNECTION, refuse_option, report, report_of};
+use crate::record::{discard_record, keep_record, open_record};
+use crate::reports::{DONE, FAULT, NO_CONNECTION, report, report_of, report_path};
+use crate::session::{Session, report_unwritten};
 use crate::system::System;
 use he_connect::{ConnectFault, ConnectRequest, FinishedRace, Lines, race};
 use he_relay::{RelayFault, over_socket, relay_standard};
 use he_stream::{InputStream, OutputStream};
-use std::alloc::Global;
 use std::io::Write;
 use std::net::TcpStream;
 
@@ -20,7 +18,7 @@ use std::net::TcpStream;
 #[derive(Clone, Copy)]
 pub struct Connection<'a> {
     pub race: ConnectRequest<'a>,
-    /// The file of the record; `-` is standard output.
+    /// The file of the record; `-` is standard output, of a connection that is only tried.
     pub record: Option<&'a str>,
     /// Whether the connection is closed once it is made.
     pub only_tries: bool,
@@ -28,60 +26,31 @@ pub struct Connection<'a> {
     pub wait: u32,
 }
 
-// Makes the connection. A line that wants its record on standard output, which the connection has, is refused.
-pub(crate) fn run_connection<R, I, O, F>(
-    rt: &R,
-    alloc: Global,
-    connection: &Connection<'_>,
-    input: &mut I,
-    output: &mut O,
-    faults: &mut F,
-) -> u8
-where
-    R: System,
-    I: InputStream,
-    O: OutputStream + Send,
-    F: Write,
-    ensures { RunsConnection O.OutputStream connection.now input.old input.new output.old output.new result }
-{
-    match connection.record {
-        Some(STANDARD_OUTPUT) if !connection.only_tries => refuse_option(
-            OptionFault::Record,
-            faults,
-        ),
-        _ => make_connection(rt, alloc, connection, input, output, faults),
-    }
-}
-
 // Races for the connection, keeps the record, and relays to the end.
-fn make_connection<R, I, O, F>(
-    rt: &R,
-    alloc: Global,
+pub(crate) fn run_connect<R: System, I: InputStream, O: OutputStream + Send, F: Write>(
+    session: &mut Session<'_, '_, R, O, F>,
     connection: &Connection<'_>,
     input: &mut I,
-    output: &mut O,
-    faults: &mut F,
 ) -> u8
-where
-    R: System,
-    I: InputStream,
-    O: OutputStream + Send,
-    F: Write,
-    ensures { MakesConnection O.OutputStream connection.now output.old output.new result }
+    ensures { MakesConnection O.OutputStream connection.now session.old.output session.new.output result }
 {
+    let (rt, alloc) = (session.system, session.alloc);
     let place = match open_record(rt, alloc, connection.record) {
         Ok(place) => place,
-        Err(error) => return report_record(connection.record, error, faults),
+        Err(error) => {
+            let path = connection.record.unwrap_or("");
+            return report_path(alloc, path, error, &mut session.faults);
+        }
     };
-    match race(rt, alloc, &connection.race, faults) {
+    match race(rt, alloc, &connection.race, &mut session.faults) {
         Ok(run) => {
-            tell_race(&run, faults);
-            let kept = keep_record(rt, connection.record, place, &run.text, output, faults);
-            end_race(rt, alloc, connection, kept, run, input, output, faults)
+            tell_race(&run, &mut session.faults);
+            let kept = keep_record(session, connection.record, place, &run.text);
+            end_race(session, connection, kept, run, input)
         }
         Err(fault) => {
             discard_record(rt, place);
-            report_race(fault, &connection.race, faults)
+            report_race(session, fault, &connection.race)
         }
     }
 }
@@ -94,23 +63,15 @@ fn tell_race<F: Write>(run: &FinishedRace, faults: &mut F) {
 
 // What comes of a race that was run, whose record was kept or not: its connection is relayed where there is one, or
 // let go where it was only tried.
-fn end_race<R, I, O, F>(
-    rt: &R,
-    alloc: Global,
+fn end_race<R: System, I: InputStream, O: OutputStream + Send, F: Write>(
+    session: &mut Session<'_, '_, R, O, F>,
     connection: &Connection<'_>,
     kept: u8,
     run: FinishedRace,
     input: &mut I,
-    output: &mut O,
-    faults: &mut F,
 ) -> u8
-where
-    R: System,
-    I: InputStream,
-    O: OutputStream + Send,
-    F: Write,
-    ensures { EndsRace O.OutputStream connection.now.only_tries kept (is_some run.connection) output.old output.new
-        result }
+    ensures { EndsRace O.OutputStream connection.now.only_tries kept (is_some run.connection)
+        session.old.output session.new.output result }
 {
     if kept != DONE {
         return FAULT;
@@ -119,62 +80,67 @@ where
         Some(_) if connection.only_tries => DONE,
         Some(dialed) => {
             let stream = dialed.into_stream();
-            relay(rt, alloc, connection.wait, &stream, input, output, faults)
+            relay(session, connection.wait, &stream, input)
         }
         None => match run.nameless {
-            Some(fault) => report_of(fault, connection.race.host, faults),
+            Some(fault) => report_of(
+                session.alloc,
+                fault,
+                connection.race.host,
+                &mut session.faults,
+            ),
             None => NO_CONNECTION,
         },
     }
 }
 
 // Relays standard input and output over the connection, and answers the exit status.
-fn relay<R, I, O, F>(
-    rt: &R,
-    alloc: Global,
+fn relay<R: System, I: InputStream, O: OutputStream + Send, F: Write>(
+    session: &mut Session<'_, '_, R, O, F>,
     wait: u32,
     stream: &TcpStream,
     input: &mut I,
-    output: &mut O,
-    faults: &mut F,
 ) -> u8
-where
-    R: System,
-    I: InputStream,
-    O: OutputStream + Send,
-    F: Write,
-    ensures { RelaysTo O.OutputStream output.old output.new result }
+    ensures { RelaysTo O.OutputStream session.old.output session.new.output result }
 {
+    let (rt, alloc) = (session.system, session.alloc);
     let mut connection = over_socket(stream, wait);
-    let end = relay_standard(rt, alloc, input, output, &mut connection);
-    report_relay(end, output, faults)
+    let end = relay_standard(rt, alloc, input, &mut session.output, &mut connection);
+    report_relay(session, end)
 }
 
 // Says how a relay ended, and answers the exit status.
-fn report_relay<O: OutputStream, F: Write>(
+fn report_relay<R, O: OutputStream, F: Write>(
+    session: &mut Session<'_, '_, R, O, F>,
     end: Result<(), RelayFault>,
-    output: &O,
-    faults: &mut F,
 ) -> u8
-    ensures { result ≡ status_of end }
+    ensures status { result ≡ status_of end }
+    ensures output { session.new.output ≡ session.old.output }
 {
     match end {
         Ok(()) => DONE,
-        Err(RelayFault::Output) => report_unwritten(output, faults),
-        Err(fault) => report(fault, faults),
+        Err(RelayFault::Output) => report_unwritten(session, true),
+        Err(fault) => report(fault, &mut session.faults),
     }
 }
 
 // Says why no race was run, and answers the exit status.
-fn report_race<F: Write>(fault: ConnectFault, request: &ConnectRequest<'_>, faults: &mut F) -> u8
-    ensures { result ≡ FAULT }
+fn report_race<R, O, F: Write>(
+    session: &mut Session<'_, '_, R, O, F>,
+    fault: ConnectFault,
+    request: &ConnectRequest<'_>,
+) -> u8
+    ensures status { result ≡ FAULT }
+    ensures output { session.new.output ≡ session.old.output }
 {
+    let alloc = session.alloc;
+    let faults = &mut session.faults;
     match (fault, request.lines) {
         (
             ConnectFault::File | ConnectFault::Lines(_) | ConnectFault::OtherLines,
             Lines::File(path),
-        ) => { report_of(fault, path, faults) }
-        (fault, _) if fault.is_of_host() => report_of(fault, request.host, faults),
+        ) => report_of(alloc, fault, path, faults),
+        (fault, _) if fault.is_of_host() => report_of(alloc, fault, request.host, faults),
         (fault, _) => report(fault, faults),
     }
 }

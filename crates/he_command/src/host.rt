@@ -1,42 +1,42 @@
-//! The command `he host`.
-ghost use Rattle.std.specs.Prelude.{◌≡◌, MatchOption};
-ghost use Rattle.he_command.specs.Status.{status_of};
+//! `he host`.
+ghost use Rattle.std.specs.Prelude.{◌≡◌};
 ghost use Rattle.he_command.specs.Streams.{Shows};
-ghost use Rattle.he_command.specs.declared.run.TheConstants.{USAGE};
 
-use crate::arguments::{OptionFault, plain};
-use crate::run::{refuse_option, report, report_end};
+use crate::arguments::plain;
+use crate::refusal::{OptionFault, Refusal};
+use crate::reports::report;
+use crate::session::{Session, put_all};
 use crate::system::System;
 use clap::{Arg, ArgAction, ArgMatches, Command};
 use he_addr::{Ip, read_ip};
 use he_host::machine::{MachineFault, write_machine};
 use he_host::taken::write_machine_to;
-use he_inputs::StreamFault;
-use he_stream::{OutputStream, write_whole};
+use he_stream::OutputStream;
 use std::alloc::{AllocError, Global};
 use std::io::Write;
 
-const HOST_ABOUT: &str = "Writes the addresses and routes of this machine as lines of a race";
+const ABOUT: &str = "Write the addresses and routes of this machine as lines of a race";
 
-const FOR_HELP: &str =
-    "Writes the lines for these destinations alone, as the kernel reaches them: IPv4 or IPv6 addresses";
+const FOR_HELP: &str = "Write the lines for these destinations alone, as the\n\
+kernel reaches them: IPv4 or IPv6 addresses";
 
-const HOST_EXAMPLE: &str = "\
-Reads no input. Standard output has the `source` and `route` lines of this machine, as a
-race of a timeline text has them, from what Linux says in /proc/net and /sys/class/net.
-Standard error has a line for each address and each route that a race has no place for:
-addresses that are not in use yet, routes that lead nowhere, interfaces that are down,
-and what is more than the 64 sources and 64 routes of a race.
+const EXAMPLE: &str = "\
+Reads no input. Standard output has the `source` and `route` lines of this
+machine, as a race has them, from what Linux says in /proc/net and
+/sys/class/net. Standard error has a line for each address and each route that a
+race has no place for: addresses that are not in use yet, routes that lead
+nowhere, interfaces that are down, and what is more than the 64 sources and 64
+routes of a race.
 
-Of two routes to one prefix the one with the lower metric is taken. Where no file tells
-the interface of an IPv4 address, the kernel is asked from where it reaches which
-addresses, which sends nothing. Standard error says what is a guess, which tables of
-routes are not seen, and which routes the kernel takes from another source, by rules of
-policy routing or a source of the route's own.
+Of two routes to one prefix the one with the lower metric is taken. Where no
+file tells the interface of an IPv4 address, the kernel is asked from where it
+reaches which addresses, which sends nothing. Standard error says what is a
+guess, which tables of routes are not seen, and which routes the kernel takes
+from another source, by rules of policy routing or a source of the route's own.
 
-With --for there are lines for these destinations alone, by which each is reached from
-the source that the kernel takes; standard error names those of which no lines can say
-it. A destination that is not reached has no route.
+With --for there are lines for these destinations alone, by which each is
+reached from the source that the kernel takes; standard error names those of
+which no lines can say it. A destination that is not reached has no route.
 
 Output, on a machine with one network:
 
@@ -53,67 +53,55 @@ Output, on a machine with one network:
 
 To make a race of it, and to run that:
 
-  { echo race 1; he host; echo aaaa 0 ::1; echo a 0 127.0.0.1; echo end; } > race.txt
-  he live --port 8080 < race.txt
+  { echo race 1; he host; echo aaaa 0 ::1; echo a 0 127.0.0.1; echo end; } \\
+    > race.timeline
+  he live --port 8080 < race.timeline";
 
-Exit status: 0 when all is done, whether something was left out or not; 1 after a fault,
-with one line on standard error; 2 for a command line that is refused.";
-
-// The command.
-pub(crate) fn host_command<'a>(alloc: Global) -> Result<Command<'a>, AllocError> {
+pub(crate) fn command<'a>(alloc: Global) -> Result<Command<'a>, AllocError> {
     let destinations = Arg::new(alloc, "for")
         .long("for")
         .value_name("ADDRESS")
         .num_args(1..)
         .action(ArgAction::Append)
         .help(FOR_HELP);
-    plain(alloc, "host", HOST_ABOUT, HOST_EXAMPLE).arg(destinations)
+    plain(alloc, "host", ABOUT, EXAMPLE).arg(destinations)
 }
 
-// The destinations that the line names; None where one is no address.
-pub(crate) fn destinations_of(
-    alloc: Global,
-    matches: &ArgMatches<'_>,
-) -> Result<Option<Vec<Ip>>, AllocError> {
+// The destinations that the line names.
+pub(crate) fn destinations_of(alloc: Global, matches: &ArgMatches<'_>) -> Result<Vec<Ip>, Refusal> {
     let mut destinations = Vec::new(alloc);
     if let Some(texts) = matches.get_strs("for") {
         for text in texts {
             match read_ip(text.as_bytes()) {
-                Some(ip) => destinations.push(ip)?,
-                None => return Ok(None),
+                Some(ip) => push(ip, &mut destinations)?,
+                None => return Err(Refusal::Option(OptionFault::Destination)),
             }
         }
     }
-    Ok(Some(destinations))
+    Ok(destinations)
+}
+
+fn push(ip: Ip, destinations: &mut Vec<Ip>) -> Result<(), AllocError> {
+    destinations.push(ip)?;
+    Ok(())
 }
 
 // Writes the lines of this machine, or those for the destinations, and what is left out of them.
-pub(crate) fn run_host<R, O, F>(
-    rt: &R,
-    alloc: Global,
-    destinations: Option<Vec<Ip>>,
-    output: &mut O,
-    faults: &mut F,
+pub(crate) fn run_host<R: System, O: OutputStream, F: Write>(
+    session: &mut Session<'_, '_, R, O, F>,
+    destinations: &[Ip],
 ) -> u8
-where
-    R: System,
-    O: OutputStream,
-    F: Write,
-    ensures { MatchOption destinations ((result ≡ USAGE) × (output.new ≡ output.old))
-        (λ _. Shows O.OutputStream output.old output.new result) }
+    ensures { Shows O.OutputStream session.old.output session.new.output result }
 {
-    let Some(destinations) = destinations else {
-        return refuse_option(OptionFault::Destination, faults);
-    };
-    let mut lines = Vec::new(alloc);
-    let mut remarks = Vec::new(alloc);
-    match write_lines(rt, &destinations, &mut lines, &mut remarks) {
+    let mut lines = Vec::new(session.alloc);
+    let mut remarks = Vec::new(session.alloc);
+    match write_lines(session.system, destinations, &mut lines, &mut remarks) {
         Ok(()) => {
-            let status = report_end(put_lines(&lines, output), faults);
-            let _ = faults.write_all(remarks.as_slice());
+            let status = put_all(session, &lines, false);
+            let _ = session.faults.write_all(remarks.as_slice());
             status
         }
-        Err(fault) => report(fault, faults),
+        Err(fault) => report(fault, &mut session.faults),
     }
 }
 
@@ -129,10 +117,4 @@ fn write_lines<R: System>(
     } else {
         write_machine_to(rt, destinations, lines, remarks)
     }
-}
-
-fn put_lines<O: OutputStream>(lines: &[u8], output: &mut O) -> Result<(), StreamFault>
-    ensures { Shows O.OutputStream output.old output.new (status_of result) }
-{
-    write_whole(output, lines).map_err(|_| StreamFault::Write)
 }

@@ -8,7 +8,7 @@ pub const DEFAULT_WORKERS: u16 = 4;
 /// The least port that a connection can be made to.
 pub const LEAST_PORT: u16 = 1;
 
-/// The longest that standard input is waited for behind the remote's end, in milliseconds.
+/// The longest that standard input is waited for after the remote has ended, in milliseconds.
 pub const MOST_WAIT: u32 = 3_600_000;
 
 /// The most files of a line: more than any system takes.

@@ -1,19 +1,18 @@
 //! The file of a race's record.
-ghost use Rattle.std.specs.Prelude.{◌≡◌, ◌≢◌, [], IsSome, OnErr};
+ghost use Rattle.std.specs.Prelude.{◌≡◌};
 ghost use Rattle.he_command.specs.Connection.{KeepsRecord};
-ghost use Rattle.he_command.specs.declared.run.TheConstants.{FAULT};
 
-use crate::reports::report_unwritten;
-use crate::run::{DONE, FAULT};
+use crate::name::STANDARD;
+use crate::reports::{DONE, report_path};
+use crate::session::{Session, put_all};
 use crate::system::System;
 use he_files::{NewName, create_beside};
-use he_stream::{OutputStream, write_whole};
+use he_stream::OutputStream;
 use std::alloc::Global;
-use std::io::{Error, Write};
+use std::io;
+use std::io::Write;
 use std::mem::drop;
-
-// The name of standard output.
-pub(crate) const STANDARD_OUTPUT: &str = "-";
+use std::rt::Files;
 
 // Where the record goes.
 #[derive(Drop)]
@@ -28,10 +27,10 @@ pub(crate) fn open_record<R: System>(
     rt: &R,
     alloc: Global,
     path: Option<&str>,
-) -> Result<RecordPlace<R::File>, Error> {
+) -> io::Result<RecordPlace<R::File>> {
     match path {
         None => Ok(RecordPlace::Nowhere),
-        Some(STANDARD_OUTPUT) => Ok(RecordPlace::Output),
+        Some(STANDARD) => Ok(RecordPlace::Output),
         Some(path) => {
             let (file, name) = create_beside(rt, alloc, path)?;
             Ok(RecordPlace::File(file, name))
@@ -47,72 +46,42 @@ pub(crate) fn discard_record<R: System>(rt: &R, place: RecordPlace<R::File>) {
     }
 }
 
-// Writes the record to the file, and gives that its name.
-pub(crate) fn write_record<R: System>(
+// Writes the record to the file that was made for it, and gives it its name. Where there is none the old file stays.
+pub(crate) fn write_record<R: Files>(
     rt: &R,
-    file: R::File,
+    mut file: R::File,
     name: NewName,
-    text: &[u8],
-) -> Result<(), Error> {
-    let mut file = file;
-    let written = file.write_all(text);
+    record: &[u8],
+) -> io::Result<()> {
+    let written = file.write_all(record);
     drop(file);
-    match written {
-        Ok(()) => name.keep(rt),
-        Err(error) => {
-            name.discard(rt);
-            Err(error)
-        }
+    if record.is_empty() || written.is_err() {
+        name.discard(rt);
+        return written;
     }
-}
-
-// Says that the record is not kept, and answers the exit status.
-pub(crate) fn report_record<F: Write>(path: Option<&str>, error: Error, faults: &mut F) -> u8
-    ensures { result ≡ FAULT }
-{
-    let path = path.unwrap_or(STANDARD_OUTPUT);
-    let _ = writeln!(faults, "he: {path}: {error}");
-    FAULT
+    name.keep(rt)
 }
 
 // Keeps the record of a race, and answers the exit status.
 pub(crate) fn keep_record<R: System, O: OutputStream, F: Write>(
-    rt: &R,
+    session: &mut Session<'_, '_, R, O, F>,
     path: Option<&str>,
     place: RecordPlace<R::File>,
     text: &[u8],
-    output: &mut O,
-    faults: &mut F,
 ) -> u8
-    ensures { KeepsRecord O.OutputStream text.now output.old output.new result }
+    ensures { KeepsRecord O.OutputStream text.now session.old.output session.new.output result }
 {
     match place {
         RecordPlace::Nowhere => DONE,
-        RecordPlace::Output => match write_whole(output, text) {
+        RecordPlace::Output => put_all(session, text, true),
+        RecordPlace::File(file, name) => match write_record(session.system, file, name, text) {
             Ok(()) => DONE,
-            Err(_) => report_unwritten(output, faults),
+            Err(error) => report_path(
+                session.alloc,
+                path.unwrap_or(STANDARD),
+                error,
+                &mut session.faults,
+            ),
         },
-        RecordPlace::File(file, name) => match write_record(rt, file, name, text) {
-            Ok(()) => DONE,
-            Err(error) => report_record(path, error, faults),
-        },
-    }
-}
-
-// Writes the record of a race that was run to its file, where one is named.
-pub(crate) fn keep_live_record<R: System>(
-    rt: &R,
-    alloc: Global,
-    path: Option<&str>,
-    text: &[u8],
-) -> Result<(), Error>
-    ensures { OnErr result (IsSome path.entry × (text.now ≢ [])) }
-{
-    match path {
-        Some(path) if !text.is_empty() => {
-            let (file, name) = create_beside(rt, alloc, path)?;
-            write_record(rt, file, name, text)
-        }
-        _ => Ok(()),
     }
 }

@@ -1,37 +1,98 @@
-//! What is told of the text of a name: how it ended, and why.
+//! Exit statuses, and what is said of faults.
 ghost use Rattle.std.specs.Prelude.{◌≡◌};
-ghost use Rattle.he_command.specs.Status.{status_of};
-ghost use Rattle.he_command.specs.declared.run.TheConstants.{FAULT};
+ghost use Rattle.he_command.specs.Status.{first_fault};
 
-use crate::files::STANDARD_INPUT;
-use crate::run::{DONE, FAULT, report};
+use crate::name::{Name, shown};
 use crate::system::System;
 use he_check::explain_fault;
-use he_inputs::StreamFault;
-use he_stream::OutputStream;
 use he_words::TextFault;
 use std::alloc::Global;
 use std::fmt::Display;
 use std::fs;
-use std::io::{Error, ErrorKind, Write};
+use std::io::{Error, Write};
 
-// Explains a fault of the text of a file. The file is read again: what was read is not kept. Where that can't be, as
-// with standard input, nothing is said; the fault itself stands.
-pub(crate) fn explain_in<R: System, F: Write>(
-    rt: &R,
-    alloc: Global,
-    name: Option<&str>,
-    fault: TextFault,
+/// The exit status when all was done.
+pub const DONE: u8 = 0;
+
+/// The exit status after a fault.
+pub const FAULT: u8 = 1;
+
+/// The exit status of a command line that was refused.
+pub const USAGE: u8 = 2;
+
+/// The exit status where a connection had to be made and none was.
+pub const NO_CONNECTION: u8 = 3;
+
+// The status of what comes first, or of what comes then where all was done.
+pub(crate) fn first_fault(first: u8, then: u8) -> u8
+    ensures { result ≡ first_fault first then }
+{
+    if first == DONE { then } else { first }
+}
+
+/// Writes the line of a fault, and answers the exit status.
+pub fn report<E: Display + Drop, F: Write>(fault: E, faults: &mut F) -> u8
+    ensures { result ≡ FAULT }
+{
+    let _ = writeln!(faults, "he: {fault}");
+    FAULT
+}
+
+// The same, with the name of the file that has the fault.
+pub(crate) fn report_in<E: Display + Drop, F: Write>(
+    name: Option<Name<'_>>,
+    fault: E,
     faults: &mut F,
-) {
-    let Some(path) = name.filter(|name| *name != STANDARD_INPUT) else {
-        return;
-    };
-    if let Ok(text) = fs::read(rt, path) {
-        let mut explanation = Vec::new(alloc);
-        if explain_fault(alloc, &text, fault, &mut explanation).is_ok() {
-            let _ = faults.write_all(explanation.as_slice());
+) -> u8
+    ensures { result ≡ FAULT }
+{
+    match name {
+        Some(name) => {
+            let name = name.shown;
+            let _ = writeln!(faults, "he: {name}: {fault}");
+            FAULT
         }
+        None => report(fault, faults),
+    }
+}
+
+// The same, with the path of a file that was not opened yet.
+pub(crate) fn report_path<E: Display + Drop, F: Write>(
+    alloc: Global,
+    path: &str,
+    fault: E,
+    faults: &mut F,
+) -> u8
+    ensures { result ≡ FAULT }
+{
+    match shown(alloc, path) {
+        Ok(shown) => report_in(
+            Some(Name {
+                path,
+                shown: shown.as_str(),
+            }),
+            fault,
+            faults,
+        ),
+        Err(_) => report(fault, faults),
+    }
+}
+
+// Writes the line of a fault that is about this word, and answers the exit status.
+pub(crate) fn report_of<E: Display + Drop, F: Write>(
+    alloc: Global,
+    fault: E,
+    word: &str,
+    faults: &mut F,
+) -> u8
+    ensures { result ≡ FAULT }
+{
+    match shown(alloc, word) {
+        Ok(shown) => {
+            let _ = writeln!(faults, "he: {fault}: {shown}");
+            FAULT
+        }
+        Err(_) => report(fault, faults),
     }
 }
 
@@ -42,12 +103,13 @@ pub(crate) fn tell_reason<F: Write>(failure: Option<Error>, faults: &mut F) {
     }
 }
 
-// Writes lines that are told of a text, those that begin as a fault does with its name too.
-pub(crate) fn tell_lines<F: Write>(name: Option<&str>, lines: &[u8], faults: &mut F) {
+// Writes lines that are told of a file, those that begin as a fault does with its name too.
+pub(crate) fn tell_lines<F: Write>(name: Option<Name<'_>>, lines: &[u8], faults: &mut F) {
     let Some(name) = name else {
         let _ = faults.write_all(lines);
         return;
     };
+    let name = name.shown;
     for line in lines.split_inclusive(|byte| *byte == b'\n') {
         let _ = match line.strip_prefix(b"he: ".as_slice()) {
             Some(rest) => {
@@ -59,47 +121,38 @@ pub(crate) fn tell_lines<F: Write>(name: Option<&str>, lines: &[u8], faults: &mu
     }
 }
 
-// Says how a command ended, with the name of the text, and answers the exit status.
-pub(crate) fn report_end_in<E: Display + Drop, F: Write>(
-    name: Option<&str>,
-    end: Result<(), E>,
+// Explains a fault of the text of a regular file, which is read again. Of anything else nothing is said: a pipe gives
+// its bytes once.
+pub(crate) fn explain_in<R: System, F: Write>(
+    rt: &R,
+    alloc: Global,
+    name: Option<Name<'_>>,
+    fault: TextFault,
     faults: &mut F,
-) -> u8
-    ensures { result ≡ status_of end }
-{
-    match end {
-        Ok(()) => DONE,
-        Err(fault) => report_in(name, fault, faults),
-    }
-}
-
-// Writes the line of a fault with the name of the text, and answers the exit status.
-pub(crate) fn report_in<E: Display + Drop, F: Write>(
-    name: Option<&str>,
-    fault: E,
-    faults: &mut F,
-) -> u8
-    ensures { result ≡ FAULT }
-{
-    match name {
-        Some(name) => {
-            let _ = writeln!(faults, "he: {name}: {fault}");
-            FAULT
+) {
+    let Some(path) = name.and_then(|name| name.regular_file(rt)) else {
+        return;
+    };
+    if let Ok(text) = fs::read(rt, path) {
+        let mut explanation = Vec::new(alloc);
+        if explain_fault(alloc, &text, fault, &mut explanation).is_ok() {
+            let _ = faults.write_all(explanation.as_slice());
         }
-        None => report(fault, faults),
     }
 }
 
-// Says that the output can't be written, and why, and answers the exit status. Nothing is said where the reader of a
-// pipe has gone.
-pub(crate) fn report_unwritten<O: OutputStream, F: Write>(output: &O, faults: &mut F) -> u8
-    ensures { result ≡ FAULT }
+/// Says that a text is waited for.
+pub fn tell_waiting<F: Write>(faults: &mut F) {
+    let _ = writeln!(
+        faults,
+        "he: reading a timeline from the terminal; end it with Ctrl-D (`he --help` lists the commands)"
+    );
+}
+
+/// Says that a word of the command line is no UTF-8 text, and answers the exit status.
+pub fn report_not_text<F: Write>(faults: &mut F) -> u8
+    ensures { result ≡ USAGE }
 {
-    let failure = output.failure();
-    if failure.is_some_and(|error| error.kind() == ErrorKind::BrokenPipe) {
-        return FAULT;
-    }
-    let status = report(StreamFault::Write, faults);
-    tell_reason(failure, faults);
-    status
+    let _ = writeln!(faults, "error: a word of the command line is not UTF-8");
+    USAGE
 }

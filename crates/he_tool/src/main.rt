@@ -1,12 +1,12 @@
-//! The program `he`: it reads timelines of races and writes what a Happy Eyeballs client does in them, or runs one on
-//! real sockets; and it finds the addresses of a host.
+//! The program `he`: it connects to a host as Happy Eyeballs has it, and records, replays and explains such races.
 //!
 //! The crate `he_command` says what each command line does. Here are the program's words, its standard streams and its
 //! exit status.
 #![tactic(auto)]
 
 use he_command::{
-    System, columns_of, read_words, report, report_not_text, run_line, takes_text, tell_waiting,
+    Session, System, columns_of, read_words, report, report_not_text, run_line, takes_text,
+    tell_waiting,
 };
 use he_inputs::StreamFault;
 use he_relay::Waiting;
@@ -59,16 +59,18 @@ fn run_words_of<R>(rt: &HostRuntime, system: &R, words: &[&str]) -> u8
 where
     R: System,
 {
-    let line = read_words(rt.alloc(), words, columns_of(system));
-    if takes_text(&line) && rt.stdin().is_terminal() {
-        tell_waiting(&mut rt.stderr());
-    }
-    run_line(
+    let mut session = Session {
         system,
-        rt.alloc(),
-        line,
-        &mut FromReader::new(Waiting::input(rt.stdin())),
-        &mut ToWriter::new(Waiting::output(rt.stdout())),
-        &mut rt.stderr(),
-    )
+        alloc: rt.alloc(),
+        output: ToWriter::new(Waiting::output(rt.stdout())),
+        faults: rt.stderr(),
+        file: None,
+        unread: 0,
+    };
+    let line = read_words(session.alloc, words, columns_of(system));
+    if takes_text(&line) && rt.stdin().is_terminal() {
+        tell_waiting(&mut session.faults);
+    }
+    let mut input = FromReader::new(Waiting::input(rt.stdin()));
+    run_line(&mut session, line, &mut input)
 }

@@ -1,5 +1,0 @@
-use Rattle.std.proofs.Common.{length}
-use Rattle.he_command.proofs.summing.+add_files.Given as goal
-
-abbrev pub decreases-add_files : goal.decreases-add_files
-decreases-add_files g l = length l.names.now

@@ -1,0 +1,85 @@
+//! The names of files, as the system takes them and as a terminal may show them.
+ghost use Rattle.std.specs.Prelude.{◌≡◌, ◌<◌, ◌++◌, IfOk, OnOk};
+ghost use Rattle.std.specs.String.{string_bytes};
+ghost use Rattle.he_command.specs.Shown.{code_text, digit, shown, shown_char};
+
+use crate::system::System;
+use std::alloc::{AllocError, Global};
+use std::fs;
+
+/// The name that stands for standard input, or for standard output.
+pub const STANDARD: &str = "-";
+
+/// The name of a file, and how it is shown.
+#[derive(Clone, Copy)]
+pub struct Name<'n> {
+    pub(crate) path: &'n str,
+    pub(crate) shown: &'n str,
+}
+
+impl<'n> Name<'n> {
+    // Its path, if a regular file has it.
+    pub(crate) fn regular_file<R: System>(self, rt: &R) -> Option<&'n str> {
+        match fs::metadata(rt, self.path) {
+            Ok(found) if found.is_file() && self.path != STANDARD => Some(self.path),
+            _ => None,
+        }
+    }
+}
+
+// A text without the characters that control a terminal: each is shown as `he check` shows bytes.
+pub(crate) fn shown(alloc: Global, text: &str) -> Result<String, AllocError>
+    ensures { IfOk result (λ made. string_bytes made ≡ shown text.now) }
+{
+    let mut made = String::new(alloc);
+    for c in text.chars() {
+        append_char(c, &mut made)?;
+    }
+    Ok(made)
+}
+
+// The same of a text of several lines, which stay lines.
+pub(crate) fn shown_lines(alloc: Global, text: &str) -> Result<String, AllocError> {
+    let mut made = String::new(alloc);
+    for c in text.chars() {
+        match c {
+            '\n' | '\\' => made.push(c)?,
+            _ => append_char(c, &mut made)?,
+        }
+    }
+    Ok(made)
+}
+
+fn append_char(c: char, made: &mut String) -> Result<(), AllocError>
+    ensures { OnOk result (string_bytes made.new ≡ string_bytes made.old ++ shown_char c) }
+{
+    match c {
+        '\t' => made.push_str("\\t"),
+        '\r' => made.push_str("\\r"),
+        '\\' => made.push_str("\\\\"),
+        _ if c.is_control() => append_code(c as u32, made),
+        _ => made.push(c),
+    }
+}
+
+// As `\x1b`.
+fn append_code(code: u32, made: &mut String) -> Result<(), AllocError>
+    ensures { OnOk result (string_bytes made.new ≡ string_bytes made.old ++ code_text code) }
+{
+    made.push_str("\\x")?;
+    made.push(digit(code / 16 % 16))?;
+    made.push(digit(code % 16))
+}
+
+// The digit to base 16.
+fn digit(number: u32) -> char
+    requires { number < 16 }
+    ensures { result ≡ digit number }
+{
+    let number = number as u8;
+    char::from(if number < 10 {
+        b'0' + number
+    } else {
+        b'a' + number - 10
+    })
+}

@@ -1,0 +1,154 @@
+//! What a command line asks for.
+ghost use Rattle.std.specs.Prelude.{IfOk};
+ghost use Rattle.he_command.specs.Requests.{IsRequest, IsTexts};
+ghost use Rattle.he_command.specs.Texts.{HasTaskWorkers};
+
+use crate::arguments::resolver_of;
+use crate::connection::Connection;
+use crate::live::LiveOptions;
+use crate::refusal::Refusal;
+use crate::settings::changes_of;
+use crate::texts::{Task, Texts, texts_of};
+use crate::{check, compare, connect, draw, explain, host, live, names, order, replay, summary};
+use clap::{ArgMatches, Command};
+use he_addr::Ip;
+use he_resolver::Wanted;
+use std::alloc::{AllocError, Global};
+
+/// What a command line asks for.
+#[derive(Drop)]
+pub enum Request<'a> {
+    /// To connect, and to relay standard input and output.
+    Connect(Connection<'a>),
+    /// To find the addresses of a host.
+    Names(Wanted<'a>),
+    /// To write the lines of this machine's addresses and routes, for these destinations alone where there are some.
+    Host(Vec<Ip>),
+    /// To run the race of the input on real sockets.
+    Live(LiveOptions<'a>),
+    /// To do something with the races of texts.
+    Texts(Texts<'a>),
+}
+
+const ABOUT: &str = "Connect to hosts as Happy Eyeballs has it (RFC 8305, RFC 6724), and record,\n\
+replay, explain, draw and compare such races";
+
+const EXIT_STATUS: &str = "\
+Exit status: 0 if all was done; 1 after a fault, which standard error tells; 2
+for a command line that is refused; 3 if `connect` or `live --must-connect` made
+no connection.";
+
+// The whole command line of the program.
+fn command<'a>(alloc: Global) -> Result<Command<'a>, AllocError> {
+    let commands = commands(alloc)?;
+    Command::new(alloc, "he")
+        .bin_name("he")?
+        .version("1.0.0")
+        .about(ABOUT)
+        .after_help(EXIT_STATUS)
+        .subcommand_required(true)
+        .subcommands(commands)
+}
+
+// The commands, in the order of use.
+fn commands<'a>(alloc: Global) -> Result<Vec<Command<'a>>, AllocError> {
+    let mut commands = Vec::new(alloc);
+    commands.push(connect::command(alloc)?)?;
+    commands.push(names::command(alloc)?)?;
+    commands.push(host::command(alloc)?)?;
+    commands.push(live::command(alloc)?)?;
+    commands.push(replay::command(alloc)?)?;
+    commands.push(explain::command(alloc)?)?;
+    commands.push(draw::command(alloc)?)?;
+    commands.push(summary::command(alloc)?)?;
+    commands.push(compare::command(alloc)?)?;
+    commands.push(order::command(alloc)?)?;
+    commands.push(check::command(alloc)?)?;
+    Ok(commands)
+}
+
+/// Reads the words of a command line, of which the first is the program's name; a terminal has so many columns.
+///
+/// # Errors
+///
+/// Why the line asks for nothing that is done: it is refused, or asks for help or the version, or memory was refused.
+pub fn read_words<'a>(
+    alloc: Global,
+    words: &'a [&'a str],
+    columns: u16,
+) -> Result<Request<'a>, Refusal>
+    ensures { IfOk result IsRequest }
+{
+    let matches = command(alloc)?.try_get_matches_from(words)?;
+    request_of(alloc, &matches, columns)
+}
+
+// What the line asks for. clap has tested that it names a command.
+fn request_of<'a>(
+    alloc: Global,
+    matches: &ArgMatches<'a>,
+    columns: u16,
+) -> Result<Request<'a>, Refusal>
+    ensures { IfOk result IsRequest }
+{
+    let Some((name, matches)) = matches.subcommand() else {
+        return Ok(Request::Host(Vec::new(alloc)));
+    };
+    match name {
+        "connect" => {
+            let (changes, resolver) = (changes_of(matches)?, resolver_of(matches)?);
+            match connect::connection_of(changes, resolver, matches) {
+                Ok(connection) => Ok(Request::Connect(connection)),
+                Err(fault) => Err(Refusal::Option(fault)),
+            }
+        }
+        "names" => Ok(Request::Names(names::wanted_of(resolver_of(matches)?, matches))),
+        "host" => match host::destinations_of(alloc, matches) {
+            Ok(destinations) => Ok(Request::Host(destinations)),
+            Err(refusal) => Err(refusal),
+        },
+        "live" => Ok(Request::Live(live::options_of(changes_of(matches)?, matches))),
+        _ => match files_request(alloc, name, matches, columns) {
+            Ok(texts) => Ok(Request::Texts(texts)),
+            Err(refusal) => Err(refusal),
+        },
+    }
+}
+
+// The texts that the line names, and what is done with them.
+fn files_request<'a>(
+    alloc: Global,
+    name: &str,
+    matches: &ArgMatches<'a>,
+    columns: u16,
+) -> Result<Texts<'a>, Refusal>
+    ensures { IfOk result IsTexts }
+{
+    match name {
+        "draw" => draw::drawing_of(alloc, columns, matches),
+        _ => texts_of(alloc, task_of(name, matches), None, matches),
+    }
+}
+
+// What is done with the texts that the line names.
+fn task_of(name: &str, matches: &ArgMatches<'_>) -> Task
+    ensures { HasTaskWorkers result }
+{
+    match name {
+        "explain" => explain::task_of(matches),
+        "summary" => summary::task_of(matches),
+        "compare" => Task::Compare,
+        "order" => order::task_of(matches),
+        "check" => check::task_of(matches),
+        _ => replay::task_of(matches),
+    }
+}
+
+/// Whether a line asks for something that takes a text from standard input.
+pub fn takes_text(line: &Result<Request<'_>, Refusal>) -> bool {
+    match line {
+        Ok(Request::Texts(texts)) => texts.files.is_empty(),
+        Ok(Request::Live(_)) => true,
+        _ => false,
+    }
+}

@@ -1,0 +1,266 @@
+"""What a built program's help says of its commands, and what is written from it: the completions of three shells, and
+the synopsis of the manual page. scripts/manual compares these with the files, or writes them."""
+import re
+import subprocess
+from dataclasses import dataclass
+
+SETTINGS = ("attempt", "resolution", "count", "limit", "floor")
+
+
+@dataclass
+class Option:
+    short: str
+    long: str
+    value: str
+    help: str
+    is_required: bool
+    is_repeated: bool
+
+    def names(self):
+        return [name for name in (self.long, self.short) if name]
+
+
+@dataclass
+class Command:
+    name: str
+    about: str
+    options: list
+    words: list  # the names of its words, as FILE
+    is_many: bool  # whether the last word may stand more than once
+
+
+def output(*words):
+    return subprocess.run(words, capture_output=True, text=True, check=True).stdout
+
+
+def part(text, heading):
+    """The lines of a help text below a heading, up to the next empty line."""
+    found = re.search(rf"^{heading}:\n((?:.+\n)+)", text, re.MULTILINE)
+    return found[1] if found else ""
+
+
+def options_of(text):
+    """The options of a help text. A line that begins with no option goes on with the one above."""
+    usage = re.search(r"^Usage: .*$", text, re.MULTILINE)[0]
+    options = []
+    for line in part(text, "Options").splitlines():
+        head = re.match(r"  (?:(-\w)|  )(?:(?:, |  )(--[a-z-]+))?(?: <([^>]+)>)?  +(.*)$", line)
+        if head and (head[1] or head[2]):
+            names = {name for name in head.groups()[:2] if name}
+            is_required = any(re.search(rf"(?<!\[){re.escape(name)} <", usage) for name in names)
+            options.append(Option(head[1] or "", head[2] or "", head[3] or "", head[4], is_required, False))
+        elif options:
+            options[-1].help += " " + line.strip()
+    for option in options:
+        option.is_repeated = "repeatable" in option.help
+    return options
+
+
+def described(program):
+    """The commands of the program in the order of its help, with '' for the program itself as the first."""
+    top = output(program, "--help")
+    commands = [Command("", "", options_of(top), ["COMMAND"], False)]
+    for name, about in re.findall(r"^  ([a-z]+) +(.+)$", part(top, "Commands"), re.MULTILINE):
+        if name == "help":
+            commands.append(Command(name, about, [], ["COMMAND"], False))
+            continue
+        text = output(program, name, "--help")
+        usage = re.search(r"^Usage: .*$", text, re.MULTILINE)[0]
+        words = [word for word in re.findall(r"[<\[]([A-Z]+)[>\]]", usage) if word != "OPTIONS"]
+        words = [word for word in words if not re.search(rf"--[a-z]+ <{word}>", usage)]
+        commands.append(Command(name, about, options_of(text), words, usage.endswith("...")))
+    return commands
+
+
+def first_sentence(text):
+    return re.split(r"[;.](?= |$)|, as ", text)[0]
+
+
+BASH = """\
+# Completion of the command line of he in bash. Written by scripts/manual --write from the help of the program.
+# Installed as PREFIX/share/bash-completion/completions/he, or read by hand: . completions/he.bash
+_he_hosts() {
+    compgen -A hostname -- "$1"
+    [ -r ~/.ssh/known_hosts ] && compgen -W "$(sed 's/^[|@].*//; s/[ ,].*//; s/^\\[\\(.*\\)\\].*/\\1/' ~/.ssh/known_hosts)" -- "$1"
+}
+
+_he() {
+    local word=${COMP_WORDS[COMP_CWORD]} before=${COMP_WORDS[COMP_CWORD - 1]} command=${COMP_WORDS[1]} options= words=
+    COMPREPLY=()
+    # bash parts words at `=`
+    [ "$word" = = ] && word=
+    [ "$before" = = ] && before=${COMP_WORDS[COMP_CWORD - 2]}
+    if [ "$COMP_CWORD" -eq 1 ]; then
+        mapfile -t COMPREPLY < <(compgen -W '%(commands)s%(top)s' -- "$word")
+        return
+    fi
+    case "$command $before" in
+%(values)s
+    esac
+    case $command in
+%(cases)s
+    esac
+    case $word in
+        -*) mapfile -t COMPREPLY < <(compgen -W "$options" -- "$word") ;;
+        *)
+            case $words in
+                FILE) compopt -o filenames; mapfile -t COMPREPLY < <(compgen -f -- "$word") ;;
+                HOST) mapfile -t COMPREPLY < <(_he_hosts "$word" | sort -u) ;;
+                COMMAND) mapfile -t COMPREPLY < <(compgen -W '%(commands)s' -- "$word") ;;
+            esac ;;
+    esac
+}
+complete -F _he he
+"""
+
+
+def bash_values(commands):
+    """The lines of a case on `COMMAND OPTION`, for the options that have values."""
+    by_value = {}
+    for command in commands:
+        for option in command.options:
+            if option.value:
+                by_value.setdefault(option.value, []).extend(f'"{command.name} {name}"' for name in option.names())
+    answers = {
+        "FILE": 'compopt -o filenames; mapfile -t COMPREPLY < <(compgen -f -- "$word"); return',
+        "RESOLVER": 'mapfile -t COMPREPLY < <(compgen -W system -- "$word"); return',
+        "NAME=N": "compopt -o nospace; mapfile -t COMPREPLY < <(compgen -W '"
+        + " ".join(f"{name}=" for name in SETTINGS)
+        + '\' -- "$word"); return',
+    }
+    for value, names in by_value.items():
+        yield f"        {' | '.join(names)})\n            {answers.get(value, 'return')} ;;"
+
+
+def bash(commands):
+    cases = []
+    for command in commands[1:]:
+        options = " ".join(name for option in command.options for name in option.names())
+        word = command.words[0] if command.words else ""
+        cases.append(f"        {command.name}) options='{options}' words={word} ;;")
+    return BASH % {
+        "commands": " ".join(command.name for command in commands[1:]),
+        "top": "".join(f" {name}" for option in commands[0].options for name in option.names()),
+        "values": "\n".join(bash_values(commands)),
+        "cases": "\n".join(cases),
+    }
+
+
+def quoted(text):
+    return "'" + text.replace("'", "'\\''") + "'"
+
+
+def fish(commands):
+    names = " ".join(command.name for command in commands[1:])
+    lines = [
+        "# Completion of the command line of he in fish. Written by scripts/manual --write from the help of the program.",
+        "# Installed as PREFIX/share/fish/vendor_completions.d/he.fish.",
+        "complete -c he -f",
+    ]
+    lines += [f"complete -c he -n __fish_use_subcommand -a {c.name} -d {quoted(c.about)}" for c in commands[1:]]
+    lines.append(f"complete -c he -n '__fish_seen_subcommand_from help' -a '{names}'")
+    for command in commands:
+        where = f"'__fish_seen_subcommand_from {command.name}'" if command.name else "__fish_use_subcommand"
+        if command.words[:1] == ["FILE"]:
+            lines.append(f"complete -c he -n {where} -F")
+        if command.words[:1] == ["HOST"]:
+            lines.append(f"complete -c he -n {where} -a '(__fish_print_hostnames)'")
+        lines += [f"complete -c he -n {where}{fish_option(option)}" for option in command.options]
+    return "\n".join(lines) + "\n"
+
+
+def fish_option(option):
+    values = {
+        "": "",
+        "FILE": " -r -F",
+        "RESOLVER": " -x -a system",
+        "NAME=N": " -x -a '" + " ".join(f"{name}=" for name in SETTINGS) + "'",
+    }
+    short = f" -s {option.short[1:]}" if option.short else ""
+    long = f" -l {option.long[2:]}" if option.long else ""
+    return f"{short}{long}{values.get(option.value, ' -x')} -d {quoted(first_sentence(option.help))}"
+
+
+def zsh(commands):
+    lines = [
+        "#compdef he",
+        "# Completion of the command line of he in zsh. Written by scripts/manual --write from the help of the program.",
+        "# Installed as PREFIX/share/zsh/site-functions/_he.",
+        "_he_settings() {",
+        "    local -a settings=(" + " ".join(SETTINGS) + ")",
+        "    compadd -S = -- $settings",
+        "}",
+        "",
+        "_he() {",
+        "    local -a commands=(",
+        *(f"        {quoted(command.name + ':' + command.about)}" for command in commands[1:]),
+        "    )",
+        "    if (( CURRENT == 2 )); then",
+        "        _describe command commands",
+        f"        _arguments {zsh_options(commands[0])}",
+        "        return",
+        "    fi",
+        "    shift words",
+        "    (( CURRENT-- ))",
+        "    case $words[1] in",
+    ]
+    for command in commands[1:]:
+        if command.name == "help":
+            lines.append("        help) _describe command commands ;;")
+            continue
+        lines.append(f"        {command.name})")
+        lines.append(f"            _arguments -s {zsh_options(command)}{zsh_words(command)}")
+        lines.append("            ;;")
+    return "\n".join([*lines, "    esac", "}", '_he "$@"']) + "\n"
+
+
+def zsh_options(command):
+    texts = []
+    for option in command.options:
+        values = {
+            "": "",
+            "FILE": ":file:_files",
+            "RESOLVER": ":resolver:(system)",
+            "NAME=N": ":setting:_he_settings",
+        }
+        action = values.get(option.value, f":{option.value}:")
+        text = first_sentence(option.help).replace("[", "\\[").replace("]", "\\]").replace(":", "\\:")
+        names = option.names()
+        rest = f"[{text}]{action}"
+        if len(names) == 2:
+            texts.append(f"'({names[1]} {names[0]})'{{{names[1]},{names[0]}}}{quoted(rest)}")
+        else:
+            mark = "*" if option.is_repeated else ""
+            sign = "=" if option.value and option.long else ""
+            texts.append(quoted(mark + names[0] + sign + rest))
+    return " \\\n                ".join(texts)
+
+
+def zsh_words(command):
+    actions = {"FILE": "file:_files", "HOST": "host:_hosts"}
+    texts = [("*:" if command.is_many else ":") + actions.get(word, f"{word}:") for word in command.words]
+    return "".join(f" \\\n                {quoted(text)}" for text in texts)
+
+
+def synopsis(commands):
+    """The lines of the synopsis of the manual page."""
+    lines = []
+    for command in commands[1:]:
+        lines.append(f".B he {command.name}")
+        for option in command.options:
+            if "--help" not in option.names():
+                lines += synopsis_option(option)
+        for at, word in enumerate(command.words):
+            is_many = command.is_many and at + 1 == len(command.words)
+            lines.append(f'.RI [ {word} " ...]"' if is_many else f".RI [ {word} ]" if command.name == "help" else f".I {word}")
+        lines.append(".br")
+    return "\n".join([*lines, ".B he", ".RB [ \\-h | \\-V ]"]) + "\n"
+
+
+def synopsis_option(option):
+    name = (option.long or option.short).replace("-", "\\-")
+    if not option.value:
+        return [f".RB [ {(option.short or option.long).replace('-', chr(92) + '-')} ]"]
+    if option.is_required:
+        return [f".B {name}", f".I {option.value}"]
+    return [f".RB [ {name}", f".IR {option.value} ]"]
