@@ -1,9 +1,10 @@
 -- The faults of an input, part by part, and what is said of them.
-use Rattle.std.proofs.Common.{ℕ, ◌≡◌, ◌⊎◌, ◌↔◌, ◌+◌, ◌≤◌, Bool, true, false, List, [], ◌∷◌, ◌++◌, length, take, drop, Option, Some, None, Err, refl, sym, subst, subst₂, ◌∙◌, ap, append_assoc, append-nil, take-append-drop, arith, codes, decimal, inl, inr}
+use Rattle.std.proofs.Common.{ℕ, suc, ◌≡◌, ◌⊎◌, ◌↔◌, ◌+◌, ◌-◌, ◌<◌, ◌≤◌, Bool, true, false, List, [], ◌∷◌, ◌++◌, length, take, drop, Option, Some, None, IfSome, MatchOption, refl, sym, subst, subst₂, ◌∙◌, ap, append_assoc, append-nil, length-append, length-drop, take-append-drop, arith, codes, decimal, inl, inr}
+use Rattle.std.proofs.lemmas.List.{take-append-le, take_all}
 use Rattle.he_timeline.specs.Race.{Race}
 use Rattle.he_reading.specs.FaultSearch.{fault_of}
 use Rattle.he_inputs.specs.FirstFault.{IsFirstFaultOf}
-use Rattle.he_inputs.specs.Inputs.{HasRaces, IsFaultBehind, fault_behind, line_count}
+use Rattle.he_inputs.specs.Inputs.{HasRaces, IsFaultBehind, fault_at_end, fault_behind, line_count}
 use Rattle.he_inputs.specs.RaceReading.{EndsAt, HasPassed, IsReaderFault, IsWithin, MayFollow, ending_of}
 use Rattle.he_words.specs.declared.fault.TextFault.{TextFault}
 use Rattle.he_words.specs.declared.fault.TextKind.{TextKind}
@@ -12,16 +13,15 @@ use Rattle.he_inputs.specs.declared.input_fault.InputFault.{InputFault}
 use Rattle.he_inputs.specs.declared.input_fault.InputFault.TheVariants.{Text, Read}
 use Rattle.he_inputs.specs.declared.race_reader.RaceReader.{RaceReader}
 use Rattle.he_inputs.specs.declared.race_reader.RaceReaderFault.TheVariants as readers
-use Rattle.he_check.specs.AllFaults.{AreFaults, AreFaultsBehind, AreSaid, IsLastRace, IsNextRace, behind, fault_text, read_text, told_at_end}
+use Rattle.he_words.specs.Words.{header_of}
+use Rattle.he_check.specs.AllFaults.{AreFaults, AreFaultsBehind, AreSaid, IsLastRace, IsNextRace, behind, end_text, fault_text, more_text}
 use Rattle.he_check.specs.Clauses.{hint_of}
+use Rattle.he_check.specs.Kinds.{kind_text}
 use Rattle.he_check.specs.Sentences.{clause_text}
-use Rattle.he_check.specs.Checked.{IsWrong}
-use Rattle.he_check.specs.Stream.{Explains, TellsAll}
-use Rattle.he_inputs.specs.declared.stream_fault.StreamFault.{StreamFault}
-use Rattle.he_inputs.specs.declared.stream_fault.StreamFault.TheVariants as checks
-use Rattle.he_check.specs.Steps.{AreLeft, EndsText, HasTold, IsFirst, IsNextPart, IsSaid, SaysFaults, SaysOf, StandsBehind, fault_over}
+use Rattle.he_check.specs.Steps.{AreLeft, CountsFault, EndsText, FindsFirst, HasTold, IsFirst, IsNextPart, IsSaid, SaysFaults, StandsBehind, fault_over}
+use Rattle.he_check.specs.declared.limits.TheConstants.{MOST_TOLD}
 use Rattle.he_check.specs.declared.parts.RestOfInput.{RestOfInput}
-use Rattle.he_check.proofs.WholeLines.{whole_races}
+use Rattle.he_check.proofs.WholeLines.{ends_behind, next_ends, whole_races}
 
 abbrev pub FirstFaults : Type 0
 FirstFaults = (text : List ℕ) (line : ℕ) (kind : TextKind) → (fault_of text ≡ Some (line, kind)) ↔ IsFirstFaultOf text line kind
@@ -155,75 +155,63 @@ none_found false part races reader passed within ends =
       },
     )
 
-AreSaid-append : (input : List ℕ) (faults more : List InputFault) (text rest : List ℕ) → AreSaid input faults text → AreSaid input more rest → AreSaid input (faults ++ more) (text ++ rest)
-AreSaid-append input [] more text rest none said = subst (AreSaid input more) (ap (λ (t : List ℕ). t ++ rest) (sym none)) said
-AreSaid-append input (Read ∷ faults) more text rest (later, is, are) said =
-    (later ++ rest, ap (λ (t : List ℕ). t ++ rest) is ∙ append_assoc read_text later rest, AreSaid-append input faults more later rest are said)
-AreSaid-append input (Text fault ∷ faults) more text rest (words, later, is, are) said =
-    (words, later ++ rest, ap (λ (t : List ℕ). t ++ rest) is ∙ append_assoc (fault_text input fault words) later rest, AreSaid-append input faults more later rest are said)
+-- one fault more is said
+said_on : (input : List ℕ) (faults : List TextFault) (text new : List ℕ) (fault : TextFault) → AreSaid input faults text → IsSaid input fault text new → AreSaid input (faults ++ fault ∷ []) new
+said_on input [] text new fault none (said, longer) =
+    let told = fault_text input fault said in
+    (said, [], longer ∙ ap (λ (t : List ℕ). t ++ told) none ∙ sym (append-nil told), refl)
+said_on input (one ∷ faults) text new fault (words, later, is, are) (said, longer) =
+    let told = fault_text input fault said in
+    (words, later ++ told, longer ∙ ap (λ (t : List ℕ). t ++ told) is ∙ append_assoc (fault_text input one words) later told, said_on input faults later (later ++ told) fault are (said, refl))
 
--- nothing is told
-pub tells_none : (input : List ℕ) (is_broken : Bool) (left : Option RestOfInput) (text : List ℕ) → HasTold input is_broken left left text text
-tells_none input is_broken left text = record { faults = []; text = []; longer = sym (append-nil text); said = refl; are = λ more are. are }
+-- nothing is told yet
+pub tells_none : (input : List ℕ) (is_broken : Bool) (part : RestOfInput) → part.text.now ≡ input → part.lines ≡ 0 → HasTold input is_broken (Some part) 0 []
+tells_none input is_broken part is none =
+    record { faults = []; are = λ more are. (let At : List ℕ → ℕ → Type 0 = λ t n. AreFaultsBehind is_broken n t more in subst₂ At is none are); counted = refl; said = refl }
 
--- more is told
-pub tells_on : (input : List ℕ) (is_broken : Bool) (first left last : Option RestOfInput) (text more most : List ℕ)
-    → HasTold input is_broken first left text more → HasTold input is_broken left last more most → HasTold input is_broken first last text most
-tells_on input is_broken first left last text more most old new = record {
-  faults = old.faults ++ new.faults;
-  text = old.text ++ new.text;
-  longer = new.longer ∙ ap (λ (t : List ℕ). t ++ new.text) old.longer ∙ append_assoc text old.text new.text;
-  said = AreSaid-append input old.faults new.faults old.text new.text old.said new.said;
-  are = λ rest are. subst (AreLeft is_broken first) (sym (append_assoc old.faults new.faults rest)) (old.are (new.faults ++ rest) (new.are rest are));
+no_read : (rest : List ℕ) (races lines : ℕ) → IsFaultBehind false races lines rest (Some Read) → ⊥
+no_read [] races lines is = cc
+no_read (byte ∷ rest) races lines (inl (most, is)) = cc
+no_read (byte ∷ rest) races lines (inr (few, (line, kind), at, is)) = cc
+
+no_end : (rest : List ℕ) (races lines : ℕ) → IsFaultBehind true races lines rest None → ⊥
+no_end [] races lines is = cc
+no_end (byte ∷ rest) races lines (inl (most, is)) = cc
+no_end (byte ∷ rest) races lines (inr (few, (line, kind), at, is)) = cc
+
+-- a part without a fault of the text
+pub no_fault : (is_broken : Bool) (part : RestOfInput) (found : Option (RestOfInput × InputFault)) → FindsFirst is_broken part found
+    → ((faulty : RestOfInput) (fault : TextFault) → found ≡ Some (faulty, Text fault) → ⊥) → (races : List Race) × HasRaces part.text.now is_broken races (fault_at_end is_broken)
+no_fault false part None (races, has) other = (races, has)
+no_fault true part None (races, has) other = absurd (no_end has.rest (length races) (line_count has.before) has.fault_is)
+no_fault is_broken part (Some (faulty, Text fault)) is other = absurd (other faulty fault refl)
+no_fault is_broken part (Some (faulty, Read)) (first, ends) other = by_found is_broken first.found first.has first.told
+  where
+    by_found : (broke : Bool) (found : InputFault) → HasRaces part.text.now broke first.races (Some found) → Read ≡ fault_over part.lines found
+        → (races : List Race) × HasRaces part.text.now broke races (fault_at_end broke)
+    by_found broke (Text found) has told = let wrong : Read ≡ Text (behind part.lines found) = told in cc
+    by_found true Read has told = (first.races, has)
+    by_found false Read has told = absurd (no_read has.rest (length first.races) (line_count has.before) has.fault_is)
+
+pub tells_end : (input : List ℕ) (is_broken : Bool) (part : RestOfInput) (count : ℕ) (text : List ℕ) → (races : List Race) × HasRaces part.text.now is_broken races (fault_at_end is_broken)
+    → HasTold input is_broken (Some part) count text → HasTold input is_broken None count text
+tells_end input is_broken part count text right told = record {
+  faults = told.faults;
+  are = λ more none. told.are more (subst (AreFaultsBehind is_broken part.lines part.text.now) (sym none) right);
+  counted = told.counted;
+  said = told.said;
 }
 
--- all is told
-pub tells_all : (input : List ℕ) (is_broken : Bool) (part : RestOfInput) (text : List ℕ) → part.text.now ≡ input → part.lines ≡ 0
-    → HasTold input is_broken (Some part) None [] text → SaysFaults input is_broken [] text
-tells_all input is_broken part text is none told =
-    let At : List ℕ → ℕ → Type 0 = λ t n. AreFaultsBehind is_broken n t told.faults in
-    let whole : AreFaultsBehind is_broken part.lines part.text.now told.faults =
-    subst (AreFaultsBehind is_broken part.lines part.text.now) (append-nil told.faults) (told.are [] refl) in
-    record {
-      faults = told.faults;
-      text = told.text;
-      longer = told.longer;
-      are = subst₂ At is none whole;
-      said = told.said;
-    }
-
--- nothing is wrong with the part
-pub tells_right : (input : List ℕ) (is_broken : Bool) (part : RestOfInput) (text : List ℕ) → (races : List Race) × HasRaces part.text.now is_broken races None
-    → HasTold input is_broken (Some part) None text text
-tells_right input is_broken part text right =
-    record { faults = []; text = []; longer = sym (append-nil text); said = refl; are = λ more none. subst (AreFaultsBehind is_broken part.lines part.text.now) (sym none) right }
-
--- the input broke off before a fault of the part
-pub tells_read : (input : List ℕ) (is_broken : Bool) (part faulty : RestOfInput) (fault : InputFault) (text more : List ℕ) → IsFirst is_broken part faulty fault
-    → ((found : TextFault) → fault ≡ Text found → ⊥) → more ≡ text ++ read_text → HasTold input is_broken (Some part) None text more
-tells_read input is_broken part faulty fault text more first other longer = by_found first.found first.has first.told
-  where
-    by_found : (found : InputFault) → HasRaces part.text.now is_broken first.races (Some found) → fault ≡ fault_over part.lines found
-        → HasTold input is_broken (Some part) None text more
-    by_found (Text found) has told = absurd (other (behind part.lines found) told)
-    by_found Read has told = record {
-      faults = Read ∷ [];
-      text = read_text;
-      longer = longer;
-      said = ([], refl, refl);
-      are = λ more none. (first.races, has, none);
-    }
-
 -- what follows a fault of the text, which the part's first one is
-record Follows (is_broken : Bool) (faulty : RestOfInput) (faults : List InputFault) : Type 0 where
-  by : (IsLastRace faulty.text.now × (faults ≡ told_at_end is_broken)) ⊎ ((next : RestOfInput) × IsNextPart faulty next × AreFaultsBehind is_broken next.lines next.text.now faults)
+record Follows (is_broken : Bool) (faulty : RestOfInput) (faults : List TextFault) : Type 0 where
+  by : (IsLastRace faulty.text.now × (faults ≡ [])) ⊎ ((next : RestOfInput) × IsNextPart faulty next × AreFaultsBehind is_broken next.lines next.text.now faults)
 
-faults_on : (is_broken : Bool) (part faulty : RestOfInput) (fault : TextFault) → IsFirst is_broken part faulty (Text fault) → (faults : List InputFault) → Follows is_broken faulty faults
-    → AreFaultsBehind is_broken part.lines part.text.now (Text fault ∷ faults)
+faults_on : (is_broken : Bool) (part faulty : RestOfInput) (fault : TextFault) → IsFirst is_broken part faulty (Text fault) → (faults : List TextFault) → Follows is_broken faulty faults
+    → AreFaultsBehind is_broken part.lines part.text.now (fault ∷ faults)
 faults_on is_broken part faulty fault first faults follows = by_found first.found first.has first.told first.rest first.lines
   where
     by_found : (found : InputFault) → (has : HasRaces part.text.now is_broken first.races (Some found)) → Text fault ≡ fault_over part.lines found
-        → faulty.text.now ≡ has.rest → faulty.lines ≡ part.lines + line_count has.before → AreFaultsBehind is_broken part.lines part.text.now (Text fault ∷ faults)
+        → faulty.text.now ≡ has.rest → faulty.lines ≡ part.lines + line_count has.before → AreFaultsBehind is_broken part.lines part.text.now (fault ∷ faults)
     by_found Read has told rest lines = cc
     by_found (Text found) has told rest lines =
         let same : fault ≡ behind part.lines found = cc in (
@@ -243,106 +231,86 @@ faults_on is_broken part faulty fault first faults follows = by_found first.foun
           ],
         )
 
--- a fault of the text is told, and a race follows
-pub tells_next : (input : List ℕ) (is_broken : Bool) (part faulty next : RestOfInput) (fault : TextFault) (old new : List ℕ) → IsFirst is_broken part faulty (Text fault)
-    → IsSaid input fault old new → IsNextPart faulty next → HasTold input is_broken (Some part) (Some next) old new
-tells_next input is_broken part faulty next fault old new first (text, longer, said) is = record {
-  faults = Text fault ∷ [];
+-- the parts that follow
+follows : (is_broken : Bool) (faulty : RestOfInput) (left : Option RestOfInput) (more : List TextFault) → MatchOption left (IsLastRace faulty.text.now) (IsNextPart faulty) → AreLeft is_broken left more
+    → Follows is_broken faulty more
+follows is_broken faulty None more last none = record { by = inl (last, none) }
+follows is_broken faulty (Some next) more is are = record { by = inr (next, is, are) }
+
+-- the first of the faults are said, one more among them where it is one of the first
+first_said : (input : List ℕ) (faults : List TextFault) (fault : TextFault) (count more : ℕ) (text new : List ℕ) → count ≡ length faults → AreSaid input (take MOST_TOLD faults) text
+    → CountsFault input fault count text more new → AreSaid input (take MOST_TOLD (faults ++ fault ∷ [])) new
+first_said input faults fault count more text new counted said (one, inl (few, is)) =
+    let longer = length-append faults (fault ∷ []) in
+    let before : take MOST_TOLD faults ≡ faults = take_all MOST_TOLD faults (omega (arith, few, counted)) in
+    let after : take MOST_TOLD (faults ++ fault ∷ []) ≡ faults ++ fault ∷ [] = take_all MOST_TOLD (faults ++ fault ∷ []) (omega (arith, few, counted, longer)) in
+    subst (λ (f : List TextFault). AreSaid input f new) (sym after) (said_on input faults text new fault (subst (λ (f : List TextFault). AreSaid input f text) before said) is)
+first_said input faults fault count more text new counted said (one, inr (full, same)) =
+    let before : take MOST_TOLD (faults ++ fault ∷ []) ≡ take MOST_TOLD faults = take-append-le MOST_TOLD faults (fault ∷ []) (omega (arith, full, counted)) in
+    subst₂ (λ (f : List TextFault) (t : List ℕ). AreSaid input f t) (sym before) (sym same) said
+
+-- a fault of the text is counted, and what follows is left
+pub tells_fault : (input : List ℕ) (is_broken : Bool) (part faulty : RestOfInput) (left : Option RestOfInput) (fault : TextFault) (count more : ℕ) (text new : List ℕ) → IsFirst is_broken part faulty (Text fault)
+    → CountsFault input fault count text more new → MatchOption left (IsLastRace faulty.text.now) (IsNextPart faulty) → HasTold input is_broken (Some part) count text → HasTold input is_broken left more new
+tells_fault input is_broken part faulty left fault count more text new first counts next told = record {
+  faults = told.faults ++ fault ∷ [];
+  are = λ rest are. subst (AreFaults input is_broken) (sym (append_assoc told.faults (fault ∷ []) rest))
+      (told.are (fault ∷ rest) (faults_on is_broken part faulty fault first rest (follows is_broken faulty left rest next are)));
+  counted = let before = told.counted in let longer = length-append told.faults (fault ∷ []) in let one = counts.0 in omega (arith, before, longer, one);
+  said = first_said input told.faults fault count more text new told.counted told.said counts;
+}
+
+-- what follows ends the input, and is shorter
+pub left_ends : (input : List ℕ) (faulty : RestOfInput) (left : Option RestOfInput) → EndsText input 0 faulty → MatchOption left (IsLastRace faulty.text.now) (IsNextPart faulty) → IfSome left (EndsText input 0)
+left_ends input faulty None ends last = tt
+left_ends input faulty (Some next) ends is = ends_behind input faulty next ends (next_ends faulty next is)
+
+pub less_left : (part faulty : RestOfInput) (left : Option RestOfInput) → EndsText part.text.now part.lines faulty → MatchOption left (IsLastRace faulty.text.now) (IsNextPart faulty)
+    → IfSome left (λ (next : RestOfInput). length next.text.now < length part.text.now)
+less_left part faulty None ends last = tt
+less_left part faulty (Some next) ends is =
+    let (front, version, more, split, at) = is.is.begins in
+    let rest : List ℕ = header_of version ++ 10 ∷ more in
+    let size : length faulty.text.now ≡ length front + length (10 ∷ rest) = ap length split ∙ length-append front (10 ∷ rest) in
+    let one : length (10 ∷ rest) ≡ suc (length rest) = refl in
+    let dropped : length next.text.now ≡ length (drop is.at faulty.text.now) = ap length is.text in
+    let whole : length part.text.now ≡ length ends.before + length faulty.text.now = ap length ends.split ∙ length-append ends.before faulty.text.now in
+    omega (arith, size, one, dropped, whole, at, length-drop {A = ℕ})
+
+pub counted_less : (left : Option RestOfInput) (count more size : ℕ) → more ≡ count + 1 → IfSome left (λ (next : RestOfInput). length next.text.now < size)
+    → IfSome left (λ (next : RestOfInput). more + length next.text.now ≤ count + size)
+counted_less None count more size one less = tt
+counted_less (Some next) count more size one less = omega (arith, one, less)
+
+-- all is told
+pub tells_all : (input : List ℕ) (is_broken : Bool) (count : ℕ) (first text old new : List ℕ) → HasTold input is_broken None count first
+    → text ≡ first ++ (more_text (count - MOST_TOLD) ++ end_text is_broken) → new ≡ old ++ text → SaysFaults input is_broken old new
+tells_all input is_broken count first text old new told all longer = record {
+  faults = told.faults;
+  are = subst (AreFaults input is_broken) (append-nil told.faults) (told.are [] refl);
   text = text;
+  said = record { first = first; said = told.said; all = all ∙ ap (λ (n : ℕ). first ++ (more_text (n - MOST_TOLD) ++ end_text is_broken)) told.counted };
   longer = longer;
-  said = said;
-  are = λ more are. faults_on is_broken part faulty fault first more (record { by = inr (next, is, are) });
 }
-
--- a fault of the text is told, and no race follows
-pub tells_last : (input : List ℕ) (is_broken : Bool) (part faulty : RestOfInput) (fault : TextFault) (old new : List ℕ) → is_broken ≡ false → IsFirst is_broken part faulty (Text fault)
-    → IsSaid input fault old new → IsLastRace faulty.text.now → HasTold input is_broken (Some part) None old new
-tells_last input is_broken part faulty fault old new is_whole first (text, longer, said) last = record {
-  faults = Text fault ∷ [];
-  text = text;
-  longer = longer;
-  said = said;
-  are = λ more none. faults_on is_broken part faulty fault first more (record { by = inl (last, none ∙ sym (ap told_at_end is_whole)) });
-}
-
--- the same of an input that broke off
-pub tells_broken : (input : List ℕ) (is_broken : Bool) (part faulty : RestOfInput) (fault : TextFault) (old new more : List ℕ) → is_broken ≡ true → IsFirst is_broken part faulty (Text fault)
-    → IsSaid input fault old new → IsLastRace faulty.text.now → more ≡ new ++ read_text → HasTold input is_broken (Some part) None old more
-tells_broken input is_broken part faulty fault old new more broke first (text, longer, said) last most = record {
-  faults = Text fault ∷ Read ∷ [];
-  text = text ++ read_text;
-  longer = most ∙ ap (λ (t : List ℕ). t ++ read_text) longer ∙ append_assoc old text read_text;
-  said = AreSaid-append input (Text fault ∷ []) (Read ∷ []) text read_text said ([], refl, refl);
-  are = λ rest none. faults_on is_broken part faulty fault first (Read ∷ rest)
-      (record { by = inl (last, ap (λ (f : List InputFault). Read ∷ f) none ∙ sym (ap told_at_end broke)) });
-}
-
--- the first of the faults that are told is the input's first one
-abbrev pub OneInput : Type 0
-OneInput =
-    (input : List ℕ) (is_broken : Bool) (races others : List Race) (fault other : Option InputFault)
-    → HasRaces input is_broken races fault → HasRaces input is_broken others other → (races ≡ others) × (fault ≡ other)
-
-told_first : OneInput → (input : List ℕ) (is_broken : Bool) (races : List Race) (fault : InputFault) (faults : List InputFault) → HasRaces input is_broken races (Some fault) → AreFaults input is_broken faults
-    → (others : List InputFault) × (faults ≡ fault ∷ others)
-told_first one input is_broken races fault [] has (others, none) =
-    let same : Some fault ≡ None = (one input is_broken races others (Some fault) None has none).1 in
-    cc
-told_first one input is_broken races fault (Read ∷ faults) has (others, other, end) =
-    let same : Some fault ≡ Some Read = (one input is_broken races others (Some fault) (Some Read) has other).1 in
-    let first : Read ≡ fault = cc in
-    (faults, ap (λ (f : InputFault). f ∷ faults) first)
-told_first one input is_broken races fault (Text told ∷ faults) has (others, found, other, is, rest) =
-    let same : Some fault ≡ Some (Text found) = (one input is_broken races others (Some fault) (Some (Text found)) has other).1 in
-    let none : 0 + found.line ≡ found.line = omega arith in
-    let here : told ≡ found = is ∙ ap (λ (n : ℕ). (record { line = n; kind = found.kind })) none in
-    let first : Text found ≡ fault = cc in
-    (faults, ap (λ (f : InputFault). f ∷ faults) (ap Text here ∙ first))
 
 -- the line of a fault, and what is said of it
-pub one_said : (input : List ℕ) (fault : TextFault) (old one two three four new word said start : List ℕ) → one ≡ old ++ codes "he: line " → two ≡ one ++ decimal fault.line
-    → three ≡ two ++ codes ": " → four ≡ three ++ word → new ≡ four ++ said → said ≡ [] ++ (start ++ clause_text (hint_of input fault)) → IsSaid input fault old new
-one_said input fault old one two three four new word said start first second third fourth fifth sixth =
-    let clause : List ℕ = clause_text (hint_of input fault) in
+pub one_said : (input : List ℕ) (fault : TextFault) (old one two three four five new said start : List ℕ) → one ≡ old ++ codes "he: line " → two ≡ one ++ decimal fault.line
+    → three ≡ two ++ codes ": " → four ≡ three ++ kind_text fault.kind → five ≡ four ++ 10 ∷ [] → new ≡ five ++ said → said ≡ [] ++ (start ++ clause_text (hint_of input fault)) → IsSaid input fault old new
+one_said input fault old one two three four five new said start first second third fourth fifth sixth seventh =
+    let rest : List ℕ = start ++ clause_text (hint_of input fault) in
     let a : List ℕ = codes "he: line " in
     let n : List ℕ = decimal fault.line in
     let b : List ℕ = codes ": " in
-    let joined : new ≡ old ++ fault_text input fault (word ++ start) =
-    fifth
-    ∙ ap (λ (t : List ℕ). t ++ said) fourth
-    ∙ ap (λ (t : List ℕ). three ++ word ++ t) sixth
-    ∙ append_assoc three word (start ++ clause)
-    ∙ ap (λ (t : List ℕ). t ++ (word ++ (start ++ clause))) (third ∙ ap (λ (t : List ℕ). t ++ b) (second ∙ ap (λ (t : List ℕ). t ++ n) first))
-    ∙ append_assoc (old ++ a ++ n) b (word ++ (start ++ clause))
-    ∙ append_assoc (old ++ a) n (b ++ (word ++ (start ++ clause)))
-    ∙ append_assoc old a (n ++ (b ++ (word ++ (start ++ clause))))
-    ∙ ap (λ (t : List ℕ). old ++ (a ++ (n ++ (b ++ t)))) (sym (append_assoc word start clause)) in
-    (fault_text input fault (word ++ start), joined, (word ++ start, [], sym (append-nil (fault_text input fault (word ++ start))), refl))
-
-all_told : OneInput → (Given : List ℕ → Bool → Type 0) (input : List ℕ) (is_broken : Bool) (races : List Race) (fault : InputFault) (old new : List ℕ) → Given input is_broken
-    → HasRaces input is_broken races (Some fault) → SaysFaults input is_broken old new → TellsAll Given fault old new
-all_told one Given input is_broken races fault old new given has says =
-    let first = told_first one input is_broken races fault says.faults has says.are in
-    let Said : List InputFault → Type 0 = λ faults. AreSaid input faults says.text in
-    record {
-      input = input;
-      is_broken = is_broken;
-      given = given;
-      others = first.0;
-      are = subst (AreFaults input is_broken) first.1 says.are;
-      text = says.text;
-      said = subst Said first.1 says.said;
-      told = says.longer;
-    }
-
--- an input that is wrong is explained
-pub explained : OneInput → (Given : List ℕ → Bool → Type 0) (input : List ℕ) (is_broken is_all : Bool) (fault : StreamFault) (old new : List ℕ) → Given input is_broken → IsWrong input is_broken fault
-    → SaysOf is_all input is_broken fault old new → Explains is_all Given old new (Err fault)
-explained one Given input is_broken true (checks.Text fault) old new given (races, has) says = all_told one Given input is_broken races (Text fault) old new given has says
-explained one Given input is_broken true checks.Read old new given (races, has) says = all_told one Given input is_broken races Read old new given has says
-explained one Given input is_broken true checks.Write old new given wrong says = absurd wrong
-explained one Given input is_broken true checks.Memory old new given wrong says = says
-explained one Given input is_broken false (checks.Text fault) old new given wrong says = record { input = input; is_broken = is_broken; given = given; told = says }
-explained one Given input is_broken false checks.Read old new given wrong says = says
-explained one Given input is_broken false checks.Write old new given wrong says = absurd wrong
-explained one Given input is_broken false checks.Memory old new given wrong says = says
+    let k : List ℕ = kind_text fault.kind in
+    let joined : new ≡ old ++ (a ++ (n ++ (b ++ (k ++ (10 ∷ rest))))) =
+    sixth
+    ∙ ap (λ (t : List ℕ). five ++ t) seventh
+    ∙ ap (λ (t : List ℕ). t ++ rest) fifth
+    ∙ append_assoc four (10 ∷ []) rest
+    ∙ ap (λ (t : List ℕ). t ++ (10 ∷ rest)) fourth
+    ∙ append_assoc three k (10 ∷ rest)
+    ∙ ap (λ (t : List ℕ). t ++ (k ++ (10 ∷ rest))) (third ∙ ap (λ (t : List ℕ). t ++ b) (second ∙ ap (λ (t : List ℕ). t ++ n) first))
+    ∙ append_assoc (old ++ a ++ n) b (k ++ (10 ∷ rest))
+    ∙ append_assoc (old ++ a) n (b ++ (k ++ (10 ∷ rest)))
+    ∙ append_assoc old a (n ++ (b ++ (k ++ (10 ∷ rest)))) in
+    (start, joined)

@@ -1,4 +1,6 @@
+mod Checks
 mod Counts
 mod FaultParts
+mod Given
 mod NextRaces
 mod WholeLines

@@ -1,6 +1,7 @@
 pub mod AllFaults
 pub mod Checked
 pub mod Clauses
+pub mod Kinds
 pub mod Meant
 pub mod Sentences
 pub mod Slips

@@ -1,11 +1,11 @@
 -- What a person likely meant by a word that stands in no text of races, and by an input that is none.
 use Rattle.std.specs.Prelude.{ℕ, ◌==◌, ◌&&◌, ◌||◌, Bool, List, [], ◌∷◌, if◌then◌else◌, codes, Option, Some, None}
 use Rattle.std.specs.Char.{is_ascii_alphabetic, is_ascii_alphanumeric, is_ascii_digit, is_ascii_uppercase}
-use Rattle.std.specs.List.{ends_with, filter_map, list_all, list_any, slice_get, starts_with}
+use Rattle.std.specs.List.{ends_with, list_all, list_any, starts_with}
 use Rattle.std.specs.Option.{option_or}
 use Rattle.std.specs.Str.{bytes_eq}
 use Rattle.he_check.specs.declared.meant.Meant.{Meant}
-use Rattle.he_check.specs.declared.meant.Meant.TheVariants.{Comment, Tab, Capitals, Zone, Brackets, Comma, Name, DefaultRoute, IpOutput, Device, Unit, Sign, Packed, Wide}
+use Rattle.he_check.specs.declared.meant.Meant.TheVariants.{Comment, Tab, Capitals, Zone, Brackets, Comma, Name, DefaultRoute, IpOutput, Device, Unit, Sign, Packed, Wide, Capture, Json}
 
 abbrev pub has : ℕ → List ℕ → Bool
 has byte word = list_any (λ other. other == byte) word
@@ -75,6 +75,14 @@ as_address word =
 unfoldable pub meant_of : List ℕ → Option Meant
 meant_of word = option_or (option_or (option_or (as_mark word) (as_ip_prints word)) (as_number word)) (as_address word)
 
+-- the first bytes of a packet capture: libpcap's, of both byte orders, with microseconds or nanoseconds; pcapng's
+unfoldable pub is_capture : List ℕ → Bool
+is_capture input =
+    begins (0xD4 ∷ 0xC3 ∷ 0xB2 ∷ 0xA1 ∷ []) input
+    || (begins (0xA1 ∷ 0xB2 ∷ 0xC3 ∷ 0xD4 ∷ []) input
+    || (begins (0x4D ∷ 0x3C ∷ 0xB2 ∷ 0xA1 ∷ []) input
+    || (begins (0xA1 ∷ 0xB2 ∷ 0x3C ∷ 0x4D ∷ []) input || begins (0x0A ∷ 0x0D ∷ 0x0D ∷ 0x0A ∷ []) input)))
+
 -- the first bytes of gzip, of zstd and of xz; of UTF-16, with its mark or with the first letter of `race`
 unfoldable pub input_meant : List ℕ → Option Meant
 input_meant input =
@@ -84,4 +92,6 @@ input_meant input =
     else if begins (0xFF ∷ 0xFE ∷ []) input
     || (begins (0xFE ∷ 0xFF ∷ []) input || (begins (114 ∷ 0 ∷ []) input || begins (0 ∷ 114 ∷ []) input))
     then Some Wide
+    else if is_capture input then Some Capture
+    else if begins (codes "{") input || begins (codes "[") input then Some Json
     else None

@@ -2,7 +2,7 @@
 use Rattle.std.specs.Prelude.{ℕ, ◌++◌, List, [], ◌∷◌, codes, decimal, Option, Some, None}
 use Rattle.he_addr.specs.declared.ip.Family.TheVariants as families
 use Rattle.he_check.specs.declared.meant.Meant.{Meant}
-use Rattle.he_check.specs.declared.meant.Meant.TheVariants.{Comment, Tab, Capitals, Zone, Brackets, Comma, Name, DefaultRoute, IpOutput, Device, Unit, Sign, Packed, Wide}
+use Rattle.he_check.specs.declared.meant.Meant.TheVariants.{Comment, Tab, Capitals, Zone, Brackets, Comma, Name, DefaultRoute, IpOutput, Device, Unit, Sign, Packed, Wide, Capture, Json}
 use Rattle.he_check.specs.declared.slips.Slip.{Slip}
 use Rattle.he_check.specs.declared.slips.Slip.TheVariants.{NoRace, NoSource, IdleFloor, NoAnswer, LateAnswer, UnusableAnswer}
 use Rattle.he_check.specs.declared.slips.Warning.{Warning}
@@ -44,6 +44,8 @@ meaning_of Unit = codes "a number has no unit: times are in milliseconds"
 meaning_of Sign = codes "a number has no sign"
 meaning_of Packed = codes "the input is compressed: unpack it first, as `gunzip`, `xz -d` and `zstd -d` do"
 meaning_of Wide = codes "the input is UTF-16: make ASCII of it first, as `iconv -f UTF-16 -t ASCII` does"
+meaning_of Capture = codes "the input is a packet capture: tools/from-capture makes a timeline of it"
+meaning_of Json = codes "the input is JSON, which `he` writes and does not read"
 
 -- a line end; before it ; and what was likely meant
 abbrev pub clause_text : Option Meant → List ℕ

@@ -1,11 +1,9 @@
 -- What is taken from an input that is checked, and put into an output.
-use Rattle.std.specs.Prelude.{ℕ, ◌≡◌, ◌==◌, Bool, true, false, List, [], ◌∷◌, ◌++◌, if◌then◌else◌, decimal, codes, Result, Ok, Err}
+use Rattle.std.specs.Prelude.{ℕ, ◌≡◌, ◌==◌, ◌⊎◌, Bool, true, false, List, [], ◌∷◌, ◌++◌, if◌then◌else◌, decimal, codes, Result, Ok, Err}
 use Rattle.std.specs.List.{flat_map}
 use Rattle.he_words.specs.declared.fault.TextFault.{TextFault}
-use Rattle.he_inputs.specs.declared.input_fault.InputFault.{InputFault}
-use Rattle.he_inputs.specs.declared.input_fault.InputFault.TheVariants as inputs
-use Rattle.he_check.specs.AllFaults.{AreFaults, AreSaid}
-use Rattle.he_check.specs.Checked.{IsRight, IsWrong}
+use Rattle.he_check.specs.AllFaults.{AreFaults, AreTold}
+use Rattle.he_check.specs.Checked.{IsRight, IsSure, IsWrong}
 use Rattle.he_check.specs.Clauses.{EndsInClause}
 use Rattle.he_check.specs.Sentences.{warning_text}
 use Rattle.he_check.specs.Slips.{HasWarnings}
@@ -38,17 +36,25 @@ pub record FindsWrong (Given : List ℕ → Bool → Type 0) (fault : StreamFaul
   pub given : Given input is_broken
   pub wrong : IsWrong input is_broken fault
 
--- Given: what the input gave, and whether it broke off after that; Whole and RestOfInput: the text of which all was
--- put into the output and then flushed, or a first part until that failed; Kept: nothing was put into the output
-abbrev pub Checks : (List ℕ → Bool → Type 0) → (List ℕ → Type 0) → (List ℕ → Type 0) → Type 0
+-- of the input these bytes were taken, and no more, and whatever follows them, this is the first fault
+pub record FindsSure (Taken : List ℕ → Type 0) (fault : TextFault) : Type 0 where
+  pub input : List ℕ
+  pub taken : Taken input
+  pub sure : IsSure input fault
+
+-- Given: what the input gave, and whether it broke off after that; Taken: what was taken of an input that was not read
+-- further; Whole and Part: the text of which all was put into the output and then flushed, or a first part until that
+-- failed; Kept: nothing was put into the output
+abbrev pub Checks : (List ℕ → Bool → Type 0) → (List ℕ → Type 0) → (List ℕ → Type 0) → (List ℕ → Type 0) → Type 0
     → Result (Unit {0}) StreamFault → Type 0
-Checks Given Whole RestOfInput Kept (Ok done) =
+Checks Given Taken Whole Part Kept (Ok done) =
     (checked : Checked) × FindsRight Given checked × Whole (report_text checked)
-Checks Given Whole RestOfInput Kept (Err (Text fault)) = FindsWrong Given (Text fault) × Kept
-Checks Given Whole RestOfInput Kept (Err Read) = FindsWrong Given Read × Kept
-Checks Given Whole RestOfInput Kept (Err Write) =
-    (checked : Checked) × FindsRight Given checked × RestOfInput (report_text checked)
-Checks Given Whole RestOfInput Kept (Err Memory) = Kept
+Checks Given Taken Whole Part Kept (Err (Text fault)) =
+    (FindsWrong Given (Text fault) ⊎ FindsSure Taken fault) × Kept
+Checks Given Taken Whole Part Kept (Err Read) = FindsWrong Given Read × Kept
+Checks Given Taken Whole Part Kept (Err Write) =
+    (checked : Checked) × FindsRight Given checked × Part (report_text checked)
+Checks Given Taken Whole Part Kept (Err Memory) = Kept
 
 -- the input was given, whole or up to where it broke off, and its warnings are told behind what stood there
 pub record TellsWarnings (Given : List ℕ → Bool → Type 0) (old new : List ℕ) : Type 0 where
@@ -59,36 +65,39 @@ pub record TellsWarnings (Given : List ℕ → Bool → Type 0) (old new : List 
   pub are : HasWarnings input warnings
   pub told : new ≡ old ++ flat_map warning_text warnings
 
--- the input was given, whole or up to where it broke off, and what is said of its fault ends in the clause of the
--- fault
-pub record TellsFault (Given : List ℕ → Bool → Type 0) (fault : TextFault) (old new : List ℕ) : Type 0 where
+-- of the input these bytes were taken, whether there are more or not, and what is said of its fault ends in the clause
+-- of the fault
+pub record TellsFault (Given : List ℕ → Bool → Type 0) (Taken : List ℕ → Type 0) (fault : TextFault)
+    (old new : List ℕ) : Type 0 where
   pub input : List ℕ
-  pub is_broken : Bool
-  pub given : Given input is_broken
+  pub taken : Taken input ⊎ ((is_broken : Bool) × Given input is_broken)
   pub told : EndsInClause input fault old new
 
--- the input was given, whole or up to where it broke off, and all its faults are told behind what stood there, of
--- which this is the first
-pub record TellsAll (Given : List ℕ → Bool → Type 0) (first : InputFault) (old new : List ℕ) : Type 0 where
+-- the input was given, whole or up to where it broke off, and its faults are told behind what stood there
+pub record TellsAll (Given : List ℕ → Bool → Type 0) (faults : List TextFault) (old new : List ℕ) : Type 0 where
   pub input : List ℕ
   pub is_broken : Bool
   pub given : Given input is_broken
-  pub others : List InputFault
-  pub are : AreFaults input is_broken (first ∷ others)
+  pub are : AreFaults input is_broken faults
   pub text : List ℕ
-  pub said : AreSaid input (first ∷ others) text
+  pub said : AreTold input is_broken faults text
   pub told : new ≡ old ++ text
 
--- how an input with this first fault is explained: all its faults are told, or this one, if it is the text's
-abbrev pub TellsOf : Bool → (List ℕ → Bool → Type 0) → InputFault → List ℕ → List ℕ → Type 0
-TellsOf true Given fault old new = TellsAll Given fault old new
-TellsOf false Given (inputs.Text fault) old new = TellsFault Given fault old new
-TellsOf false Given inputs.Read old new = new ≡ old
+-- a fault of the text is told: it and all others after it, or it alone
+abbrev pub TellsText : Bool → (List ℕ → Bool → Type 0) → (List ℕ → Type 0) → TextFault → List ℕ → List ℕ → Type 0
+TellsText true Given Taken fault old new = (others : List TextFault) × TellsAll Given (fault ∷ others) old new
+TellsText false Given Taken fault old new = TellsFault Given Taken fault old new
 
--- where nothing is wrong with the input, its warnings are told; where something is, all its faults or the first one
-abbrev pub Explains : Bool → (List ℕ → Bool → Type 0) → List ℕ → List ℕ → Result (Unit {0}) StreamFault → Type 0
-Explains is_all Given old new (Ok done) = TellsWarnings Given old new
-Explains is_all Given old new (Err (Text fault)) = TellsOf is_all Given (inputs.Text fault) old new
-Explains is_all Given old new (Err Read) = TellsOf is_all Given inputs.Read old new
-Explains is_all Given old new (Err Write) = TellsWarnings Given old new
-Explains is_all Given old new (Err Memory) = new ≡ old
+-- where all faults are asked for, it is told that the input broke off and has none
+abbrev pub TellsRead : Bool → (List ℕ → Bool → Type 0) → List ℕ → List ℕ → Type 0
+TellsRead true Given old new = TellsAll Given [] old new
+TellsRead false Given old new = new ≡ old
+
+-- where nothing is wrong with the input, its warnings are told; where something is, its first fault, or all
+abbrev pub Explains : Bool → (List ℕ → Bool → Type 0) → (List ℕ → Type 0) → List ℕ → List ℕ
+    → Result (Unit {0}) StreamFault → Type 0
+Explains is_all Given Taken old new (Ok done) = TellsWarnings Given old new
+Explains is_all Given Taken old new (Err (Text fault)) = TellsText is_all Given Taken fault old new
+Explains is_all Given Taken old new (Err Read) = TellsRead is_all Given old new
+Explains is_all Given Taken old new (Err Write) = TellsWarnings Given old new
+Explains is_all Given Taken old new (Err Memory) = new ≡ old

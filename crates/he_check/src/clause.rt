@@ -106,5 +106,8 @@ fn meaning(meant: Meant) -> &'static [u8]
             b"the input is compressed: unpack it first, as `gunzip`, `xz -d` and `zstd -d` do",
         Meant::Wide =>
             b"the input is UTF-16: make ASCII of it first, as `iconv -f UTF-16 -t ASCII` does",
+        Meant::Capture =>
+            b"the input is a packet capture: tools/from-capture makes a timeline of it",
+        Meant::Json => b"the input is JSON, which `he` writes and does not read",
     }
 }

@@ -1,16 +1,17 @@
 // Why the first fault of a text is one: its line is looked at again, with the checks of its kind in the order in which
 // the text was read.
 
-use crate::flaws::find_flaw;
+use crate::flaws::{NO_TICK, find_flaw, is_answered};
 use crate::forms::{form, least_tokens, most_tokens};
 use crate::place::{Place, first_word, token, token_count};
 use crate::repeats::find_repeat;
-use crate::sentence::{Sentence, SharedPrecedence, WrongPart};
+use crate::sentence::{HighFloor, Sentence, SharedPrecedence, WrongPart};
 use he_addr::read_number;
 use he_select::PolicyFault;
 use he_timeline::limits::{DEFAULT_ATTEMPT, MAX_ADDRESSES};
 use he_words::limits::{MAX_LINE, MOST_RACES};
 use he_words::{LINE_END, Name, TOKEN_END, TextKind, Word};
+use memchr::memchr;
 
 // The tokens of an answer before its addresses: the word and the tick.
 const ANSWER_HEAD: usize = 2;
@@ -19,6 +20,8 @@ const NO_HEADER: &str = "a race begins with the line `race 1` or `race 2`";
 
 const OTHER_VERSION: &str =
     "a race begins with the line `race 1` or `race 2`: the number is the version of the format, not that of the race";
+
+const TOO_MANY_RACES: &str = "races: name several files, or split the text after an `end`";
 
 type Found = (WrongPart, Sentence);
 
@@ -129,7 +132,40 @@ fn word_sentence(place: Place<'_>) -> Option<Found> {
             Sentence::Order(word.spelling(), last.spelling()),
         ));
     }
-    form_sentence(place.line, word).or(flaw_sentence(place))
+    meant_sentence(place.line, word)
+        .or(form_sentence(place.line, word))
+        .or(flaw_sentence(place))
+}
+
+// A setting in one word, or an answer without its tick.
+fn meant_sentence(line: &[u8], word: Word) -> Option<Found> {
+    let text = token(line, 1);
+    match word {
+        Word::Set => Some((WrongPart::Token(1), joined_setting(text)?)),
+        Word::Aaaa | Word::A if token_count(line) == 2 && is_answered(text) => Some((
+            WrongPart::Token(1),
+            Sentence::Plain(NO_TICK),
+        )),
+        _ => None,
+    }
+}
+
+// A setting as command lines have it, `attempt=100`.
+fn joined_setting(text: &[u8]) -> Option<Sentence> {
+    let at = memchr(b'=', text)?;
+    let name = Name::read(&text[..at])?;
+    let number = read_number(&text[at + 1..])?;
+    Some(Sentence::Joined(spelling(name), number))
+}
+
+fn spelling(name: Name) -> &'static str {
+    match name {
+        Name::Resolution => "resolution",
+        Name::Attempt => "attempt",
+        Name::Count => "count",
+        Name::Limit => "limit",
+        Name::Floor => "floor",
+    }
 }
 
 fn no_word(place: Place<'_>) -> &'static str {
@@ -192,12 +228,12 @@ fn floor_sentence(place: Place<'_>) -> Option<Found> {
         Some(Name::Floor | Name::Attempt) => WrongPart::Token(2),
         _ => WrongPart::Line,
     };
-    let sentence = Sentence::HighFloor {
+    let high = HighFloor {
         floor,
         line,
         attempt,
     };
-    Some((mark, sentence))
+    Some((mark, Sentence::HighFloor(high)))
 }
 
 // The number that the race's lines up to this one give the setting, and the number of the line that does.
@@ -255,7 +291,7 @@ fn many_sentence(place: Place<'_>) -> Option<Found> {
     if place.before.is_empty() {
         return Some((
             WrongPart::Line,
-            Sentence::Most("a text has at most", MOST_RACES as u64, "races"),
+            Sentence::Most("a text has at most", MOST_RACES as u64, TOO_MANY_RACES),
         ));
     }
     let word = first_word(place.line)?;

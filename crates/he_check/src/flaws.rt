@@ -9,6 +9,10 @@ use he_words::{LINE_END, Name, TOKEN_END, Word};
 
 const MILLISECONDS: &str = " milliseconds";
 
+// What is said of an answer whose addresses begin where its tick belongs.
+pub(crate) const NO_TICK: &str =
+    "the tick is missing: an answer is written as `a 25 192.0.2.1` or `a 25 none`";
+
 const PRECEDENCE: Numbers = Numbers {
     what: "the precedence of a row",
     least: 0,
@@ -88,6 +92,7 @@ fn token_flaw(place: Place<'_>, word: Word, at: usize, text: &[u8]) -> Option<Se
         (Word::Source | Word::Route, 2) => number_flaw(INTERFACE, text),
         (Word::Source, _) => source_mark_flaw(place.line, at, text),
         (Word::Route, _) => route_mark_flaw(text),
+        (Word::Aaaa | Word::A, 1) if is_answered(text) => Some(Sentence::Plain(NO_TICK)),
         (Word::Aaaa | Word::A, 1) => number_flaw(TICK, text),
         (Word::Aaaa, _) => address_flaw(Family::V6, place.line, text),
         (Word::A, _) => address_flaw(Family::V4, place.line, text),
@@ -136,12 +141,31 @@ fn name_flaw(place: Place<'_>, text: &[u8]) -> Option<Sentence> {
 
 fn number_flaw(numbers: Numbers, text: &[u8]) -> Option<Sentence> {
     match read_number(text) {
+        None if has_fraction(text) => Some(Sentence::Fraction(numbers)),
         None => Some(Sentence::NoNumber(numbers)),
         Some(number) if number < numbers.least || numbers.most < number => {
             Some(Sentence::OutOfRange(numbers))
         }
         Some(_) => None,
     }
+}
+
+// Whether the text is a number with a fraction, as 12.5.
+fn has_fraction(text: &[u8]) -> bool {
+    let mut points = 0usize;
+    for byte in text {
+        match *byte {
+            b'.' => points = points.saturating_add(1),
+            b'0'..=b'9' => {}
+            _ => return false,
+        }
+    }
+    points == 1
+}
+
+// Whether the text is what an answer has after its tick: an address, or `none`.
+pub(crate) fn is_answered(text: &[u8]) -> bool {
+    text == b"none".as_slice() || read_ip(text).is_some()
 }
 
 fn prefix_flaw(text: &[u8]) -> Option<Sentence> {

@@ -3,10 +3,10 @@ ghost use Rattle.std.specs.Prelude.{IfErr, IfOk};
 ghost use Rattle.he_check.specs.Checked.{IsRight, IsWrong};
 ghost use Rattle.he_check.specs.Slips.{HasWarnings};
 
-use crate::slips::{Slip, Warning, add_if, add_warnings};
-use he_inputs::{Ending, RaceReader, StreamFault};
+use crate::counting::Counted;
+use crate::slips::Warning;
+use he_inputs::StreamFault;
 use std::alloc::Allocator;
-use std::mem::drop;
 
 /// What a right input has.
 #[derive(Clone, Copy, Debug, PartialEq, Eq)]
@@ -35,20 +35,7 @@ pub fn check_input<A: Allocator + Copy>(
     ensures warned { IfOk result (λ found. HasWarnings input.now found.1.items) }
     ensures wrong { IfErr result (IsWrong input.now is_broken) }
 {
-    let ending = Ending::of(is_broken);
-    let mut reader = RaceReader::START;
-    let mut warnings = Vec::new(alloc);
-    let mut line = 1;
-    while let Some(race) = reader.next(alloc, input, ending)? {
-        let added = add_warnings(&race, line, &mut warnings);
-        drop(race);
-        added?;
-        line = reader.lines + 1;
-    }
-    add_if(reader.races == 0, 1, Slip::NoRace, &mut warnings)?;
-    let checked = Checked {
-        races: reader.races as u64,
-        lines: reader.lines,
-    };
-    Ok((checked, warnings))
+    let mut counted = Counted::new(alloc);
+    let checked = counted.finish(alloc, input, is_broken)?;
+    Ok((checked, counted.warnings))
 }

@@ -25,11 +25,13 @@
 mod all_faults;
 pub mod checking;
 mod clause;
+mod counting;
 pub mod explaining;
 mod finding;
 mod flaws;
 mod forms;
 pub mod input;
+mod kind;
 pub mod limits;
 mod meant;
 mod parts;
@@ -38,6 +40,7 @@ mod repeats;
 mod sentence;
 mod showing;
 pub mod slips;
+mod taking;
 mod telling;
 
 pub use checking::check;

@@ -1,7 +1,10 @@
-//! The limits of what is shown of a line.
+//! The limits of what is said of an input, and of what is shown of a line.
 
 /// The most bytes of a line that are shown: of a longer one those around the mark.
 pub const MOST_SHOWN: usize = 72;
 
 /// How many bytes before the mark are shown of a line that is cut.
 pub const SHOWN_BEFORE: usize = 24;
+
+/// The most faults of an input that are explained. Of the others a check says how many there are.
+pub const MOST_TOLD: u64 = 1_000;

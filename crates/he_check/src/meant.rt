@@ -3,7 +3,7 @@
 ghost use Rattle.std.specs.Prelude.{◌≡◌};
 ghost use Rattle.std.specs.Char.{is_ascii_alphabetic, is_ascii_digit, is_ascii_uppercase};
 ghost use Rattle.std.specs.List.{list_all, list_any};
-ghost use Rattle.he_check.specs.Meant.{as_address, as_ip_prints, as_mark, as_number, input_meant, is_device, is_ip_word, is_name, is_of_name, is_of_time, meant_of};
+ghost use Rattle.he_check.specs.Meant.{as_address, as_ip_prints, as_mark, as_number, input_meant, is_capture, is_device, is_ip_word, is_name, is_of_name, is_of_time, meant_of};
 
 // What was likely meant.
 #[derive(Clone, Copy)]
@@ -36,6 +36,10 @@ pub(crate) enum Meant {
     Packed,
     // A text of two bytes a character.
     Wide,
+    // A packet capture.
+    Capture,
+    // A text in JSON.
+    Json,
 }
 
 // What was likely meant by the word, if it is one that stands in no text.
@@ -209,7 +213,23 @@ pub(crate) fn input_meant(input: &[u8]) -> Option<Meant>
         || input.starts_with(b"\x00r")
     {
         Some(Meant::Wide)
+    } else if is_capture(input) {
+        Some(Meant::Capture)
+    } else if input.starts_with(b"{") || input.starts_with(b"[") {
+        Some(Meant::Json)
     } else {
         None
     }
+}
+
+// A capture of tcpdump or Wireshark, of either byte order, with microseconds or nanoseconds; or one of pcapng.
+#[tactic(auto, unfolding(crate::specs::Meant::is_capture))]
+fn is_capture(input: &[u8]) -> bool
+    ensures { result ≡ is_capture input.now }
+{
+    input.starts_with(b"\xd4\xc3\xb2\xa1")
+        || input.starts_with(b"\xa1\xb2\xc3\xd4")
+        || input.starts_with(b"\x4d\x3c\xb2\xa1")
+        || input.starts_with(b"\xa1\xb2\x3c\x4d")
+        || input.starts_with(b"\x0a\x0d\x0d\x0a")
 }

@@ -46,11 +46,15 @@ pub(crate) enum Sentence {
     Plain(&'static str),
     // No number.
     NoNumber(Numbers),
+    // A number with a fraction.
+    Fraction(Numbers),
     // A number out of its range.
     OutOfRange(Numbers),
+    // A setting in one word, as `attempt=100`: its name and its number.
+    Joined(&'static str, u64),
     // This thing stands on an earlier line, with this number.
     Above(&'static str, u64),
-    // There may be at most so many, by the words before and behind the number.
+    // There may be at most so many, by the words before and after the number.
     Most(&'static str, u64, &'static str),
     // A race may have at most so many lines that begin with the word.
     MostLines(u64, &'static str),
@@ -60,10 +64,18 @@ pub(crate) enum Sentence {
     PauseAbove(u64),
     // A word or a setting of version 2 stands in a race of version 1.
     Newer(&'static str),
-    // The floor after failures, on the line with this number, is above the attempt delay.
-    HighFloor { floor: u64, line: u64, attempt: u64 },
+    // The floor after failures is above the attempt delay.
+    HighFloor(HighFloor),
     // Two rows of a policy table share a precedence.
     Shared(SharedPrecedence),
+}
+
+// The floor after failures, the number of its line, and the attempt delay.
+#[derive(Clone, Copy)]
+pub(crate) struct HighFloor {
+    pub(crate) floor: u64,
+    pub(crate) line: u64,
+    pub(crate) attempt: u64,
 }
 
 // Two rows of a policy table, counted from 0, the number of the line of row 0, and the precedence of both.
@@ -80,16 +92,17 @@ impl fmt::Display for Sentence {
     fn fmt<W: fmt::Write>(&self, f: &mut fmt::Formatter<W>) -> fmt::Result {
         match self {
             Sentence::Plain(sentence) => f.write_str(sentence),
-            Sentence::NoNumber(numbers) => {
-                let what = numbers.what;
+            Sentence::NoNumber(numbers) => numbers.write_digits(f),
+            Sentence::Fraction(numbers) => numbers.write_whole(f),
+            Sentence::OutOfRange(numbers) => numbers.write_range(f),
+            Sentence::Joined(name, number) => {
                 write!(
                     f,
-                    "{what} is a number: one to ten digits without leading zeros"
+                    "a space stands before the number: write `set {name} {number}`"
                 )
             }
-            Sentence::OutOfRange(numbers) => fmt::Display::fmt(numbers, f),
             Sentence::Above(what, line) => write!(f, "{what}, on line {line}"),
-            Sentence::Most(before, most, behind) => write!(f, "{before} {most} {behind}"),
+            Sentence::Most(before, most, after) => write!(f, "{before} {most} {after}"),
             Sentence::MostLines(most, word) => {
                 write!(f, "a race has at most {most} {word} lines")
             }
@@ -111,25 +124,40 @@ impl fmt::Display for Sentence {
                     "{word} stands in races that begin with the line `race 2`"
                 )
             }
-            Sentence::HighFloor {
-                floor,
-                line,
-                attempt,
-            } => {
-                write!(
-                    f,
-                    "the floor after failures, {floor} milliseconds on line {line}, is above the attempt delay, {attempt}"
-                )
-            }
+            Sentence::HighFloor(high) => fmt::Display::fmt(high, f),
             Sentence::Shared(shared) => fmt::Display::fmt(shared, f),
         }
     }
 }
 
-impl fmt::Display for Numbers {
-    fn fmt<W: fmt::Write>(&self, f: &mut fmt::Formatter<W>) -> fmt::Result {
+impl Numbers {
+    fn write_digits<W: fmt::Write>(&self, f: &mut fmt::Formatter<W>) -> fmt::Result {
+        let what = self.what;
+        write!(
+            f,
+            "{what} is a number: one to ten digits without leading zeros"
+        )
+    }
+
+    fn write_whole<W: fmt::Write>(&self, f: &mut fmt::Formatter<W>) -> fmt::Result {
+        let (what, unit) = (self.what, self.unit);
+        let of = if unit.is_empty() { "" } else { " of" };
+        write!(f, "{what} is a whole number{of}{unit}")
+    }
+
+    fn write_range<W: fmt::Write>(&self, f: &mut fmt::Formatter<W>) -> fmt::Result {
         let (what, least, most, unit) = (self.what, self.least, self.most, self.unit);
         write!(f, "{what} is {least} to {most}{unit}")
+    }
+}
+
+impl fmt::Display for HighFloor {
+    fn fmt<W: fmt::Write>(&self, f: &mut fmt::Formatter<W>) -> fmt::Result {
+        let (floor, line, attempt) = (self.floor, self.line, self.attempt);
+        write!(
+            f,
+            "the floor after failures, {floor} milliseconds on line {line}, is above the attempt delay, {attempt}"
+        )
     }
 }
 

@@ -40,8 +40,8 @@ RunsTask input output Compare changes first last before after =
     Compares changes (Gave input first last) (TookAll output before.0 after.0) (TookPart output before.0 after.0)
     (after.0 ≡ before.0)
 RunsTask input output (Check is_all) changes first last before after =
-    Checks (Gave input first last) (TookAll output before.0 after.0) (TookPart output before.0 after.0)
-    (after.0 ≡ before.0)
+    Checks (Gave input first last) (GaveSoFar input first last) (TookAll output before.0 after.0)
+    (TookPart output before.0 after.0) (after.0 ≡ before.0)
 RunsTask input output (Summarize form) changes first last before after =
     λ result. (after.0 ≡ before.0) × AddsSums input changes first last before.1 after.1 result
 

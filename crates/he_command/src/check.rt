@@ -22,8 +22,10 @@ has one line, as
 and standard error a warning of each thing that is allowed and surely not meant,
 as a race without an `aaaa` line, which can't be exhausted. Else standard output
 has nothing, and standard error the first fault: its line by number and by its
-text, a mark below what is wrong there, and what was expected. With --all it
-goes on at the next line `race 1` or `race 2`, and at the next file.
+text, a mark below what is wrong there, and what was expected. It reads no
+further than that. With --all it goes on at the next line `race 1` or `race 2`,
+explains the first 1000 faults of a file and counts the others, and goes on at
+the next file.
 
 Example input:
 

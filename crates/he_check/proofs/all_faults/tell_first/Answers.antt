@@ -1,38 +1,30 @@
-use Rattle.he_check.proofs.FaultParts.{tells_broken, tells_last, tells_next, tells_read}
-use Rattle.he_check.proofs.WholeLines.{ends_behind, next_ends}
+use Rattle.he_check.proofs.FaultParts.{counted_less, left_ends, less_left, tells_fault}
+use Rattle.he_check.proofs.WholeLines.{ends_behind}
 use Rattle.he_check.proofs.all_faults.tell_first.Goals as goal
 
-pub returns-in_default-fault-clause-told : goal.returns-in_default-fault-clause-told
-returns-in_default-fault-clause-told g c =
-    let first = rw c.in-Some.is at c.in_ok-faulty.ensures in
-    tells_read c.args.input.now c.args.is_broken c.args.part c.in-Some.faulty c.in-Some.fault c.args.text.now.items c.extend_from_slice.new.self.items first.0 c.in_default-fault.not-Text
-    c.in_ok-extend_from_slice.ensures.items
+pub tell_fault-requires-clause-within : goal.tell_fault-requires-clause-within
+tell_fault-requires-clause-within g c =
+    let first = rw c.in-Some-default-Text.is at c.in_ok-faulty.ensures in
+    ends_behind c.args.input.now c.args.part c.in-Some-default-Text.faulty c.requires.ends first.1
 
-pub append_fault-requires-clause-within : goal.append_fault-requires-clause-within
-append_fault-requires-clause-within g c =
-    let first = rw c.in-Some.is at c.in_ok-faulty.ensures in
-    ends_behind c.args.input.now c.args.part c.in-Some.faulty c.requires first.1
+pub returns-in_ok-tell_fault-in-Some-default-Text-clause-told : goal.returns-in_ok-tell_fault-in-Some-default-Text-clause-told
+returns-in_ok-tell_fault-in-Some-default-Text-clause-told g c =
+    let first = rw c.in-Some-default-Text.field-0-1-is at rw c.in-Some-default-Text.is at c.in_ok-faulty.ensures in
+    tells_fault c.args.input.now c.args.is_broken c.args.part c.in-Some-default-Text.faulty c.next_race.result c.in-Some-default-Text.fault
+    c.args.told.now.count c.tell_fault.new.told.count c.args.told.now.text.items c.tell_fault.new.told.text.items first.0 c.in_ok-tell_fault-in-Some-default-Text.ensures c.next_race.ensures
 
-pub returns-in-Some-next_race-clause-told : goal.returns-in-Some-next_race-clause-told
-returns-in-Some-next_race-clause-told g c =
-    let first = rw c.in-Text.is at rw c.in-Some.is at c.in_ok-faulty.ensures in
-    tells_next c.args.input.now c.args.is_broken c.args.part c.in-Some.faulty c.in-Some-next_race.next c.in-Text.found c.args.text.now.items c.append_fault.new.text.items first.0
-    c.in_ok-append_fault.ensures c.in-Some-next_race.ensures
+pub returns-in_ok-tell_fault-in-Some-default-Text-clause-left : goal.returns-in_ok-tell_fault-in-Some-default-Text-clause-left
+returns-in_ok-tell_fault-in-Some-default-Text-clause-left g c =
+    let first = rw c.in-Some-default-Text.is at c.in_ok-faulty.ensures in
+    left_ends c.args.input.now c.in-Some-default-Text.faulty c.next_race.result (ends_behind c.args.input.now c.args.part c.in-Some-default-Text.faulty c.requires.ends first.1) c.next_race.ensures
 
-pub returns-in-Some-next_race-clause-left : goal.returns-in-Some-next_race-clause-left
-returns-in-Some-next_race-clause-left g c =
-    let first = rw c.in-Some.is at c.in_ok-faulty.ensures in
-    let faulty = ends_behind c.args.input.now c.args.part c.in-Some.faulty c.requires first.1 in
-    ends_behind c.args.input.now c.in-Some.faulty c.in-Some-next_race.next faulty (next_ends c.in-Some.faulty c.in-Some-next_race.next c.in-Some-next_race.ensures)
+pub returns-in_ok-tell_fault-in-Some-default-Text-clause-shorter : goal.returns-in_ok-tell_fault-in-Some-default-Text-clause-shorter
+returns-in_ok-tell_fault-in-Some-default-Text-clause-shorter g c =
+    let first = rw c.in-Some-default-Text.is at c.in_ok-faulty.ensures in
+    counted_less c.next_race.result c.args.told.now.count c.tell_fault.new.told.count _ c.in_ok-tell_fault-in-Some-default-Text.ensures.0
+    (less_left c.args.part c.in-Some-default-Text.faulty c.next_race.result first.1 c.next_race.ensures)
 
-pub returns-in_ok-extend_from_slice-in-None-clause-told : goal.returns-in_ok-extend_from_slice-in-None-clause-told
-returns-in_ok-extend_from_slice-in-None-clause-told g c =
-    let first = rw c.in-Text.is at rw c.in-Some.is at c.in_ok-faulty.ensures in
-    tells_broken c.args.input.now c.args.is_broken c.args.part c.in-Some.faulty c.in-Text.found c.args.text.now.items c.append_fault.new.text.items c.extend_from_slice-in-None.new.self.items
-    c.if-is_broken.true first.0 c.in_ok-append_fault.ensures c.in-None.ensures c.in_ok-extend_from_slice-in-None.ensures.items
-
-pub returns-in-None-2-clause-told : goal.returns-in-None-2-clause-told
-returns-in-None-2-clause-told g c =
-    let first = rw c.in-Text.is at rw c.in-Some.is at c.in_ok-faulty.ensures in
-    tells_last c.args.input.now c.args.is_broken c.args.part c.in-Some.faulty c.in-Text.found c.args.text.now.items c.append_fault.new.text.items
-    c.if-is_broken.false first.0 c.in_ok-append_fault.ensures c.in-None-2.ensures
+pub returns-in_ok-tell_fault-in-Some-default-Text-clause-less : goal.returns-in_ok-tell_fault-in-Some-default-Text-clause-less
+returns-in_ok-tell_fault-in-Some-default-Text-clause-less g c =
+    let first = rw c.in-Some-default-Text.is at c.in_ok-faulty.ensures in
+    less_left c.args.part c.in-Some-default-Text.faulty c.next_race.result first.1 c.next_race.ensures
