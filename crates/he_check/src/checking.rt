@@ -21,11 +21,11 @@ use std::alloc::Allocator;
 /// Reads an input of timelines and checks it: where nothing is wrong it writes how many races and lines the input has,
 /// as `3 races, 27 lines`, and flushes the output. It reads the input to its end, or up to its first fault.
 ///
-/// With `is_all` it reads the input to its end whatever is wrong, goes on after a faulty race, and tells the first
-/// fault of each part of the input. A part begins with the input, or with the next line `race 1` or `race 2` after the
-/// first line of a faulty race: where `end` was forgotten, that is the faulty line itself. Each part is checked as an
-/// input of its own, and so may have 4,096 races, but its lines are counted over the whole input. It explains the first
-/// [`MOST_TOLD`](crate::limits::MOST_TOLD) faults, and says how many more there are.
+/// With `is_all` it reads the input to its end before it checks it, whatever is wrong, goes on after a faulty race, and
+/// tells the first fault of each part of the input. A part begins with the input, or with the next line `race 1` or
+/// `race 2` after the first line of a faulty race: where `end` was forgotten, that is the faulty line itself. Each part
+/// is checked as an input of its own, and so may have 4,096 races, but its lines are counted over the whole input. It
+/// explains the first [`MOST_TOLD`](crate::limits::MOST_TOLD) faults, and says how many more there are.
 ///
 /// # Errors
 ///

@@ -11,7 +11,7 @@ const MILLISECONDS: &str = " milliseconds";
 
 // What is said of an answer whose addresses begin where its tick belongs.
 pub(crate) const NO_TICK: &str =
-    "the tick is missing: an answer is written as `a 25 192.0.2.1` or `a 25 none`";
+    "the tick is missing: an answer is `a TICK ADDRESS ..` or `aaaa TICK ADDRESS ..`";
 
 const PRECEDENCE: Numbers = Numbers {
     what: "the precedence of a row",
