@@ -5,7 +5,7 @@ use Rattle.he_command.proofs.files.+run_files.Goals as goal
 
 pub returns-in-len1-clause-done : goal.returns-in-len1-clause-done
 returns-in-len1-clause-done g t c =
-    only_one _ _ c.args.names.now _ _ _ _ _ c.run_name.result (omega arith) (omega arith) c.run_name.ensures.done
+    only_one _ _ c.args.names.now _ _ _ _ _ c.run_name-status.result (omega arith) (omega arith) c.run_name-status.ensures.done
 
 pub returns-then-not-texts-clause-done : goal.returns-then-not-texts-clause-done
 returns-then-not-texts-clause-done g t c =

@@ -30,5 +30,5 @@ returns-in-None g c = record {
   puts =
       subst (λ (s : Option Sums). EndsSums {O = g.row.O.Denot} g.O.OutputStream c.args.form s c.run_all-added.new.session.output c.run_all-added.new.session.output 1)
       (sym c.in-None.is) (refl, refl);
-  status_is = c.first_fault.ensures;
+  status_is = c.first_fault-in-None.ensures;
 }
