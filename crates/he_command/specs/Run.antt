@@ -139,7 +139,7 @@ RunsLine input file page output (Ok (requests.Live options)) first last before a
     RunsLive input output options first last before after status
 RunsLine input file page output (Ok (requests.Host destinations)) first last before after status =
     (last ≡ first) × Shows output before after status
-RunsLine input file page output (Ok (requests.Names wanted)) first last before after status =
+RunsLine input file page output (Ok (requests.Names options)) first last before after status =
     (last ≡ first) × RunsNames output before after status
 RunsLine input file page output (Ok (requests.Connect connection)) first last before after status =
     MakesConnection output connection before after status

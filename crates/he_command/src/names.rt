@@ -3,7 +3,7 @@ ghost use Rattle.std.specs.Prelude.{◌≡◌, ◌⊎◌};
 ghost use Rattle.he_command.specs.Run.{RunsNames};
 ghost use Rattle.he_command.specs.Status.{status_of};
 
-use crate::arguments::{plain, resolver, word};
+use crate::arguments::{flag, flag_of, plain, resolver, word};
 use crate::name::shown;
 use crate::reports::{DONE, FAULT, report, report_of};
 use crate::session::Session;
@@ -17,6 +17,8 @@ use std::io::Write;
 const ABOUT: &str = "Find the addresses of a host, as the answers of a race";
 
 const HOST_HELP: &str = "A host name, as www.example.com, or an address";
+
+const VERBOSE_HELP: &str = "Tell what happened in the look-up";
 
 const EXAMPLE: &str = "\
 Standard output has the two answers that a timeline wants, each with the tick
@@ -36,39 +38,63 @@ options ndots, timeout and attempts count as resolv.conf(5) has them. With
 both families at once.
 
 Where the look-up of a family failed, standard error says why; what the other
-gave is written.
+gave is written. With -v standard error has what happened, by its millisecond:
+which server answered, failed, or did not answer in time.
 
 Exit status: 0 if an address was found and no look-up failed; 1 after a fault,
 as where there is no such name; 2 for a line that is refused.";
 
 pub(crate) fn command<'a>(alloc: Global) -> Result<Command<'a>, AllocError> {
     let host = word(alloc, "host", "HOST", HOST_HELP);
-    let args = vec![in alloc; host, resolver(alloc)]?;
+    let verbose = flag(alloc, "verbose", VERBOSE_HELP).short('v');
+    let args = vec![in alloc; host, resolver(alloc), verbose]?;
     plain(alloc, "names", ABOUT, EXAMPLE).args(args)
 }
 
+/// What `he names` is asked for.
+#[derive(Clone, Copy)]
+pub struct NamesOptions<'a> {
+    pub(crate) wanted: Wanted<'a>,
+    /// Whether what happened is told.
+    pub(crate) tells_steps: bool,
+}
+
 // The addresses that the line asks for, of this resolver.
-pub(crate) fn wanted_of<'a>(choice: Choice, matches: &ArgMatches<'a>) -> Wanted<'a> {
-    Wanted {
-        host: matches.get_str("host").unwrap_or(""),
-        only: None,
-        choice,
+pub(crate) fn options_of<'a>(choice: Choice, matches: &ArgMatches<'a>) -> NamesOptions<'a> {
+    NamesOptions {
+        wanted: Wanted {
+            host: matches.get_str("host").unwrap_or(""),
+            only: None,
+            choice,
+        },
+        tells_steps: flag_of(matches, "verbose"),
     }
 }
 
 // Finds the addresses of a host.
 pub(crate) fn run_names<R: System, O: OutputStream, F: Write>(
     session: &mut Session<'_, '_, R, O, F>,
-    wanted: Wanted<'_>,
+    options: NamesOptions<'_>,
 ) -> u8
     ensures { RunsNames O.OutputStream session.old.output session.new.output result }
 {
-    let (rt, alloc) = (session.system, session.alloc);
+    let (rt, alloc, wanted) = (session.system, session.alloc, options.wanted);
     let mut lookup = LookupReport::new(alloc);
     let end = write_names(rt, alloc, &mut session.output, wanted, &mut lookup);
+    if options.tells_steps {
+        tell_events(&lookup, &mut session.faults);
+    }
     let status = report_names(session, end, &lookup, wanted.host);
     drop(lookup);
     status
+}
+
+// Says what happened, as `he: 12 ms: AAAA answer: 2 addresses from 192.0.2.1`. What cannot be written is passed over.
+fn tell_events<F: Write>(lookup: &LookupReport, faults: &mut F) {
+    for event in &lookup.events {
+        let (tick, event) = (event.tick, *event);
+        let _ = writeln!(faults, "he: {tick} ms: {event}");
+    }
 }
 
 // Says how a search for names ended, and answers the exit status.

@@ -6,13 +6,13 @@ ghost use Rattle.he_command.specs.Texts.{HasTaskWorkers};
 use crate::arguments::resolver_of;
 use crate::connection::Connection;
 use crate::live::LiveOptions;
+use crate::names::NamesOptions;
 use crate::refusal::Refusal;
 use crate::settings::changes_of;
 use crate::texts::{Task, Texts, texts_of};
 use crate::{check, compare, connect, draw, explain, host, live, names, order, replay, summary};
 use clap::{ArgMatches, Command};
 use he_addr::Ip;
-use he_resolver::Wanted;
 use std::alloc::{AllocError, Global};
 
 /// What a command line asks for.
@@ -21,7 +21,7 @@ pub enum Request<'a> {
     /// To connect, and to relay standard input and output.
     Connect(Connection<'a>),
     /// To find the addresses of a host.
-    Names(Wanted<'a>),
+    Names(NamesOptions<'a>),
     /// To write the lines of this machine's addresses and routes, for these destinations alone where there are some.
     Host(Vec<Ip>),
     /// To run the race of the input on real sockets.
@@ -102,7 +102,7 @@ fn request_of<'a>(
                 Err(fault) => Err(Refusal::Option(fault)),
             }
         }
-        "names" => Ok(Request::Names(names::wanted_of(resolver_of(matches)?, matches))),
+        "names" => Ok(Request::Names(names::options_of(resolver_of(matches)?, matches))),
         "host" => match host::destinations_of(alloc, matches) {
             Ok(destinations) => Ok(Request::Host(destinations)),
             Err(refusal) => Err(refusal),

@@ -50,7 +50,7 @@ pub fn run_line<R: System, I: InputStream, O: OutputStream + Send, F: Write>(
 {
     match line {
         Ok(Request::Connect(connection)) => run_connect(session, &connection, input),
-        Ok(Request::Names(wanted)) => run_names(session, wanted),
+        Ok(Request::Names(options)) => run_names(session, options),
         Ok(Request::Host(destinations)) => run_host(session, &destinations),
         Ok(Request::Live(options)) => run_live(session, &options, input),
         Ok(Request::Texts(texts)) => run_texts(session, &texts, input),

@@ -135,9 +135,9 @@ impl<'h, 'f, R: Net + RandomSource + Clock, F: Write> AnswerSource for HostAnswe
 
     ghost hears = { λ _ _ _ _ _. ⊤ };
 
-    fn poll_answer(&mut self, family: Family, _now: u64, cx: &mut Context<'_>) -> Poll<Vec<Known>> {
+    fn poll_answer(&mut self, family: Family, now: u64, cx: &mut Context<'_>) -> Poll<Vec<Known>> {
         let polled = self.lookup.poll_answer(family, cx);
-        self.telling.tell_lookup(&self.log);
+        self.telling.tell_lookup(&self.log, now);
         match polled {
             Poll::Pending => Poll::Pending,
             Poll::Ready(told) => Poll::Ready(self.answer_of(family, told)),

@@ -35,18 +35,18 @@ impl<'f, F> Telling<'f, F> {
 }
 
 impl<'f, F: Write> Telling<'f, F> {
-    // Tells what happened in the look-up since the last call; which family is not asked for was told before.
-    pub(crate) fn tell_lookup(&self, log: &LookupLog) {
+    // Tells what happened in the look-up since the last call, at the race's tick: it goes on only where the race polls
+    // it, so all that is told stands in one order. Which family is not asked for was told before.
+    pub(crate) fn tell_lookup(&self, log: &LookupLog, tick: u64) {
         for event in log.take().iter() {
             if self.tells_lookup && event.kind != LookupEventKind::NotAsked {
-                self.tell_event(*event);
+                self.tell_event(*event, tick);
             }
         }
     }
 
-    fn tell_event(&self, event: LookupEvent) {
+    fn tell_event(&self, event: LookupEvent, tick: u64) {
         if let Some(faults) = self.faults.replace(None) {
-            let tick = event.tick;
             let _ = writeln!(faults, "he: {tick} ms: {event}");
             self.faults.set(Some(faults));
         }
