@@ -44,15 +44,15 @@ def options_of(text):
     usage = re.search(r"^Usage: .*$", text, re.MULTILINE)[0]
     options = []
     for line in part(text, "Options").splitlines():
-        head = re.match(r"  (?:(-\w)|  )(?:(?:, |  )(--[a-z-]+))?(?: <([^>]+)>)?  +(.*)$", line)
+        head = re.match(r"  (?:(-\w)|  )(?:(?:, |  )(--[a-z-]+))?(?: <([^>]+)>(\.\.\.)?)?  +(.*)$", line)
         if head and (head[1] or head[2]):
             names = {name for name in head.groups()[:2] if name}
             is_required = any(re.search(rf"(?<!\[){re.escape(name)} <", usage) for name in names)
-            options.append(Option(head[1] or "", head[2] or "", head[3] or "", head[4], is_required, False))
+            options.append(Option(head[1] or "", head[2] or "", head[3] or "", head[5], is_required, bool(head[4])))
         elif options:
             options[-1].help += " " + line.strip()
     for option in options:
-        option.is_repeated = "repeatable" in option.help
+        option.is_repeated |= "repeatable" in option.help
     return options
 
 

@@ -37,8 +37,8 @@ remote has closed its side; default is 500";
 const LINES_HELP: &str = "Take the source, route and policy lines of FILE\n\
 in place of this machine's own";
 
-const RECORD_HELP: &str = "Write the race to FILE, for `he replay`; with -z `-`\n\
-is standard output";
+const RECORD_HELP: &str = "Write the race to FILE, for `he replay`;\n\
+with -z `-` is standard output";
 
 const EXPLAIN_HELP: &str = "Explain the race on standard error, as `he explain`";
 
