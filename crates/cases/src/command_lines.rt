@@ -1,5 +1,6 @@
 //! Command lines of the program, over a reader and two writers that may fail.
 
+use crate::check_rows::CHECK_ROWS;
 use crate::command_rows::{Row, Streams};
 use crate::example::Counts;
 use crate::glance_rows::GLANCE_ROWS;
@@ -69,6 +70,7 @@ where
     let mut counts = Counts { ran: 0, differ: 0 };
     run_rows(rt, system, "text", &TEXT_ROWS, &mut counts)?;
     run_rows(rt, system, "telling", &TELLING_ROWS, &mut counts)?;
+    run_rows(rt, system, "check", &CHECK_ROWS, &mut counts)?;
     run_rows(rt, system, "glance", &GLANCE_ROWS, &mut counts)?;
     run_rows(rt, system, "host", &HOST_ROWS, &mut counts)?;
     run_rows(rt, system, "refused", &REFUSED_ROWS, &mut counts)?;

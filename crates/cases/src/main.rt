@@ -14,6 +14,7 @@
 //! ends.
 #![tactic(auto)]
 
+mod check_rows;
 mod command_lines;
 mod command_rows;
 mod example;

@@ -1,6 +1,6 @@
-//! Commands that explain, compare or check a text.
+//! Commands that explain or compare a text.
 
-use crate::command_rows::{READ_LINE, Row, Streams, TEXT, TWO_RACES, WRITE_LINE, WRONG_TEXT};
+use crate::command_rows::{READ_LINE, Row, Streams, TEXT, WRITE_LINE};
 
 const EXPLANATION: &[u8] = b"order 0 2001:db8:1::1 source 2001:db8::2
 order 1 198.51.100.1 source 192.0.2.2, behind 0 by rule 6, prefer higher precedence: 35 after 40
@@ -76,17 +76,8 @@ with the changes given up at its limit after 30 ms, won only without them
 0 won only without them, 0 not won either way; no race was won both ways
 ";
 
-const TWO_RACES_WARNED: &[u8] =
-    b"he: line 1: warning: this race has no source line, so its host reaches no address: write its addresses, as `he host` does for this machine
-he: line 1: warning: this race has no aaaa line, so it can't be exhausted: for an answer without an address write `aaaa TICK none`
-he: line 1: warning: this race has no a line, so it can't be exhausted: for an answer without an address write `a TICK none`
-he: line 3: warning: this race has no source line, so its host reaches no address: write its addresses, as `he host` does for this machine
-he: line 3: warning: this race has no aaaa line, so it can't be exhausted: for an answer without an address write `aaaa TICK none`
-he: line 3: warning: this race has no a line, so it can't be exhausted: for an answer without an address write `a TICK none`
-";
-
-/// Those that explain, compare or check it.
-pub static TELLING_ROWS: [Row; 33] = [
+/// Those that explain or compare it.
+pub static TELLING_ROWS: [Row; 16] = [
     (&["he", "explain"], TEXT, Streams::Whole, 0, STORY, b""),
     (
         &["he", "explain"],
@@ -160,102 +151,6 @@ pub static TELLING_ROWS: [Row; 33] = [
         b"Explain why races went as they did",
         b"",
     ),
-    (
-        &["he", "check"],
-        TEXT,
-        Streams::Whole,
-        0,
-        b"1 race, 9 lines\n",
-        b"",
-    ),
-    (
-        &["he", "check"],
-        TWO_RACES,
-        Streams::Whole,
-        0,
-        b"2 races, 4 lines\n",
-        TWO_RACES_WARNED,
-    ),
-    (
-        &["he", "check"],
-        WRONG_TEXT,
-        Streams::Whole,
-        1,
-        b"",
-        b"he: line 2: unfinished\n  end\n     ^\n",
-    ),
-    (
-        &["he", "check"],
-        WRONG_TEXT,
-        Streams::BreaksOff,
-        1,
-        b"",
-        READ_LINE,
-    ),
-    (
-        &["he", "check"],
-        TEXT,
-        Streams::BreaksOff,
-        1,
-        b"",
-        READ_LINE,
-    ),
-    (
-        &["he", "check"],
-        TEXT,
-        Streams::Room(3),
-        1,
-        b"1 r",
-        WRITE_LINE,
-    ),
-    (
-        &["he", "check"],
-        TEXT,
-        Streams::FailsToFlush,
-        1,
-        b"1 race",
-        WRITE_LINE,
-    ),
-    (
-        &["he", "check", "--all"],
-        TEXT,
-        Streams::Whole,
-        0,
-        b"1 race, 9 lines\n",
-        b"",
-    ),
-    (
-        &["he", "check", "--all"],
-        WRONG_TEXT,
-        Streams::Whole,
-        1,
-        b"",
-        b"he: line 2: unfinished\n  end\n     ^\n",
-    ),
-    (
-        &["he", "check", "--all"],
-        TEXT,
-        Streams::BreaksOff,
-        1,
-        b"",
-        READ_LINE,
-    ),
-    (
-        &["he", "check", "more"],
-        TEXT,
-        Streams::Whole,
-        1,
-        b"",
-        b"he: more: No such file or directory",
-    ),
-    (
-        &["he", "check", "--help"],
-        TEXT,
-        Streams::Whole,
-        0,
-        b"Check timelines, and explain their faults",
-        b"",
-    ),
     (&["he", "explain", "-"], TEXT, Streams::Whole, 0, STORY, b""),
     (
         &["he", "explain", "-", "explained-no-answer.timeline"],
@@ -302,45 +197,5 @@ pub static TELLING_ROWS: [Row; 33] = [
         0,
         TWO_COMPARISONS,
         b"",
-    ),
-    (
-        &["he", "check", "-", "-"],
-        TEXT,
-        Streams::Whole,
-        0,
-        b"1 race, 9 lines\n0 races, 0 lines\n",
-        b"he: -: line 1: warning: the input has no race",
-    ),
-    (
-        &["he", "check", "--all", "nowhere.timeline", "-"],
-        TEXT,
-        Streams::Whole,
-        1,
-        b"1 race, 9 lines\n",
-        b"he: nowhere.timeline: No such file or directory",
-    ),
-    (
-        &["he", "check", "nowhere.timeline", "-"],
-        TEXT,
-        Streams::Whole,
-        1,
-        b"",
-        b"he: nowhere.timeline: No such file or directory",
-    ),
-    (
-        &["he", "check", "no\x1b[31mwhere\x7f"],
-        TEXT,
-        Streams::Whole,
-        1,
-        b"",
-        b"he: no\\x1b[31mwhere\\x7f: No such file or directory",
-    ),
-    (
-        &["he", "check"],
-        b"race 1\nset timeout 100\nend\n",
-        Streams::Whole,
-        1,
-        b"",
-        b"he: line 2: word\n  set timeout 100\n      ^^^^^^^\nno such setting: the time after which a race is given up is `limit`\n",
     ),
 ];
