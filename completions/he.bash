@@ -24,6 +24,8 @@ _he() {
             compopt -o filenames; mapfile -t COMPREPLY < <(compgen -f -- "$word"); return ;;
         "connect --resolver" | "names --resolver")
             mapfile -t COMPREPLY < <(compgen -W system -- "$word"); return ;;
+        "host --for")
+            return ;;
         "live --port")
             return ;;
         "replay --workers" | "draw --width")
@@ -31,8 +33,8 @@ _he() {
     esac
     case $command in
         connect) options='-4 -6 -z --timeout --set --wait --host --resolver --record --explain --verbose -v --help -h' words=HOST ;;
-        names) options='--resolver --help -h' words=HOST ;;
-        host) options='--help -h' words= ;;
+        names) options='--resolver --verbose -v --help -h' words=HOST ;;
+        host) options='--for --help -h' words= ;;
         live) options='--port --timeout --set --record --must-connect --verbose -v --help -h' words= ;;
         replay) options='--workers --set --json --verbose -v --help -h' words=FILE ;;
         explain) options='--lines --set --json --verbose -v --help -h' words=FILE ;;

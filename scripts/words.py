@@ -15,6 +15,7 @@ class Option:
     help: str
     is_required: bool
     is_repeated: bool
+    is_many: bool  # whether it takes several values
 
     def names(self):
         return [name for name in (self.long, self.short) if name]
@@ -48,7 +49,7 @@ def options_of(text):
         if head and (head[1] or head[2]):
             names = {name for name in head.groups()[:2] if name}
             is_required = any(re.search(rf"(?<!\[){re.escape(name)} <", usage) for name in names)
-            options.append(Option(head[1] or "", head[2] or "", head[3] or "", head[5], is_required, bool(head[4])))
+            options.append(Option(head[1] or "", head[2] or "", head[3] or "", head[5], is_required, bool(head[4]), bool(head[4])))
         elif options:
             options[-1].help += " " + line.strip()
     for option in options:
@@ -263,4 +264,5 @@ def synopsis_option(option):
         return [f".RB [ {(option.short or option.long).replace('-', chr(92) + '-')} ]"]
     if option.is_required:
         return [f".B {name}", f".I {option.value}"]
-    return [f".RB [ {name}", f".IR {option.value} ]"]
+    end = '" ...]"' if option.is_many else "]"
+    return [f".RB [ {name}", f".IR {option.value} {end}"]
