@@ -1,0 +1,6 @@
+pub mod Authority
+pub mod Http
+pub mod Messages
+pub mod Openings
+pub mod Replies
+pub mod Socks
