@@ -72,20 +72,53 @@ enough octets n = omega (arith, length-append octets (zeros n), length-replicate
 -- more octets make a request of what has the place of a name's length
 request-of-five : (x y z k l : ℕ) (rest : List ℕ) → x ≡ 5 → y ≡ 1 → z ≡ 0 → IsKind k → MayBecome IsRequest (x ∷ y ∷ z ∷ k ∷ l ∷ rest)
 request-of-five x y z k l rest version command reserved (inl kind) =
-    let all = (x ∷ y ∷ z ∷ k ∷ l ∷ rest) ++ zeros 10 in
-    (zeros 10, record { target = targets.Address (V4 (from_be_bytes w32 (slice_range all 4 8))); port = from_be_bytes w16 (slice_range all 8 10) }, 10,
-      record { version = ap Some version; command = ap Some command; reserved = ap Some reserved; end = 8;
-        address = (ap Some kind, refl, refl); ends = refl; whole = enough (x ∷ y ∷ z ∷ k ∷ l ∷ rest) 10; port = refl })
+    let all = (x ∷ y ∷ z ∷ k ∷ l ∷ rest) ++ zeros 10 in (
+      zeros 10,
+      record { target = targets.Address (V4 (from_be_bytes w32 (slice_range all 4 8))); port = from_be_bytes w16 (slice_range all 8 10) },
+      10,
+      record {
+        version = ap Some version;
+        command = ap Some command;
+        reserved = ap Some reserved;
+        end = 8;
+        address = (ap Some kind, refl, refl);
+        ends = refl;
+        whole = enough (x ∷ y ∷ z ∷ k ∷ l ∷ rest) 10;
+        port = refl;
+      },
+    )
 request-of-five x y z k l rest version command reserved (inr (inl kind)) =
-    let all = (x ∷ y ∷ z ∷ k ∷ l ∷ rest) ++ zeros 22 in
-    (zeros 22, record { target = targets.Address (V6 (from_be_bytes w128 (slice_range all 4 20))); port = from_be_bytes w16 (slice_range all 20 22) }, 22,
-      record { version = ap Some version; command = ap Some command; reserved = ap Some reserved; end = 20;
-        address = (ap Some kind, refl, refl); ends = refl; whole = enough (x ∷ y ∷ z ∷ k ∷ l ∷ rest) 22; port = refl })
+    let all = (x ∷ y ∷ z ∷ k ∷ l ∷ rest) ++ zeros 22 in (
+      zeros 22,
+      record { target = targets.Address (V6 (from_be_bytes w128 (slice_range all 4 20))); port = from_be_bytes w16 (slice_range all 20 22) },
+      22,
+      record {
+        version = ap Some version;
+        command = ap Some command;
+        reserved = ap Some reserved;
+        end = 20;
+        address = (ap Some kind, refl, refl);
+        ends = refl;
+        whole = enough (x ∷ y ∷ z ∷ k ∷ l ∷ rest) 22;
+        port = refl;
+      },
+    )
 request-of-five x y z k l rest version command reserved (inr (inr kind)) =
-    let all = (x ∷ y ∷ z ∷ k ∷ l ∷ rest) ++ zeros (5 + l + 2) in
-    (zeros (5 + l + 2), record { target = targets.Name l; port = from_be_bytes w16 (slice_range all (5 + l) (5 + l + 2)) }, 5 + l + 2,
-      record { version = ap Some version; command = ap Some command; reserved = ap Some reserved; end = 5 + l;
-        address = (ap Some kind, refl, refl); ends = refl; whole = enough (x ∷ y ∷ z ∷ k ∷ l ∷ rest) (5 + l + 2); port = refl })
+    let all = (x ∷ y ∷ z ∷ k ∷ l ∷ rest) ++ zeros (5 + l + 2) in (
+      zeros (5 + l + 2),
+      record { target = targets.Name l; port = from_be_bytes w16 (slice_range all (5 + l) (5 + l + 2)) },
+      5 + l + 2,
+      record {
+        version = ap Some version;
+        command = ap Some command;
+        reserved = ap Some reserved;
+        end = 5 + l;
+        address = (ap Some kind, refl, refl);
+        ends = refl;
+        whole = enough (x ∷ y ∷ z ∷ k ∷ l ∷ rest) (5 + l + 2);
+        port = refl;
+      },
+    )
 
 -- and of any that may begin one
 pub may-become : (octets : List ℕ) → IsBegun octets → MayBecome IsRequest octets
@@ -151,9 +184,12 @@ is-there (x ∷ octets) (suc place) wanted there is = is-there octets place want
 -- more octets make a greeting of what has the number of its methods
 greeting-of-two : (x n : ℕ) (rest : List ℕ) → x ≡ 5 → MayBecome IsGreeting (x ∷ n ∷ rest)
 greeting-of-two x n rest version =
-    let all = (x ∷ n ∷ rest) ++ zeros (2 + n) in
-    (zeros (2 + n), offers_none (slice_range all 2 (2 + n)), 2 + n,
-      record { version = ap Some version; count = n; counted = refl; ends = refl; whole = enough (x ∷ n ∷ rest) (2 + n); methods = refl })
+    let all = (x ∷ n ∷ rest) ++ zeros (2 + n) in (
+      zeros (2 + n),
+      offers_none (slice_range all 2 (2 + n)),
+      2 + n,
+      record { version = ap Some version; count = n; counted = refl; ends = refl; whole = enough (x ∷ n ∷ rest) (2 + n); methods = refl },
+    )
 
 pub greeting-may : (octets : List ℕ) → slice_index_or octets 0 0 ≡ 5 → MayBecome IsGreeting octets
 greeting-may [] version = absurd (omega (arith, version))

@@ -4,6 +4,7 @@ use Rattle.std.specs.Char.{to_ascii_lowercase}
 use Rattle.std.specs.Option.{option_map}
 use Rattle.std.specs.Str.{bytes_eq}
 use Rattle.httparse.specs.Grammar.{HasNoRequest, MayBecomeRequest, ReadsRequest, RequestHead}
+use Rattle.httparse.specs.declared.spans.HeaderSpan.{HeaderSpan}
 use Rattle.httparse.specs.Spans.{RequestOverflows, name_and_value, span_bytes}
 use Rattle.he_front.specs.declared.http.Head.{Head}
 use Rattle.he_front.specs.declared.http.Head.TheVariants as heads
@@ -27,6 +28,10 @@ is_named name other = bytes_eq (map to_ascii_lowercase other) (map to_ascii_lowe
 abbrev pub value_of : List ℕ → List (List ℕ × List ℕ) → Option (List ℕ)
 value_of name fields = option_map (λ field. field.1) (find (λ field. is_named name field.0) fields)
 
+-- where it stands
+abbrev pub field_named : List ℕ → List ℕ → List HeaderSpan → Option HeaderSpan
+field_named octets name fields = find (λ field. is_named name (span_bytes octets field.name)) fields
+
 -- what is asked for: a tunnel to this target; this target, of this host; or something else
 abbrev pub AsksFor : List ℕ → RequestHead → Head → Type 0
 AsksFor octets request (heads.Tunnel target) =
@@ -36,10 +41,14 @@ AsksFor octets request (heads.Get target host) =
     × (option_map (span_bytes octets) host ≡ value_of (codes "host") (map name_and_value request.fields))
 AsksFor octets request heads.Other = IsMethod request.method methods.Other
 
+-- the octets begin with a head that asks for this, and ends here
+abbrev pub HasHead : List ℕ → Head → ℕ → Type 0
+HasHead octets head len =
+    (request : RequestHead) × ReadsRequest octets request (drop len octets) × AsksFor octets request head
+
 -- The octets begin with this head, which has so many; with none yet, and more can make one; or with none that has so
 -- few fields, whatever follows.
 abbrev pub ReadsHead : List ℕ → ReadHead → Type 0
-ReadsHead octets (reads.Whole head len) =
-    (request : RequestHead) × ReadsRequest octets request (drop len octets) × AsksFor octets request head
+ReadsHead octets (reads.Whole head len) = HasHead octets head len
 ReadsHead octets reads.Partial = HasNoRequest octets × MayBecomeRequest octets
 ReadsHead octets reads.Refused = RequestOverflows MOST_FIELDS octets

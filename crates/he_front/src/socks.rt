@@ -150,7 +150,10 @@ fn refusal_of(octets: &[u8]) -> Option<Refusal>
     if is_other(octets, 1, CONNECT) {
         return Some(Refusal::Command);
     }
-    if is_other(octets, 3, KIND_V4) && is_other(octets, 3, KIND_V6) && is_other(octets, 3, KIND_NAME) {
+    if is_other(octets, 3, KIND_V4)
+        && is_other(octets, 3, KIND_V6)
+        && is_other(octets, 3, KIND_NAME)
+    {
         return Some(Refusal::Kind);
     }
     None
