@@ -1,4 +1,3 @@
-pub mod Authority
 pub mod Http
 pub mod Messages
 pub mod Openings
