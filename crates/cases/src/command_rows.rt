@@ -1,6 +1,5 @@
 //! Command lines of the program, each with its input, its streams, and what comes of it: the form of a row, and what
-//! rows of several tables have. The tables stand in `text_rows.rt`, `telling_rows.rt`, `glance_rows.rt`, `host_rows.rt`
-//! and `refused_rows.rt`.
+//! rows of several tables have. The tables stand in the files whose names end in `_rows.rt`.
 
 pub const TEXT: &[u8] = b"race 1
 source 2001:db8::2/64 1

@@ -11,16 +11,31 @@ use he_race::{
     AnswerSource, Known, RaceFault, Raced, ResolvingRace, Scripted, WheelTicker, race_one,
 };
 use he_timeline::Timeline;
-use std::alloc::Global;
+use std::alloc::{AllocError, Global};
 use std::mem::drop;
 use std::test::Fail;
+
+// An address, the round trip time that is known of it in milliseconds, and whether it was used before.
+type Told = (Ip, Option<u64>, bool);
+
+fn known_of(alloc: Global, told: &[Told]) -> Result<Vec<Known>, AllocError> {
+    let mut known = Vec::new(alloc);
+    for (ip, rtt, used) in told {
+        known.push(Known {
+            ip: *ip,
+            rtt: *rtt,
+            used: *used,
+        })?;
+    }
+    Ok(known)
+}
 
 // Tells this of each family at its first poll.
 #[derive(Clone, Copy, Drop)]
 struct Remembering {
     alloc: Global,
-    six: &'static [Known],
-    four: &'static [Known],
+    six: &'static [Told],
+    four: &'static [Told],
 }
 
 impl AnswerSource for Remembering {
@@ -33,7 +48,7 @@ impl AnswerSource for Remembering {
             Family::V6 => self.six,
             Family::V4 => self.four,
         };
-        match Vec::from_slice(self.alloc, told) {
+        match known_of(self.alloc, told) {
             Ok(known) => Poll::Ready(known),
             Err(_) => cx.yield_now(),
         }
@@ -43,8 +58,8 @@ impl AnswerSource for Remembering {
 // What is told, and what comes of it: the addresses that are tried, and what the record knows.
 #[derive(Clone, Copy)]
 struct Learnt {
-    six: &'static [Known],
-    four: &'static [Known],
+    six: &'static [Told],
+    four: &'static [Told],
     tried: &'static [Ip],
     rtts: &'static [(Ip, u64)],
     used: &'static [Ip],
@@ -136,41 +151,15 @@ fn run_half(alloc: Global, solo: &Solo, succeeds: Ip, wanted: &Learnt) -> Result
 
 // Nothing is known: the first that was told comes first.
 const NOTHING: Learnt = Learnt {
-    six: &[
-        Known {
-            ip: V6_A,
-            rtt: None,
-            used: false,
-        },
-        Known {
-            ip: V6_B,
-            rtt: None,
-            used: false,
-        },
-    ],
-    four: &[Known {
-        ip: V4_A,
-        rtt: None,
-        used: false,
-    }],
+    six: &[(V6_A, None, false), (V6_B, None, false)],
+    four: &[(V4_A, None, false)],
     tried: &[V6_A, V4_A, V6_B],
     rtts: &[],
     used: &[],
 };
 
 const BY_RTT: Learnt = Learnt {
-    six: &[
-        Known {
-            ip: V6_A,
-            rtt: None,
-            used: true,
-        },
-        Known {
-            ip: V6_B,
-            rtt: Some(30),
-            used: false,
-        },
-    ],
+    six: &[(V6_A, None, true), (V6_B, Some(30), false)],
     tried: &[V6_B],
     rtts: &[(V6_B, 30)],
     used: &[V6_A],
@@ -178,18 +167,7 @@ const BY_RTT: Learnt = Learnt {
 };
 
 const BY_USE: Learnt = Learnt {
-    six: &[
-        Known {
-            ip: V6_A,
-            rtt: None,
-            used: false,
-        },
-        Known {
-            ip: V6_B,
-            rtt: None,
-            used: true,
-        },
-    ],
+    six: &[(V6_A, None, false), (V6_B, None, true)],
     tried: &[V6_B],
     used: &[V6_B],
     ..NOTHING
@@ -197,62 +175,20 @@ const BY_USE: Learnt = Learnt {
 
 const MIXED: Learnt = Learnt {
     six: &[
-        Known {
-            ip: V4_A,
-            rtt: Some(5),
-            used: true,
-        },
-        Known {
-            ip: V6_A,
-            rtt: Some(0),
-            used: false,
-        },
-        Known {
-            ip: V6_A,
-            rtt: Some(9),
-            used: true,
-        },
-        Known {
-            ip: V6_B,
-            rtt: Some(u64::MAX),
-            used: true,
-        },
+        (V4_A, Some(5), true),
+        (V6_A, Some(0), false),
+        (V6_A, Some(9), true),
+        (V6_B, Some(u64::MAX), true),
     ],
-    four: &[
-        Known {
-            ip: V4_A,
-            rtt: Some(3_600_000),
-            used: false,
-        },
-        Known {
-            ip: V6_B,
-            rtt: Some(2),
-            used: false,
-        },
-    ],
+    four: &[(V4_A, Some(3_600_000), false), (V6_B, Some(2), false)],
     tried: &[V6_A],
     rtts: &[(V6_A, 1), (V6_B, 3_600_000), (V4_A, 3_600_000)],
     used: &[V6_B],
 };
 
 const LATER: Learnt = Learnt {
-    six: &[
-        Known {
-            ip: V6_A,
-            rtt: None,
-            used: false,
-        },
-        Known {
-            ip: V6_B,
-            rtt: Some(7),
-            used: true,
-        },
-    ],
-    four: &[Known {
-        ip: V4_A,
-        rtt: Some(1),
-        used: true,
-    }],
+    six: &[(V6_A, None, false), (V6_B, Some(7), true)],
+    four: &[(V4_A, Some(1), true)],
     tried: &[V6_B],
     rtts: &[(V4_A, 40), (V6_B, 7)],
     used: &[V4_A, V6_B],
