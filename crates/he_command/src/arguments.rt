@@ -112,7 +112,8 @@ pub(crate) fn flag_of(matches: &ArgMatches<'_>, id: &str) -> bool
     matches.get_flag(id)
 }
 
-// The number that the line gives this option. clap has tested its range, but has no clause on a subcommand's arguments.
+// The number that the line gives this option. clap has tested its range, but has no clause on a subcommand's
+// arguments.
 pub(crate) fn number_of(matches: &ArgMatches<'_>, id: &str) -> Option<u16>
     ensures { HasNumber ⟦<u16 as FromStr>⟧.from_str_gives (found_of matches.now) id.now result }
 {

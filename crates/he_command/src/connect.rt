@@ -110,8 +110,8 @@ fn wait<'a>(alloc: Global) -> Arg<'a> {
     ))
 }
 
-// The connection that the line asks for, with these settings and this resolver. Its record goes to standard output only
-// where nothing is relayed there.
+// The connection that the line asks for, with these settings and this resolver. Its record goes to standard output
+// only where nothing is relayed there.
 pub(crate) fn connection_of<'a>(
     changes: Changes,
     resolver: Choice,

@@ -3,15 +3,15 @@
 //! [`run_words`] reads a line and does what it asks for over an input and a [`Session`]: the system, an output and a
 //! writer of faults; the program hands it its words and its standard streams. `he connect` connects to a host and
 //! relays, `he names` finds a host's addresses, `he host` writes the lines of this machine, `he live` runs the one
-//! race of the input on real sockets. `he replay`, `explain`, `draw`, `summary`, `compare`, `order` and `check` read texts
-//! of races, of the files that the line names or of the input.
+//! race of the input on real sockets. `he replay`, `explain`, `draw`, `summary`, `compare`, `order` and `check` read
+//! texts of races, of the files that the line names or of the input.
 //!
 //! Proved (`run_line`): each does with the input, the output and the files what its crate says, as `he replay` what
 //! `he_replay` does, and the status tells how that ended (`specs/Run`).
 //!
 //! - [`read_words`] answers a request that can be run, with its numbers in their ranges, or a refusal. The settings
-//!   are exactly those of --set and --timeout, the files, the port, the workers and what is written of each race those of
-//!   the line, by what clap found of its words (`specs/Requests`, `specs/Words`).
+//!   are exactly those of --set and --timeout, the files, the port, the workers and what is written of each race those
+//!   of the line, by what clap found of its words (`specs/Requests`, `specs/Words`).
 //! - Files are read one after the other, `-` among them the input, up to the first that can't be opened or has a
 //!   fault, or all of them by --keep-going and `check --all`; the status is that of the first fault. Where there are
 //!   several, what `explain`, `draw` and `compare` write of each stands below its heading, whose name has no character
