@@ -118,7 +118,7 @@ struct he_step {
     uint64_t tick;
     uint64_t pause_from;  /* where pause_until is not 0: write the line `pause FROM UNTIL` into the record */
     uint64_t pause_until;
-    uint8_t address[16];  /* of a start, the first byte first: 4 bytes of an IPv4 address, 16 of an IPv6 one */
+    uint8_t address[16];  /* of a start, the first byte first: 4 bytes of an IPv4 address, 16 of an IPv6 one; else 0 */
 };
 
 /* Tells what is due at tick `now` in the race that `record` has so far, of which `started` attempts were started.

@@ -1,7 +1,7 @@
 // How a race went, as it is counted.
 ghost use Rattle.std.specs.Prelude.{◌≡◌};
 ghost use Rattle.he_timeline.specs.Timeline.{IsRace};
-ghost use Rattle.he_summary.specs.Courses.{course_of, ending_of, family_at, has_waited};
+ghost use Rattle.he_summary.specs.Courses.{course_of, ending_of, family_at, has_waited, is_missing, is_seen_before};
 
 use he_addr::Family;
 use he_plan::{Line, Outcome3, Transcript};
@@ -62,15 +62,34 @@ fn family_at(lines: &[Line], place: usize) -> Option<Family>
         .map(|line| line.ip.family())
 }
 
-// Whether the first attempt starts before the AAAA answer is seen: then it waited for the Resolution Delay.
+// Whether the first attempt waited for the Resolution Delay: the A answer is seen before its start, and the AAAA answer
+// is not seen by then.
 fn has_waited<A: Allocator>(race: &Timeline<A>, lines: &[Line]) -> bool
     ensures value { result ≡ has_waited race.now lines.now }
     ensures race { IsRace race.now }
 {
-    let answer = race.answer(Family::V6);
-    match (lines.first(), answer) {
-        (Some(first), Some(answer)) => first.tick < race.seen(answer.0),
-        (Some(_), None) => true,
-        (None, _) => false,
+    match lines.first() {
+        Some(first) => is_missing(race, first.tick) && is_seen_before(race, first.tick),
+        None => false,
+    }
+}
+
+// Whether the AAAA answer is not seen by this tick.
+fn is_missing<A: Allocator>(race: &Timeline<A>, tick: u64) -> bool
+    ensures { result ≡ is_missing race.now tick race.now.aaaa }
+{
+    match race.answer(Family::V6) {
+        Some(answer) => tick < race.seen(answer.0),
+        None => true,
+    }
+}
+
+// Whether the A answer is seen before this tick.
+fn is_seen_before<A: Allocator>(race: &Timeline<A>, tick: u64) -> bool
+    ensures { result ≡ is_seen_before race.now tick race.now.a }
+{
+    match race.answer(Family::V4) {
+        Some(answer) => race.seen(answer.0) < tick,
+        None => false,
     }
 }
