@@ -44,7 +44,7 @@ is_seen_before race t (Some reply) = nat_lt (seen race reply.tick) t
 -- and the AAAA answer is not seen by then. Where both are at one tick nothing was waited for
 abbrev pub has_waited : Race → List Line → Bool
 has_waited race [] = false
-has_waited race (first ∷ more) = is_missing race first.tick race.aaaa && is_seen_before race first.tick race.a
+has_waited race (first ∷ more) = is_seen_before race first.tick race.a && is_missing race first.tick race.aaaa
 
 abbrev pub course_of : Raced → Course
 course_of raced =

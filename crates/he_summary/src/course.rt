@@ -1,7 +1,7 @@
 // How a race went, as it is counted.
 ghost use Rattle.std.specs.Prelude.{◌≡◌};
 ghost use Rattle.he_timeline.specs.Timeline.{IsRace};
-ghost use Rattle.he_summary.specs.Courses.{course_of, ending_of, family_at, has_waited, is_missing, is_seen_before};
+ghost use Rattle.he_summary.specs.Courses.{course_of, ending_of, family_at, has_waited};
 
 use he_addr::Family;
 use he_plan::{Line, Outcome3, Transcript};
@@ -68,28 +68,13 @@ fn has_waited<A: Allocator>(race: &Timeline<A>, lines: &[Line]) -> bool
     ensures value { result ≡ has_waited race.now lines.now }
     ensures race { IsRace race.now }
 {
-    match lines.first() {
-        Some(first) => is_missing(race, first.tick) && is_seen_before(race, first.tick),
-        None => false,
-    }
-}
-
-// Whether the AAAA answer is not seen by this tick.
-fn is_missing<A: Allocator>(race: &Timeline<A>, tick: u64) -> bool
-    ensures { result ≡ is_missing race.now tick race.now.aaaa }
-{
-    match race.answer(Family::V6) {
-        Some(answer) => tick < race.seen(answer.0),
-        None => true,
-    }
-}
-
-// Whether the A answer is seen before this tick.
-fn is_seen_before<A: Allocator>(race: &Timeline<A>, tick: u64) -> bool
-    ensures { result ≡ is_seen_before race.now tick race.now.a }
-{
-    match race.answer(Family::V4) {
-        Some(answer) => race.seen(answer.0) < tick,
-        None => false,
+    let aaaa = race.answer(Family::V6);
+    let a = race.answer(Family::V4);
+    match (lines.first(), a, aaaa) {
+        (Some(first), Some(a), Some(aaaa)) => {
+            race.seen(a.0) < first.tick && first.tick < race.seen(aaaa.0)
+        }
+        (Some(first), Some(a), None) => race.seen(a.0) < first.tick,
+        _ => false,
     }
 }
