@@ -8,34 +8,34 @@ use Rattle.he_race.proofs.Knowing.{known-answered, known-turn, known-untold, kno
 use Rattle.he_race.proofs.recorder.Recorder.answer.Goals as goal
 
 pub add_answer-requires-clause-few : goal.add_answer-requires-clause-few
-add_answer-requires-clause-few c = rw (c.deref.ensures.value ∙ c.in_ok-addresses.ensures) (cleaned-few c.args.family (ips_of c.args.told.now))
+add_answer-requires-clause-few c = rw (c.deref.ensures.value ∙ c.in_ok-addresses.ensures) (cleaned-few c.args.family (ips_of c.args.told.now.known.items))
 
 pub add_answer-requires-clause-own : goal.add_answer-requires-clause-own
-add_answer-requires-clause-own c = rw (c.deref.ensures.value ∙ c.in_ok-addresses.ensures) (cleaned-own c.args.family (ips_of c.args.told.now))
+add_answer-requires-clause-own c = rw (c.deref.ensures.value ∙ c.in_ok-addresses.ensures) (cleaned-own c.args.family (ips_of c.args.told.now.known.items))
 
 pub add_answer-requires-clause-distinct : goal.add_answer-requires-clause-distinct
-add_answer-requires-clause-distinct c = rw (c.deref.ensures.value ∙ c.in_ok-addresses.ensures) (cleaned-distinct c.args.family (ips_of c.args.told.now))
+add_answer-requires-clause-distinct c = rw (c.deref.ensures.value ∙ c.in_ok-addresses.ensures) (cleaned-distinct c.args.family (ips_of c.args.told.now.known.items))
 
 pub add_known-requires-clause-answered : goal.add_known-requires-clause-answered
 add_known-requires-clause-answered c =
     known-answered c.args.self.now.recorded c.add_answer.new.recorded c.args.family (record { tick = c.args.now; addresses = c.deref.result.now }) c.deref-2.result.now (c.deref-2.ensures.value ∙ sym c.deref.ensures.value) c.in_ok-add_answer.ensures.recorded
 
 pub add_known-requires-clause-distinct : goal.add_known-requires-clause-distinct
-add_known-requires-clause-distinct c = rw (c.deref-2.ensures.value ∙ c.in_ok-addresses.ensures) (cleaned-distinct c.args.family (ips_of c.args.told.now))
+add_known-requires-clause-distinct c = rw (c.deref-2.ensures.value ∙ c.in_ok-addresses.ensures) (cleaned-distinct c.args.family (ips_of c.args.told.now.known.items))
 
 pub add_known-requires-clause-no_rtt : goal.add_known-requires-clause-no_rtt
 add_known-requires-clause-no_rtt c =
-    let own : are_of c.args.family c.deref-2.result.now ≡ true = rw (c.deref-2.ensures.value ∙ c.in_ok-addresses.ensures) (cleaned-own c.args.family (ips_of c.args.told.now)) in
+    let own : are_of c.args.family c.deref-2.result.now ≡ true = rw (c.deref-2.ensures.value ∙ c.in_ok-addresses.ensures) (cleaned-own c.args.family (ips_of c.args.told.now.known.items)) in
     known-untold c.args.self.now.recorded c.add_answer.new.recorded c.requires.turn.valid c.args.family c.requires.first (record { tick = c.args.now; addresses = c.deref.result.now }) c.deref-2.result.now own c.in_ok-add_answer.ensures.recorded
 
 pub add_known-requires-clause-unused : goal.add_known-requires-clause-unused
 add_known-requires-clause-unused c =
-    let own : are_of c.args.family c.deref-2.result.now ≡ true = rw (c.deref-2.ensures.value ∙ c.in_ok-addresses.ensures) (cleaned-own c.args.family (ips_of c.args.told.now)) in
+    let own : are_of c.args.family c.deref-2.result.now ≡ true = rw (c.deref-2.ensures.value ∙ c.in_ok-addresses.ensures) (cleaned-own c.args.family (ips_of c.args.told.now.known.items)) in
     known-unused c.args.self.now.recorded c.add_answer.new.recorded c.requires.turn.valid c.args.family c.requires.first (record { tick = c.args.now; addresses = c.deref.result.now }) c.deref-2.result.now own c.in_ok-add_answer.ensures.recorded
 
 pub again-requires-clause-in_turn : goal.again-requires-clause-in_turn
 again-requires-clause-in_turn c =
-    let own : are_of c.args.family c.deref.result.now ≡ true = rw (c.deref.ensures.value ∙ c.in_ok-addresses.ensures) (cleaned-own c.args.family (ips_of c.args.told.now)) in
+    let own : are_of c.args.family c.deref.result.now ≡ true = rw (c.deref.ensures.value ∙ c.in_ok-addresses.ensures) (cleaned-own c.args.family (ips_of c.args.told.now.known.items)) in
     let turn : InTurn c.add_known.new.recorded c.args.now c.args.self.now.underway.attempts false =
     known-turn c.args.self.now.recorded c.add_answer.new.recorded c.add_known.new.recorded c.args.family c.args.now c.args.told.now c.deref.result.now c.args.self.now.underway.attempts c.requires.turn c.requires.first own c.in_ok-add_answer.ensures.recorded c.in_ok-add_answer.ensures.valid
     (rw (c.deref.ensures.value ∙ sym c.deref-2.ensures.value) c.in_ok-add_known.ensures.recorded) c.in_ok-add_known.ensures.valid in
@@ -43,7 +43,7 @@ again-requires-clause-in_turn c =
 
 pub returns-clause-turn : goal.returns-clause-turn
 returns-clause-turn c =
-    let own : are_of c.args.family c.deref.result.now ≡ true = rw (c.deref.ensures.value ∙ c.in_ok-addresses.ensures) (cleaned-own c.args.family (ips_of c.args.told.now)) in
+    let own : are_of c.args.family c.deref.result.now ≡ true = rw (c.deref.ensures.value ∙ c.in_ok-addresses.ensures) (cleaned-own c.args.family (ips_of c.args.told.now.known.items)) in
     let turn : InTurn c.add_known.new.recorded c.args.now c.args.self.now.underway.attempts false =
     known-turn c.args.self.now.recorded c.add_answer.new.recorded c.add_known.new.recorded c.args.family c.args.now c.args.told.now c.deref.result.now c.args.self.now.underway.attempts c.requires.turn c.requires.first own c.in_ok-add_answer.ensures.recorded c.in_ok-add_answer.ensures.valid
     (rw (c.deref.ensures.value ∙ sym c.deref-2.ensures.value) c.in_ok-add_known.ensures.recorded) c.in_ok-add_known.ensures.valid in
