@@ -12,8 +12,8 @@ use Rattle.he_timeline.specs.declared.limits.TheConstants.{MAX_ADDRESSES, MAX_LI
 use Rattle.he_timeline.specs.Building.{last_end, with_answer, with_outcome, with_pause, with_rtt}
 use Rattle.he_timeline.specs.Race.{Race, Reply, has_ip, has_outcome, is_in_answer, is_told, reply_of}
 use Rattle.he_timeline.specs.Timeline.{IsRace, are_distinct, are_of, are_pauses, are_told_once, duration_of, is_answer, is_duration, is_outcome, is_rtt}
-use Rattle.he_timeline.proofs.Bools.{and_left, and_right, le_from, lt_from, or_none}
-use Rattle.he_timeline.proofs.Ranges.{end_from, end_from-is, same_ip-sym}
+use Rattle.he_timeline.proofs.Bools.{and_both, and_left, and_right, le_from, lt_from, or_none}
+use Rattle.he_timeline.proofs.Ranges.{end_from, end_from-is, list_all-weaker, same_ip-sym}
 use Rattle.he_race.specs.Copied.{with_all_used, with_outcomes, with_pauses, with_reply, with_rtts}
 use Rattle.he_race.specs.Heard.{with_history}
 use Rattle.he_race.proofs.Knowing.{all_at, none_at, none_before}
@@ -114,6 +114,13 @@ module _ (old recorded : Race) (outcomes : List (Ip × Outcome)) (i : ℕ) (d : 
   pub outcome-next : (new : Race) → new ≡ with_outcome recorded (get_or outcomes i d).0 (get_or outcomes i d).1 → new ≡ with_outcomes old (take (i + 1) outcomes)
   outcome-next new is =
       is ∙ ap (λ (r : Race). with_outcome r (get_or outcomes i d).0 (get_or outcomes i d).1) was ∙ ap (with_outcomes old) (sym (more outcomes i d below))
+
+-- the outcomes of a race fit one with its answers
+pub outcomes-fit : (race new : Race) → IsRace race → new.aaaa ≡ race.aaaa → new.a ≡ race.a → list_all (is_outcome new) race.outcomes ≡ true
+outcomes-fit race new r six four =
+    list_all-weaker (is_outcome race) (is_outcome new) race.outcomes (λ p h.
+    and_both (is_duration (duration_of p.1)) _ (and_left (is_duration (duration_of p.1)) _ h)
+    (rw (six, four) (and_right (is_duration (duration_of p.1)) _ h))) r.outcomes
 
 record FitsPause (low : ℕ) (before : List (ℕ × ℕ)) (pause : ℕ × ℕ) : Type 0 where
   later : end_from low before ≤ pause.0

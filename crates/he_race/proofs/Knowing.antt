@@ -146,12 +146,16 @@ module _ (race : Race) (r : IsRace race) where
     all_unused =
         rw (same_used family) (list_all-weaker (is_of family) (λ ip. not (has_ip ip race.history.used)) ips (λ ip of. not_true _ (unused_in ip (unanswered family none ip of) race.history.used r.used)) own)
 
--- a turn goes on where an answer is recorded in it, with what is told of its addresses and the lines of its family
+-- an answer that is recorded, with what is told of its addresses and the lines of its family
+pub known-heard : (race answered learnt new : Race) (family : Family) (now : ℕ) (answer : AnswerLists) (ips clean : List Ip) → answered ≡ with_answer race family (record { tick = now; addresses = ips }) → learnt ≡ with_known answered answer.known ips → new ≡ with_lines learnt family answer → ips ≡ clean → new ≡ with_heard race family now answer clean
+known-heard race answered learnt new family now answer ips clean is known wider same =
+    wider ∙ ap (λ (r : Race). with_lines r family answer) known ∙ ap (λ (r : Race). with_lines (with_known r answer.known ips) family answer) is ∙ ap (with_heard race family now answer) same
+
+-- a turn goes on in which it is
 pub known-turn : (race answered learnt new : Race) (family : Family) (now : ℕ) (answer : AnswerLists) (ips : List Ip) (xs : List Attempt) → InTurn race now xs false → reply_of race family ≡ None → are_of family ips ≡ true → answered ≡ with_answer race family (record { tick = now; addresses = ips }) → IsRace answered → learnt ≡ with_known answered answer.known ips → new ≡ with_lines learnt family answer → IsRace new → InTurn new now xs false
 known-turn race answered learnt new family now answer ips xs t none own is valid known wider fits =
     let one : InTurn answered now xs false = answered-turn race answered family now ips xs t none is valid in
-    let all : new ≡ with_heard race family now answer ips =
-    wider ∙ ap (λ (r : Race). with_lines r family answer) known ∙ ap (λ (r : Race). with_lines (with_known r answer.known ips) family answer) is in
+    let all : new ≡ with_heard race family now answer ips = known-heard race answered learnt new family now answer ips ips is known wider refl in
     subst (λ (r : Race). InTurn r now xs false) (sym all)
     (learnt-turn race t.valid family none now answer ips own xs (subst (λ (r : Race). InTurn r now xs false) is one) (subst IsRace all fits))
 

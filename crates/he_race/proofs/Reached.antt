@@ -4,7 +4,6 @@ use Rattle.std.specs.Prelude.{None, Option, Some, cond, count_by, filter_map, fi
 use Rattle.std.specs.Bool.{beq}
 use Rattle.std.specs.List.{cons_option, list_all, range_with_len}
 use Rattle.std.specs.Option.{option_map_or}
-use Rattle.std.specs.declared.cmp.Ordering.{Ordering}
 use Rattle.std.specs.declared.cmp.Ordering.TheVariants.{Equal}
 use Rattle.std.specs.Ordering.{bool_cmp, is_lt, nat_cmp}
 use Rattle.std.proofs.lemmas.List.{append-nil}
@@ -135,28 +134,50 @@ module _ (rows : List Row) (known : List Known) (family : Family) (host : HostLi
   abbrev IsAway : Ip → Type 0
   IsAway ip = is_of family ip ≡ false
 
-  preferred_same : (a b : Member) → IsAway a.ip → IsAway b.ip → prefers this a b ≡ prefers that a b
-  unfolding destination_rules
-  preferred_same a b by_a by_b =
-      let like_scope : Option Source → Ip → Bool = λ source ip. option_map_or (λ s. scope_of s.ip == scope_of ip) source false in
-      let current : Option Source → Bool = λ source. option_map_or (λ s. not s.deprecated) source false in
-      let like_label : Option Source → Ip → Bool = λ source ip. option_map_or (λ s. label_of rows s.ip == label_of rows ip) source false in
-      let common : Option Source → Ip → ℕ = λ source ip. option_map_or (λ s. common_of s.ip s.plen ip) source 0 in
-      let native : Option Route → Bool = λ route. option_map_or (λ r. not r.tunnel) route true in
-      let first : Option Source → Option Source → Option Route → Option Route → Ordering = λ s t r q.
-      first_of ((λ a b. bool_cmp (is_some t) (is_some s))
-      ∷ (λ a b. cond (is_some s && is_some t) (bool_cmp (like_scope t b.ip) (like_scope s a.ip)) Equal)
-      ∷ (λ a b. cond (is_some s && is_some t) (bool_cmp (current t) (current s)) Equal)
-      ∷ (λ a b. cond (is_some s && is_some t) (bool_cmp (like_label t b.ip) (like_label s a.ip)) Equal)
+  abbrev has_scope : Option Source → Ip → Bool
+  has_scope source ip = option_map_or (λ s. scope_of s.ip == scope_of ip) source false
+
+  abbrev is_current : Option Source → Bool
+  is_current source = option_map_or (λ s. not s.deprecated) source false
+
+  abbrev has_label : Option Source → Ip → Bool
+  has_label source ip = option_map_or (λ s. label_of rows s.ip == label_of rows ip) source false
+
+  abbrev common : Option Source → Ip → ℕ
+  common source ip = option_map_or (λ s. common_of s.ip s.plen ip) source 0
+
+  abbrev is_direct : Option Route → Bool
+  is_direct route = option_map_or (λ r. not r.tunnel) route true
+
+  -- which of two is preferred, by their sources and their routes
+  decided : Member → Member → Option Source → Option Source → Option Route → Option Route → Bool
+  decided a b s t r q =
+      is_lt (first_of ((λ a b. bool_cmp (is_some t) (is_some s))
+      ∷ (λ a b. cond (is_some s && is_some t) (bool_cmp (has_scope t b.ip) (has_scope s a.ip)) Equal)
+      ∷ (λ a b. cond (is_some s && is_some t) (bool_cmp (is_current t) (is_current s)) Equal)
+      ∷ (λ a b. cond (is_some s && is_some t) (bool_cmp (has_label t b.ip) (has_label s a.ip)) Equal)
       ∷ prefers_higher_precedence this
-      ∷ (λ a b. bool_cmp (native q) (native r))
+      ∷ (λ a b. bool_cmp (is_direct q) (is_direct r))
       ∷ prefers_smaller_scope ∷ prefers_lower_rtt this ∷ prefers_used this
       ∷ (λ a b. cond (beq (is_v6 a.ip) (is_v6 b.ip)) (cond (is_some s && is_some t) (nat_cmp (common t b.ip) (common s a.ip)) Equal) Equal)
-      ∷ leaves_unchanged ∷ []) a b in
-      ap (λ s. is_lt (first s (source_of this b.ip) (route_of this a.ip) (route_of this b.ip))) (source_same a.ip by_a)
-      ∙ ap (λ t. is_lt (first (source_of that a.ip) t (route_of this a.ip) (route_of this b.ip))) (source_same b.ip by_b)
-      ∙ ap (λ r. is_lt (first (source_of that a.ip) (source_of that b.ip) r (route_of this b.ip))) (route_same a.ip by_a)
-      ∙ ap (λ q. is_lt (first (source_of that a.ip) (source_of that b.ip) (route_of that a.ip) q)) (route_same b.ip by_b)
+      ∷ leaves_unchanged ∷ []) a b)
+
+  this_decides : (a b : Member) → prefers this a b ≡ decided a b (source_of this a.ip) (source_of this b.ip) (route_of this a.ip) (route_of this b.ip)
+  unfolding destination_rules decided
+  this_decides a b = refl
+
+  that_decides : (a b : Member) → prefers that a b ≡ decided a b (source_of that a.ip) (source_of that b.ip) (route_of that a.ip) (route_of that b.ip)
+  unfolding destination_rules decided
+  that_decides a b = refl
+
+  preferred_same : (a b : Member) → IsAway a.ip → IsAway b.ip → prefers this a b ≡ prefers that a b
+  preferred_same a b by_a by_b =
+      this_decides a b
+      ∙ ap (λ (s : Option Source). decided a b s (source_of this b.ip) (route_of this a.ip) (route_of this b.ip)) (source_same a.ip by_a)
+      ∙ ap (λ (t : Option Source). decided a b (source_of that a.ip) t (route_of this a.ip) (route_of this b.ip)) (source_same b.ip by_b)
+      ∙ ap (λ (r : Option Route). decided a b (source_of that a.ip) (source_of that b.ip) r (route_of this b.ip)) (route_same a.ip by_a)
+      ∙ ap (λ (q : Option Route). decided a b (source_of that a.ip) (source_of that b.ip) (route_of that a.ip) q) (route_same b.ip by_b)
+      ∙ sym (that_decides a b)
 
   -- addresses of the other family stand in the order in which they stood
   pub order-wider : (ips : List Ip) → Each IsAway ips → order_of this ips ≡ order_of that ips

@@ -72,7 +72,7 @@ module _ {X K : Type 0} (key : X → K) (same : X → X → Bool) (equal : (x y 
       All-cons (λ z. key x ≢ key z) y xs (λ e. false≢true (sym (or_left_none (same y x) _ h) ∙ itself y x (sym e))) (none_equal x xs (or_right_none (same y x) _ h))
 
   pairs_from : (xs : List X) → are_apart same xs ≡ true → AllPairs (λ x y. key x ≢ key y) xs
-  pairs_from [] h i j d lt within = absurd (let no : ⊥ = omega (arith, within) in no)
+  pairs_from [] h = λ i j d lt within. absurd (let no : ⊥ = omega (arith, within) in no)
   pairs_from (x ∷ xs) h =
       AllPairs-cons (λ y z. key y ≢ key z) x xs (none_equal x xs (from_not _ (and_left (not (stands same x xs)) _ h))) (pairs_from xs (and_right (not (stands same x xs)) _ h))
 

@@ -125,7 +125,8 @@ with_lines race family answer = with_host race (widened family answer race.host)
 -- the race with an answer of these addresses that came at the tick, with what is told of them, and with the lines
 abbrev pub with_heard : Race → Family → ℕ → AnswerLists → List Ip → Race
 with_heard race family now answer ips =
-    with_lines (with_known (with_answer race family (record { tick = now; addresses = ips })) answer.known ips) family answer
+    with_lines (with_known (with_answer race family (record { tick = now; addresses = ips })) answer.known ips) family
+    answer
 
 -- the race with what is told for a family in a turn at the tick: it counts as come at that tick
 abbrev pub with_told : Race → Family → ℕ → Option AnswerLists → Race

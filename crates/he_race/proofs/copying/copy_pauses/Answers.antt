@@ -15,7 +15,7 @@ add_pause-requires-clause-early c =
 
 pub add_pause-requires-clause-few : goal.add_pause-requires-clause-few
 add_pause-requires-clause-few c =
-    pause-few c.args.recorded.now c.loop-pause.recorded c.args.pauses.now c.loop-pause.pause-index _ c.loop-pause-test.true c.loop-pause.invariant.recorded c.requires.few
+    pause-few c.args.recorded.now c.loop-pause.recorded c.args.pauses.now c.loop-pause.pause-index (0, 0) c.loop-pause-test.true c.loop-pause.invariant.recorded c.requires.few
 
 pub loop-pause-preserved : goal.loop-pause-preserved
 loop-pause-preserved c = record {
