@@ -265,15 +265,16 @@ module _ {X : Type 0} (same : X → X → Bool) (symmetric : (x y : X) → same 
           by_fit false = refl
 
     -- the step of a loop over what is told
-    module _ (told all : List X) (i : ℕ) (d : X) (below : i < length told) (was : all ≡ with_new same wanted most has (take i told)) where
-      step : with_new same wanted most has (take (i + 1) told) ≡ (if fits (take i told) (get_or told i d) all then all ++ get_or told i d ∷ [] else all)
+    module _ (told all : List X) (i : ℕ) (d x : X) (at : x ≡ get_or told i d) (below : i < length told) (was : all ≡ with_new same wanted most has (take i told)) where
+      step : with_new same wanted most has (take (i + 1) told) ≡ (if fits (take i told) x all then all ++ x ∷ [] else all)
       step =
           let suc_is : i + 1 ≡ suc i = omega arith in
-          let P : List X → List X = λ xs. if fits (take i told) (get_or told i d) xs then xs ++ get_or told i d ∷ [] else xs in
-          ap (λ (k : ℕ). with_new same wanted most has (take k told)) suc_is ∙ ap (with_new same wanted most has) (take-suc told i d below) ∙ grown (take i told) (get_or told i d) ∙ ap P (sym was)
+          let P : List X → List X = λ xs. if fits (take i told) x xs then xs ++ x ∷ [] else xs in
+          ap (λ (k : ℕ). with_new same wanted most has (take k told)) suc_is ∙ ap (with_new same wanted most has) (take-suc told i d below)
+          ∙ ap (λ (z : X). with_new same wanted most has (take i told ++ z ∷ [])) (sym at) ∙ grown (take i told) x ∙ ap P (sym was)
 
-      pub new-next : (zs : List X) → fits (take i told) (get_or told i d) all ≡ true → zs ≡ all ++ get_or told i d ∷ [] → zs ≡ with_new same wanted most has (take (i + 1) told)
-      new-next zs is more = more ∙ sym (step ∙ ap (λ (b : Bool). if b then all ++ get_or told i d ∷ [] else all) is)
+      pub new-next : (zs : List X) → fits (take i told) x all ≡ true → zs ≡ all ++ x ∷ [] → zs ≡ with_new same wanted most has (take (i + 1) told)
+      new-next zs is more = more ∙ sym (step ∙ ap (λ (b : Bool). if b then all ++ x ∷ [] else all) is)
 
-      pub new-left : fits (take i told) (get_or told i d) all ≡ false → all ≡ with_new same wanted most has (take (i + 1) told)
-      new-left is = sym (step ∙ ap (λ (b : Bool). if b then all ++ get_or told i d ∷ [] else all) is)
+      pub new-left : fits (take i told) x all ≡ false → all ≡ with_new same wanted most has (take (i + 1) told)
+      new-left is = sym (step ∙ ap (λ (b : Bool). if b then all ++ x ∷ [] else all) is)

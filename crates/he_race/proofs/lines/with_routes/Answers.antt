@@ -9,6 +9,6 @@ use Rattle.he_race.proofs.lines.with_routes.Goals.{then-is_new_route+in_ok-push,
 
 pub loop-route-preserved : goal.loop-route-preserved
 loop-route-preserved c = elim c.if-is_new_route.branch [
-  | then-is_new_route+in_ok-push w ↦ ap (λ v. v.items) w.all-is ∙ new-next same_route route_sym route_alike (is_route_of c.args.family) ROUTES c.args.has.now c.args.told.now c.loop-route.all.items c.loop-route.route-index _ c.loop-route-test.true c.loop-route.invariant _ (sym (rw c.deref.ensures.value at c.is_new_route.ensures) ∙ w.if-is_new_route.true) w.in_ok-push.ensures.items
-  | else-is_new_route w ↦ ap (λ v. v.items) w.all-is ∙ new-left same_route route_sym route_alike (is_route_of c.args.family) ROUTES c.args.has.now c.args.told.now c.loop-route.all.items c.loop-route.route-index _ c.loop-route-test.true c.loop-route.invariant (sym (rw c.deref.ensures.value at c.is_new_route.ensures) ∙ w.if-is_new_route.false)
+  | then-is_new_route+in_ok-push w ↦ ap (λ v. v.items) w.all-is ∙ new-next same_route route_sym route_alike (is_route_of c.args.family) ROUTES c.args.has.now c.args.told.now c.loop-route.all.items c.loop-route.route-index c.route-item.result c.route-item.result c.route-item.is c.loop-route-test.true c.loop-route.invariant _ (sym (rw c.deref.ensures.value at c.is_new_route.ensures) ∙ w.if-is_new_route.true) w.in_ok-push.ensures.items
+  | else-is_new_route w ↦ ap (λ v. v.items) w.all-is ∙ new-left same_route route_sym route_alike (is_route_of c.args.family) ROUTES c.args.has.now c.args.told.now c.loop-route.all.items c.loop-route.route-index c.route-item.result c.route-item.result c.route-item.is c.loop-route-test.true c.loop-route.invariant (sym (rw c.deref.ensures.value at c.is_new_route.ensures) ∙ w.if-is_new_route.false)
 ]
