@@ -1,4 +1,0 @@
-mod InTurn
-mod Adding
-mod Showing
-mod Asked
