@@ -41,7 +41,8 @@ pub(crate) fn run_connect<R: System, I: InputStream, O: OutputStream + Send, F: 
     };
     match race(rt, alloc, &request, &mut session.faults) {
         Ok(run) => {
-            tell_race(&run, &mut session.faults);
+            let _ = session.faults.write_all(run.story.as_slice());
+            let _ = session.faults.write_all(run.told.as_slice());
             let kept = keep_record(session, connection.record, place, &run.text);
             end_race(session, connection, kept, run, input)
         }
@@ -50,12 +51,6 @@ pub(crate) fn run_connect<R: System, I: InputStream, O: OutputStream + Send, F: 
             report_race(session, fault, &request)
         }
     }
-}
-
-// Says what is said of a race that was run.
-fn tell_race<F: Write>(run: &FinishedRace, faults: &mut F) {
-    let _ = faults.write_all(run.story.as_slice());
-    let _ = faults.write_all(run.told.as_slice());
 }
 
 // What comes of a race that was run, whose record was kept or not: its connection is relayed where there is one, or
@@ -77,7 +72,12 @@ fn end_race<R: System, I: InputStream, O: OutputStream + Send, F: Write>(
         Some(_) if connection.only_tries => DONE,
         Some(dialed) => {
             let stream = dialed.into_stream();
-            relay(session, connection.wait.unwrap_or(DEFAULT_WAIT), &stream, input)
+            relay(
+                session,
+                connection.wait.unwrap_or(DEFAULT_WAIT),
+                &stream,
+                input,
+            )
         }
         None => match run.nameless {
             Some(fault) => report_of(session.alloc, fault, connection.host, &mut session.faults),

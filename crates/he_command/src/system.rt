@@ -10,15 +10,12 @@ use std::sync::Wait;
 use std::time::Clock;
 
 /// What a task is lent, and the environment, the network and the system's resolver, waiting and a clock.
-pub trait System:
-    TaskSystem + Env + Net + SystemResolver + Wait + Clock + Copy + Send + 'static
-{
-}
+pub trait System: TaskSystem + Env + Net + SystemResolver + Wait + Clock + Copy + Send + 'static {}
 
-impl<R> System for R where
-    R: TaskSystem + Env + Net + SystemResolver + Wait + Clock + Copy + Send + 'static
-{
-}
+impl<R> System for R
+where
+    R: TaskSystem + Env + Net + SystemResolver + Wait + Clock + Copy + Send + 'static,
+{}
 
 /// The columns of a terminal, as the environment tells: 40 to 1,000, and 80 where it does not.
 pub fn columns_of<R: System>(rt: &R) -> u16 {

@@ -18,14 +18,8 @@ use std::str::FromStr;
 
 const ABOUT: &str = "Connect to a host, and relay standard input and output";
 
-const HOST_HELP: &str = "The host: a name or an address";
-
 const PORT_HELP: &str =
     "The TCP port: 1 to 65535, or the name of a service in\n/etc/services, as `https`";
-
-const FOUR_HELP: &str = "Try IPv4 addresses alone";
-
-const SIX_HELP: &str = "Try IPv6 addresses alone";
 
 const TRY_HELP: &str = "Close the connection once it is made, with status 0";
 
@@ -39,8 +33,6 @@ const RECORD_HELP: &str = "Write the race to FILE, for `he replay`;\n\
 with -z `-` is standard output";
 
 const EXPLAIN_HELP: &str = "Explain the race on standard error, as `he explain`";
-
-const VERBOSE_HELP: &str = "Tell each step of the race as it happens";
 
 const EXAMPLE: &str = "\
 Looks HOST up, both families at once, and tries its addresses as RFC 8305 says,
@@ -72,12 +64,12 @@ PORT that is no service.";
 // Its arguments, in the order in which help has them. They are made in one list: a chain of `arg`, each of which may
 // be refused memory, takes minutes to prove.
 pub(crate) fn command<'a>(alloc: Global) -> Result<Command<'a>, AllocError> {
-    let six = letter(alloc, "six", '6', SIX_HELP).conflicts_with("four")?;
+    let six = letter(alloc, "six", '6', "Try IPv6 addresses alone").conflicts_with("four")?;
     let wait = value(alloc, "wait", "MS", WAIT_HELP);
     let args = vec![in alloc;
-        word(alloc, "host", "HOST", HOST_HELP).required(true),
+        word(alloc, "host", "HOST", "The host: a name or an address").required(true),
         word(alloc, "port", "PORT", PORT_HELP).required(true),
-        letter(alloc, "four", '4', FOUR_HELP),
+        letter(alloc, "four", '4', "Try IPv4 addresses alone"),
         six,
         letter(alloc, "try", 'z', TRY_HELP),
         timeout(alloc),
@@ -87,7 +79,7 @@ pub(crate) fn command<'a>(alloc: Global) -> Result<Command<'a>, AllocError> {
         resolver_argument(alloc),
         value(alloc, "record", "FILE", RECORD_HELP),
         flag(alloc, "explain", EXPLAIN_HELP),
-        flag(alloc, "verbose", VERBOSE_HELP).short('v'),
+        flag(alloc, "verbose", "Tell each step of the race as it happens").short('v'),
     ]?;
     plain(alloc, "connect", ABOUT, EXAMPLE, args)
 }

@@ -16,12 +16,8 @@ use std::str::FromStr;
 
 const ABOUT: &str = "Draw a picture of each race, or a page of all races";
 
-const ASCII_HELP: &str = "Draw with ASCII characters alone";
-
 const WIDTH_HELP: &str =
     "Columns of a line, 40 to 1000; default is that of\nthe environment's COLUMNS, else 80";
-
-const SVG_HELP: &str = "Draw each race as an SVG image";
 
 const HTML_HELP: &str = "Write a page for a browser to FILE.html, or to\n\
 standard output (-): each race beside its story";
@@ -61,11 +57,13 @@ pub(crate) fn command<'a>(alloc: Global) -> Result<Command<'a>, AllocError> {
     let width = value(alloc, "width", "N", WIDTH_HELP).value_parser(value_parser!(u16).range(
         range,
     ));
-    let svg = alone_of(flag(alloc, "svg", SVG_HELP))?.conflicts_with("html")?;
+    let svg = alone_of(flag(alloc, "svg", "Draw each race as an SVG image"))?.conflicts_with(
+        "html",
+    )?;
     let html = alone_of(value(alloc, "html", "FILE", HTML_HELP))?;
     let args = vec![in alloc;
         files(alloc, HEADED_FILES_HELP),
-        flag(alloc, "ascii", ASCII_HELP),
+        flag(alloc, "ascii", "Draw with ASCII characters alone"),
         width,
         svg,
         html,

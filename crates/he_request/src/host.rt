@@ -61,15 +61,10 @@ pub(crate) fn destinations_of(alloc: Global, matches: &ArgMatches<'_>) -> Result
     if let Some(texts) = matches.get_strs("for") {
         for text in texts {
             match read_ip(text.as_bytes()) {
-                Some(ip) => push(ip, &mut destinations)?,
+                Some(ip) => destinations.push(ip).map_err(|_| Refusal::Memory)?,
                 None => return Err(Refusal::Option(OptionFault::Destination)),
             }
         }
     }
     Ok(destinations)
-}
-
-fn push(ip: Ip, destinations: &mut Vec<Ip>) -> Result<(), AllocError> {
-    destinations.push(ip)?;
-    Ok(())
 }

@@ -10,8 +10,6 @@ const ABOUT: &str = "Find the addresses of a host, as the answers of a race";
 
 const HOST_HELP: &str = "A host name, as www.example.com, or an address";
 
-const VERBOSE_HELP: &str = "Tell what happened in the look-up";
-
 const EXAMPLE: &str = "\
 Standard output has the two answers that a timeline wants, each with the tick
 (millisecond since the start) at which it came; `none` where a family has no
@@ -38,7 +36,7 @@ as where there is no such name; 2 for a line that is refused.";
 
 pub(crate) fn command<'a>(alloc: Global) -> Result<Command<'a>, AllocError> {
     let host = word(alloc, "host", "HOST", HOST_HELP).required(true);
-    let verbose = flag(alloc, "verbose", VERBOSE_HELP).short('v');
+    let verbose = flag(alloc, "verbose", "Tell what happened in the look-up").short('v');
     let args = vec![in alloc; host, resolver_argument(alloc), verbose]?;
     plain(alloc, "names", ABOUT, EXAMPLE, args)
 }

@@ -78,7 +78,10 @@ fn run_files<R: TaskSystem, I: InputStream, O: OutputStream, F: Write>(
 fn tell_unread<F: Write>(task: Task, unread: usize, faults: &mut F) {
     let _ = match (task, unread) {
         (Task::Summarize { .. }, 1) => writeln!(faults, "he: 1 file not read to its end"),
-        (Task::Summarize { .. }, 2..) => writeln!(faults, "he: {unread} files not read to their end"),
+        (Task::Summarize { .. }, 2..) => writeln!(
+            faults,
+            "he: {unread} files not read to their end"
+        ),
         _ => Ok(()),
     };
 }

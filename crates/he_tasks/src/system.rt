@@ -8,4 +8,7 @@ use std::thread::Threads;
 /// Memory, files, random numbers and threads.
 pub trait TaskSystem: AllocGlobal + Files + RandomSource + Threads + Sync {}
 
-impl<R> TaskSystem for R where R: AllocGlobal + Files + RandomSource + Threads + Sync {}
+impl<R> TaskSystem for R
+where
+    R: AllocGlobal + Files + RandomSource + Threads + Sync,
+{}
