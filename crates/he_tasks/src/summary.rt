@@ -17,7 +17,7 @@ pub(crate) fn end_texts<R, O: OutputStream, F: Write>(
     texts: &Texts<'_>,
     sums: Option<Summary<Global>>,
 ) -> u8
-    ensures { EndsTexts O.OutputStream texts.now.task sums.entry session.old.output session.new.output result }
+    ensures { EndsTexts O.OutputStream texts.now.task sums session.old.output session.new.output result }
 {
     let Task::Summarize { is_json } = texts.task else {
         return DONE;
@@ -41,7 +41,7 @@ fn put_summary<R, O: OutputStream, F: Write>(
     form: Form,
     mut summary: Summary<Global>,
 ) -> u8
-    ensures { PutsSummary O.OutputStream form summary.entry session.old.output session.new.output result }
+    ensures { PutsSummary O.OutputStream form summary session.old.output session.new.output result }
 {
     let mut text = Vec::new(session.alloc);
     match summary.write(form, &mut text) {
