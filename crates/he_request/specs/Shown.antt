@@ -1,5 +1,5 @@
 -- How a name is shown, which must not reach a terminal as it is.
-use Rattle.std.specs.Prelude.{◌≡◌, ◌==◌, ◌++◌, ◌/◌, ◌%◌, ◌+◌, ℕ, List, [], ◌∷◌, codes, if◌then◌else◌, nat_lt}
+use Rattle.std.specs.Prelude.{◌==◌, ◌++◌, ◌/◌, ◌%◌, ◌+◌, ℕ, List, codes, if◌then◌else◌, nat_lt}
 use Rattle.std.specs.Char.{encode_utf8, is_control}
 use Rattle.std.specs.List.{flat_map}
 use Rattle.std.specs.Str.{chars}

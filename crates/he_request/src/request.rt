@@ -1,6 +1,6 @@
 //! What a command line asks for.
 ghost use Rattle.std.specs.Prelude.{IfOk};
-ghost use Rattle.he_request.specs.Requests.{HasTaskWorkers, IsRequest, IsTexts};
+ghost use Rattle.he_request.specs.Requests.{HasTaskWorkers, IsRequest};
 
 use crate::connect::Connection;
 use crate::live::Live;
@@ -102,25 +102,8 @@ fn request_of<'a>(
             Ok(live) => Ok(Request::Live(live)),
             Err(fault) => Err(Refusal::Option(fault)),
         },
-        _ => match texts_request(alloc, name, matches, columns) {
-            Ok(texts) => Ok(Request::Texts(texts)),
-            Err(refusal) => Err(refusal),
-        },
-    }
-}
-
-// The texts that the line names, and what is done with them.
-fn texts_request<'a>(
-    alloc: Global,
-    name: &str,
-    matches: &ArgMatches<'a>,
-    columns: u16,
-) -> Result<Texts<'a>, Refusal>
-    ensures { IfOk result IsTexts }
-{
-    match name {
-        "draw" => draw::drawing_of(alloc, columns, matches),
-        _ => texts_of(alloc, task_of(name, matches), None, matches),
+        "draw" => draw::drawing_of(alloc, columns, matches).map(Request::Texts),
+        _ => texts_of(alloc, task_of(name, matches), None, matches).map(Request::Texts),
     }
 }
 

@@ -1,4 +1,4 @@
-use Rattle.std.proofs.Common.{◌∙◌, ap, rules}
+use Rattle.std.proofs.Common.{rules}
 use Rattle.he_request.proofs.Asked.{all_asked, of_changes}
 use Rattle.he_request.proofs.settings.changes_of.Goals as goal
 

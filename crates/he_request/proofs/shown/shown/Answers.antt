@@ -1,4 +1,4 @@
-use Rattle.std.proofs.Common.{◌∙◌, sym, append-nil, rules}
+use Rattle.std.proofs.Common.{◌∙◌, sym, append-nil}
 use Rattle.std.proofs.lemmas.Str.{IsUtf8-past_char}
 use Rattle.std.proofs.StrCases.{chars_of_empty}
 use Rattle.he_request.proofs.Showing.{shown_step}
