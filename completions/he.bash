@@ -27,7 +27,7 @@ _he() {
         "host --for")
             return ;;
         "live --port")
-            return ;;
+            mapfile -t COMPREPLY < <(compgen -A service -- "$word"); return ;;
         "replay --workers" | "draw --width")
             return ;;
     esac
@@ -35,7 +35,7 @@ _he() {
         connect) options='-4 -6 -z --timeout --set --wait --host --resolver --record --explain --verbose -v --help -h' words=HOST ;;
         names) options='--resolver --verbose -v --help -h' words=HOST ;;
         host) options='--for --help -h' words= ;;
-        live) options='--port --timeout --set --record --must-connect --verbose -v --help -h' words= ;;
+        live) options='--port --timeout --set --record --must-connect --verbose -v --help -h' words=FILE ;;
         replay) options='--workers --set --json --verbose -v --help -h' words=FILE ;;
         explain) options='--lines --set --json --verbose -v --help -h' words=FILE ;;
         draw) options='--ascii --width --svg --html --set --verbose -v --help -h' words=FILE ;;

@@ -35,7 +35,8 @@ complete -c he -n '__fish_seen_subcommand_from names' -s v -l verbose -d 'Tell w
 complete -c he -n '__fish_seen_subcommand_from names' -s h -l help -d 'Print help'
 complete -c he -n '__fish_seen_subcommand_from host' -l for -x -d 'Write the lines for these destinations alone'
 complete -c he -n '__fish_seen_subcommand_from host' -s h -l help -d 'Print help'
-complete -c he -n '__fish_seen_subcommand_from live' -l port -x -d 'The TCP port of each address, 1 to 65535'
+complete -c he -n '__fish_seen_subcommand_from live' -F
+complete -c he -n '__fish_seen_subcommand_from live' -l port -x -d 'The TCP port of each address: 1 to 65535, or the name of a service'
 complete -c he -n '__fish_seen_subcommand_from live' -l timeout -x -d 'Give up after MS milliseconds without a connection, 1 to 3600000'
 complete -c he -n '__fish_seen_subcommand_from live' -l set -x -a 'attempt= resolution= count= limit= floor=' -d 'Override a setting in every race'
 complete -c he -n '__fish_seen_subcommand_from live' -l record -r -F -d 'Write the record to FILE too, for `he replay`'

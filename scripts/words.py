@@ -27,6 +27,7 @@ class Command:
     about: str
     options: list
     words: list  # the names of its words, as FILE
+    is_optional: bool  # whether they may be left out
     is_many: bool  # whether the last word may stand more than once
 
 
@@ -60,16 +61,17 @@ def options_of(text):
 def described(program):
     """The commands of the program in the order of its help, with '' for the program itself as the first."""
     top = output(program, "--help")
-    commands = [Command("", "", options_of(top), ["COMMAND"], False)]
+    commands = [Command("", "", options_of(top), ["COMMAND"], False, False)]
     for name, about in re.findall(r"^  ([a-z]+) +(.+)$", part(top, "Commands"), re.MULTILINE):
         if name == "help":
-            commands.append(Command(name, about, [], ["COMMAND"], False))
+            commands.append(Command(name, about, [], ["COMMAND"], True, False))
             continue
         text = output(program, name, "--help")
         usage = re.search(r"^Usage: .*$", text, re.MULTILINE)[0]
         words = [word for word in re.findall(r"[<\[]([A-Z]+)[>\]]", usage) if word != "OPTIONS"]
         words = [word for word in words if not re.search(rf"--[a-z]+ <{word}>", usage)]
-        commands.append(Command(name, about, options_of(text), words, usage.endswith("...")))
+        is_optional = any(f"[{word}]" in usage for word in words)
+        commands.append(Command(name, about, options_of(text), words, is_optional, usage.endswith("...")))
     return commands
 
 
@@ -124,6 +126,7 @@ def bash_values(commands):
                 by_value.setdefault(option.value, []).extend(f'"{command.name} {name}"' for name in option.names())
     answers = {
         "FILE": 'compopt -o filenames; mapfile -t COMPREPLY < <(compgen -f -- "$word"); return',
+        "PORT": 'mapfile -t COMPREPLY < <(compgen -A service -- "$word"); return',
         "RESOLVER": 'mapfile -t COMPREPLY < <(compgen -W system -- "$word"); return',
         "NAME=N": "compopt -o nospace; mapfile -t COMPREPLY < <(compgen -W '"
         + " ".join(f"{name}=" for name in SETTINGS)
@@ -221,6 +224,7 @@ def zsh_options(command):
         values = {
             "": "",
             "FILE": ":file:_files",
+            "PORT": ":port:_ports",
             "RESOLVER": ":resolver:(system)",
             "NAME=N": ":setting:_he_settings",
         }
@@ -238,8 +242,9 @@ def zsh_options(command):
 
 
 def zsh_words(command):
-    actions = {"FILE": "file:_files", "HOST": "host:_hosts"}
-    texts = [("*:" if command.is_many else ":") + actions.get(word, f"{word}:") for word in command.words]
+    actions = {"FILE": "file:_files", "HOST": "host:_hosts", "PORT": "port:_ports"}
+    mark = "*:" if command.is_many else "::" if command.is_optional else ":"
+    texts = [mark + actions.get(word, f"{word}:") for word in command.words]
     return "".join(f" \\\n                {quoted(text)}" for text in texts)
 
 
@@ -253,7 +258,7 @@ def synopsis(commands):
                 lines += synopsis_option(option)
         for at, word in enumerate(command.words):
             is_many = command.is_many and at + 1 == len(command.words)
-            lines.append(f'.RI [ {word} " ...]"' if is_many else f".RI [ {word} ]" if command.name == "help" else f".I {word}")
+            lines.append(f'.RI [ {word} " ...]"' if is_many else f".RI [ {word} ]" if command.is_optional else f".I {word}")
         lines.append(".br")
     return "\n".join([*lines, ".B he", ".RB [ \\-h | \\-V ]"]) + "\n"
 

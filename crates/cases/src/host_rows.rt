@@ -3,7 +3,7 @@
 use crate::command_rows::{Row, Streams, TEXT, WRITE_LINE};
 
 /// Commands that are about this host, or others.
-pub static HOST_ROWS: [Row; 14] = [
+pub static HOST_ROWS: [Row; 16] = [
     (
         &["he", "live", "--port", "8080", "--set", "attempt=5"],
         TEXT,
@@ -11,6 +11,22 @@ pub static HOST_ROWS: [Row; 14] = [
         2,
         b"",
         b"error: invalid value for '--set ",
+    ),
+    (
+        &["he", "live", "--port", "1", "explained-no-answer.timeline"],
+        TEXT,
+        Streams::Whole,
+        0,
+        b"limit 100\nrace ",
+        b"",
+    ),
+    (
+        &["he", "live", "--port", "1", "rtt-in-version-one.timeline"],
+        TEXT,
+        Streams::Whole,
+        1,
+        b"",
+        b"he: rtt-in-version-one.timeline: line ",
     ),
     (
         &["he", "host", "more"],

@@ -3,7 +3,7 @@
 use crate::command_rows::{Row, Streams, TEXT};
 
 /// Lines that are refused.
-pub static REFUSED_ROWS: [Row; 19] = [
+pub static REFUSED_ROWS: [Row; 22] = [
     (
         &["he", "explain", "--lines", "--json"],
         TEXT,
@@ -154,6 +154,30 @@ pub static REFUSED_ROWS: [Row; 19] = [
         Streams::Whole,
         2,
         b"",
-        b"error: invalid value '0' for '<PORT>': 0 is not in 1..=65535\n",
+        b"error: invalid value for PORT: neither a number from 1 to 65535 nor the name of a service",
+    ),
+    (
+        &["he", "connect", "192.0.2.1", "65536"],
+        TEXT,
+        Streams::Whole,
+        2,
+        b"",
+        b"error: invalid value for PORT: ",
+    ),
+    (
+        &["he", "connect", "192.0.2.1", "no--service"],
+        TEXT,
+        Streams::Whole,
+        2,
+        b"",
+        b"error: invalid value for PORT: ",
+    ),
+    (
+        &["he", "live", "--port", "80", "-", "more"],
+        TEXT,
+        Streams::Whole,
+        2,
+        b"",
+        b"error: unexpected argument 'more' found\n",
     ),
 ];

@@ -243,7 +243,7 @@ pub static TEXT_ROWS: [Row; 49] = [
         b"error: ",
     ),
     (
-        &["he", "live", "--port", "http"],
+        &["he", "live", "--port", "http/tcp"],
         TEXT,
         Streams::Whole,
         2,
@@ -254,9 +254,9 @@ pub static TEXT_ROWS: [Row; 49] = [
         &["he", "live", "--port", "1", "more"],
         TEXT,
         Streams::Whole,
-        2,
+        1,
         b"",
-        b"error: ",
+        b"he: more: No such file or directory",
     ),
     (
         &["he", "live", "--help"],

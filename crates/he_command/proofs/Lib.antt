@@ -1,4 +1,1 @@
-mod InTurn
-mod Adding
-mod Showing
-mod Asked
+mod Files

@@ -1,14 +1,68 @@
 -- What comes of a connection that a line asks for.
-use Rattle.std.specs.Prelude.{◌≡◌, ◌⊎◌, ℕ, List, Bool, true, false, Option, is_some, Result}
+use Rattle.std.specs.Prelude.{◌≡◌, ◌⊎◌, ℕ, List, Bool, true, false, Option, Some, None, is_some, Result}
+use Rattle.std.specs.Borrow.{Bor}
+use Rattle.he_addr.specs.declared.ip.Family.{Family}
 use Rattle.he_connect.specs.Races.{IsRun}
+use Rattle.he_connect.specs.declared.request.ConnectRequest.{ConnectRequest}
+use Rattle.he_connect.specs.declared.request.Families.{Families}
+use Rattle.he_connect.specs.declared.request.Families.TheVariants as families
+use Rattle.he_connect.specs.declared.request.Lines.{Lines}
+use Rattle.he_connect.specs.declared.request.Lines.TheVariants as lines
 use Rattle.he_live.specs.declared.dialed.Dialed.{Dialed}
+use Rattle.he_names.specs.Ports.{IsNoPort, MeansPort}
+use Rattle.he_names.specs.declared.ports.PortFault.TheVariants.{Unknown}
 use Rattle.he_relay.specs.Relays.{Relays}
 use Rattle.he_relay.specs.declared.fault.RelayFault.{RelayFault}
+use Rattle.he_request.specs.declared.connect.Connection.{Connection}
+use Rattle.he_request.specs.declared.port.Port.{Port}
+use Rattle.he_request.specs.declared.port.Port.TheVariants as ports
+use Rattle.he_request.specs.declared.resolver.Resolver.{Resolver}
+use Rattle.he_request.specs.declared.resolver.Resolver.TheVariants as resolvers
+use Rattle.he_resolver.specs.declared.choice.Choice.{Choice}
+use Rattle.he_resolver.specs.declared.choice.Choice.TheVariants as choices
 use Rattle.he_stream.specs.declared.stream.OutputStream as outputs
-use Rattle.he_command.specs.declared.connection.Connection.{Connection}
-use Rattle.he_command.specs.declared.reports.TheConstants.{DONE, FAULT, NO_CONNECTION}
-use Rattle.he_command.specs.Status.{status_of}
-use Rattle.he_command.specs.Streams.{TookAll, TookPart, TookRounds, TookRoundsPart}
+use Rattle.he_tasks.specs.Status.{status_of}
+use Rattle.he_tasks.specs.Streams.{TookAll, TookPart, TookRounds, TookRoundsPart}
+use Rattle.he_tasks.specs.declared.reports.TheConstants.{DONE, FAULT, NO_CONNECTION, USAGE}
+
+-- the number of a port: that of a service is what a file of services gives it
+abbrev pub HasPort : Port → ℕ → Type 0
+HasPort (ports.Number own) number = number ≡ own
+HasPort (ports.Service name) number = (services : List ℕ) × MeansPort services name.now number
+
+-- the status where a port has none: the line is wrong where a file of services has no such service, else that is a
+-- fault of the file, or of memory
+abbrev pub LacksPort : Port → ℕ → Type 0
+LacksPort (ports.Number own) status = ⊥
+LacksPort (ports.Service name) status =
+    ((status ≡ USAGE) × (services : List ℕ) × IsNoPort services name.now Unknown) ⊎ (status ≡ FAULT)
+
+abbrev pub families_of : Option Family → Families
+families_of None = families.Both
+families_of (Some family) = families.Only family
+
+abbrev pub lines_of : Option (Bor (List ℕ)) → Lines
+lines_of None = lines.Machine
+lines_of (Some path) = lines.File path
+
+abbrev pub choice_of : Resolver → Choice
+choice_of resolvers.Configured = choices.Configured
+choice_of (resolvers.Server server) = choices.Server server
+choice_of resolvers.System = choices.System
+
+-- the race that is asked for, at the port of this number
+abbrev pub race_of : Connection → ℕ → ConnectRequest
+race_of connection port =
+    record {
+      host = connection.host;
+      port = port;
+      families = families_of connection.only;
+      settings = connection.settings;
+      lines = lines_of connection.lines;
+      resolver = choice_of connection.resolver;
+      explains = connection.explains;
+      tells_steps = connection.tells_steps;
+    }
 
 -- the text of the record went to a file or to the output, or there is no place for it; or that failed, and the output
 -- took a first part of it at most
@@ -38,12 +92,12 @@ EndsRace output only_tries kept won before after status =
     ((kept ≡ DONE) × EndsWon output only_tries won before after status)
     ⊎ ((status ≡ FAULT) × (after ≡ before))
 
--- what comes of a connection: its record has no place or its race was not run, and the output is left alone; or a race
--- was run for what is asked for, its record is kept, and then what it won is relayed
+-- what comes of a connection: it has no port, its record has no place, or its race was not run, and the output is left
+-- alone; or a race was run for what is asked for, its record is kept, and then what it won is relayed
 abbrev pub MakesConnection : {O : Type 0} → outputs.Ghosts O → Connection → O → O → ℕ → Type 0
 MakesConnection {O} output connection before after status =
-    ((status ≡ FAULT) × (after ≡ before))
-    ⊎ ((text story : List ℕ) × (won : Option Dialed) × (between : O) × (kept : ℕ)
-    × IsRun connection.race text story won
+    ((LacksPort connection.port status ⊎ (status ≡ FAULT)) × (after ≡ before))
+    ⊎ ((port : ℕ) × (text story : List ℕ) × (won : Option Dialed) × (between : O) × (kept : ℕ)
+    × HasPort connection.port port × IsRun (race_of connection port) text story won
     × KeepsRecord output text before between kept
     × EndsRace output connection.only_tries kept (is_some won) between after status)

@@ -1,9 +1,3 @@
 pub mod Connection
-pub mod Requests
+pub mod Live
 pub mod Run
-pub mod Shown
-pub mod Status
-pub mod Streams
-pub mod Summaries
-pub mod Texts
-pub mod Words

@@ -1,32 +1,24 @@
 //! A connection that is made, recorded and relayed.
 ghost use Rattle.std.specs.Prelude.{◌≡◌, is_some};
 ghost use Rattle.he_command.specs.Connection.{EndsRace, KeepsRecord, MakesConnection, RelaysTo};
-ghost use Rattle.he_command.specs.Status.{status_of};
-ghost use Rattle.he_command.specs.declared.reports.TheConstants.{FAULT};
+ghost use Rattle.he_tasks.specs.Status.{status_of};
+ghost use Rattle.he_tasks.specs.declared.reports.TheConstants.{FAULT};
 
+use crate::port::number_of;
+use crate::race_request::race_of;
 use crate::record::{discard_record, keep_record, open_record};
-use crate::reports::{DONE, FAULT, NO_CONNECTION, report, report_of, report_path};
-use crate::session::{Session, report_unwritten};
 use crate::system::System;
 use he_connect::{ConnectFault, ConnectRequest, FinishedRace, Lines, race};
-use he_relay::{RelayFault, over_socket, relay_standard};
+use he_relay::{DEFAULT_WAIT, RelayFault, over_socket, relay_standard};
+use he_request::Connection;
 use he_stream::{InputStream, OutputStream};
+use he_tasks::reports::{report, report_of, report_path};
+use he_tasks::session::report_unwritten;
+use he_tasks::{DONE, FAULT, NO_CONNECTION, Session};
 use std::io::Write;
 use std::net::TcpStream;
 
-/// The connection that a line asks for.
-#[derive(Clone, Copy)]
-pub struct Connection<'a> {
-    pub race: ConnectRequest<'a>,
-    /// The file of the record; `-` is standard output, of a connection that is only tried.
-    pub record: Option<&'a str>,
-    /// Whether the connection is closed once it is made.
-    pub only_tries: bool,
-    /// How long standard input is waited for once the remote has ended its way, in milliseconds.
-    pub wait: u32,
-}
-
-// Races for the connection, keeps the record, and relays to the end.
+// Races for the connection that a line asks for, keeps the record, and relays to the end.
 pub(crate) fn run_connect<R: System, I: InputStream, O: OutputStream + Send, F: Write>(
     session: &mut Session<'_, '_, R, O, F>,
     connection: &Connection<'_>,
@@ -35,6 +27,11 @@ pub(crate) fn run_connect<R: System, I: InputStream, O: OutputStream + Send, F: 
     ensures { MakesConnection O.OutputStream connection.now session.old.output session.new.output result }
 {
     let (rt, alloc) = (session.system, session.alloc);
+    let port = match number_of(session, connection.port) {
+        Ok(port) => port,
+        Err(status) => return status,
+    };
+    let request = race_of(connection, port);
     let place = match open_record(rt, alloc, connection.record) {
         Ok(place) => place,
         Err(error) => {
@@ -42,23 +39,18 @@ pub(crate) fn run_connect<R: System, I: InputStream, O: OutputStream + Send, F: 
             return report_path(alloc, path, error, &mut session.faults);
         }
     };
-    match race(rt, alloc, &connection.race, &mut session.faults) {
+    match race(rt, alloc, &request, &mut session.faults) {
         Ok(run) => {
-            tell_race(&run, &mut session.faults);
+            let _ = session.faults.write_all(run.story.as_slice());
+            let _ = session.faults.write_all(run.told.as_slice());
             let kept = keep_record(session, connection.record, place, &run.text);
             end_race(session, connection, kept, run, input)
         }
         Err(fault) => {
             discard_record(rt, place);
-            report_race(session, fault, &connection.race)
+            report_race(session, fault, &request)
         }
     }
-}
-
-// Says what is said of a race that was run.
-fn tell_race<F: Write>(run: &FinishedRace, faults: &mut F) {
-    let _ = faults.write_all(run.story.as_slice());
-    let _ = faults.write_all(run.told.as_slice());
 }
 
 // What comes of a race that was run, whose record was kept or not: its connection is relayed where there is one, or
@@ -80,15 +72,15 @@ fn end_race<R: System, I: InputStream, O: OutputStream + Send, F: Write>(
         Some(_) if connection.only_tries => DONE,
         Some(dialed) => {
             let stream = dialed.into_stream();
-            relay(session, connection.wait, &stream, input)
+            relay(
+                session,
+                connection.wait.unwrap_or(DEFAULT_WAIT),
+                &stream,
+                input,
+            )
         }
         None => match run.nameless {
-            Some(fault) => report_of(
-                session.alloc,
-                fault,
-                connection.race.host,
-                &mut session.faults,
-            ),
+            Some(fault) => report_of(session.alloc, fault, connection.host, &mut session.faults),
             None => NO_CONNECTION,
         },
     }

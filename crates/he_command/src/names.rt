@@ -1,90 +1,39 @@
 //! `he names`.
 ghost use Rattle.std.specs.Prelude.{◌≡◌, ◌⊎◌};
 ghost use Rattle.he_command.specs.Run.{RunsNames};
-ghost use Rattle.he_command.specs.Status.{status_of};
+ghost use Rattle.he_tasks.specs.Status.{status_of};
 
-use crate::arguments::{flag, flag_of, plain, resolver, word};
-use crate::name::shown;
-use crate::reports::{DONE, FAULT, report, report_of};
-use crate::session::Session;
+use crate::race_request::choice_of;
 use crate::system::System;
-use clap::{ArgMatches, Command};
-use he_resolver::{Choice, LookupReport, NamesFault, TellFault, Wanted, write_names};
+use he_request::Names;
+use he_request::shown::shown;
+use he_resolver::{LookupReport, NamesFault, TellFault, Wanted, write_names};
 use he_stream::OutputStream;
-use std::alloc::{AllocError, Global};
+use he_tasks::reports::{report, report_of};
+use he_tasks::{DONE, FAULT, Session};
+use std::alloc::Global;
 use std::io::Write;
-
-const ABOUT: &str = "Find the addresses of a host, as the answers of a race";
-
-const HOST_HELP: &str = "A host name, as www.example.com, or an address";
-
-const VERBOSE_HELP: &str = "Tell what happened in the look-up";
-
-const EXAMPLE: &str = "\
-Standard output has the two answers that a timeline wants, each with the tick
-(millisecond since the start) at which it came; `none` where a family has no
-address.
-
-Example: `he names www.example.com` may write
-
-  aaaa 31 2001:db8:1::1 2001:db8:1::2
-  a 12 198.51.100.1
-
-An address is its own answer, and a name of /etc/hosts has the addresses there.
-Any other is asked of the name servers of /etc/resolv.conf, both families at
-once, over UDP, and over TCP where an answer is cut off; `search` and the
-options ndots, timeout and attempts count as resolv.conf(5) has them. With
-`--resolver system` all of it is left to the system (getaddrinfo), which gives
-both families at once.
-
-Where the look-up of a family failed, standard error says why; what the other
-gave is written. With -v standard error has what happened, by its millisecond:
-which server answered, failed, or did not answer in time.
-
-Exit status: 0 if an address was found and no look-up failed; 1 after a fault,
-as where there is no such name; 2 for a line that is refused.";
-
-pub(crate) fn command<'a>(alloc: Global) -> Result<Command<'a>, AllocError> {
-    let host = word(alloc, "host", "HOST", HOST_HELP);
-    let verbose = flag(alloc, "verbose", VERBOSE_HELP).short('v');
-    let args = vec![in alloc; host, resolver(alloc), verbose]?;
-    plain(alloc, "names", ABOUT, EXAMPLE).args(args)
-}
-
-/// What `he names` is asked for.
-#[derive(Clone, Copy)]
-pub struct NamesOptions<'a> {
-    pub(crate) wanted: Wanted<'a>,
-    /// Whether what happened is told.
-    pub(crate) tells_steps: bool,
-}
-
-// The addresses that the line asks for, of this resolver.
-pub(crate) fn options_of<'a>(choice: Choice, matches: &ArgMatches<'a>) -> NamesOptions<'a> {
-    NamesOptions {
-        wanted: Wanted {
-            host: matches.get_str("host").unwrap_or(""),
-            only: None,
-            choice,
-        },
-        tells_steps: flag_of(matches, "verbose"),
-    }
-}
+use std::mem::drop;
 
 // Finds the addresses of a host.
 pub(crate) fn run_names<R: System, O: OutputStream, F: Write>(
     session: &mut Session<'_, '_, R, O, F>,
-    options: NamesOptions<'_>,
+    names: Names<'_>,
 ) -> u8
     ensures { RunsNames O.OutputStream session.old.output session.new.output result }
 {
-    let (rt, alloc, wanted) = (session.system, session.alloc, options.wanted);
+    let (rt, alloc) = (session.system, session.alloc);
+    let wanted = Wanted {
+        host: names.host,
+        only: None,
+        choice: choice_of(names.resolver),
+    };
     let mut lookup = LookupReport::new(alloc);
     let end = write_names(rt, alloc, &mut session.output, wanted, &mut lookup);
-    if options.tells_steps {
+    if names.tells_steps {
         tell_events(&lookup, &mut session.faults);
     }
-    let status = report_names(session, end, &lookup, wanted.host);
+    let status = report_names(session, end, &lookup, names.host);
     drop(lookup);
     status
 }

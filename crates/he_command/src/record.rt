@@ -2,12 +2,13 @@
 ghost use Rattle.std.specs.Prelude.{◌≡◌};
 ghost use Rattle.he_command.specs.Connection.{KeepsRecord};
 
-use crate::name::STANDARD;
-use crate::reports::{DONE, report_path};
-use crate::session::{Session, put_all};
 use crate::system::System;
 use he_files::{NewName, create_beside};
+use he_request::STANDARD;
 use he_stream::OutputStream;
+use he_tasks::reports::report_path;
+use he_tasks::session::put_all;
+use he_tasks::{DONE, Session};
 use std::alloc::Global;
 use std::io;
 use std::io::Write;

@@ -1,25 +1,20 @@
 //! A whole run of the program over an input, an output and a writer of faults.
-ghost use Rattle.std.specs.Prelude.{◌≡◌, IfOk, Result};
-ghost use Rattle.clap.specs.Values.{kind_of};
-ghost use Rattle.he_command.specs.Requests.{IsRequest};
-ghost use Rattle.he_command.specs.Run.{AnswersLine, Refuses, RunsLine};
-ghost use Rattle.he_command.specs.Streams.{Shows};
+ghost use Rattle.std.specs.Prelude.{IfOk, Result};
+ghost use Rattle.he_request.specs.Requests.{IsRequest};
+ghost use Rattle.he_command.specs.Run.{Refuses, RunsLine};
 
 use crate::connection::run_connect;
 use crate::host::run_host;
 use crate::live::run_live;
-use crate::name::shown_lines;
 use crate::names::run_names;
-use crate::page::run_texts;
-use crate::refusal::Refusal;
-use crate::reports::{USAGE, report};
-use crate::request::{Request, read_words};
-use crate::session::{Session, put_all};
 use crate::system::{System, columns_of};
-use clap::Error;
-use clap::error::ErrorKind;
 use he_inputs::StreamFault;
+use he_request::shown::shown_lines;
+use he_request::{Refusal, Request, read_words};
 use he_stream::{FromReader, InputStream, OutputStream, ToWriter};
+use he_tasks::reports::report;
+use he_tasks::session::put_all;
+use he_tasks::{Session, USAGE, run_texts};
 use std::alloc::Global;
 use std::io::Write;
 
@@ -66,40 +61,21 @@ fn refuse<R, O: OutputStream, F: Write>(
     ensures { Refuses O.OutputStream refusal.now session.old.output session.new.output result }
 {
     match refusal {
-        Refusal::Line(error) => answer_line(session, error),
-        Refusal::Option(fault) => {
-            let _ = writeln!(
-                session.faults,
-                "error: {fault}\n\nFor more information, try '--help'."
-            );
+        Refusal::Memory => report(StreamFault::Memory, &mut session.faults),
+        Refusal::Help(text) => match format!(in session.alloc; "{text}") {
+            Ok(text) => put_all(session, text.as_bytes(), false),
+            Err(_) => report(StreamFault::Memory, &mut session.faults),
+        },
+        Refusal::Words(_) | Refusal::Option(_) => {
+            tell_refusal(session.alloc, refusal, &mut session.faults);
             USAGE
         }
     }
 }
 
-// Answers words that ask for help or the version, or that are wrong.
-fn answer_line<R, O: OutputStream, F: Write>(
-    session: &mut Session<'_, '_, R, O, F>,
-    error: &Error,
-) -> u8
-    ensures { AnswersLine O.OutputStream (kind_of error.now) session.old.output session.new.output result }
-{
-    if error.kind() == ErrorKind::OutOfMemory {
-        return report(StreamFault::Memory, &mut session.faults);
-    }
-    if error.use_stderr() {
-        refuse_words(session.alloc, error, &mut session.faults);
-        return USAGE;
-    }
-    match format!(in session.alloc; "{error}") {
-        Ok(text) => put_all(session, text.as_bytes(), false),
-        Err(_) => report(StreamFault::Memory, &mut session.faults),
-    }
-}
-
-// Says why the words are wrong. They may control a terminal, so they are shown.
-fn refuse_words<F: Write>(alloc: Global, error: &Error, faults: &mut F) {
-    let text = format!(in alloc; "{error}");
+// Says why a line is refused. Its words may control a terminal, so they are shown.
+fn tell_refusal<F: Write>(alloc: Global, refusal: &Refusal, faults: &mut F) {
+    let text = format!(in alloc; "{refusal}");
     let shown = text.and_then(|text| shown_lines(alloc, text.as_str()));
     let _ = match shown {
         Ok(shown) => faults.write_all(shown.as_bytes()),

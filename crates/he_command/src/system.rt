@@ -1,47 +1,20 @@
 //! What a run of the program is lent.
 
-use crate::limits::{DEFAULT_WIDTH, LEAST_WIDTH, MOST_WIDTH};
+use he_request::limits::{DEFAULT_WIDTH, LEAST_WIDTH, MOST_WIDTH};
 use he_resolver::SystemResolver;
-use std::alloc::AllocGlobal;
+use he_tasks::TaskSystem;
 use std::env;
 use std::net::Net;
-use std::random::RandomSource;
-use std::rt::{Env, Files};
+use std::rt::Env;
 use std::sync::Wait;
-use std::thread::Threads;
 use std::time::Clock;
 
-/// Memory, files, the environment, the network and the system's resolver, threads and waiting, a clock and random
-/// numbers.
-pub trait System: AllocGlobal
-    + Env
-    + Files
-    + Net
-    + SystemResolver
-    + Threads
-    + Wait
-    + Clock
-    + RandomSource
-    + Copy
-    + Send
-    + Sync
-    + 'static {}
+/// What a task is lent, and the environment, the network and the system's resolver, waiting and a clock.
+pub trait System: TaskSystem + Env + Net + SystemResolver + Wait + Clock + Copy + Send + 'static {}
 
 impl<R> System for R
 where
-    R: AllocGlobal
-        + Env
-        + Files
-        + Net
-        + SystemResolver
-        + Threads
-        + Wait
-        + Clock
-        + RandomSource
-        + Copy
-        + Send
-        + Sync
-        + 'static,
+    R: TaskSystem + Env + Net + SystemResolver + Wait + Clock + Copy + Send + 'static,
 {}
 
 /// The columns of a terminal, as the environment tells: 40 to 1,000, and 80 where it does not.

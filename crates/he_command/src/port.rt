@@ -1,0 +1,43 @@
+//! The port of a service.
+ghost use Rattle.std.specs.Prelude.{◌≡◌, IfErr, IfOk};
+ghost use Rattle.he_command.specs.Connection.{HasPort, LacksPort};
+
+use crate::system::System;
+use he_names::{PortFault, read_port};
+use he_request::Port;
+use he_tasks::reports::{report, report_of, report_path};
+use he_tasks::{Session, USAGE};
+use std::fs;
+use std::io::Write;
+
+// The file of services (services(5)).
+const SERVICES: &str = "/etc/services";
+
+// The number of the port that a line names; or the exit status, where that can't be told, which is said.
+pub(crate) fn number_of<R: System, O, F: Write>(
+    session: &mut Session<'_, '_, R, O, F>,
+    port: Port<'_>,
+) -> Result<u16, u8>
+    ensures number { IfOk result (HasPort port.entry) }
+    ensures status { IfErr result (LacksPort port.entry) }
+    ensures output { session.new.output ≡ session.old.output }
+{
+    let name = match port {
+        Port::Number(number) => return Ok(number),
+        Port::Service(name) => name,
+    };
+    let (rt, alloc) = (session.system, session.alloc);
+    let faults = &mut session.faults;
+    let services = match fs::read(rt, SERVICES) {
+        Ok(services) => services,
+        Err(error) => return Err(report_path(alloc, SERVICES, error, faults)),
+    };
+    match read_port(alloc, &services, name.as_bytes()) {
+        Ok(number) => Ok(number),
+        Err(PortFault::Unknown) => {
+            report_of(alloc, "no such service", name, faults);
+            Err(USAGE)
+        }
+        Err(fault) => Err(report(fault, faults)),
+    }
+}

@@ -1,0 +1,53 @@
+//! What a line asks for of a race and of a look-up, as `he_connect` and `he_resolver` have it.
+ghost use Rattle.std.specs.Prelude.{◌≡◌};
+ghost use Rattle.he_command.specs.Connection.{choice_of, families_of, lines_of, race_of};
+
+use he_addr::Family;
+use he_connect::{ConnectRequest, Families, Lines};
+use he_request::{Connection, Resolver};
+use he_resolver::Choice;
+
+// The race for a connection at this port.
+pub(crate) fn race_of<'a>(connection: &Connection<'a>, port: u16) -> ConnectRequest<'a>
+    ensures { result ≡ race_of connection.now port }
+{
+    ConnectRequest {
+        host: connection.host,
+        port,
+        families: families_of(connection.only),
+        settings: connection.settings,
+        lines: lines_of(connection.lines),
+        resolver: choice_of(connection.resolver),
+        explains: connection.explains,
+        tells_steps: connection.tells_steps,
+    }
+}
+
+fn families_of(only: Option<Family>) -> Families
+    ensures { result ≡ families_of only }
+{
+    match only {
+        Some(family) => Families::Only(family),
+        None => Families::Both,
+    }
+}
+
+fn lines_of<'a>(path: Option<&'a str>) -> Lines<'a>
+    ensures { result ≡ lines_of path.entry }
+{
+    match path {
+        Some(path) => Lines::File(path),
+        None => Lines::Machine,
+    }
+}
+
+// The resolver that is asked.
+pub(crate) fn choice_of(resolver: Resolver) -> Choice
+    ensures { result ≡ choice_of resolver }
+{
+    match resolver {
+        Resolver::Configured => Choice::Configured,
+        Resolver::Server(server) => Choice::Server(server),
+        Resolver::System => Choice::System,
+    }
+}

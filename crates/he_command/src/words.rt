@@ -1,0 +1,21 @@
+//! What is said of words before a line is read.
+ghost use Rattle.std.specs.Prelude.{◌≡◌};
+
+use he_tasks::USAGE;
+use std::io::Write;
+
+/// Says that a text is waited for.
+pub fn tell_waiting<F: Write>(faults: &mut F) {
+    let _ = writeln!(
+        faults,
+        "he: reading a timeline from the terminal; end it with Ctrl-D (`he --help` lists the commands)"
+    );
+}
+
+/// Says that a word of the command line is no UTF-8 text, and answers the exit status.
+pub fn report_not_text<F: Write>(faults: &mut F) -> u8
+    ensures { result ≡ USAGE }
+{
+    let _ = writeln!(faults, "error: a word of the command line is not UTF-8");
+    USAGE
+}

@@ -1,0 +1,5 @@
+pub mod Ports
+pub mod Requests
+pub mod Resolvers
+pub mod Shown
+pub mod Words

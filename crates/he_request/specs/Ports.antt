@@ -1,0 +1,39 @@
+-- The port that a word names: a number, or a service by its name.
+use Rattle.std.specs.Prelude.{◌≡◌, ◌≤◌, ◌==◌, ◌&&◌, ◌||◌, ℕ, Bool, true, false, not, List, [], ◌∷◌, Some, codes, if◌then◌else◌, length, nat_le}
+use Rattle.std.specs.Char.{is_ascii_alphabetic, is_ascii_alphanumeric}
+use Rattle.std.specs.List.{list_all, list_any}
+use Rattle.clap.specs.Matches.{first_value}
+use Rattle.clap.specs.declared.parser.matches.Found.{Found}
+use Rattle.he_addr.specs.Reading.{number_in}
+use Rattle.he_request.specs.declared.limits.TheConstants.{LEAST_PORT, MOST_PORT, MOST_SERVICE}
+use Rattle.he_request.specs.declared.port.Port.{Port}
+use Rattle.he_request.specs.declared.port.Port.TheVariants as ports
+
+-- a letter, a digit or a hyphen
+abbrev pub is_sign : ℕ → Bool
+is_sign byte = is_ascii_alphanumeric byte || byte == 45
+
+-- no hyphen stands at the end, or behind another, or at the front behind one
+abbrev pub are_apart : Bool → List ℕ → Bool
+are_apart behind [] = not behind
+are_apart behind (byte ∷ more) = if behind && byte == 45 then false else are_apart (byte == 45) more
+
+-- the name of a service (RFC 6335 section 5.1): 1 to 15 letters, digits and hyphens, of which a letter is one, and each
+-- hyphen stands between two others
+abbrev pub is_service : List ℕ → Bool
+is_service name =
+    nat_le (length name) MOST_SERVICE && (list_all is_sign name && (list_any is_ascii_alphabetic name && are_apart true name))
+
+-- a number in its range, or such a name
+abbrev pub IsPort : Port → Type 0
+IsPort (ports.Number number) = (LEAST_PORT ≤ number) × (number ≤ MOST_PORT)
+IsPort (ports.Service name) = is_service name.now ≡ true
+
+-- a word that is a number says that port, any other is the name
+abbrev pub SaysPort : List ℕ → Port → Type 0
+SaysPort word (ports.Number number) = number_in word ≡ Some number
+SaysPort word (ports.Service name) = name.now ≡ word
+
+-- the port of the line
+abbrev pub NamesPort : Found → Port → Type 0
+NamesPort found port = (word : List ℕ) × (first_value found (codes "port") ≡ Some word) × SaysPort word port

@@ -1,0 +1,140 @@
+-- What a line asks for, by what clap found of its words.
+use Rattle.std.specs.Prelude.{◌≡◌, ◌≤◌, ◌||◌, ℕ, Bool, true, false, List, Option, Some, None, Result, codes, if◌then◌else◌, is_some, length, map, max, min, option_map}
+use Rattle.std.specs.Option.{unwrap_or}
+use Rattle.std.specs.Str.{bytes_eq}
+use Rattle.clap.specs.Matches.{first_value}
+use Rattle.clap.specs.declared.error.Error.{Error}
+use Rattle.clap.specs.declared.error.kind.ErrorKind.{ErrorKind}
+use Rattle.clap.specs.declared.error.kind.ErrorKind.TheVariants as kinds
+use Rattle.clap.specs.declared.parser.matches.Found.{Found}
+use Rattle.he_addr.specs.declared.ip.Family.{Family}
+use Rattle.he_addr.specs.declared.ip.Family.TheVariants as families
+use Rattle.he_timeline.specs.Changes.{ChangeValues}
+use Rattle.he_request.specs.Ports.{IsPort, NamesPort}
+use Rattle.he_request.specs.Words.{AsksChanges, HasFlag, HasNumber, connect_settings, values_of}
+use Rattle.he_request.specs.declared.connect.Connection.{Connection}
+use Rattle.he_request.specs.declared.limits.TheConstants.{DEFAULT_WORKERS, LEAST_WORKERS, MOST_FILES, MOST_WORKERS}
+use Rattle.he_request.specs.declared.live.Live.{Live}
+use Rattle.he_request.specs.declared.refusal.Refusal.{Refusal}
+use Rattle.he_request.specs.declared.refusal.Refusal.TheVariants as refusals
+use Rattle.he_request.specs.declared.request.Request.{Request}
+use Rattle.he_request.specs.declared.request.Request.TheVariants as requests
+use Rattle.he_request.specs.declared.texts.Content.{Content}
+use Rattle.he_request.specs.declared.texts.Content.TheVariants as contents
+use Rattle.he_request.specs.declared.texts.Task.{Task}
+use Rattle.he_request.specs.declared.texts.Task.TheVariants.{Write, Check, Summarize}
+use Rattle.he_request.specs.declared.texts.Texts.{Texts}
+
+-- the number of workers, where there are any, is in its range
+abbrev pub HasTaskWorkers : Task → Type 0
+HasTaskWorkers (Write content workers) = (LEAST_WORKERS ≤ workers) × (workers ≤ MOST_WORKERS)
+HasTaskWorkers _ = Unit {0}
+
+-- the numbers of a request are in their ranges
+abbrev pub IsTexts : Texts → Type 0
+IsTexts texts = HasTaskWorkers texts.task × (length texts.files.items ≤ MOST_FILES)
+
+abbrev pub IsRequest : Request → Type 0
+IsRequest (requests.Texts texts) = IsTexts texts
+IsRequest (requests.Live live) = IsPort live.port
+IsRequest (requests.Connect connection) = IsPort connection.port
+IsRequest _ = Unit {0}
+
+-- what is said of a line that clap does not take
+abbrev pub refusal_by : ErrorKind → Error → Refusal
+refusal_by kinds.OutOfMemory error = refusals.Memory
+refusal_by kinds.DisplayHelp error = refusals.Help error
+refusal_by kinds.DisplayVersion error = refusals.Help error
+refusal_by kind error = refusals.Words error
+
+-- whether a task tells each fault of a text, and so goes on after one
+abbrev pub tells_faults : Task → Bool
+tells_faults (Check is_all) = is_all
+tells_faults _ = false
+
+-- the files of the line, with its settings, of which each race has those in place of its own, and the file of a page
+pub record AsksTexts {E : Type 0} (gives : List ℕ → Result ℕ E → Type 0) (found : Found) (task : Task)
+    (page : Option (List ℕ)) (texts : Texts) : Type 0 where
+  pub task_is : texts.task ≡ task
+  pub changes : AsksChanges gives found texts.changes
+  pub files : map (λ file. file.now) texts.files.items ≡ values_of found (codes "file")
+  pub page_is : option_map (λ path. path.now) texts.page ≡ page
+  pub keep_going : Bool
+  pub keeps : HasFlag found (codes "keep-going") keep_going
+  pub goes : texts.goes_on ≡ (keep_going || tells_faults task)
+
+-- a transcript, as JSON or not, by so many workers
+abbrev pub AsksReplay : {E : Type 0} → (List ℕ → Result ℕ E → Type 0) → Found → Task → Type 0
+AsksReplay gives found task =
+    (json : Bool) × (workers : Option ℕ) × HasFlag found (codes "json") json
+    × HasNumber gives found (codes "workers") workers
+    × (task ≡ Write (contents.Transcript json) (min (max (unwrap_or workers DEFAULT_WORKERS) 1) 64))
+
+abbrev pub AsksOrder : Found → Task → Type 0
+AsksOrder found task = (json : Bool) × HasFlag found (codes "json") json × (task ≡ Write (contents.Order json) 1)
+
+abbrev pub AsksExplain : Found → Task → Type 0
+AsksExplain found task =
+    (json lines : Bool) × HasFlag found (codes "json") json × HasFlag found (codes "lines") lines
+    × (task ≡ Write (if json || lines then contents.Explanation json else contents.Story) 1)
+
+abbrev pub AsksSummary : Found → Task → Type 0
+AsksSummary found task = (json : Bool) × HasFlag found (codes "json") json × (task ≡ Summarize json)
+
+abbrev pub AsksCheck : Found → Task → Type 0
+AsksCheck found task = (all : Bool) × HasFlag found (codes "all") all × (task ≡ Check all)
+
+-- the file of a page; None for `-`, standard output
+abbrev pub page_of : Option (List ℕ) → Option (List ℕ)
+page_of None = None
+page_of (Some path) = if bytes_eq path (codes "-") then None else Some path
+
+-- what is drawn of each race, on a terminal of so many columns: a part of a page, or what the flags say
+abbrev pub drawn : Bool → Bool → Bool → Option ℕ → ℕ → Content
+drawn true svg ascii width columns = contents.Section
+drawn false true ascii width columns = contents.Image
+drawn false false ascii width columns = contents.Picture ascii (unwrap_or width columns)
+
+abbrev pub IsDrawn : {E : Type 0} → (List ℕ → Result ℕ E → Type 0) → Found → Bool → ℕ → Content → Type 0
+IsDrawn gives found is_page columns content =
+    (svg ascii : Bool) × (width : Option ℕ) × HasFlag found (codes "svg") svg × HasFlag found (codes "ascii") ascii
+    × HasNumber gives found (codes "width") width × (content ≡ drawn is_page svg ascii width columns)
+
+-- that is drawn of the texts; a page goes to the file that --html names, or to the output by `-`
+abbrev pub AsksDrawing : {D E : Type 0} → (List ℕ → Result ℕ D → Type 0) → (List ℕ → Result ℕ E → Type 0) → Found → ℕ
+    → Texts → Type 0
+AsksDrawing gives gives32 found columns texts =
+    (content : Content) × IsDrawn gives found (is_some (first_value found (codes "html"))) columns content
+    × AsksTexts gives32 found (Write content 1) (page_of (first_value found (codes "html"))) texts
+
+-- the file, the port and the settings of the line
+pub record AsksLive {E : Type 0} (gives : List ℕ → Result ℕ E → Type 0) (found : Found) (live : Live) : Type 0 where
+  pub file : option_map (λ path. path.now) live.file ≡ first_value found (codes "file")
+  pub port : NamesPort found live.port
+  pub changes : AsksChanges gives found live.changes
+  pub must_connect : HasFlag found (codes "must-connect") live.must_connect
+  pub verbose : HasFlag found (codes "verbose") live.verbose
+
+-- the family that a line asks for alone, by -4 and -6
+abbrev pub only_of : Bool → Bool → Option Family
+only_of true six = Some families.V4
+only_of false true = Some families.V6
+only_of false false = None
+
+abbrev pub AsksFamily : Found → Option Family → Type 0
+AsksFamily found only =
+    (four six : Bool) × HasFlag found (codes "four") four × HasFlag found (codes "six") six × (only ≡ only_of four six)
+
+-- the port and the settings of the line: where one is not given that of RFC 8305 section 8, and the least floor
+pub record AsksConnection {E : Type 0} (gives : List ℕ → Result ℕ E → Type 0) (found : Found)
+    (connection : Connection) : Type 0 where
+  pub port : NamesPort found connection.port
+  pub only : AsksFamily found connection.only
+  pub changes : ChangeValues
+  pub asked : AsksChanges gives found changes
+  pub settings : connection.settings ≡ connect_settings changes
+  pub lines : option_map (λ path. path.now) connection.lines ≡ first_value found (codes "host-lines")
+  pub record_is : option_map (λ path. path.now) connection.record ≡ first_value found (codes "record")
+  pub explains : HasFlag found (codes "explain") connection.explains
+  pub tells_steps : HasFlag found (codes "verbose") connection.tells_steps
+  pub only_tries : HasFlag found (codes "try") connection.only_tries

@@ -1,0 +1,105 @@
+//! What the words of several commands have in common.
+ghost use Rattle.std.specs.Prelude.{◌≡◌, ◌≤◌, IfOk, codes, length, map};
+ghost use Rattle.clap.specs.Matches.{found_of};
+ghost use Rattle.he_request.specs.Words.{HasFlag, HasNumber, values_of};
+ghost use Rattle.he_request.specs.declared.limits.TheConstants.{MOST_FILES};
+
+use crate::limits::MOST_FILES;
+use crate::refusal::{OptionFault, Refusal};
+use clap::{Arg, ArgAction, ArgMatches, Command};
+use std::alloc::{AllocError, Global};
+use std::str::FromStr;
+
+/// The name that stands for standard input, or for standard output.
+pub const STANDARD: &str = "-";
+
+pub(crate) const FILES_HELP: &str = "Files to read, in order; default is standard input (-)";
+
+pub(crate) const HEADED_FILES_HELP: &str = "\
+Files to read, in order; default is standard input (-).\n\
+Each of several has a line `==> NAME <==` above it";
+
+const VERBOSE_HELP: &str =
+    "Explain the fault of a file as `he check` does,\nand say why a file can't be read or written";
+
+// A command with these arguments, and what help says before and behind them.
+pub(crate) fn plain<'a>(
+    alloc: Global,
+    name: &'a str,
+    about: &'a str,
+    example: &'a str,
+    args: Vec<Arg<'a>>,
+) -> Result<Command<'a>, AllocError> {
+    Command::new(alloc, name)
+        .about(about)
+        .after_help(example)
+        .args(args)
+}
+
+// An option without a value.
+pub(crate) fn flag<'a>(alloc: Global, id: &'a str, help: &'a str) -> Arg<'a> {
+    Arg::new(alloc, id)
+        .long(id)
+        .action(ArgAction::SetTrue)
+        .help(help)
+}
+
+// An option with a value, or with one word for each use.
+pub(crate) fn value<'a>(alloc: Global, id: &'a str, name: &'a str, help: &'a str) -> Arg<'a> {
+    Arg::new(alloc, id).long(id).value_name(name).help(help)
+}
+
+// A word that stands on the line by its place.
+pub(crate) fn word<'a>(alloc: Global, id: &'a str, name: &'a str, help: &'a str) -> Arg<'a> {
+    Arg::new(alloc, id).value_name(name).help(help)
+}
+
+// Whether races are written as JSON.
+pub(crate) fn json<'a>(alloc: Global) -> Arg<'a> {
+    flag(
+        alloc,
+        "json",
+        "Write one JSON object for each race, each on a line",
+    )
+}
+
+// Whether a fault is explained.
+pub(crate) fn verbose<'a>(alloc: Global) -> Arg<'a> {
+    flag(alloc, "verbose", VERBOSE_HELP).short('v')
+}
+
+// The files that are read.
+pub(crate) fn files<'a>(alloc: Global, help: &'a str) -> Arg<'a> {
+    word(alloc, "file", "FILE", help).action(ArgAction::Append)
+}
+
+// The files that the line names, in order.
+pub(crate) fn files_of<'a>(alloc: Global, matches: &ArgMatches<'a>) -> Result<Vec<&'a str>, Refusal>
+    ensures are { IfOk result (λ files. map (λ file. file.now) files.items
+        ≡ values_of (found_of matches.now) (codes "file")) }
+    ensures few { IfOk result (λ files. length files.items ≤ MOST_FILES) }
+{
+    let files = match matches.get_strs("file") {
+        Some(files) => Vec::from_slice(alloc, files)?,
+        None => Vec::new(alloc),
+    };
+    if files.len() > MOST_FILES {
+        return Err(Refusal::Option(OptionFault::Files));
+    }
+    Ok(files)
+}
+
+// Whether the line has this flag.
+pub(crate) fn flag_of(matches: &ArgMatches<'_>, id: &str) -> bool
+    ensures { HasFlag (found_of matches.now) id.now result }
+{
+    matches.get_flag(id)
+}
+
+// The number that the line gives this option. clap has tested its range, but has no clause on a subcommand's
+// arguments.
+pub(crate) fn number_of(matches: &ArgMatches<'_>, id: &str) -> Option<u16>
+    ensures { HasNumber ⟦<u16 as FromStr>⟧.from_str_gives (found_of matches.now) id.now result }
+{
+    matches.get_one::<u16>(id)
+}

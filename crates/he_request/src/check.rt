@@ -1,0 +1,54 @@
+//! `he check`.
+ghost use Rattle.clap.specs.Matches.{found_of};
+ghost use Rattle.he_request.specs.Requests.{AsksCheck};
+
+use crate::arguments::{FILES_HELP, files, flag, flag_of, plain};
+use crate::texts::Task;
+use clap::{ArgMatches, Command};
+use std::alloc::{AllocError, Global};
+
+const ABOUT: &str = "Check timelines, and explain their faults";
+
+const ALL_HELP: &str = "Go on after a faulty race and after a faulty file,\n\
+and explain the first fault of each race";
+
+const EXAMPLE: &str = "\
+Reads timelines, as `he replay` does. Where nothing is wrong, standard output
+has one line, as
+
+  3 races, 27 lines
+
+and standard error a warning of each thing that is allowed and surely not meant,
+as a race without an `aaaa` line, which can't be exhausted. Else standard output
+has nothing, and standard error the first fault: its line by number and by its
+text, a mark below what is wrong there, and what was expected. It reads no
+further than that. With --all it goes on at the next line `race 1` or `race 2`,
+explains the first 1000 faults of a file and counts the others, and goes on at
+the next file.
+
+Example input:
+
+  race 1
+  set attempt 5
+  end
+
+Standard error for it:
+
+  he: line 2: range
+    set attempt 5
+                ^
+  the attempt delay is 10 to 2000 milliseconds";
+
+pub(crate) fn command<'a>(alloc: Global) -> Result<Command<'a>, AllocError> {
+    let args = vec![in alloc; files(alloc, FILES_HELP), flag(alloc, "all", ALL_HELP)]?;
+    plain(alloc, "check", ABOUT, EXAMPLE, args)
+}
+
+// What the line asks for.
+pub(crate) fn task_of(matches: &ArgMatches<'_>) -> Task
+    ensures { AsksCheck (found_of matches.now) result }
+{
+    Task::Check {
+        is_all: flag_of(matches, "all"),
+    }
+}

@@ -1,0 +1,158 @@
+//! `he connect`.
+ghost use Rattle.std.specs.Prelude.{◌≡◌, IfOk};
+ghost use Rattle.clap.specs.Matches.{found_of};
+ghost use Rattle.he_request.specs.Ports.{IsPort};
+ghost use Rattle.he_request.specs.Requests.{AsksConnection, AsksFamily};
+
+use crate::arguments::{STANDARD, flag, flag_of, plain, value, word};
+use crate::limits::MOST_WAIT;
+use crate::port::{Port, port_of};
+use crate::refusal::OptionFault;
+use crate::resolver::{Resolver, resolver_argument, resolver_of};
+use crate::settings::{changes_of, set, settings_of, timeout};
+use clap::{Arg, ArgAction, ArgMatches, Command, value_parser};
+use he_addr::Family;
+use he_timeline::Settings;
+use std::alloc::{AllocError, Global};
+use std::str::FromStr;
+
+const ABOUT: &str = "Connect to a host, and relay standard input and output";
+
+const PORT_HELP: &str =
+    "The TCP port: 1 to 65535, or the name of a service in\n/etc/services, as `https`";
+
+const TRY_HELP: &str = "Close the connection once it is made, with status 0";
+
+const WAIT_HELP: &str = "Wait MS milliseconds for standard input after the\n\
+remote has closed its side; default is 500";
+
+const LINES_HELP: &str = "Take the source, route and policy lines of FILE\n\
+in place of this machine's own";
+
+const RECORD_HELP: &str = "Write the race to FILE, for `he replay`;\n\
+with -z `-` is standard output";
+
+const EXPLAIN_HELP: &str = "Explain the race on standard error, as `he explain`";
+
+const EXAMPLE: &str = "\
+Looks HOST up, both families at once, and tries its addresses as RFC 8305 says,
+each a little after the one before; the first connection is kept, and the others
+are closed. What standard input has goes into the connection, and what comes
+from it to standard output. The end of standard input ends the sending alone. It
+ends once the remote has closed its side, and standard input gave nothing for
+half a second (--wait); or once standard output takes no more.
+
+Without --set these settings hold: attempt=250, resolution=50, count=1,
+limit=30000, floor=10.
+
+Examples:
+
+  he connect example.org http < request
+  ssh -o ProxyCommand='he connect %h %p' example.org
+  he connect -z --timeout 2000 example.org 22 && echo it is there
+  he connect --record day.timeline --explain example.org 443 < request
+
+Where nothing connects, standard error says what was tried:
+
+  he: no connection to example.org port 443: 2 addresses tried: 2001:db8::1
+    refused after 12 ms, 198.51.100.1 no answer in 30000 ms
+
+Exit status: 0 if the connection was made and relayed to its end; 3 if no
+connection was made; 1 after another fault; 2 for a line that is refused, or a
+PORT that is no service.";
+
+// Its arguments, in the order in which help has them. They are made in one list: a chain of `arg`, each of which may
+// be refused memory, takes minutes to prove.
+pub(crate) fn command<'a>(alloc: Global) -> Result<Command<'a>, AllocError> {
+    let six = letter(alloc, "six", '6', "Try IPv6 addresses alone").conflicts_with("four")?;
+    let wait = value(alloc, "wait", "MS", WAIT_HELP);
+    let args = vec![in alloc;
+        word(alloc, "host", "HOST", "The host: a name or an address").required(true),
+        word(alloc, "port", "PORT", PORT_HELP).required(true),
+        letter(alloc, "four", '4', "Try IPv4 addresses alone"),
+        six,
+        letter(alloc, "try", 'z', TRY_HELP),
+        timeout(alloc),
+        set(alloc),
+        wait.value_parser(value_parser!(u32).range(0..=i64::from(MOST_WAIT))),
+        value(alloc, "host-lines", "FILE", LINES_HELP).long("host"),
+        resolver_argument(alloc),
+        value(alloc, "record", "FILE", RECORD_HELP),
+        flag(alloc, "explain", EXPLAIN_HELP),
+        flag(alloc, "verbose", "Tell each step of the race as it happens").short('v'),
+    ]?;
+    plain(alloc, "connect", ABOUT, EXAMPLE, args)
+}
+
+// An option of one letter.
+fn letter<'a>(alloc: Global, id: &'a str, letter: char, help: &'a str) -> Arg<'a> {
+    Arg::new(alloc, id)
+        .short(letter)
+        .action(ArgAction::SetTrue)
+        .help(help)
+}
+
+/// A connection that is made, recorded and relayed.
+#[derive(Clone, Copy)]
+pub struct Connection<'a> {
+    /// A name or an address.
+    pub host: &'a str,
+    pub port: Port<'a>,
+    /// The family that is tried alone; both are where there is none.
+    pub only: Option<Family>,
+    /// The settings of the race.
+    pub settings: Settings,
+    /// The file that has the source, route and policy lines of the race, in place of this machine.
+    pub lines: Option<&'a str>,
+    pub resolver: Resolver,
+    /// Whether the race is explained.
+    pub explains: bool,
+    /// Whether each step is told as it happens.
+    pub tells_steps: bool,
+    /// The file of the record; `-` is standard output, of a connection that is only tried.
+    pub record: Option<&'a str>,
+    /// Whether the connection is closed once it is made.
+    pub only_tries: bool,
+    /// How long standard input is waited for once the remote has ended its way, in milliseconds, where that is given.
+    pub wait: Option<u32>,
+}
+
+// The connection that the line asks for. Its record goes to standard output only where nothing is relayed there.
+pub(crate) fn connection_of<'a>(matches: &ArgMatches<'a>) -> Result<Connection<'a>, OptionFault>
+    ensures port { IfOk result (λ connection. IsPort connection.port) }
+    ensures asks { IfOk result (AsksConnection ⟦<u32 as FromStr>⟧.from_str_gives (found_of matches.now)) }
+{
+    let record = matches.get_str("record");
+    let only_tries = flag_of(matches, "try");
+    if record == Some(STANDARD) && !only_tries {
+        return Err(OptionFault::Record);
+    }
+    let (port, resolver) = (port_of(matches)?, resolver_of(matches)?);
+    Ok(Connection {
+        host: matches.get_str("host").unwrap_or(""),
+        port,
+        only: family_of(matches),
+        settings: settings_of(changes_of(matches)?),
+        lines: matches.get_str("host-lines"),
+        resolver,
+        explains: flag_of(matches, "explain"),
+        tells_steps: flag_of(matches, "verbose"),
+        record,
+        only_tries,
+        wait: matches.get_one::<u32>("wait"),
+    })
+}
+
+// The family that the line asks for alone.
+fn family_of(matches: &ArgMatches<'_>) -> Option<Family>
+    ensures { AsksFamily (found_of matches.now) result }
+{
+    let (four, six) = (flag_of(matches, "four"), flag_of(matches, "six"));
+    if four {
+        Some(Family::V4)
+    } else if six {
+        Some(Family::V6)
+    } else {
+        None
+    }
+}

@@ -1,0 +1,61 @@
+//! `he names`.
+
+use crate::arguments::{flag, flag_of, plain, word};
+use crate::refusal::OptionFault;
+use crate::resolver::{Resolver, resolver_argument, resolver_of};
+use clap::{ArgMatches, Command};
+use std::alloc::{AllocError, Global};
+
+const ABOUT: &str = "Find the addresses of a host, as the answers of a race";
+
+const HOST_HELP: &str = "A host name, as www.example.com, or an address";
+
+const EXAMPLE: &str = "\
+Standard output has the two answers that a timeline wants, each with the tick
+(millisecond since the start) at which it came; `none` where a family has no
+address.
+
+Example: `he names www.example.com` may write
+
+  aaaa 31 2001:db8:1::1 2001:db8:1::2
+  a 12 198.51.100.1
+
+An address is its own answer, and a name of /etc/hosts has the addresses there.
+Any other is asked of the name servers of /etc/resolv.conf, both families at
+once, over UDP, and over TCP where an answer is cut off; `search` and the
+options ndots, timeout and attempts count as resolv.conf(5) has them. With
+`--resolver system` all of it is left to the system (getaddrinfo), which gives
+both families at once.
+
+Where the look-up of a family failed, standard error says why; what the other
+gave is written. With -v standard error has what happened, by its millisecond:
+which server answered, failed, or did not answer in time.
+
+Exit status: 0 if an address was found and no look-up failed; 1 after a fault,
+as where there is no such name; 2 for a line that is refused.";
+
+pub(crate) fn command<'a>(alloc: Global) -> Result<Command<'a>, AllocError> {
+    let host = word(alloc, "host", "HOST", HOST_HELP).required(true);
+    let verbose = flag(alloc, "verbose", "Tell what happened in the look-up").short('v');
+    let args = vec![in alloc; host, resolver_argument(alloc), verbose]?;
+    plain(alloc, "names", ABOUT, EXAMPLE, args)
+}
+
+/// The addresses of a host, which are to be found.
+#[derive(Clone, Copy)]
+pub struct Names<'a> {
+    /// A name or an address.
+    pub host: &'a str,
+    pub resolver: Resolver,
+    /// Whether what happened is told.
+    pub tells_steps: bool,
+}
+
+// What the line asks for.
+pub(crate) fn names_of<'a>(matches: &ArgMatches<'a>) -> Result<Names<'a>, OptionFault> {
+    Ok(Names {
+        host: matches.get_str("host").unwrap_or(""),
+        resolver: resolver_of(matches)?,
+        tells_steps: flag_of(matches, "verbose"),
+    })
+}

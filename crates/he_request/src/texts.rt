@@ -1,0 +1,107 @@
+//! What a line asks for of texts of races.
+ghost use Rattle.std.specs.Prelude.{◌≡◌, ◌≤◌, IfOk, option_map};
+ghost use Rattle.clap.specs.Matches.{found_of};
+ghost use Rattle.he_request.specs.Requests.{AsksTexts, HasTaskWorkers, IsTexts, tells_faults};
+ghost use Rattle.he_request.specs.declared.texts.Task.TheVariants.{Write};
+
+use crate::arguments::{files_of, flag_of};
+use crate::limits::LEAST_WORKERS;
+use crate::refusal::Refusal;
+use crate::settings::changes_of;
+use clap::ArgMatches;
+use he_timeline::Changes;
+use std::alloc::Global;
+use std::str::FromStr;
+
+/// What is done with a text of races.
+#[derive(Clone, Copy)]
+pub enum Task {
+    /// To write this of each race, by at most so many workers, 1 to 64.
+    Write { content: Content, workers: u16 },
+    /// To compare its races with what they would be with other settings.
+    Compare,
+    /// To check it, and to explain its first fault, or each after which it goes on, or to warn of its slips.
+    Check { is_all: bool },
+    /// To sum its races up with those of the other texts, as JSON or in lines.
+    Summarize { is_json: bool },
+}
+
+/// What is written of a race.
+#[derive(Clone, Copy)]
+pub enum Content {
+    /// What happens in it, as JSON or in lines.
+    Transcript { is_json: bool },
+    /// In which order its addresses are to be tried.
+    Order { is_json: bool },
+    /// Why it went as it did, for scripts.
+    Explanation { is_json: bool },
+    /// The same for a person to read.
+    Story,
+    /// Its picture, of so many columns.
+    Picture { is_ascii: bool, width: u16 },
+    /// The same as an SVG image.
+    Image,
+    /// That image beside its story, a part of a page.
+    Section,
+}
+
+/// Texts that something is done with.
+#[derive(Drop)]
+pub struct Texts<'a> {
+    pub task: Task,
+    /// The settings that each race has in place of its own.
+    pub changes: Changes,
+    /// The files that have them, one after the other, `-` for standard input; where there are none, it has one.
+    pub files: Vec<&'a str>,
+    /// Whether the files after one that has a fault are read too.
+    pub goes_on: bool,
+    /// Whether a fault is explained: that of a file as a check does, and why it can't be read or nothing written.
+    pub explains: bool,
+    /// The file of a page, in place of the output.
+    pub page: Option<&'a str>,
+}
+
+impl Task {
+    /// Whether what it tells of a text has each fault.
+    pub fn tells_faults(self) -> bool
+        ensures { result ≡ tells_faults self }
+    {
+        match self {
+            Task::Check { is_all } => is_all,
+            _ => false,
+        }
+    }
+}
+
+// To write this of each race, by one worker.
+pub(crate) fn alone(content: Content) -> Task
+    ensures has { HasTaskWorkers result }
+    ensures is { result ≡ Write content 1 }
+{
+    Task::Write {
+        content,
+        workers: LEAST_WORKERS,
+    }
+}
+
+// The texts that the line names, with which this is done, in the output or in the file of this page.
+pub(crate) fn texts_of<'a>(
+    alloc: Global,
+    task: Task,
+    page: Option<&'a str>,
+    matches: &ArgMatches<'a>,
+) -> Result<Texts<'a>, Refusal>
+    requires { HasTaskWorkers task }
+    ensures is { IfOk result IsTexts }
+    ensures asks { IfOk result (AsksTexts ⟦<u32 as FromStr>⟧.from_str_gives (found_of matches.now) task
+        (option_map (λ path. path.now) page.entry)) }
+{
+    Ok(Texts {
+        task,
+        changes: changes_of(matches)?,
+        files: files_of(alloc, matches)?,
+        goes_on: flag_of(matches, "keep-going") || task.tells_faults(),
+        explains: flag_of(matches, "verbose") || matches!(task, Task::Check { .. }),
+        page,
+    })
+}

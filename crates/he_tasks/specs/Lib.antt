@@ -1,0 +1,5 @@
+pub mod Status
+pub mod Streams
+pub mod Summaries
+pub mod Texts
+pub mod Whole

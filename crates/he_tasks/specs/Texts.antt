@@ -1,0 +1,150 @@
+-- What is done with texts of races, of standard input or of files, and how the status tells how that ended.
+use Rattle.std.specs.Prelude.{◌≡◌, ◌≢◌, ◌⊎◌, ◌++◌, ℕ, Bool, true, false, List, [], ◌∷◌, Option, Some, None, Result, Err, codes, if◌then◌else◌, option_map}
+use Rattle.std.specs.Borrow.{Bor}
+use Rattle.he_check.specs.Stream.{Checks}
+use Rattle.he_compare.specs.Stream.{Compares}
+use Rattle.he_page.specs.Page.{name_text}
+use Rattle.he_timeline.specs.Changes.{ChangeValues}
+use Rattle.he_draw.specs.declared.look.Look.{Look}
+use Rattle.he_draw.specs.declared.look.Look.TheVariants as looks
+use Rattle.he_replay.specs.Stream.{Replays}
+use Rattle.he_replay.specs.declared.race_texts.Content.{Content}
+use Rattle.he_replay.specs.declared.race_texts.Content.TheVariants as contents
+use Rattle.he_stream.specs.declared.stream.InputStream as inputs
+use Rattle.he_stream.specs.declared.stream.OutputStream as outputs
+use Rattle.he_inputs.specs.declared.stream_fault.StreamFault.{StreamFault}
+use Rattle.he_summary.specs.Summed.{Sums}
+use Rattle.he_request.specs.Shown.{shown}
+use Rattle.he_request.specs.declared.texts.Content.TheVariants as asked
+use Rattle.he_request.specs.declared.texts.Content.{Content as Asked}
+use Rattle.he_request.specs.declared.texts.Task.{Task}
+use Rattle.he_request.specs.declared.texts.Task.TheVariants.{Write, Compare, Check, Summarize}
+use Rattle.he_request.specs.declared.texts.Texts.{Texts}
+use Rattle.he_tasks.specs.Status.{first_fault, status_of}
+use Rattle.he_tasks.specs.Streams.{Gave, GaveSoFar, TookAll, TookPart, TookRounds, TookRoundsPart, TookToTheEnd}
+use Rattle.he_tasks.specs.Summaries.{AddsSums}
+use Rattle.he_tasks.specs.declared.name.Name.{Name}
+use Rattle.he_tasks.specs.declared.reports.TheConstants.{DONE, FAULT}
+
+abbrev pub look_of : Bool → Look
+look_of ascii = if ascii then looks.Ascii else looks.Unicode
+
+-- what he_replay writes of a race where this is asked for
+abbrev pub content_of : Asked → Content
+content_of (asked.Transcript json) = if json then contents.TranscriptJson else contents.Transcript
+content_of (asked.Order json) = if json then contents.OrderJson else contents.Order
+content_of (asked.Explanation json) = if json then contents.ExplanationJson else contents.Explanation
+content_of asked.Story = contents.Story
+content_of (asked.Picture ascii width) = contents.Picture (look_of ascii) width
+content_of asked.Image = contents.Image
+content_of asked.Section = contents.Section
+
+-- What comes of a text, each of whose races has these changes of its settings, where its input went from the first to
+-- the last state, and the output and the sums from before to after. That a check tells all faults, or the first, is no
+-- part of it.
+abbrev pub RunsTask : {I O : Type 0} → inputs.Ghosts I → outputs.Ghosts O → Task → ChangeValues → I → I
+    → O × Option Sums → O × Option Sums → Result (Unit {0}) StreamFault → Type 0
+RunsTask input output (Write content workers) changes first last before after =
+    Replays (content_of content) changes (Gave input first last) (GaveSoFar input first last)
+    (TookToTheEnd output before.0 after.0) (TookRoundsPart output before.0 after.0)
+    (TookRounds output before.0 after.0)
+RunsTask input output Compare changes first last before after =
+    Compares changes (Gave input first last) (TookAll output before.0 after.0) (TookPart output before.0 after.0)
+    (after.0 ≡ before.0)
+RunsTask input output (Check is_all) changes first last before after =
+    Checks (Gave input first last) (GaveSoFar input first last) (TookAll output before.0 after.0)
+    (TookPart output before.0 after.0) (after.0 ≡ before.0)
+RunsTask input output (Summarize json) changes first last before after =
+    λ result. (after.0 ≡ before.0) × AddsSums input changes first last before.1 after.1 result
+
+-- a line as head(1) and tail(1) write it above each of several files
+abbrev pub name_line : List ℕ → List ℕ
+name_line name = codes "==> " ++ name ++ codes " <==\n"
+
+-- the heading of a text of this name above what is written of its races, where that has their places in the text, as
+-- `race 1, line 1`, and does not stand for itself alone
+abbrev pub heading_of : List ℕ → Task → Option (List ℕ)
+heading_of name (Write asked.Story workers) = Some (name_line name)
+heading_of name (Write (asked.Picture ascii width) workers) = Some (name_line name)
+heading_of name (Write asked.Section workers) = Some (name_text name)
+heading_of name Compare = Some (name_line name)
+heading_of name _ = None
+
+-- whether there are several, so that they have headings
+abbrev pub has_headings : {N : Type 0} → List N → Bool
+has_headings [] = false
+has_headings (one ∷ []) = false
+has_headings (one ∷ two ∷ more) = true
+
+-- the name of a text, as it is shown
+abbrev pub shown_name : Option Name → Option (List ℕ)
+shown_name name = option_map (λ n. n.shown.now) name
+
+-- the heading of a text that is shown by this name, if it has one
+abbrev pub heading : Task → Bool → Option (List ℕ) → Option (List ℕ)
+heading task true (Some name) = heading_of name task
+heading task true None = None
+heading task false name = None
+
+abbrev pub heading_in : Texts → Option Name → Option (List ℕ)
+heading_in texts name = heading texts.task (has_headings texts.files.items) (shown_name name)
+
+-- the heading, where there is one, was put
+abbrev pub HasHeading : {O : Type 0} → outputs.Ghosts O → Option (List ℕ) → O → O → Type 0
+HasHeading output None before after = after ≡ before
+HasHeading output (Some text) before after = TookAll output before after text
+
+-- a first part of it was put until that failed, or nothing for want of memory
+abbrev pub LacksHeading : {O : Type 0} → outputs.Ghosts O → Option (List ℕ) → O → O → Type 0
+LacksHeading output None before after = ⊥
+LacksHeading output (Some text) before after = TookPart output before after text ⊎ (after ≡ before)
+
+-- the task was done below the heading; or there was a fault in that, and nothing was read
+abbrev pub RunsHeaded : {I O : Type 0} → inputs.Ghosts I → outputs.Ghosts O → Task → ChangeValues → Option (List ℕ) → I
+    → I → O × Option Sums → O × Option Sums → Result (Unit {0}) StreamFault → Type 0
+RunsHeaded {I} {O} input output task changes text first last before after result =
+    ((between : O) × HasHeading output text before.0 between
+    × RunsTask input output task changes first last (between, before.1) after result)
+    ⊎ ((fault : StreamFault) × (result ≡ Err fault) × (last ≡ first) × LacksHeading output text before.0 after.0)
+
+-- what comes of a text that is shown by this name, if it has one, by the states of its input and of what it is worked
+-- into, and by the status
+abbrev pub OfText : Type 0 → Type 1
+OfText S = Option (List ℕ) → (I : Type 0) → inputs.Ghosts I → I → I → S → S → ℕ → Type 0
+
+-- it was done below its heading, and the status tells how that ended
+abbrev pub RunsText : {O : Type 0} → outputs.Ghosts O → Task → ChangeValues → Bool → OfText (O × Option Sums)
+RunsText output task changes headed name I input first last before after status =
+    (result : Result (Unit {0}) StreamFault)
+    × RunsHeaded input output task changes (heading task headed name) first last before after result
+    × (status ≡ status_of result)
+
+-- what comes of one of these texts
+abbrev pub RunsOne : {O : Type 0} → outputs.Ghosts O → Texts → OfText (O × Option Sums)
+RunsOne output texts = RunsText output texts.task texts.changes (has_headings texts.files.items)
+
+-- what comes of a name: `-` is the input; another is a file, which gave a text, or which can't be opened
+abbrev pub RunsFile : {I F S : Type 0} → OfText S → inputs.Ghosts I → inputs.Ghosts F → Bor (List ℕ) → I → I → S → S
+    → ℕ → Type 0
+RunsFile {I} {F} Runs input file name first last before after status =
+    ((name.now ≡ codes "-") × Runs (Some name.now) I input first last before after status)
+    ⊎ ((name.now ≢ codes "-") × (last ≡ first)
+    × (((opened : F) × (closed : F) × Runs (Some (shown name.now)) F file opened closed before after status)
+    ⊎ ((after ≡ before) × (status ≡ FAULT))))
+
+-- What comes of files, one after the other: those after one that has a fault are left out, or not. The status is that
+-- of the first fault.
+abbrev pub RunsFiles : {N I S : Type 0} → Bool → (N → I → I → S → S → ℕ → Type 0) → List N → I → I → S → S → ℕ
+    → Type 0
+RunsFiles goes_on Runs [] first last before after status = (last ≡ first) × (after ≡ before) × (status ≡ DONE)
+RunsFiles {N} {I} {S} goes_on Runs (name ∷ more) first last before after status =
+    ((goes_on ≡ false) × (status ≢ DONE) × Runs name first last before after status)
+    ⊎ ((one : ℕ) × (rest : ℕ) × (next : I) × (between : S) × ((goes_on ≡ true) ⊎ (one ≡ DONE))
+    × Runs name first next before between one × RunsFiles goes_on Runs more next last between after rest
+    × (status ≡ first_fault one rest))
+
+-- what comes of the texts that a line names; of that of the input where it names no file
+abbrev pub RunsAll : {I F S : Type 0} → Bool → OfText S → inputs.Ghosts I → inputs.Ghosts F → List (Bor (List ℕ)) → I
+    → I → S → S → ℕ → Type 0
+RunsAll {I} goes_on Runs input file [] = Runs None I input
+RunsAll goes_on Runs input file (name ∷ more) = RunsFiles goes_on (RunsFile Runs input file) (name ∷ more)

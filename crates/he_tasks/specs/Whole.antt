@@ -1,0 +1,66 @@
+-- What is written of all the texts that a line names: by what is known of the input, of the files that are read, of a
+-- file that is written, and of the output.
+use Rattle.std.specs.Prelude.{◌≡◌, ◌⊎◌, ℕ, [], List, Option, Some, None, MatchOption}
+use Rattle.he_page.specs.Page.{head_text}
+use Rattle.he_request.specs.declared.texts.Content.TheVariants.{Section}
+use Rattle.he_request.specs.declared.texts.Task.{Task}
+use Rattle.he_request.specs.declared.texts.Task.TheVariants.{Write}
+use Rattle.he_request.specs.declared.texts.Texts.{Texts}
+use Rattle.he_stream.specs.declared.stream.InputStream as inputs
+use Rattle.he_stream.specs.declared.stream.OutputStream as outputs
+use Rattle.he_summary.specs.Summed.{HasSummed, Sums}
+use Rattle.he_tasks.specs.Status.{first_fault}
+use Rattle.he_tasks.specs.Summaries.{EndsTexts}
+use Rattle.he_tasks.specs.Texts.{HasHeading, LacksHeading, RunsAll, RunsOne}
+use Rattle.he_tasks.specs.declared.reports.TheConstants.{DONE, FAULT}
+
+-- a page begins with its head
+abbrev pub head_of : Task → Option (List ℕ)
+head_of (Write Section workers) = Some head_text
+head_of _ = None
+
+-- The head was put, then what comes of the texts, one after the other, with the sums of no race to begin with, and then
+-- what ends it.
+pub record WritesAll {I F O : Type 0} (input : inputs.Ghosts I) (file : inputs.Ghosts F) (output : outputs.Ghosts O)
+    (texts : Texts) (first last : I) (before after : O) (status : ℕ) : Type 0 where
+  pub none : Sums
+  pub sums_none : HasSummed none []
+  pub headed : O
+  pub head : HasHeading output (head_of texts.task) before headed
+  pub told : O
+  pub sums : Option Sums
+  pub own : ℕ
+  pub runs : RunsAll texts.goes_on (RunsOne output texts) input file texts.files.items first last (headed, Some none)
+      (told, sums) own
+  pub end : ℕ
+  pub ends : EndsTexts output texts.task sums told after end
+  pub status_is : status ≡ first_fault own end
+
+-- that; or there was a fault in putting the head, and nothing was read
+abbrev pub WritesTexts : {I F O : Type 0} → inputs.Ghosts I → inputs.Ghosts F → outputs.Ghosts O → Texts → I → I → O
+    → O → ℕ → Type 0
+WritesTexts input file output texts first last before after status =
+    WritesAll input file output texts first last before after status
+    ⊎ ((status ≡ FAULT) × (last ≡ first) × LacksHeading output (head_of texts.task) before after)
+
+-- that was done in a file that was made for it
+abbrev pub FillsFile : {I F P : Type 0} → inputs.Ghosts I → inputs.Ghosts F → outputs.Ghosts P → Texts → I → I → ℕ
+    → Type 0
+FillsFile {I} {F} {P} input file page texts first last status =
+    (made written : P) × WritesTexts input file page texts first last made written status
+
+-- and the file has its name; or that failed, or the file could not be made, and nothing was read
+abbrev pub WritesFile : {I F P : Type 0} → inputs.Ghosts I → inputs.Ghosts F → outputs.Ghosts P → Texts → I → I → ℕ
+    → Type 0
+WritesFile input file page texts first last status =
+    ((one : ℕ) × FillsFile input file page texts first last one
+    × ((status ≡ one) ⊎ ((one ≡ DONE) × (status ≡ FAULT))))
+    ⊎ ((status ≡ FAULT) × (last ≡ first))
+
+-- what comes of the texts that a line names, in the output or in the file that it names for it
+abbrev pub DoesTexts : {I F P O : Type 0} → inputs.Ghosts I → inputs.Ghosts F → outputs.Ghosts P → outputs.Ghosts O
+    → Texts → I → I → O → O → ℕ → Type 0
+DoesTexts input file page output texts first last before after status =
+    MatchOption texts.page
+    (WritesTexts input file output texts first last before after status)
+    (λ _. (after ≡ before) × WritesFile input file page texts first last status)

@@ -1,0 +1,34 @@
+//! What is written of a race, as `he_replay` has it.
+ghost use Rattle.std.specs.Prelude.{◌≡◌};
+ghost use Rattle.he_tasks.specs.Texts.{content_of, look_of};
+
+use he_draw::Look;
+use he_replay::Content;
+use he_request::texts::Content as Asked;
+
+// What `he_replay` writes where this is asked for.
+pub(crate) fn content_of(asked: Asked) -> Content
+    ensures { result ≡ content_of asked }
+{
+    match asked {
+        Asked::Transcript { is_json: false } => Content::Transcript,
+        Asked::Transcript { is_json: true } => Content::TranscriptJson,
+        Asked::Order { is_json: false } => Content::Order,
+        Asked::Order { is_json: true } => Content::OrderJson,
+        Asked::Explanation { is_json: false } => Content::Explanation,
+        Asked::Explanation { is_json: true } => Content::ExplanationJson,
+        Asked::Story => Content::Story,
+        Asked::Picture { is_ascii, width } => Content::Picture {
+            look: look_of(is_ascii),
+            width,
+        },
+        Asked::Image => Content::Image,
+        Asked::Section => Content::Section,
+    }
+}
+
+fn look_of(is_ascii: bool) -> Look
+    ensures { result ≡ look_of is_ascii }
+{
+    if is_ascii { Look::Ascii } else { Look::Unicode }
+}

@@ -1,0 +1,71 @@
+//! What a run of the program is handed.
+ghost use Rattle.std.specs.Prelude.{◌≡◌, OnErr, OnOk};
+ghost use Rattle.he_tasks.specs.Streams.{PutsText, TookAll, TookPart};
+
+use crate::name::Name;
+use crate::reports::{DONE, FAULT, report_in, tell_reason};
+use he_inputs::StreamFault;
+use he_stream::{OutputStream, write_whole};
+use std::alloc::Global;
+use std::io::{ErrorKind, Write};
+
+/// What a run of the program is handed, beside its input.
+#[derive(Drop)]
+pub struct Session<'r, 'n, R, O, F> {
+    /// The system: files, the network, threads, a clock.
+    pub system: &'r R,
+    pub alloc: Global,
+    /// What is asked for goes here.
+    pub output: O,
+    /// What is wrong goes here. What can't be written to it leaves the exit status as it is.
+    pub faults: F,
+    /// The file that the output is; None for standard output.
+    pub file: Option<Name<'n>>,
+    /// How many files were not read to their end.
+    pub unread: usize,
+}
+
+// Puts a text into an output, and flushes it.
+pub(crate) fn put_text<O: OutputStream>(text: &[u8], output: &mut O) -> Result<(), StreamFault>
+    ensures ok { OnOk result (TookAll O.OutputStream output.old output.new text.now) }
+    ensures err { OnErr result (TookPart O.OutputStream output.old output.new text.now) }
+{
+    write_whole(output, text).map_err(|_| StreamFault::Write)
+}
+
+/// Puts a text into the output, and answers the exit status. Why that failed is said where it explains.
+pub fn put_all<R, O: OutputStream, F: Write>(
+    session: &mut Session<'_, '_, R, O, F>,
+    text: &[u8],
+    explains: bool,
+) -> u8
+    ensures { PutsText O.OutputStream text.now session.old.output session.new.output result }
+{
+    match put_text(text, &mut session.output) {
+        Ok(()) => DONE,
+        Err(_) => report_unwritten(session, explains),
+    }
+}
+
+/// Says that the output can't be written, and why where it explains or a file is named, and answers the exit status.
+/// Nothing is said where the reader of a pipe has gone.
+pub fn report_unwritten<R, O: OutputStream, F: Write>(
+    session: &mut Session<'_, '_, R, O, F>,
+    explains: bool,
+) -> u8
+    ensures status { result ≡ FAULT }
+    ensures output { session.new.output ≡ session.old.output }
+{
+    let faults = &mut session.faults;
+    match (session.output.failure(), session.file) {
+        (Some(error), _) if error.kind() == ErrorKind::BrokenPipe => FAULT,
+        (Some(error), Some(file)) => report_in(Some(file), error, faults),
+        (failure, file) => {
+            let status = report_in(file, StreamFault::Write, faults);
+            if explains {
+                tell_reason(failure, faults);
+            }
+            status
+        }
+    }
+}

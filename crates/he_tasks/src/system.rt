@@ -1,0 +1,14 @@
+//! What a task is lent.
+
+use std::alloc::AllocGlobal;
+use std::random::RandomSource;
+use std::rt::Files;
+use std::thread::Threads;
+
+/// Memory, files, random numbers and threads.
+pub trait TaskSystem: AllocGlobal + Files + RandomSource + Threads + Sync {}
+
+impl<R> TaskSystem for R
+where
+    R: AllocGlobal + Files + RandomSource + Threads + Sync,
+{}

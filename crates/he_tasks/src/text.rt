@@ -1,0 +1,216 @@
+//! What is written of one text of races, or told of it.
+ghost use Rattle.std.specs.Prelude.{◌≡◌, ◌+◌, ℕ, IfOk, OnErr, OnOk, true};
+ghost use Rattle.he_page.specs.Page.{name_text};
+ghost use Rattle.he_tasks.specs.Status.{status_of};
+ghost use Rattle.he_tasks.specs.Summaries.{AddsSums, MayAddAll};
+ghost use Rattle.he_request.specs.Requests.{HasTaskWorkers};
+ghost use Rattle.he_tasks.specs.Texts.{HasHeading, LacksHeading, RunsHeaded, RunsOne, RunsTask};
+ghost use Rattle.he_tasks.specs.Texts.{has_headings, heading, heading_in, name_line, shown_name};
+
+use crate::content::content_of;
+use crate::name::Name;
+use crate::reports::{DONE, FAULT, explain_in, report_in, tell_lines, tell_reason};
+use crate::session::{Session, put_text, report_unwritten};
+use crate::system::TaskSystem;
+use he_addr::Memory;
+use he_check::check;
+use he_compare::compare;
+use he_inputs::StreamFault;
+use he_page::write_name;
+use he_replay::{TextRequest, replay};
+use he_request::{Content, Task, Texts};
+use he_stream::{InputStream, OutputStream};
+use he_summary::Summary;
+use he_timeline::Changes;
+use std::alloc::{AllocError, Global};
+use std::io::Write;
+use std::mem::drop;
+
+// One of the texts, and its name if it has one.
+#[derive(Clone, Copy)]
+pub(crate) struct Text<'t> {
+    pub(crate) texts: &'t Texts<'t>,
+    pub(crate) name: Option<Name<'t>>,
+}
+
+// Does what is asked for with one text, and tells how that ended.
+pub(crate) fn run_text<R: TaskSystem, I: InputStream, O: OutputStream, F: Write>(
+    session: &mut Session<'_, '_, R, O, F>,
+    text: Text<'_>,
+    input: &mut I,
+    sums: &mut Option<Summary<Global>>,
+) -> u8
+    requires task { HasTaskWorkers text.texts.now.task }
+    requires may { (more : ℕ) × MayAddAll sums.old (more + 1) }
+    ensures done { RunsOne O.OutputStream text.entry.texts.now (shown_name text.entry.name) I I.InputStream
+        input.old input.new (session.old.output, sums.old) (session.new.output, sums.new) result }
+    ensures more { (more : ℕ) → MayAddAll sums.old (more + 1) → MayAddAll sums.new more }
+{
+    let mut told = Vec::new(session.alloc);
+    let end = run_headed(session, text, input, sums, &mut told);
+    let status = tell_end(session, text, end, input, &told);
+    drop(told);
+    status
+}
+
+// Does it with one text, below its heading where it has one. What a check tells of it stands in `told` then.
+fn run_headed<R: TaskSystem, I: InputStream, O: OutputStream, F>(
+    session: &mut Session<'_, '_, R, O, F>,
+    text: Text<'_>,
+    input: &mut I,
+    sums: &mut Option<Summary<Global>>,
+    told: &mut Vec<u8>,
+) -> Result<(), StreamFault>
+    requires task { HasTaskWorkers text.texts.now.task }
+    requires may { (more : ℕ) × MayAddAll sums.old (more + 1) }
+    ensures done { RunsHeaded I.InputStream O.OutputStream text.entry.texts.now.task text.entry.texts.now.changes
+        (heading_in text.entry.texts.now text.entry.name) input.old input.new (session.old.output, sums.old) (session.new.output, sums.new) result }
+    ensures more { (more : ℕ) → MayAddAll sums.old (more + 1) → MayAddAll sums.new more }
+{
+    if has_headings(text.texts) {
+        put_heading(session.alloc, text, &mut session.output)?;
+    }
+    run_task(session, text.texts, input, sums, told)
+}
+
+// Whether there are several texts, so that they have headings.
+fn has_headings(texts: &Texts<'_>) -> bool
+    ensures { result ≡ has_headings texts.now.files.items }
+{
+    texts.files.len() > 1
+}
+
+// Puts the heading of a text, where what is written of it has one.
+fn put_heading<O: OutputStream>(
+    alloc: Global,
+    text: Text<'_>,
+    output: &mut O,
+) -> Result<(), StreamFault>
+    ensures ok { OnOk result (HasHeading O.OutputStream
+        (heading text.entry.texts.now.task true (shown_name text.entry.name)) output.old output.new) }
+    ensures err { OnErr result (LacksHeading O.OutputStream
+        (heading text.entry.texts.now.task true (shown_name text.entry.name)) output.old output.new) }
+{
+    let Some(name) = text.name else {
+        return Ok(());
+    };
+    match text.texts.task {
+        Task::Compare
+        | Task::Write {
+            content: Content::Story | Content::Picture { .. },
+            ..
+        } => put_text(&name_line(alloc, name.shown)?, output),
+        Task::Write {
+            content: Content::Section,
+            ..
+        } => put_text(&name_in_page(alloc, name.shown)?, output),
+        _ => Ok(()),
+    }
+}
+
+// The name as head(1) and tail(1) write it above each of several files.
+fn name_line(alloc: Global, name: &str) -> Result<Vec<u8>, AllocError>
+    ensures { IfOk result (λ line. line.items ≡ name_line name.now) }
+{
+    let mut line = Vec::new(alloc);
+    line.extend_from_slice(b"==> ")?;
+    line.extend_from_slice(name.as_bytes())?;
+    line.extend_from_slice(b" <==\n")?;
+    Ok(line)
+}
+
+fn name_in_page(alloc: Global, name: &str) -> Result<Vec<u8>, Memory>
+    ensures { IfOk result (λ line. line.items ≡ name_text name.now) }
+{
+    let mut line = Vec::new(alloc);
+    write_name(name, &mut line)?;
+    Ok(line)
+}
+
+// Does it with one text. What a check tells of it stands in `told` then.
+fn run_task<R: TaskSystem, I: InputStream, O: OutputStream, F>(
+    session: &mut Session<'_, '_, R, O, F>,
+    texts: &Texts<'_>,
+    input: &mut I,
+    sums: &mut Option<Summary<Global>>,
+    told: &mut Vec<u8>,
+) -> Result<(), StreamFault>
+    requires task { HasTaskWorkers texts.now.task }
+    requires may { (more : ℕ) × MayAddAll sums.old (more + 1) }
+    ensures done { RunsTask I.InputStream O.OutputStream texts.now.task texts.now.changes input.old input.new
+        (session.old.output, sums.old) (session.new.output, sums.new) result }
+    ensures more { (more : ℕ) → MayAddAll sums.old (more + 1) → MayAddAll sums.new more }
+{
+    let (alloc, changes) = (session.alloc, texts.changes);
+    match texts.task {
+        Task::Write { content, workers } => {
+            let asked = TextRequest {
+                content: content_of(content),
+                changes,
+            };
+            replay(
+                session.system,
+                alloc,
+                asked,
+                workers,
+                input,
+                &mut session.output,
+            )
+        }
+        Task::Compare => compare(alloc, changes, input, &mut session.output),
+        Task::Check { is_all } => check(alloc, is_all, input, &mut session.output, told),
+        Task::Summarize { .. } => add_text(changes, input, sums),
+    }
+}
+
+// Adds the races of a text to the sums. There are no sums after one for which there was no memory.
+fn add_text<I: InputStream>(
+    changes: Changes,
+    input: &mut I,
+    sums: &mut Option<Summary<Global>>,
+) -> Result<(), StreamFault>
+    requires { (more : ℕ) × MayAddAll sums.old (more + 1) }
+    ensures done { AddsSums I.InputStream changes input.old input.new sums.old sums.new result }
+    ensures more { (more : ℕ) → MayAddAll sums.old (more + 1) → MayAddAll sums.new more }
+{
+    let Some(mut summary) = sums.take() else {
+        return Err(StreamFault::Memory);
+    };
+    let end = summary.add(changes, input);
+    match end {
+        Err(StreamFault::Memory) => drop(summary),
+        _ => *sums = Some(summary),
+    }
+    end
+}
+
+// Says how it ended and what is told, and answers the exit status.
+fn tell_end<R: TaskSystem, I: InputStream, O: OutputStream, F: Write>(
+    session: &mut Session<'_, '_, R, O, F>,
+    text: Text<'_>,
+    end: Result<(), StreamFault>,
+    input: &I,
+    told: &[u8],
+) -> u8
+    ensures status { result ≡ status_of end }
+    ensures output { session.new.output ≡ session.old.output }
+{
+    let texts = text.texts;
+    let status = match end {
+        Ok(()) => DONE,
+        // It stands among those that are told.
+        Err(StreamFault::Text(_) | StreamFault::Read) if texts.task.tells_faults() => FAULT,
+        Err(StreamFault::Write) => report_unwritten(session, texts.explains),
+        Err(fault) => report_in(text.name, fault, &mut session.faults),
+    };
+    let faults = &mut session.faults;
+    tell_lines(text.name, told, faults);
+    match end {
+        Err(StreamFault::Text(fault)) if texts.explains && told.is_empty() => {
+            explain_in(session.system, session.alloc, text.name, fault, faults)
+        }
+        Err(StreamFault::Read) if texts.explains => tell_reason(input.failure(), faults),
+        _ => {}
+    }
+    status
+}

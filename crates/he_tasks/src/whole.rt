@@ -1,0 +1,137 @@
+//! What is written of all the texts that a line names, to the output or to a file.
+ghost use Rattle.std.specs.Prelude.{◌≡◌, OnErr, OnOk};
+ghost use Rattle.he_request.specs.Requests.{IsTexts};
+ghost use Rattle.he_tasks.specs.Texts.{HasHeading, LacksHeading};
+ghost use Rattle.he_tasks.specs.Whole.{DoesTexts, FillsFile, WritesFile, WritesTexts, head_of};
+
+use crate::files::run_all;
+use crate::name::Name;
+use crate::reports::{DONE, first_fault, report, report_path};
+use crate::session::{Session, put_text, report_unwritten};
+use crate::summary::end_texts;
+use crate::system::TaskSystem;
+use he_files::create_beside;
+use he_inputs::StreamFault;
+use he_page::write_head;
+use he_request::shown::shown;
+use he_request::{Content, Task, Texts};
+use he_stream::{FromReader, InputStream, OutputStream, ToWriter};
+use he_summary::Summary;
+use std::alloc::Global;
+use std::io::Write;
+use std::mem::drop;
+
+/// Does what is asked for with the texts of the files that are named, or with that of the input where none is, into
+/// the output or into the file of a page, and answers the exit status.
+pub fn run_texts<R: TaskSystem, I: InputStream, O: OutputStream, F: Write>(
+    session: &mut Session<'_, '_, R, O, F>,
+    texts: &Texts<'_>,
+    input: &mut I,
+) -> u8
+    requires { IsTexts texts.now }
+    ensures { DoesTexts I.InputStream ⟦<FromReader<R::File> as InputStream>⟧ ⟦<ToWriter<R::File> as OutputStream>⟧
+        O.OutputStream texts.now input.old input.new session.old.output session.new.output result }
+{
+    match texts.page {
+        Some(path) => write_file(session, texts, path, input),
+        None => write_texts(session, texts, input),
+    }
+}
+
+// Does it into a new file, which takes the place of the one of this path once it is whole.
+fn write_file<R: TaskSystem, I: InputStream, O: OutputStream, F: Write>(
+    session: &mut Session<'_, '_, R, O, F>,
+    texts: &Texts<'_>,
+    path: &str,
+    input: &mut I,
+) -> u8
+    requires { IsTexts texts.now }
+    ensures output { session.new.output ≡ session.old.output }
+    ensures file { WritesFile I.InputStream ⟦<FromReader<R::File> as InputStream>⟧
+        ⟦<ToWriter<R::File> as OutputStream>⟧ texts.now input.old input.new result }
+{
+    let (rt, alloc) = (session.system, session.alloc);
+    let (file, name) = match create_beside(rt, alloc, path) {
+        Ok(made) => made,
+        Err(error) => return report_path(alloc, path, error, &mut session.faults),
+    };
+    let status = fill_file(session, texts, path, file, input);
+    if status != DONE {
+        name.discard(rt);
+        return status;
+    }
+    match name.keep(rt) {
+        Ok(()) => DONE,
+        Err(error) => report_path(alloc, path, error, &mut session.faults),
+    }
+}
+
+// Does it into a file that was made for it.
+fn fill_file<R: TaskSystem, I: InputStream, O: OutputStream, F: Write>(
+    session: &mut Session<'_, '_, R, O, F>,
+    texts: &Texts<'_>,
+    path: &str,
+    file: R::File,
+    input: &mut I,
+) -> u8
+    requires { IsTexts texts.now }
+    ensures output { session.new.output ≡ session.old.output }
+    ensures file { FillsFile I.InputStream ⟦<FromReader<R::File> as InputStream>⟧
+        ⟦<ToWriter<R::File> as OutputStream>⟧ texts.now input.old input.new result }
+{
+    let shown = shown(session.alloc, path);
+    let mut page = Session {
+        system: session.system,
+        alloc: session.alloc,
+        output: ToWriter::new(file),
+        faults: &mut session.faults,
+        file: Some(Name {
+            path,
+            shown: shown.as_ref().map_or("", |shown| shown.as_str()),
+        }),
+        unread: 0,
+    };
+    let status = write_texts(&mut page, texts, input);
+    drop(page);
+    status
+}
+
+// Does it into the output, below what begins it, which a page alone has, and above what ends it, which a summary has.
+fn write_texts<R: TaskSystem, I: InputStream, O: OutputStream, F: Write>(
+    session: &mut Session<'_, '_, R, O, F>,
+    texts: &Texts<'_>,
+    input: &mut I,
+) -> u8
+    requires { IsTexts texts.now }
+    ensures { WritesTexts I.InputStream ⟦<FromReader<R::File> as InputStream>⟧ O.OutputStream texts.now
+        input.old input.new session.old.output session.new.output result }
+{
+    let mut sums = Some(Summary::new(session.alloc));
+    match put_head(session.alloc, texts.task, &mut session.output) {
+        Ok(()) => {
+            let own = run_all(session, texts, input, &mut sums);
+            let end = end_texts(session, texts, sums);
+            first_fault(own, end)
+        }
+        Err(StreamFault::Write) => report_unwritten(session, texts.explains),
+        Err(fault) => report(fault, &mut session.faults),
+    }
+}
+
+// Puts what begins a page, where it is one.
+fn put_head<O: OutputStream>(alloc: Global, task: Task, output: &mut O) -> Result<(), StreamFault>
+    ensures ok { OnOk result (HasHeading O.OutputStream (head_of task) output.old output.new) }
+    ensures err { OnErr result (LacksHeading O.OutputStream (head_of task) output.old output.new) }
+{
+    match task {
+        Task::Write {
+            content: Content::Section,
+            ..
+        } => {
+            let mut head = Vec::new(alloc);
+            write_head(&mut head)?;
+            put_text(&head, output)
+        }
+        _ => Ok(()),
+    }
+}
