@@ -1,6 +1,1 @@
-mod Checks
-mod Counts
-mod FaultParts
 mod Given
-mod NextRaces
-mod WholeLines
