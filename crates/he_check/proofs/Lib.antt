@@ -1,1 +1,7 @@
+mod Checks
+mod Counts
+mod FaultParts
 mod Given
+mod Hints
+mod NextRaces
+mod WholeLines

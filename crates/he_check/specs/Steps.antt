@@ -5,7 +5,7 @@ use Rattle.std.specs.List.{flat_map, slice_get}
 use Rattle.std.specs.Option.{option_or}
 use Rattle.he_timeline.specs.Race.{Race}
 use Rattle.he_inputs.specs.Inputs.{AreRaceTexts, HasRaces, line_count}
-use Rattle.he_inputs.specs.RaceReading.{EndsAt, IsReaderFault, IsWithin, MayFollow}
+use Rattle.he_inputs.specs.RaceReading.{EndsAt, IsReaderFault, IsWithin, MayFollow, ending_of}
 use Rattle.he_inputs.specs.declared.input_fault.InputFault.TheVariants.{Text, Read}
 use Rattle.he_inputs.specs.declared.race_reader.Ending.{Ending}
 use Rattle.he_inputs.specs.declared.race_reader.Ending.TheVariants as endings
@@ -106,7 +106,9 @@ pub record IsAt {A : Type 0} (ending : Ending) (before bytes : List ℕ) (counte
 -- the numbers of a check: each fault has a line of its own, and the next race is sought behind a fault
 pub record IsSound {A : Type 0} (counted : Counted A) : Type 0 where
   pub few : counted.reader.races ≤ most_races
-  pub count : counted.told.count ≤ counted.reader.lines + (if counted.is_seeking then 1 else 0)
+  pub count : counted.told.is_all ≡ true
+      → counted.told.count ≤ counted.reader.lines + (if counted.is_seeking then 1 else 0)
+  pub zero : counted.told.first ≡ None → counted.told.count ≡ 0
   pub reads : counted.told.first ≡ None → counted.is_seeking ≡ false
   pub seeks : counted.is_seeking ≡ true → counted.told.is_all ≡ true
 
@@ -135,7 +137,7 @@ pub record HasStopped {A : Type 0} (ending : Ending) (bytes : List ℕ) (counted
   pub ends : counted.told.first ≡ None
       → EndsAt ending (drop counted.reader.end bytes)
       ⊎ IsReaderFault bytes ending counted.reader (readers.Input Read)
-  pub none : counted.told.is_all ≡ true → (is_broken : Bool) → MayFollow ending [] is_broken
+  pub none : (is_broken : Bool) → ending ≡ ending_of is_broken
       → AreLeft counted.is_seeking counted.reader is_broken (drop counted.reader.end bytes) []
 
 -- how much is left to do
@@ -201,14 +203,27 @@ EndsWith bytes is_broken counted old new fault =
 -- what is held of an input begins where the reader stands
 pub record IsHeld {A : Type 0} (held : Held A) : Type 0 where
   pub within : held.filled ≤ length held.bytes.items
+  pub tried : held.tried ≤ held.filled
   pub front : held.counted.reader.end ≡ 0
   pub sound : IsSound held.counted
 
--- bytes were forgotten, and what is held goes on behind them
-abbrev pub HoldsOn : {A : Type 0} → List ℕ → Counted A → List ℕ → Counted A → Type 0
-HoldsOn bytes old kept new =
-    (before : List ℕ) → IsAt endings.Open before bytes old
-    → (front : List ℕ) × (before ++ bytes ≡ front ++ kept) × IsAt endings.Open front kept new
+-- the bytes before the reader are there no more
+abbrev pub at_front : {A : Type 0} → Counted A → Counted A
+at_front counted = record counted { reader = record counted.reader { end = 0 } }
+
+-- the bytes that are held, and those of them that were looked at
+abbrev pub held_bytes : {A : Type 0} → Held A → List ℕ
+held_bytes held = take held.filled held.bytes.items
+
+abbrev pub tried_bytes : {A : Type 0} → Held A → List ℕ
+tried_bytes held = take held.tried held.bytes.items
+
+-- of these bytes a first part was forgotten, and the others are held
+abbrev pub HoldsOn : {A : Type 0} → List ℕ → Held A → Held A → Type 0
+HoldsOn bytes old new =
+    (before : List ℕ) → IsAt endings.Open before (tried_bytes old) old.counted
+    → (front : List ℕ) × (before ++ bytes ≡ front ++ held_bytes new)
+    × IsAt endings.Open front (tried_bytes new) new.counted
 
 -- an input was given, whole or up to where it broke off; it has races and lines, with these warnings
 pub record TakesRight (Given : List ℕ → Bool → Type 0) (checked : Checked) (warnings : List Warning) : Type 0 where

@@ -48,7 +48,7 @@ impl<A: Allocator + Copy> Told<A> {
         fault: TextFault,
     ) -> Result<(), Memory>
         requires { self.old.count ≤ 2 ^ 63 }
-        ensures { OnOk result (AddsFault part fault self.old self.new) }
+        ensures { OnOk result (AddsFault part.entry fault self.old self.new) }
     {
         self.first = self.first.or(Some(fault));
         self.count += 1;
@@ -108,7 +108,7 @@ fn append_fault<A: Allocator + Copy>(
     text: &mut Vec<u8, A>,
 ) -> Result<(), Memory>
     ensures { OnOk result ((said : List ℕ) × (text.new.items
-        ≡ text.old.items ++ said_text fault said (hint_in part.lines part.text.now fault))) }
+        ≡ text.old.items ++ said_text fault said (hint_in part.entry.lines part.entry.text.now fault))) }
 {
     let said = explanation_of(alloc, part, fault)?;
     text.extend_from_slice(b"he: line ")?;

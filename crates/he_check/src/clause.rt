@@ -31,7 +31,7 @@ pub(crate) fn append_clause<A: Allocator>(
 // What was likely meant where the input has this fault: by its first bytes, or by the words of the faulty line. The
 // line stands in the part, which is all of the input where that is the first line.
 pub(crate) fn hint_in(part: RestOfInput<'_>, fault: TextFault) -> Option<Meant>
-    ensures { result ≡ hint_in part.lines part.text.now fault }
+    ensures { result ≡ hint_in part.entry.lines part.entry.text.now fault }
 {
     if fault.line == 1
         && let Some(meant) = input_meant(part.text)

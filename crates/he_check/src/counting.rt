@@ -146,7 +146,7 @@ impl<A: Allocator + Copy> Counted<A> {
 
     // The races and lines of an input with which nothing is wrong, and its warnings.
     pub(crate) fn outcome(self) -> Result<(Checked, Vec<Warning, A>), AllocError>
-        ensures { IfOk result (λ found. IsCounted self.entry found.0 found.1.items) }
+        ensures { IfOk result (λ found. IsCounted self found.0 found.1.items) }
     {
         let reader = self.reader;
         let mut warnings = self.warnings;

@@ -47,7 +47,7 @@ pub(crate) fn explanation_of<A: Allocator + Copy>(
     part: RestOfInput<'_>,
     fault: TextFault,
 ) -> Result<Vec<u8, A>, AllocError>
-    ensures { IfOk result (λ text. EndsIn part.lines part.text.now fault text.items) }
+    ensures { IfOk result (λ text. EndsIn part.entry.lines part.entry.text.now fault text.items) }
 {
     let place = find_line(part, fault.line);
     let (mark, sentence) = find_sentence(place, fault.kind);

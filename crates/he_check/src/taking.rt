@@ -3,7 +3,7 @@ ghost use Rattle.std.specs.Prelude.{◌≡◌, ◌+◌, ◌-◌, ◌≤◌, ◌^
 ghost use Rattle.std.specs.Io.{StartsWith};
 ghost use Rattle.he_stream.specs.Input.{Gives, GivesSoFar};
 ghost use Rattle.he_inputs.specs.RaceReading.{ending_of};
-ghost use Rattle.he_check.specs.Steps.{EndsWith, HasGone, HasStopped, HoldsOn, IsCounted, IsHeld, IsNew, IsOpen, IsSaidOf, TakesRight, TakesWrong, fault_found};
+ghost use Rattle.he_check.specs.Steps.{EndsWith, HasGone, HasStopped, HoldsOn, IsCounted, IsHeld, IsNew, IsOpen, IsSaidOf, TakesRight, TakesWrong, at_front, fault_found, held_bytes};
 
 use crate::counting::Counted;
 use crate::explaining::explanation_of;
@@ -55,39 +55,36 @@ impl<A: Allocator + Copy> Held<A> {
         requires lines { self.old.counted.reader.lines + self.old.filled + count ≤ 2 ^ 63 }
         ensures held { OnOk result (IsHeld self.new) }
         ensures all { OnOk result (self.new.counted.told.is_all ≡ self.old.counted.told.is_all) }
-        ensures on { OnOk result (HoldsOn (take (self.old.filled + count) self.old.bytes.items) self.old.counted
-            (take self.new.filled self.new.bytes.items) self.new.counted) }
+        ensures on { OnOk result (HoldsOn (take (self.old.filled + count) self.old.bytes.items) self.old self.new) }
     {
         self.filled += count;
-        let ready = lines_end(&self.bytes[..self.filled]);
+        let ready = lines_end(&self.bytes[..self.filled]).max(self.tried);
         let is_short = self.counted.told.is_all && ready < FIRST_BYTES;
         if is_short || self.filled / 2 < self.tried {
             return Ok(());
         }
         self.counted
             .go_on(alloc, &self.bytes[..ready], Ending::Open)?;
-        self.tried = ready - self.counted.reader.end;
+        self.tried = ready;
         self.forget();
         Ok(())
     }
 
-    // Moves what is left to the front.
+    // Forgets what the reader passed.
     fn forget(&mut self)
         requires within { self.old.filled ≤ vec_len self.old.bytes }
-        requires place { self.old.counted.reader.end ≤ self.old.filled }
-        ensures counted { self.new.counted ≡ record self.old.counted {
-          reader = record self.old.counted.reader {
-            end = 0;
-          };
-        } }
+        requires tried { self.old.tried ≤ self.old.filled }
+        requires place { self.old.counted.reader.end ≤ self.old.tried }
+        ensures counted { self.new.counted ≡ at_front self.old.counted }
         ensures filled { self.new.filled ≡ self.old.filled - self.old.counted.reader.end }
+        ensures tried { self.new.tried ≡ self.old.tried - self.old.counted.reader.end }
         ensures within { self.new.filled ≤ vec_len self.new.bytes }
-        ensures kept { take self.new.filled self.new.bytes.items
-            ≡ drop self.old.counted.reader.end (take self.old.filled self.old.bytes.items) }
+        ensures kept { held_bytes self.new ≡ drop self.old.counted.reader.end (held_bytes self.old) }
     {
         let end = self.counted.reader.end;
         self.bytes.copy_within(end..self.filled, 0);
         self.filled -= end;
+        self.tried -= end;
         self.counted.reader.end = 0;
     }
 
@@ -97,10 +94,9 @@ impl<A: Allocator + Copy> Held<A> {
         requires more { IsOpen self.old.counted }
         requires lines { self.old.counted.reader.lines + self.old.filled ≤ 2 ^ 63 }
         ensures same { (self.new.bytes ≡ self.old.bytes) × (self.new.filled ≡ self.old.filled) }
-        ensures gone { OnOk result (HasGone (ending_of is_broken) (take self.old.filled self.old.bytes.items)
-            self.old.counted self.new.counted) }
-        ensures stopped { OnOk result (HasStopped (ending_of is_broken) (take self.old.filled self.old.bytes.items)
+        ensures gone { OnOk result (HasGone (ending_of is_broken) (held_bytes self.old) self.old.counted
             self.new.counted) }
+        ensures stopped { OnOk result (HasStopped (ending_of is_broken) (held_bytes self.old) self.new.counted) }
     {
         self.counted
             .go_on(alloc, &self.bytes[..self.filled], Ending::of(is_broken))
@@ -115,11 +111,11 @@ impl<A: Allocator + Copy> Held<A> {
     ) -> Result<(Checked, Vec<Warning, A>), StreamFault>
         requires within { self.filled ≤ vec_len self.bytes }
         requires place { self.counted.reader.end ≤ self.filled }
-        ensures ok { IfOk result (λ found. (fault_found self.entry.counted.told.first is_broken ≡ None)
-            × IsCounted self.entry.counted found.0 found.1.items
+        ensures ok { IfOk result (λ found. (fault_found self.counted.told.first is_broken ≡ None)
+            × IsCounted self.counted found.0 found.1.items
             × (explanation.new.items ≡ explanation.old.items)) }
-        ensures err { IfErr result (EndsWith (take self.entry.filled self.entry.bytes.items) is_broken
-            self.entry.counted explanation.old.items explanation.new.items) }
+        ensures err { IfErr result (EndsWith (held_bytes self) is_broken self.counted
+            explanation.old.items explanation.new.items) }
         ensures stays { StartsWith explanation.new.items explanation.old.items }
     {
         let Some(fault) = self.counted.fault(is_broken) else {
@@ -134,8 +130,7 @@ impl<A: Allocator + Copy> Held<A> {
     fn said(&self, alloc: A, is_broken: bool) -> Result<Vec<u8, A>, Memory>
         requires within { self.now.filled ≤ vec_len self.now.bytes }
         requires place { self.now.counted.reader.end ≤ self.now.filled }
-        ensures { IfOk result (λ text. IsSaidOf (take self.now.filled self.now.bytes.items) is_broken
-            self.now.counted text.items) }
+        ensures { IfOk result (λ text. IsSaidOf (held_bytes self.now) is_broken self.now.counted text.items) }
     {
         let counted = &self.counted;
         if counted.told.is_all {
