@@ -3,5 +3,6 @@ mod Counts
 mod FaultParts
 mod Given
 mod Hints
+mod Holding
 mod NextRaces
 mod WholeLines

@@ -1,5 +1,6 @@
 // How far a check of an input has come: race by race, and behind a faulty one from the next race on.
 ghost use Rattle.std.specs.Prelude.{◌≡◌, ◌++◌, ◌^◌, ◌≤◌, ◌+◌, length, false, true, IfOk, IsSome, OnOk};
+ghost use Rattle.he_inputs.specs.RaceReading.{IsWithin};
 ghost use Rattle.he_inputs.specs.declared.race_reader.Ending.{Ending};
 ghost use Rattle.he_check.specs.Slips.{warnings_of};
 ghost use Rattle.he_check.specs.Steps.{HasGone, HasStepped, HasStopped, IsCounted, IsNew, IsOpen, MayGo, fault_found};
@@ -76,6 +77,7 @@ impl<A: Allocator + Copy> Counted<A> {
         requires reads { self.old.is_seeking ≡ false }
         ensures { IfOk result (HasStepped ending bytes.now self.old self.new) }
     {
+        first_faults();
         let line = self.reader.lines + 1;
         match self.reader.next(alloc, bytes, ending) {
             Ok(Some(race)) => {
@@ -86,7 +88,6 @@ impl<A: Allocator + Copy> Counted<A> {
             }
             Ok(None) | Err(RaceReaderFault::Input(InputFault::Read)) => Ok(false),
             Err(RaceReaderFault::Input(InputFault::Text(fault))) => {
-                first_faults();
                 let part = RestOfInput {
                     text: &bytes[self.reader.end..],
                     lines: self.reader.lines,
@@ -101,6 +102,7 @@ impl<A: Allocator + Copy> Counted<A> {
 
     // Passes the rest of a line, if it ends in the bytes and enough stands behind it to tell whether a race begins.
     fn seek(&mut self, bytes: &[u8]) -> bool
+        requires within { IsWithin bytes.now self.old.reader }
         requires seeks { self.old.is_seeking ≡ true }
         requires more { IsOpen self.old }
         ensures { (ending : Ending) → MayGo ending bytes.now self.old
