@@ -1,7 +1,7 @@
 -- What a check comes to where it ends.
 use Rattle.std.proofs.Common.{ℕ, ◌≡◌, ◌⊎◌, ◌+◌, ◌-◌, ◌≤◌, ◌==◌, Bool, true, false, List, [], ◌∷◌, ◌++◌, length, map, take, drop, Option, Some, None, IfSome, Result, Ok, Err, refl, sym, subst, ◌∙◌, ap, append_assoc, append-nil, true≢false, arith, inl, inr}
 use Rattle.std.specs.List.{flat_map, slice_get}
-use Rattle.std.specs.Prelude.{IfErr, IfOk, OnOk}
+use Rattle.std.specs.Prelude.{IfErr, IfOk, IsSome, is_some}
 use Rattle.he_timeline.specs.Race.{Race}
 use Rattle.he_inputs.specs.Inputs.{HasRaces, IsFaultBehind, line_count}
 use Rattle.he_inputs.specs.RaceReading.{EndsAt, IsReaderFault, MayFollow, ending_of}
@@ -147,7 +147,7 @@ module _ {A : Type 0} (before bytes : List ℕ) (counted : Counted A) (sound : I
         tells_all is_broken at stopped said given all =
             let told = at.told (all_is ∙ all) in
             let Left : List ℕ → Type 0 = λ t. AreLeft counted.is_seeking counted.reader is_broken t [] in
-            let are = told.are [] is_broken [] (nothing_follows is_broken) (subst Left (sym (append-nil left)) (stopped.none is_broken refl)) in
+            let are = told.are [] is_broken [] (nothing_follows is_broken) (subst Left (sym (append-nil left)) (stopped.none (all_is ∙ all) is_broken refl)) in
             let Are : List ℕ → List TextFault → Type 0 = λ i f. AreFaults i is_broken f in (
               told.faults,
               told.first,
@@ -219,13 +219,13 @@ module _ {A : Type 0} (before bytes : List ℕ) (counted : Counted A) (sound : I
                     by_faults (other ∷ faults) is told = cc
 
         -- the first fault was found, whatever follows
-        ends_sure : IsAt endings.Open before bytes counted → is_all ≡ false → IfSome counted.told.first (λ _. Unit {0}) → IsSaidOf bytes false counted text → Taken input
+        ends_sure : IsAt endings.Open before bytes counted → is_all ≡ false → IsSaidOf bytes false counted text → Taken input
             → (fault : StreamFault) → fault_found counted.told.first false ≡ Some fault → TakesWrong is_all Given Taken old new fault
-        ends_sure at one some said taken fault found = by_first counted.told.first refl some found
+        ends_sure at one said taken fault found = by_first counted.told.first refl found
           where
-            by_first : (first : Option TextFault) → counted.told.first ≡ first → IfSome first (λ _. Unit {0}) → fault_found first false ≡ Some fault → TakesWrong is_all Given Taken old new fault
-            by_first None is some same = cc
-            by_first (Some first) is some same =
+            by_first : (first : Option TextFault) → counted.told.first ≡ first → fault_found first false ≡ Some fault → TakesWrong is_all Given Taken old new fault
+            by_first None is same = cc
+            by_first (Some first) is same =
                 let here : checks.Text first ≡ fault = cc in
                 let sure : IsFirstIn input endings.Open first = subst (λ (f : Option TextFault). IfSome f (IsFirstIn input endings.Open)) is at.first in
                 let clause = ends_in_clause endings.Open at (all_is ∙ one) first is false text old new said longer in
@@ -244,34 +244,38 @@ module _ {A : Type 0} (before bytes : List ℕ) (counted : Counted A) (sound : I
         ended_wrong is_broken at stopped given fault (inl (is, same)) = memory_wrong fault is same
         ended_wrong is_broken at stopped given fault (inr (found, text, said, longer)) = ends_wrong Given Taken is_all all_is old new text longer is_broken at stopped said given fault found
 
-        pub found_wrong : IsAt endings.Open before bytes counted → is_all ≡ false → IfSome counted.told.first (λ _. Unit {0}) → Taken input
+        pub found_wrong : IsAt endings.Open before bytes counted → is_all ≡ false → Taken input
             → (fault : StreamFault) → EndsWith bytes false counted old new fault → TakesWrong is_all Given Taken old new fault
-        found_wrong at one some taken fault (inl (is, same)) = memory_wrong fault is same
-        found_wrong at one some taken fault (inr (found, text, said, longer)) = ends_sure Given Taken is_all all_is old new text longer at one some said taken fault found
+        found_wrong at one taken fault (inl (is, same)) = memory_wrong fault is same
+        found_wrong at one taken fault (inr (found, text, said, longer)) = ends_sure Given Taken is_all all_is old new text longer at one said taken fault found
 
--- an input that was taken is right, and what is told of it
-module _ (Given : List ℕ → Bool → Type 0) (Taken Whole Part : List ℕ → Type 0) (Kept : Type 0) (old new : List ℕ)
-  where
-    abbrev Done : Bool → Result (Unit {0}) StreamFault → Type 0
-    Done is_all result = Checks Given Taken Whole Part Kept result × Explains is_all Given Taken old new result
+        -- how the check of an input ends that was taken whole
+        pub ended : {X : Type 0} (checked : X → Checked) (warnings : X → List Warning) (is_broken : Bool) → IsAt (ending_of is_broken) before bytes counted → HasStopped (ending_of is_broken) bytes counted
+            → Given input is_broken → (result : Result X StreamFault)
+            → IfOk result (λ found. (fault_found counted.told.first is_broken ≡ None) × IsCounted counted (checked found) (warnings found) × (new ≡ old)) → IfErr result (EndsWith bytes is_broken counted old new)
+            → IfOk result (λ found. TakesRight Given (checked found) (warnings found) × (new ≡ old)) × IfErr result (TakesWrong is_all Given Taken old new)
+        ended checked warnings is_broken at stopped given (Ok found) (none, is, same) wrong =
+            let right = comes_right is_broken at stopped none (checked found) (warnings found) is in
+            ((record { input = input; is_broken = is_broken; given = given; right = right.0; warned = right.1 }, same), tt)
+        ended checked warnings is_broken at stopped given (Err fault) right wrong = (tt, ended_wrong is_broken at stopped given fault wrong)
 
-    pub right_done : (is_all : Bool) (checked : Checked) (warnings : List Warning) → TakesRight Given checked warnings
-        → (result : Result (Unit {0}) StreamFault) → TellsRight Whole Part Kept checked warnings old new result → Done is_all result
-    right_done is_all checked warnings takes (Ok done) (put, told) = (
-      (checked, record { input = takes.input; is_broken = takes.is_broken; given = takes.given; right = takes.right }, put),
-      record { input = takes.input; is_broken = takes.is_broken; given = takes.given; warnings = warnings; are = takes.warned; told = told },
-    )
-    right_done is_all checked warnings takes (Err checks.Write) (put, told) = (
-      (checked, record { input = takes.input; is_broken = takes.is_broken; given = takes.given; right = takes.right }, put),
-      record { input = takes.input; is_broken = takes.is_broken; given = takes.given; warnings = warnings; are = takes.warned; told = told },
-    )
-    right_done is_all checked warnings takes (Err checks.Memory) told = told
-    right_done is_all checked warnings takes (Err (checks.Text fault)) told = absurd told
-    right_done is_all checked warnings takes (Err checks.Read) told = absurd told
+        -- and of one whose first fault was found
+        pub found_first : {X : Type 0} (checked : X → Checked) (warnings : X → List Warning) → IsAt endings.Open before bytes counted → is_all ≡ false → IsSome counted.told.first → Taken input
+            → (result : Result X StreamFault)
+            → IfOk result (λ found. (fault_found counted.told.first false ≡ None) × IsCounted counted (checked found) (warnings found) × (new ≡ old)) → IfErr result (EndsWith bytes false counted old new)
+            → IfOk result (λ found. TakesRight Given (checked found) (warnings found) × (new ≡ old)) × IfErr result (TakesWrong is_all Given Taken old new)
+        found_first checked warnings at one some taken (Ok found) (none, is, same) wrong =
+            let none_some : false ≡ true = sym (ap is_some (none_found counted.told.first false none).0) ∙ some in
+            absurd (true≢false (sym none_some))
+        found_first checked warnings at one some taken (Err fault) right wrong = (tt, found_wrong at one taken fault wrong)
 
-    -- nothing was put
-    pub wrong_done : (is_all : Bool) (fault : StreamFault) → TakesWrong is_all Given Taken old new fault → Kept → Done is_all (Err fault)
-    wrong_done is_all (checks.Text fault) ((found, done), told) kept = ((found, kept), told)
-    wrong_done is_all checks.Read ((found, done), told) kept = ((found, kept), told)
-    wrong_done is_all checks.Write ((checked, right, none), told) kept = absurd none
-    wrong_done is_all checks.Memory (done, told) kept = (kept, told)
+-- what is said of the first fault, whose race begins with what is left
+pub said_of : {A X E : Type 0} (text_of : X → List ℕ) (bytes part : List ℕ) (is_broken : Bool) (counted : Counted A) (fault : TextFault) → counted.told.is_all ≡ false → counted.told.first ≡ Some fault
+    → part ≡ drop counted.reader.end bytes → (result : Result X E) → IfOk result (λ x. EndsIn counted.reader.lines part fault (text_of x)) → IfOk result (λ x. IsSaidOf bytes is_broken counted (text_of x))
+said_of text_of bytes part is_broken counted fault one is same (Err refused) said = tt
+said_of text_of bytes part is_broken counted fault one is same (Ok x) said = record {
+  all = λ all. absurd (true≢false (sym all ∙ one));
+  none = λ _ none. let wrong : Some fault ≡ None = sym is ∙ none in cc;
+  first = λ _. subst (λ (f : Option TextFault). IfSome f (λ t. EndsIn counted.reader.lines (drop counted.reader.end bytes) t (text_of x))) (sym is)
+      (subst (λ (t : List ℕ). EndsIn counted.reader.lines t fault (text_of x)) same said);
+}

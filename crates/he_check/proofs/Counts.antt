@@ -1,8 +1,9 @@
 -- How far a check has come after a step: a race that was passed, a fault, or bytes in which no race begins.
-use Rattle.std.proofs.Common.{ℕ, ◌≡◌, ◌⊎◌, ◌+◌, ◌-◌, ◌<◌, ◌≤◌, Bool, true, false, List, [], ◌∷◌, ◌++◌, length, take, drop, Option, Some, None, IfSome, refl, sym, subst, subst₂, ◌∙◌, ap, append_assoc, append-nil, length-append, length-take, length-drop, take-append-drop, true≢false, arith, codes, decimal, inl, inr}
+use Rattle.std.proofs.Common.{ℕ, ◌≡◌, ◌⊎◌, ◌+◌, ◌-◌, ◌<◌, ◌≤◌, Bool, true, false, List, [], ◌∷◌, ◌++◌, length, take, drop, Option, Some, None, IfSome, refl, sym, subst, subst₂, ◌∙◌, ap, append_assoc, append-nil, length-append, length-take, length-drop, take-append-drop, true≢false, eqb, arith, codes, decimal, inl, inr}
 use Rattle.std.specs.List.{slice_get, slice_range}
 use Rattle.std.specs.Option.{option_or}
 use Rattle.std.proofs.lemmas.List.{drop-append-le, drop-drop, length-take-le, take-append-le, take_all}
+use Rattle.std.proofs.lemmas.List.Sums.{count_by-le-length}
 use Rattle.std.proofs.Math.Seq.{take-add}
 use Rattle.he_timeline.specs.Race.{Race}
 use Rattle.he_reading.specs.Text.{IsRaceText}
@@ -97,7 +98,7 @@ added : (o : Option TextFault) (fault : TextFault) (P : TextFault → Type 0) �
 added None fault P is own = own refl
 added (Some one) fault P is own = is
 
-never_none : (o : Option TextFault) (fault : TextFault) → option_or o (Some fault) ≡ None → ⊥
+pub never_none : (o : Option TextFault) (fault : TextFault) → option_or o (Some fault) ≡ None → ⊥
 never_none None fault is = cc
 never_none (Some one) fault is = cc
 
@@ -121,6 +122,12 @@ no_front front (inl none) zero = none
 no_front front (inr (line, is)) zero =
     let some : line_count front ≡ line_count line + 1 = ap line_count is ∙ line_count-append line (10 ∷ []) in
     absurd (omega arith)
+
+-- the bytes before the reader are no matter of what is left
+behind_front : (seeking : Bool) (reader : RaceReader) (is_broken : Bool) (text : List ℕ) (others : List TextFault)
+    → AreLeft seeking (record { end = 0; races = reader.races; lines = reader.lines }) is_broken text others → AreLeft seeking reader is_broken text others
+behind_front true reader is_broken text others left = left
+behind_front false reader is_broken text others left = left
 
 nothing_follows : (ending : Ending) → (is_broken : Bool) × MayFollow ending [] is_broken
 nothing_follows endings.Open = (false, tt)
@@ -154,6 +161,20 @@ module _ {A : Type 0} (counted : Counted A)
             said = λ more is_broken may. new.said;
           };
         }
+
+    pub start_sound : (is_all : Bool) → IsNew is_all counted → IsSound counted
+    start_sound is_all new =
+        let races : counted.reader.races ≡ 0 = ap (λ (r : RaceReader). r.races) new.reader in
+        let zero = new.zero in
+        record { few = omega arith; count = λ _. omega arith; zero = λ _. new.zero; reads = λ _. new.reads; seeks = λ is. absurd (true≢false (sym is ∙ new.reads)) }
+
+    -- each line of the bytes that were forgotten has a byte
+    pub lines_few : (ending : Ending) (before bytes : List ℕ) → counted.reader.end ≡ 0 → IsAt ending before bytes counted → counted.reader.lines ≤ length before
+    lines_few ending before bytes end at =
+        let none : before ++ take counted.reader.end bytes ≡ before = ap (λ (n : ℕ). before ++ take n bytes) end ∙ append-nil before in
+        let lined : counted.reader.lines ≡ line_count before = at.lined ∙ ap line_count none in
+        let few = count_by-le-length (λ b. eqb b 10) before in
+        omega arith
 
     -- more bytes are there
     pub more_at : (before bytes more : List ℕ) → counted.reader.end ≤ length bytes → IsAt endings.Open before bytes counted → IsAt endings.Open before (bytes ++ more) counted
@@ -233,7 +254,7 @@ module _ {A : Type 0} (counted : Counted A)
                 faults = told.faults;
                 first = told.first;
                 number = told.number;
-                are = λ rest is_broken others may left. subst (λ (i : List ℕ). AreFaults (i ++ rest) is_broken (told.faults ++ others)) all (told.are rest is_broken others may left);
+                are = λ rest is_broken others may left. subst (λ (i : List ℕ). AreFaults (i ++ rest) is_broken (told.faults ++ others)) all (told.are rest is_broken others may (behind_front counted.is_seeking counted.reader is_broken _ others left));
                 said = λ rest is_broken may. subst (λ (i : List ℕ). AreSaid (i ++ rest) (take MOST_TOLD told.faults) counted.told.text.items) all (told.said rest is_broken may);
               };
         }

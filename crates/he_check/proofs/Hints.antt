@@ -1,6 +1,6 @@
 -- What was meant by a fault, as what is left of an input tells it, and as the whole input does.
 use Rattle.std.proofs.Common.{ℕ, ◌≡◌, ◌⊎◌, ◌↔◌, ◌+◌, ◌-◌, ◌<◌, ◌≤◌, Bool, true, false, List, [], ◌∷◌, ◌++◌, length, get_or, take, Option, Some, None, refl, sym, subst, ◌∙◌, ap, append-nil, length-append, arith, inl, inr, if◌then◌else◌, ◌==◌, ◌||◌}
-use Rattle.core.specs.Cmp.Lexicographic.{pointwise}
+use Rattle.std.specs.Cmp.Lexicographic.{pointwise}
 use Rattle.std.specs.Option.{option_or, unwrap_or}
 use Rattle.std.specs.List.{slice_get}
 use Rattle.std.specs.Prelude.{codes, nat_lt}

@@ -5,4 +5,5 @@ mod Given
 mod Hints
 mod Holding
 mod NextRaces
+mod Stepping
 mod WholeLines

@@ -137,7 +137,7 @@ pub record HasStopped {A : Type 0} (ending : Ending) (bytes : List ℕ) (counted
   pub ends : counted.told.first ≡ None
       → EndsAt ending (drop counted.reader.end bytes)
       ⊎ IsReaderFault bytes ending counted.reader (readers.Input Read)
-  pub none : (is_broken : Bool) → ending ≡ ending_of is_broken
+  pub none : counted.told.is_all ≡ true → (is_broken : Bool) → ending ≡ ending_of is_broken
       → AreLeft counted.is_seeking counted.reader is_broken (drop counted.reader.end bytes) []
 
 -- how much is left to do

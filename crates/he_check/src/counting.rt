@@ -81,12 +81,13 @@ impl<A: Allocator + Copy> Counted<A> {
         let line = self.reader.lines + 1;
         match self.reader.next(alloc, bytes, ending) {
             Ok(Some(race)) => {
-                let added = warn(self.told.first.is_none(), &race, line, &mut self.warnings);
+                let added = warn(self.told.first.is_some(), &race, line, &mut self.warnings);
                 drop(race);
                 added?;
                 Ok(true)
             }
-            Ok(None) | Err(RaceReaderFault::Input(InputFault::Read)) => Ok(false),
+            Ok(None) => Ok(false),
+            Err(RaceReaderFault::Input(InputFault::Read)) => Ok(false),
             Err(RaceReaderFault::Input(InputFault::Text(fault))) => {
                 let part = RestOfInput {
                     text: &bytes[self.reader.end..],
@@ -161,18 +162,17 @@ impl<A: Allocator + Copy> Counted<A> {
     }
 }
 
-// Appends the warnings of a race that begins with this line, where no race before it is faulty.
+// Appends the warnings of a race that begins with this line, where no race before it has a fault.
 fn warn<A: Allocator, B: Allocator>(
-    is_clean: bool,
+    has_fault: bool,
     race: &Timeline<B>,
     line: u64,
     warnings: &mut Vec<Warning, A>,
 ) -> Result<(), AllocError>
-    ensures { OnOk result (is_clean ≡ true → warnings.new.items ≡ warnings.old.items ++ warnings_of line race.now) }
+    ensures { OnOk result (has_fault ≡ false → warnings.new.items ≡ warnings.old.items ++ warnings_of line race.now) }
 {
-    if is_clean {
-        add_warnings(race, line, warnings)
-    } else {
-        Ok(())
+    if has_fault {
+        return Ok(());
     }
+    add_warnings(race, line, warnings)
 }

@@ -1,6 +1,5 @@
 // An input that is checked while it comes.
 ghost use Rattle.std.specs.Prelude.{◌≡◌, ◌+◌, ◌-◌, ◌≤◌, ◌^◌, drop, length, take, vec_len, IfErr, IfOk, OnOk};
-ghost use Rattle.std.specs.Io.{StartsWith};
 ghost use Rattle.he_stream.specs.Input.{Gives, GivesSoFar};
 ghost use Rattle.he_inputs.specs.RaceReading.{ending_of};
 ghost use Rattle.he_check.specs.Steps.{EndsWith, HasGone, HasStopped, HoldsOn, IsCounted, IsHeld, IsNew, IsOpen, IsSaidOf, TakesRight, TakesWrong, at_front, fault_found, held_bytes};
@@ -36,7 +35,7 @@ struct Held<A: Allocator> {
 impl<A: Allocator + Copy> Held<A> {
     // Nothing is taken yet.
     fn new(alloc: A, is_all: bool) -> Held<A>
-        ensures none { result.filled ≡ 0 }
+        ensures none { (result.filled ≡ 0) × (result.tried ≡ 0) }
         ensures counted { IsNew is_all result.counted }
     {
         Held {
@@ -116,7 +115,6 @@ impl<A: Allocator + Copy> Held<A> {
             × (explanation.new.items ≡ explanation.old.items)) }
         ensures err { IfErr result (EndsWith (held_bytes self) is_broken self.counted
             explanation.old.items explanation.new.items) }
-        ensures stays { StartsWith explanation.new.items explanation.old.items }
     {
         let Some(fault) = self.counted.fault(is_broken) else {
             return Ok(self.counted.outcome()?);
@@ -172,11 +170,9 @@ pub(crate) fn take_checked<A: Allocator + Copy, I: InputStream>(
     explanation: &mut Vec<u8, A>,
 ) -> Result<(Checked, Vec<Warning, A>), StreamFault>
     ensures right { IfOk result (λ found. TakesRight (Gives I.remaining I.takes input.old input.new) found.0
-        found.1.items) }
-    ensures same { OnOk result (explanation.new.items ≡ explanation.old.items) }
+        found.1.items × (explanation.new.items ≡ explanation.old.items)) }
     ensures wrong { IfErr result (TakesWrong is_all (Gives I.remaining I.takes input.old input.new)
         (GivesSoFar I.remaining I.takes input.old input.new) explanation.old.items explanation.new.items) }
-    ensures stays { StartsWith explanation.new.items explanation.old.items }
 {
     let mut held = Held::new(alloc, is_all);
     for _steps in 0..MOST_READS {
