@@ -1,25 +1,22 @@
 -- What a check comes to where it ends.
-use Rattle.std.proofs.Common.{ℕ, ◌≡◌, ◌⊎◌, ◌+◌, ◌-◌, ◌≤◌, ◌==◌, Bool, true, false, List, [], ◌∷◌, ◌++◌, length, map, take, drop, Option, Some, None, IfSome, Result, Ok, Err, refl, sym, subst, ◌∙◌, ap, append_assoc, append-nil, true≢false, arith, inl, inr}
-use Rattle.std.specs.List.{flat_map, slice_get}
+use Rattle.std.proofs.Common.{ℕ, ◌≡◌, ◌+◌, ◌-◌, ◌≤◌, ◌==◌, Bool, true, false, List, [], ◌∷◌, ◌++◌, length, map, take, drop, Option, Some, None, IfSome, Result, Ok, Err, refl, sym, subst, ◌∙◌, ap, append-nil, true≢false, arith, inl, inr}
+use Rattle.std.specs.List.{slice_get}
 use Rattle.std.specs.Prelude.{IfErr, IfOk, IsSome, is_some}
-use Rattle.he_timeline.specs.Race.{Race}
 use Rattle.he_inputs.specs.Inputs.{HasRaces, IsFaultBehind, line_count}
-use Rattle.he_inputs.specs.RaceReading.{EndsAt, IsReaderFault, MayFollow, ending_of}
+use Rattle.he_inputs.specs.RaceReading.{MayFollow, ending_of}
 use Rattle.he_inputs.specs.declared.input_fault.InputFault.TheVariants.{Text, Read}
 use Rattle.he_inputs.specs.declared.race_reader.Ending.{Ending}
 use Rattle.he_inputs.specs.declared.race_reader.Ending.TheVariants as endings
-use Rattle.he_inputs.specs.declared.race_reader.RaceReaderFault.TheVariants as readers
 use Rattle.he_inputs.specs.declared.stream_fault.StreamFault.{StreamFault}
 use Rattle.he_inputs.specs.declared.stream_fault.StreamFault.TheVariants as checks
-use Rattle.he_words.specs.Ranges.{most_races}
 use Rattle.he_words.specs.declared.fault.TextFault.{TextFault}
-use Rattle.he_check.specs.AllFaults.{AreFaults, AreSaid, AreTold, end_text, more_text}
+use Rattle.he_check.specs.AllFaults.{AreFaults, AreSaid, end_text, more_text}
 use Rattle.he_check.specs.Checked.{IsRight, IsWrong}
 use Rattle.he_check.specs.Clauses.{EndsInClause, hint_of}
-use Rattle.he_check.specs.Sentences.{clause_text, warning_text}
+use Rattle.he_check.specs.Sentences.{clause_text}
 use Rattle.he_check.specs.Slips.{AreWarned, HasWarnings, slip_if, warning_at}
-use Rattle.he_check.specs.Steps.{AreLeft, EndsIn, EndsWith, HasStopped, IsAt, IsCounted, IsFirstIn, IsSaidOf, IsSound, TakesRight, TakesWrong, TellsRight, fault_found, hint_in}
-use Rattle.he_check.specs.Stream.{Checks, Explains, TellsAll}
+use Rattle.he_check.specs.Steps.{AreLeft, EndsIn, EndsWith, HasStopped, IsAt, IsCounted, IsFirstIn, IsSaidOf, IsSound, TakesRight, TakesWrong, fault_found, hint_in}
+use Rattle.he_check.specs.Stream.{Explains, TellsAll}
 use Rattle.he_check.specs.declared.counting.Counted.{Counted}
 use Rattle.he_check.specs.declared.input.Checked.{Checked}
 use Rattle.he_check.specs.declared.limits.TheConstants.{MOST_TOLD}

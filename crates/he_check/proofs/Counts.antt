@@ -1,8 +1,8 @@
 -- How far a check has come after a step: a race that was passed, a fault, or bytes in which no race begins.
-use Rattle.std.proofs.Common.{ℕ, ◌≡◌, ◌⊎◌, ◌+◌, ◌-◌, ◌<◌, ◌≤◌, Bool, true, false, List, [], ◌∷◌, ◌++◌, length, take, drop, Option, Some, None, IfSome, refl, sym, subst, subst₂, ◌∙◌, ap, append_assoc, append-nil, length-append, length-take, length-drop, take-append-drop, true≢false, eqb, arith, codes, decimal, inl, inr}
+use Rattle.std.proofs.Common.{ℕ, ◌≡◌, ◌⊎◌, ◌+◌, ◌-◌, ◌<◌, ◌≤◌, Bool, true, false, List, [], ◌∷◌, ◌++◌, length, take, drop, Option, Some, None, IfSome, refl, sym, subst, subst₂, ◌∙◌, ap, append_assoc, append-nil, length-append, length-take, length-drop, take-append-drop, true≢false, eqb, arith, inl, inr}
 use Rattle.std.specs.List.{slice_get, slice_range}
 use Rattle.std.specs.Option.{option_or}
-use Rattle.std.proofs.lemmas.List.{drop-append-le, drop-drop, length-take-le, take-append-le, take_all}
+use Rattle.std.proofs.lemmas.List.{drop-append-le, drop-drop, take-append-le, take_all}
 use Rattle.std.proofs.lemmas.List.Sums.{count_by-le-length}
 use Rattle.std.proofs.Math.Seq.{take-add}
 use Rattle.he_timeline.specs.Race.{Race}
@@ -10,19 +10,18 @@ use Rattle.he_reading.specs.Text.{IsRaceText}
 use Rattle.he_reading.specs.Parts.{lines_of}
 use Rattle.he_inputs.specs.Inputs.{AreRaceTexts, HasRaces, IsFaultBehind, line_count}
 use Rattle.he_inputs.specs.RaceReading.{IsReaderFault, MayFollow, PassesRace}
-use Rattle.he_inputs.specs.declared.input_fault.InputFault.TheVariants.{Text, Read}
+use Rattle.he_inputs.specs.declared.input_fault.InputFault.TheVariants.{Text}
 use Rattle.he_inputs.specs.declared.race_reader.Ending.{Ending}
 use Rattle.he_inputs.specs.declared.race_reader.Ending.TheVariants as endings
 use Rattle.he_inputs.specs.declared.race_reader.RaceReader.{RaceReader}
 use Rattle.he_inputs.specs.declared.race_reader.RaceReaderFault.TheVariants as readers
 use Rattle.he_inputs.proofs.RaceReadingLaws.{AreTexts-snoc, line_count-append}
 use Rattle.he_words.specs.declared.fault.TextFault.{TextFault}
-use Rattle.he_words.specs.declared.fault.TextKind.{TextKind}
 use Rattle.he_words.specs.declared.fault.TextKind.TheVariants as kinds
 use Rattle.he_check.specs.AllFaults.{AreFaults, AreFaultsBehind, AreSaid, BeginsRace, IsNextRace, fault_text, said_text}
 use Rattle.he_check.specs.Clauses.{hint_of, is_of_words}
 use Rattle.he_check.specs.Slips.{AreWarned, warnings_of}
-use Rattle.he_check.specs.Steps.{AddsFault, AreFaultsAfter, AreFaultsPast, AreLeft, AreWhole, HasTold, IsAt, IsClean, IsEnough, IsFirstIn, IsNew, IsOpen, IsSound, at_front, begins_race, hint_in}
+use Rattle.he_check.specs.Steps.{AddsFault, AreFaultsAfter, AreFaultsPast, AreLeft, AreWhole, HasTold, IsAt, IsClean, IsEnough, IsFirstIn, IsNew, IsOpen, IsSound, at_front, hint_in}
 use Rattle.he_check.specs.declared.all_faults.Told.{Told}
 use Rattle.he_check.specs.declared.counting.Counted.{Counted}
 use Rattle.he_check.specs.declared.limits.TheConstants.{MOST_TOLD}

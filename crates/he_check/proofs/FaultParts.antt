@@ -1,8 +1,8 @@
 -- The faults of what is left of an input, race by race.
-use Rattle.std.proofs.Common.{ℕ, ◌≡◌, ◌⊎◌, ◌↔◌, ◌+◌, ◌≤◌, Bool, true, false, List, [], ◌∷◌, ◌++◌, length, take, drop, Option, Some, None, refl, sym, subst, ◌∙◌, ap, append_assoc, append-nil, length-append, arith, inl, inr}
+use Rattle.std.proofs.Common.{ℕ, ◌≡◌, ◌+◌, ◌≤◌, Bool, true, false, List, [], ◌∷◌, ◌++◌, length, take, drop, Some, None, refl, sym, subst, ◌∙◌, ap, append_assoc, length-append, arith, inl, inr}
 use Rattle.he_timeline.specs.Race.{Race}
 use Rattle.he_reading.specs.Text.{IsRaceText}
-use Rattle.he_inputs.specs.Inputs.{AreRaceTexts, HasRaces, IsFaultBehind, fault_behind, line_count}
+use Rattle.he_inputs.specs.Inputs.{IsFaultBehind, fault_behind, line_count}
 use Rattle.he_inputs.specs.declared.input_fault.InputFault.{InputFault}
 use Rattle.he_inputs.specs.declared.input_fault.InputFault.TheVariants.{Text, Read}
 use Rattle.he_inputs.proofs.RaceReadingLaws.{AreTexts-snoc, line_count-append}
@@ -10,7 +10,7 @@ use Rattle.he_words.specs.Ranges.{most_races}
 use Rattle.he_words.specs.declared.fault.TextFault.{TextFault}
 use Rattle.he_words.specs.declared.fault.TextKind.{TextKind}
 use Rattle.he_words.specs.declared.fault.TextKind.TheVariants as kinds
-use Rattle.he_check.specs.AllFaults.{AreFaultsBehind, IsLastRace, IsNextRace, behind}
+use Rattle.he_check.specs.AllFaults.{AreFaultsBehind, IsNextRace, behind}
 use Rattle.he_check.specs.Steps.{AreFaultsAfter, AreFaultsPast}
 use Rattle.he_check.proofs.Hints.{FirstFaults}
 

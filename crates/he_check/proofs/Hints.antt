@@ -1,13 +1,12 @@
 -- What was meant by a fault, as what is left of an input tells it, and as the whole input does.
-use Rattle.std.proofs.Common.{ℕ, ◌≡◌, ◌⊎◌, ◌↔◌, ◌+◌, ◌-◌, ◌<◌, ◌≤◌, Bool, true, false, List, [], ◌∷◌, ◌++◌, length, get_or, take, Option, Some, None, refl, sym, subst, ◌∙◌, ap, append-nil, length-append, arith, inl, inr, if◌then◌else◌, ◌==◌, ◌||◌}
+use Rattle.std.proofs.Common.{ℕ, ◌≡◌, ◌⊎◌, ◌↔◌, ◌+◌, ◌-◌, ◌<◌, ◌≤◌, Bool, true, false, List, [], ◌∷◌, ◌++◌, length, Option, Some, None, refl, sym, subst, ◌∙◌, ap, append-nil, length-append, arith, inl, inr, if◌then◌else◌, ◌==◌}
 use Rattle.std.specs.Cmp.Lexicographic.{pointwise}
-use Rattle.std.specs.Option.{option_or, unwrap_or}
-use Rattle.std.specs.List.{slice_get}
+use Rattle.std.specs.Option.{option_or}
 use Rattle.std.specs.Prelude.{codes, nat_lt}
 use Rattle.std.proofs.lemmas.Bool.{eqb-true}
 use Rattle.std.proofs.lemmas.List.{take-append-le}
 use Rattle.std.proofs.lemmas.Option.{unwrap_or-slice_get}
-use Rattle.he_reading.specs.Faults.{first_fault, line_fault, test, too_long, unfinished}
+use Rattle.he_reading.specs.Faults.{first_fault, line_fault, test, unfinished}
 use Rattle.he_reading.specs.FaultSearch.{fault_of}
 use Rattle.he_reading.specs.Parts.{lines_of}
 use Rattle.he_inputs.specs.FirstFault.{IsFirstFaultOf, fault_on}
@@ -20,7 +19,6 @@ use Rattle.he_words.specs.declared.fault.TextKind.TheVariants as kinds
 use Rattle.he_check.specs.Clauses.{hint_of, is_of_words, line_at, line_meant}
 use Rattle.he_check.specs.Meant.{begins, input_meant, is_capture}
 use Rattle.he_check.specs.Steps.{AreWhole, hint_in}
-use Rattle.he_check.specs.declared.limits.TheConstants.{FIRST_BYTES}
 use Rattle.he_check.specs.declared.meant.Meant.{Meant}
 use Rattle.he_check.proofs.WholeLines.{line_stays, line_there}
 

@@ -1,8 +1,8 @@
 -- The search for the next race: no race begins before the next line end.
-use Rattle.std.proofs.Common.{ℕ, ◌≡◌, ◌⊎◌, ◌+◌, ◌-◌, ◌<◌, ◌≤◌, Bool, true, false, ◌||◌, cond, eqb, List, [], ◌∷◌, ◌++◌, length, get_or, take, drop, Some, None, sym, subst, subst₂, refl, true≢false, suc, ◌∙◌, ap, append_assoc, arith, codes, drop_at, take-append-drop, inl, inr}
+use Rattle.std.proofs.Common.{ℕ, ◌≡◌, ◌⊎◌, ◌+◌, ◌-◌, ◌<◌, ◌≤◌, Bool, true, false, ◌||◌, cond, eqb, List, [], ◌∷◌, ◌++◌, length, get_or, take, drop, Some, sym, subst₂, refl, true≢false, suc, ◌∙◌, ap, append_assoc, arith, codes, drop_at, take-append-drop, inl, inr}
 use Rattle.std.proofs.lemmas.Bool.{eqb-true}
 use Rattle.std.proofs.lemmas.Bool.Decides.{Decides-eqb}
-use Rattle.std.proofs.lemmas.List.{drop-append-le, drop-drop, get_or-take, get_or_append_left, length-append, length-drop, length-take-le, take-append-le, take_at}
+use Rattle.std.proofs.lemmas.List.{drop-append-le, drop-drop, get_or-take, get_or_append_left, length-append, length-drop, length-take-le, take_at}
 use Rattle.std.proofs.lemmas.List.Sums.{sum_by-cons}
 use Rattle.std.proofs.lemmas.Slice.Eq.{starts_is}
 use Rattle.std.proofs.Math.Nat.{lt_of_not-le}

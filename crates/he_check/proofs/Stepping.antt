@@ -1,6 +1,6 @@
 -- One step of a check in the bytes that are there: what it needs goes on, less is left to do, and where it goes no
 -- further nothing is.
-use Rattle.std.proofs.Common.{ℕ, ◌≡◌, ◌⊎◌, ◌+◌, ◌-◌, ◌*◌, ◌<◌, ◌≤◌, ◌^◌, Bool, true, false, List, [], ◌++◌, length, take, drop, Option, Some, None, refl, sym, subst, ◌∙◌, ap, append-nil, length-take, length-drop, true≢false, eqb, arith, inl, inr, if◌then◌else◌}
+use Rattle.std.proofs.Common.{ℕ, ◌≡◌, ◌+◌, ◌-◌, ◌*◌, ◌≤◌, Bool, true, false, List, [], ◌++◌, length, take, drop, Some, None, refl, sym, subst, ◌∙◌, ap, append-nil, length-take, length-drop, true≢false, eqb, arith, inl, inr, if◌then◌else◌}
 use Rattle.std.proofs.lemmas.List.Sums.{count_by-le-length}
 use Rattle.he_timeline.specs.Race.{Race}
 use Rattle.he_inputs.specs.Inputs.{IsFaultBehind, line_count}

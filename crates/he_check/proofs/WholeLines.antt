@@ -1,5 +1,5 @@
 -- Whole lines at the front of a text: the texts of races are such, and each line behind them is one of the rest.
-use Rattle.std.proofs.Common.{ℕ, zero, suc, ◌≡◌, ◌+◌, ◌-◌, ◌<◌, ◌≤◌, ◌^◌, Bool, true, false, cond, eqb, List, [], ◌∷◌, ◌++◌, length, get_or, take, refl, sym, subst, ◌∙◌, ap, append_assoc, append-nil, get_or-append-add, take_at, length-append, take-append-drop, arith, codes, inl, inr}
+use Rattle.std.proofs.Common.{ℕ, zero, suc, ◌≡◌, ◌+◌, ◌-◌, ◌<◌, ◌≤◌, Bool, true, false, cond, eqb, List, [], ◌∷◌, ◌++◌, length, get_or, refl, sym, subst, ◌∙◌, ap, append_assoc, append-nil, get_or-append-add, arith, codes, inl, inr}
 use Rattle.std.specs.List.{join_with_byte, onto_first}
 use Rattle.std.proofs.lemmas.List.Splits.{join_with_byte-slice_split, length-slice_split, slice_split-cons_yes}
 use Rattle.std.proofs.lemmas.Option.{unwrap_or-slice_get}

@@ -1,6 +1,6 @@
 -- Mirrors the code: how far a check has come in an input of which it holds the bytes behind the last race that it
 -- passed. What a check tells stands in `Checked`, `Slips` and `AllFaults`.
-use Rattle.std.specs.Prelude.{ℕ, ◌≡◌, ◌⊎◌, ◌<◌, ◌≤◌, ◌+◌, ◌-◌, ◌*◌, ◌^◌, ◌==◌, Bool, true, false, List, [], ◌∷◌, ◌++◌, ◌||◌, length, map, take, drop, codes, if◌then◌else◌, Option, Some, None, IfSome, Result, Ok, Err}
+use Rattle.std.specs.Prelude.{ℕ, ◌≡◌, ◌⊎◌, ◌<◌, ◌≤◌, ◌+◌, ◌-◌, ◌*◌, ◌==◌, Bool, true, false, List, [], ◌∷◌, ◌++◌, ◌||◌, length, map, take, drop, codes, if◌then◌else◌, Option, Some, None, IfSome, Result, Ok, Err}
 use Rattle.std.specs.List.{flat_map, slice_get}
 use Rattle.std.specs.Option.{option_or}
 use Rattle.he_timeline.specs.Race.{Race}

@@ -1,4 +1,4 @@
-use Rattle.std.proofs.Common.{rules, true, false, ◌≡◌, ◌+◌, ◌*◌, ◌<◌, ◌≤◌, ◌++◌, ◌∙◌, [], ℕ, List, arith, ap, refl, sym, subst, length, take, vec_len, length-append, length-take, length-take-le, length-drop}
+use Rattle.std.proofs.Common.{rules, true, false, ◌≡◌, ◌+◌, ◌*◌, ◌<◌, ◌≤◌, ◌∙◌, [], ℕ, List, arith, ap, refl, sym, subst, length, take, vec_len, length-append, length-take, length-take-le, length-drop}
 use Rattle.std.proofs.lemmas.List.{places}
 use Rattle.std.specs.Prelude.{IfErr}
 use Rattle.std.specs.Io.KnownBytes.{Consumes, IsAtEnd}

@@ -1,4 +1,3 @@
-use Rattle.std.proofs.Common.{◌+◌}
 use Rattle.he_check.specs.Steps.{HasGone, IsOpen, steps_left}
 use Rattle.he_check.proofs.counting.Counted.go_on.Given as goal
 
