@@ -1,5 +1,5 @@
 -- What a race as a future gives, of the timeline that it was made of.
-use Rattle.std.proofs.Common.{◌≡◌, ℕ, Option, Some, None, Ok, IsSomeAnd, subst}
+use Rattle.std.proofs.Common.{◌≡◌, Option, Some, None, Ok, IsSomeAnd, subst}
 use Rattle.he_timeline.specs.Race.{Race}
 use Rattle.he_timeline.specs.Building.{unrecorded}
 use Rattle.he_race.specs.Resolving.{MayGive, ReplaysGiven}
@@ -8,6 +8,7 @@ use Rattle.he_race.specs.Turns.{GivesOf, Replays}
 use Rattle.he_race.specs.Winner.{EndsAt, WinnerGoes}
 use Rattle.he_live.specs.Dials.{goes_to}
 use Rattle.he_live.specs.declared.dialed.Dialed.{Dialed}
+use Rattle.he_live.specs.declared.endpoint.Endpoint.{Endpoint}
 use Rattle.he_race.specs.declared.live.Live.{Live}
 use Rattle.he_race.specs.declared.live.Raced.{Raced}
 
@@ -39,6 +40,6 @@ gives_given {C} {Conn} {Run} reaches (Some live) race raced is gives =
       winner = gives.winner;
     }
 
--- a connection that goes to the port that there is
-pub winner_at : (own port : ℕ) (raced : Raced Dialed) → own ≡ port → WinnerGoes (goes_to own) raced → WinnerGoes (goes_to port) raced
-winner_at own port raced same h = subst (λ (n : ℕ). WinnerGoes (goes_to n) raced) same h
+-- a connection that goes to the endpoint that is asked for
+pub winner_at : (own to : Endpoint) (raced : Raced Dialed) → own ≡ to → WinnerGoes (goes_to own) raced → WinnerGoes (goes_to to) raced
+winner_at own to raced same h = subst (λ (e : Endpoint). WinnerGoes (goes_to e) raced) same h

@@ -6,7 +6,10 @@ use crate::homes::{
 use futures::task::{Context, Poll};
 use he_addr::{Family, Ip};
 use he_inputs::read_one_race;
-use he_live::{Dialed, Quiet, Reason, Step, StepKind, Steps, Watcher, resolving_race_on};
+use he_live::{
+    Dialed, Endpoint, Quiet, Reason, ResolvingRequest, Step, StepKind, Steps, Watcher,
+    resolving_race_on,
+};
 use he_race::{AnswerSource, Known, nothing_known};
 use std::alloc::Global;
 use std::cell::Cell;
@@ -123,16 +126,12 @@ fn resolve<R: Lender + Net, W: Watcher>(
 ) -> Result<(bool, Option<Dialed>), Fail> {
     let timeline = read_one_race(rt.alloc(), UNKNOWN, false)?;
     let steps = Steps::new(rt.alloc())?;
-    let raced = resolving_race_on(
-        rt,
-        rt.alloc(),
-        runtime,
-        &timeline,
+    let request = ResolvingRequest {
+        timeline: &timeline,
         source,
-        port,
-        &steps,
-        watcher,
-    );
+        to: Endpoint::at_port(port),
+    };
+    let raced = resolving_race_on(rt, rt.alloc(), runtime, request, &steps, watcher);
     drop(timeline);
     let raced = raced?;
     let is_right = is_right(rt, &raced, wanted);
