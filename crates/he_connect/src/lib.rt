@@ -27,6 +27,7 @@ mod kernel;
 mod lines;
 pub mod racing;
 pub mod request;
+mod setup;
 mod source;
 pub mod start;
 mod telling;
