@@ -1,5 +1,6 @@
 -- The machine by which the rules take the sources that the kernel takes (RFC 6724 section 5).
-use Rattle.std.specs.Prelude.{◌≡◌, Bool, true, false, not, List, find, map, Option, Some, None, Result, Ok, Err, option_map}
+use Rattle.std.specs.Prelude.{◌≡◌, ◌++◌, Bool, true, false, not, if◌then◌else◌, List, [], ◌∷◌, find, map, Option, Some, None, Result, Ok, Err, option_map}
+use Rattle.std.specs.List.{list_any}
 use Rattle.he_addr.specs.declared.ip.Ip.{Ip}
 use Rattle.he_addr.specs.Ip.{mapped_of, same_ip}
 use Rattle.he_addr.specs.Prefix.{PrefixBits}
@@ -67,10 +68,22 @@ abbrev pub is_unsaid : List Row → HostLists → Way → Bool
 is_unsaid rows host way =
     not (same_source (option_map (λ source. source.ip) (source_of (selection_input rows host) way.to)) way.from)
 
--- the machine by which the rules take these sources, as `find_host_to` makes it of what is known of them
+abbrev pub ip_of : TakenSource → Ip
+ip_of taken = taken.source.ip
+
+abbrev pub with_source : List Ip → Option Ip → List Ip
+with_source taken None = taken
+with_source taken (Some ip) = if list_any (λ other. same_ip other ip) taken then taken else taken ++ ip ∷ []
+
+-- the sources of these ways after those that there are, each once
+abbrev pub sources_after : List Ip → List Way → List Ip
+sources_after taken [] = taken
+sources_after taken (way ∷ ways) = sources_after (with_source taken way.from) ways
+
+-- the machine by which the rules take the sources of these ways: what is known of each, and the routes
 abbrev pub IsMachineOf : List Way → HostLists → Type 0
 IsMachineOf ways host =
-    (own : List TakenSource) × (left : List LeftOut)
+    (own : List TakenSource) × (map ip_of own ≡ sources_after [] ways) × (left : List LeftOut)
     × HasKept (map found_own_source own) (map (found_way own) ways) host left
 
 -- the machine of what the kernel answered for these destinations

@@ -4,8 +4,11 @@
 // Proved is that what it answers becomes the machine that `find_host_to` makes of it; what it answers is in no
 // contract.
 
-ghost use Rattle.std.specs.Prelude.{◌≡◌, IfOk, length, map, min, take};
-ghost use Rattle.he_host.specs.Ways.{IsMachineOf, IsMachineTo};
+ghost use Rattle.std.specs.Prelude.{◌≡◌, [], IfOk, IfSome, OnOk, length, map, min, take};
+ghost use Rattle.std.specs.List.{list_any};
+ghost use Rattle.he_addr.specs.declared.ip.Ip.TheVariants.{V6};
+ghost use Rattle.he_addr.specs.Ip.{same_ip};
+ghost use Rattle.he_host.specs.Ways.{IsMachineOf, IsMachineTo, ip_of, sources_after, with_source};
 ghost use Rattle.he_host.specs.declared.taken.TheConstants.{MOST_DESTINATIONS};
 
 use crate::if_inet6::{make_source, read_address_line};
@@ -55,7 +58,9 @@ fn read_v6_taken<R: FileSystem + AllocGlobal>(
     line: &[u8],
     ip: u128,
     interface: u16,
-) -> Result<Option<TakenSource>, MachineFault> {
+) -> Result<Option<TakenSource>, MachineFault>
+    ensures { IfOk result (λ found. IfSome found (λ taken. taken.source.ip ≡ V6 ip)) }
+{
     let Some(read) = read_address_line(line) else {
         return Ok(None);
     };
@@ -68,7 +73,10 @@ fn read_v6_taken<R: FileSystem + AllocGlobal>(
     link.number = interface;
     match make_source(read, Some(link)) {
         Ok(source) => Ok(Some(TakenSource {
-            source,
+            source: Source {
+                ip: Ip::V6(ip),
+                ..source
+            },
             tunnel: link.tunnel,
         })),
         Err(_) => Ok(None),
@@ -81,7 +89,9 @@ fn find_v6_taken<R: FileSystem + AllocGlobal>(
     if_inet6: &[u8],
     ip: u128,
     interface: u16,
-) -> Result<TakenSource, MachineFault> {
+) -> Result<TakenSource, MachineFault>
+    ensures { IfOk result (λ taken. taken.source.ip ≡ V6 ip) }
+{
     for line in read_lines(rt.alloc(), if_inet6)?.iter() {
         if let Some(taken) = read_v6_taken(rt, line.text, ip, interface)? {
             return Ok(taken);
@@ -90,7 +100,9 @@ fn find_v6_taken<R: FileSystem + AllocGlobal>(
     Ok(taken_alone(Ip::V6(ip), V6_BITS, interface))
 }
 
-fn taken_alone(ip: Ip, plen: u8, interface: u16) -> TakenSource {
+fn taken_alone(ip: Ip, plen: u8, interface: u16) -> TakenSource
+    ensures { result.source.ip ≡ ip }
+{
     TakenSource {
         source: Source {
             ip,
@@ -100,6 +112,21 @@ fn taken_alone(ip: Ip, plen: u8, interface: u16) -> TakenSource {
             temporary: false,
         },
         tunnel: false,
+    }
+}
+
+// What is known of a source that the kernel takes, which counts as on an interface of this number.
+fn find_source<R: FileSystem + Net + AllocGlobal>(
+    rt: &R,
+    if_inet6: &[u8],
+    ip: Ip,
+    interface: u16,
+) -> Result<TakenSource, MachineFault>
+    ensures { IfOk result (λ taken. taken.source.ip ≡ ip) }
+{
+    match ip {
+        Ip::V4(bits) => Ok(taken_alone(ip, ask_len(rt, bits), interface)),
+        Ip::V6(bits) => find_v6_taken(rt, if_inet6, bits, interface),
     }
 }
 
@@ -138,27 +165,45 @@ fn find_taken<R: FileSystem + Net + AllocGlobal>(
     rt: &R,
     ways: &[Way],
     mut numbering: Numbering,
-) -> Result<Vec<TakenSource>, MachineFault> {
+) -> Result<Vec<TakenSource>, MachineFault>
+    ensures { IfOk result (λ taken. map ip_of taken.items ≡ sources_after [] ways.now) }
+{
     let if_inet6 = read_if_there(rt, "/proc/net/if_inet6")?;
     let mut taken = Vec::new(rt.alloc());
     for way in ways {
-        let Some(ip) = way.from else {
-            continue;
-        };
-        if is_taken_already(&taken, ip) {
-            continue;
-        }
-        let interface = numbering.take();
-        taken.push(match ip {
-            Ip::V4(bits) => taken_alone(ip, ask_len(rt, bits), interface),
-            Ip::V6(bits) => find_v6_taken(rt, &if_inet6, bits, interface)?,
-        })?;
+        add_taken(rt, &if_inet6, way.from, &mut numbering, &mut taken)?;
     }
     Ok(taken)
 }
 
-fn is_taken_already(taken: &[TakenSource], ip: Ip) -> bool {
-    taken.iter().any(|one| one.source.ip == ip)
+// Adds the source of a way, where it isn't there.
+fn add_taken<R: FileSystem + Net + AllocGlobal>(
+    rt: &R,
+    if_inet6: &[u8],
+    from: Option<Ip>,
+    numbering: &mut Numbering,
+    taken: &mut Vec<TakenSource>,
+) -> Result<(), MachineFault>
+    ensures { OnOk result (map ip_of taken.new.items ≡ with_source (map ip_of taken.old.items) from) }
+{
+    let Some(ip) = from else {
+        return Ok(());
+    };
+    if !is_taken_already(taken, ip) {
+        taken.push(find_source(rt, if_inet6, ip, numbering.take())?)?;
+    }
+    Ok(())
+}
+
+fn is_taken_already(taken: &[TakenSource], ip: Ip) -> bool
+    ensures { result ≡ list_any (λ other. same_ip other ip) (map ip_of taken.now) }
+{
+    for one in taken {
+        if one.source.ip == ip {
+            return true;
+        }
+    }
+    false
 }
 
 // Asks the kernel for the way to each destination.
