@@ -10,6 +10,7 @@ use Rattle.he_race.specs.Resolving.{ReplaysGiven}
 use Rattle.he_race.specs.Winner.{GoesAt, WinnerGoes}
 use Rattle.he_write.specs.Written.{timeline_text}
 use Rattle.he_connect.specs.declared.request.ConnectRequest.{ConnectRequest}
+use Rattle.he_connect.specs.declared.request.Families.{Families}
 use Rattle.he_connect.specs.declared.fault.ConnectFault.{ConnectFault}
 use Rattle.he_connect.specs.declared.racing.FinishedRace.{FinishedRace}
 use Rattle.he_connect.specs.declared.setup.Setup.{Setup}
@@ -37,13 +38,13 @@ ran_so request start to raced (Ok run) replays goes of text story winner = recor
 }
 ran_so request start to raced (Err fault) replays goes of text story winner = tt
 
--- what is run for a request that is the same but for its families is run for it
-runs_for : (request asked : ConnectRequest) (setup : Setup) (run : FinishedRace) → asked ≡ record request { families = asked.families }
-    → RunsFrom asked setup.start setup.to run.text.items run.story.items run.connection
-    → RunsFrom request setup.start setup.to run.text.items run.story.items run.connection
-runs_for request asked setup run same runs =
-    let of : RunsFrom (record request { families = asked.families }) setup.start setup.to run.text.items run.story.items run.connection =
-    subst (λ (r : ConnectRequest). RunsFrom r setup.start setup.to run.text.items run.story.items run.connection) same runs in
+-- what is run for the request with other families is run for the request
+runs_for : (request asked : ConnectRequest) (tried : Families) (start : Race) (to : Endpoint) (run : FinishedRace)
+    → asked ≡ record request { families = tried } → RunsFrom asked start to run.text.items run.story.items run.connection
+    → RunsFrom request start to run.text.items run.story.items run.connection
+runs_for request asked tried start to run same runs =
+    let of : RunsFrom (record request { families = tried }) start to run.text.items run.story.items run.connection =
+    subst (λ (r : ConnectRequest). RunsFrom r start to run.text.items run.story.items run.connection) same runs in
     record {
       recorded = of.recorded;
       kept = of.kept;
@@ -62,10 +63,10 @@ pub began_so : (request : ConnectRequest) (setup : Setup) (result : Result Finis
     → IfOk result (λ run. RunsFrom setup.request setup.start setup.to run.text.items run.story.items run.connection)
     → IfOk result (λ run. IsRun request run.text.items run.story.items run.connection)
 began_so request setup (Ok run) is runs = record {
-  tried = setup.request.families;
+  tried = is.tried;
   start = setup.start;
   to = setup.to;
   begins = is.begins;
-  runs = runs_for request setup.request setup run is.same runs;
+  runs = runs_for request setup.request is.tried setup.start setup.to run is.same runs;
 }
 began_so request setup (Err fault) is runs = tt

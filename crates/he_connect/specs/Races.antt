@@ -62,10 +62,11 @@ pub record Begins (request : ConnectRequest) (tried : Families) (start : Race) (
   pub port : to.port ≡ request.port
   pub scope : FindsScope request.host.now to.scope
 
--- a race is set up so, for a request that is the same but for its families
+-- a race is set up so, for the request with the families that are tried
 pub record IsSetUp (request : ConnectRequest) (setup : Setup) : Type 0 where
-  pub begins : Begins request setup.request.families setup.start setup.to
-  pub same : setup.request ≡ record request { families = setup.request.families }
+  pub tried : Families
+  pub begins : Begins request tried setup.start setup.to
+  pub same : setup.request ≡ record request { families = tried }
 
 -- the race that is asked for was run
 pub record IsRun (request : ConnectRequest) (text story : List ℕ) (connection : Option Dialed) : Type 0 where

@@ -24,7 +24,8 @@ pub(crate) fn read_lines_of<R: Files + Net + AllocGlobal>(
         Lines::Machine => {
             let mut text = Vec::new(alloc);
             if let Some(ips) = known {
-                write_host(&find_machine_to(rt, ips, scope)?, &mut text)?;
+                let machine = find_machine_to(rt, ips, scope)?;
+                write_host(&machine, &mut text)?;
             }
             Ok(text)
         }

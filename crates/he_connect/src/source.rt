@@ -114,7 +114,6 @@ impl<'h, 'f, R: Net + RandomSource + Clock + Files + AllocGlobal, F> HostAnswers
         telling: &'h Telling<'f, F>,
     ) -> Result<HostAnswers<'h, 'f, R, F>, AllocError>
         ensures lookup { IfOk result (λ answers. answers.lookup ≡ lookup.entry) }
-        ensures machine { IfOk result (λ answers. is_some answers.machine ≡ is_some machine) }
     {
         let log = lookup.log()?;
         Ok(HostAnswers {

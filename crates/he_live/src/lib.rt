@@ -40,8 +40,9 @@
 //!   Its faults are `Runtime` and `Memory` alone.
 //! - The winner's connection was asked for at the address of the transcript's line that won and the given port, over
 //!   the given interface where that is a link-local address of IPv6, and over none else (`goes_to` in `specs/Dials`).
-//! - What [`resolving_race_on`] gives replays likewise, for every source: its record has the given settings, policy,
-//!   host, history and answers, and of the other families what the source told (`ReplaysGiven` of `he_race`).
+//! - What [`resolving_race_on`] gives replays likewise, for every source: its record has the given settings, policy
+//!   and answers, begins with the given host and history, and has of the other families what the source told
+//!   (`ReplaysGiven` and `IsOfSource` of `he_race`).
 //! - [`live`] writes the transcript's text and then the record's, of the input's one race with the given changes of
 //!   its settings, and hands out the record's text; it makes all of it before it writes the first byte, and after any
 //!   fault but `Write` nothing was written. `Text`, `Read` and `OneRace` come only where the input has this fault

@@ -1,8 +1,10 @@
 //! A race on real sockets.
 ghost use Rattle.std.specs.Prelude.{IfErr, IfOk};
+ghost use Rattle.he_race.specs.OfSource.{IsOfSource};
 ghost use Rattle.he_race.specs.Resolving.{ReplaysGiven};
 ghost use Rattle.he_race.specs.Turns.{Replays};
 ghost use Rattle.he_race.specs.Winner.{WinnerGoes};
+ghost use Rattle.he_timeline.specs.Building.{unrecorded};
 ghost use Rattle.he_live.specs.Dials.{at_port, goes_to};
 ghost use Rattle.he_live.specs.Live.{IsRunFault};
 
@@ -146,6 +148,8 @@ where
     W: Watcher,
     ensures replays { IfOk result (ReplaysGiven request.entry.timeline.now) }
     ensures winner { IfOk result (WinnerGoes (goes_to request.entry.to)) }
+    ensures source { IfOk result (λ raced. IsOfSource S.hears request.entry.source
+        (unrecorded request.entry.timeline.now) raced.recorded) }
     ensures fault { IfErr result IsRunFault }
 {
     let start = Instant::now(rt)?;

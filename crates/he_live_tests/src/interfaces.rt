@@ -5,7 +5,7 @@ use futures::task::{Context, Poll};
 use he_addr::Family;
 use he_inputs::read_one_race;
 use he_live::{Endpoint, Quiet, Reason, ResolvingRequest, Steps, resolving_race_on};
-use he_race::{AnswerSource, Known};
+use he_race::{Answer, AnswerSource};
 use std::mem::drop;
 use std::net::Net;
 use std::test::Fail;
@@ -33,7 +33,7 @@ impl AnswerSource for Unasked {
 
     ghost hears = { λ _ _ _ _ _. ⊤ };
 
-    fn poll_answer(&mut self, _: Family, _: u64, cx: &mut Context<'_>) -> Poll<Vec<Known>> {
+    fn poll_answer(&mut self, _: Family, _: u64, cx: &mut Context<'_>) -> Poll<Answer> {
         cx.yield_now()
     }
 }

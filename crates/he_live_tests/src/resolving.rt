@@ -10,7 +10,7 @@ use he_live::{
     Dialed, Endpoint, Quiet, Reason, ResolvingRequest, Step, StepKind, Steps, Watcher,
     resolving_race_on,
 };
-use he_race::{AnswerSource, Known, nothing_known};
+use he_race::{Answer, AnswerSource, nothing_known};
 use std::alloc::Global;
 use std::cell::Cell;
 use std::io;
@@ -54,7 +54,7 @@ impl AnswerSource for AtTicks {
 
     ghost hears = { λ _ _ _ _ _. ⊤ };
 
-    fn poll_answer(&mut self, family: Family, now: u64, cx: &mut Context<'_>) -> Poll<Vec<Known>> {
+    fn poll_answer(&mut self, family: Family, now: u64, cx: &mut Context<'_>) -> Poll<Answer> {
         let (tick, ip) = match family {
             Family::V6 => (self.aaaa, LOOPBACK_6),
             Family::V4 => (self.a, LOOPBACK_4),
@@ -63,7 +63,7 @@ impl AnswerSource for AtTicks {
             return cx.yield_now();
         }
         match nothing_known(self.alloc, &[ip]) {
-            Ok(known) => Poll::Ready(known),
+            Ok(known) => Poll::Ready(Answer::without_lines(known)),
             Err(_) => cx.yield_now(),
         }
     }
