@@ -1,5 +1,6 @@
 -- What a race makes of the answers that come while it runs: the public contracts of `ResolvingRace` cite it.
-use Rattle.std.specs.Prelude.{ℕ, ◌≡◌, ◌&&◌, ◌++◌, ⊤, Bool, not, List, [], ◌∷◌, filter, map, max, min, take, Option, Some, None}
+use Rattle.std.specs.Prelude.{ℕ, ◌≡◌, ◌-◌, ◌&&◌, ◌++◌, ⊤, Bool, not, List, [], ◌∷◌, filter, length, map, max, min, take, Option, Some, None}
+use Rattle.std.specs.List.{list_any}
 use Rattle.he_addr.specs.declared.ip.Family.{Family}
 use Rattle.he_addr.specs.declared.ip.Family.TheVariants as families
 use Rattle.he_addr.specs.declared.ip.Ip.{Ip}
@@ -92,14 +93,19 @@ abbrev pub is_route_of : Family → Route → Bool
 is_route_of families.V6 route = is_sound_route route && not (is_inside_mapped route.prefix)
 is_route_of families.V4 route = is_sound_route route && is_inside_mapped route.prefix
 
--- the sources that there are, and after them those of the family that are told, each address once and as many as a
--- host may have
-abbrev pub with_sources : Family → List Source → List Source → List Source
-with_sources family has told = take SOURCES (each_once same_source (has ++ filter (is_source_of family) told))
+-- what there is, and after it those of what is told that are wanted and not there, each once, as many as there is room
+-- for
+abbrev pub with_new : {X : Type 0} → (X → X → Bool) → (X → Bool) → ℕ → List X → List X → List X
+with_new same wanted most has told =
+    has ++ take (most - length has) (each_once same (filter (λ x. wanted x && not (list_any (same x) has)) told))
 
--- the routes likewise, each prefix once
+-- the host's sources, and those of the family that are told, each address once
+abbrev pub with_sources : Family → List Source → List Source → List Source
+with_sources family has told = with_new same_source (is_source_of family) SOURCES has told
+
+-- its routes likewise, each prefix once
 abbrev pub with_routes : Family → List Route → List Route → List Route
-with_routes family has told = take ROUTES (each_once same_route (has ++ filter (is_route_of family) told))
+with_routes family has told = with_new same_route (is_route_of family) ROUTES has told
 
 -- the host with the lines of the family that are told
 abbrev pub widened : Family → AnswerLists → HostLists → HostLists
@@ -119,7 +125,8 @@ with_lines race family answer = with_host race (widened family answer race.host)
 -- the race with an answer of these addresses that came at the tick, with what is told of them, and with the lines
 abbrev pub with_heard : Race → Family → ℕ → AnswerLists → List Ip → Race
 with_heard race family now answer ips =
-    with_lines (with_known (with_answer race family (record { tick = now; addresses = ips })) answer.known ips) family answer
+    with_lines (with_known (with_answer race family (record { tick = now; addresses = ips })) answer.known ips) family
+    answer
 
 -- the race with what is told for a family in a turn at the tick: it counts as come at that tick
 abbrev pub with_told : Race → Family → ℕ → Option AnswerLists → Race

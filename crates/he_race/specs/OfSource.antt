@@ -32,7 +32,7 @@ pub record IsOfSource {S : Type 0} (hears : Tells S) (s : S) (given recorded : R
   pub polls : List SourcePoll
   pub last : S
   pub heard : Race
-  pub hears : HearsAll hears s given polls last heard
+  pub polled : HearsAll hears s given polls last heard
   pub alike : AreAlike heard recorded
 
 -- the record replays, and is that of the given race and of what the source told

@@ -90,9 +90,10 @@ impl Recorder {
         ensures turn { OnOk result (InTurn self.new.recorded now self.new.underway.attempts false) }
         ensures underway { OnOk result (IsUnderway self.new.recorded self.new.underway) }
     {
-        let addresses = cleaned(self.alloc, family, &told.known)?;
+        let known = told.known.as_slice();
+        let addresses = cleaned(self.alloc, family, known)?;
         add_answer(&mut self.recorded, family, now, &addresses)?;
-        add_known(&mut self.recorded, &told.known, &addresses)?;
+        add_known(&mut self.recorded, known, &addresses)?;
         add_lines(self.alloc, &mut self.recorded, family, told)?;
         self.underway = again(
             self.alloc,

@@ -57,22 +57,22 @@ fn with_sources(
 {
     let mut all = Vec::from_slice(alloc, has)?;
     for source in told {
-        if is_new_source(&all, family, source) {
+        if is_new_source(&all, family, *source) {
             all.push(*source)?;
         }
     }
     Ok(all)
 }
 
-fn is_new_source(all: &[Source], family: Family, source: &Source) -> bool
-    ensures { result ≡ (nat_lt (length all.now) SOURCES && (is_source_of family source.now
-        && not (list_any (same_source source.now) all.now))) }
+fn is_new_source(all: &[Source], family: Family, source: Source) -> bool
+    ensures { result ≡ (nat_lt (length all.now) SOURCES && (is_source_of family source
+        && not (list_any (same_source source) all.now))) }
 {
     all.len() < SOURCES && is_source_of(family, source) && !source.repeats(all)
 }
 
-fn is_source_of(family: Family, source: &Source) -> bool
-    ensures { result ≡ is_source_of family source.now }
+fn is_source_of(family: Family, source: Source) -> bool
+    ensures { result ≡ is_source_of family source }
 {
     source.is_sound() && source.ip.family() == family
 }
@@ -89,22 +89,22 @@ fn with_routes(
 {
     let mut all = Vec::from_slice(alloc, has)?;
     for route in told {
-        if is_new_route(&all, family, route) {
+        if is_new_route(&all, family, *route) {
             all.push(*route)?;
         }
     }
     Ok(all)
 }
 
-fn is_new_route(all: &[Route], family: Family, route: &Route) -> bool
-    ensures { result ≡ (nat_lt (length all.now) ROUTES && (is_route_of family route.now
-        && not (list_any (same_route route.now) all.now))) }
+fn is_new_route(all: &[Route], family: Family, route: Route) -> bool
+    ensures { result ≡ (nat_lt (length all.now) ROUTES && (is_route_of family route
+        && not (list_any (same_route route) all.now))) }
 {
     all.len() < ROUTES && is_route_of(family, route) && !route.repeats(all)
 }
 
-fn is_route_of(family: Family, route: &Route) -> bool
-    ensures { result ≡ is_route_of family route.now }
+fn is_route_of(family: Family, route: Route) -> bool
+    ensures { result ≡ is_route_of family route }
 {
     match family {
         Family::V6 => route.is_sound() && !route.prefix.is_v4(),
