@@ -267,7 +267,7 @@ module _ {A : Type 0} (ending : Ending) (before bytes : List ℕ) (old new : Cou
     left = drop old.reader.end bytes
 
     -- a race was passed
-    module _ (race : Race) (free : IsOpen old) (reads : old.is_seeking ≡ false) (reads_on : new.is_seeking ≡ false) (same : new.told ≡ old.told) (passes : PassesRace bytes old.reader new.reader race)
+    module _ (race : Race) (free : IsOpen old) (reads : old.is_seeking ≡ false) (passes : PassesRace bytes old.reader new.reader race)
         (warned : old.told.first ≡ None → new.warnings.items ≡ old.warnings.items ++ warnings_of (old.reader.lines + 1) race)
       where
         abbrev own : List ℕ
@@ -276,25 +276,19 @@ module _ {A : Type 0} (ending : Ending) (before bytes : List ℕ) (old new : Cou
         sum : old.reader.end + (new.reader.end - old.reader.end) ≡ new.reader.end
         sum = let past = passes.past in omega arith
 
-        longer : before ++ take new.reader.end bytes ≡ front ++ own
+        longer : front ++ own ≡ before ++ take new.reader.end bytes
         longer =
-            ap (λ (n : ℕ). before ++ take n bytes) (sym sum) ∙ ap (λ (t : List ℕ). before ++ t) (take-add old.reader.end (new.reader.end - old.reader.end) bytes)
-            ∙ sym (append_assoc before (take old.reader.end bytes) own)
+            append_assoc before (take old.reader.end bytes) own
+            ∙ ap (λ (t : List ℕ). before ++ t) (sym (take-add old.reader.end (new.reader.end - old.reader.end) bytes) ∙ ap (λ (n : ℕ). take n bytes) sum)
 
-        shorter : left ≡ own ++ drop new.reader.end bytes
+        shorter : own ++ drop new.reader.end bytes ≡ left
         shorter =
-            sym (take-append-drop (new.reader.end - old.reader.end) left)
-            ∙ ap (λ (t : List ℕ). own ++ t) (drop-drop (new.reader.end - old.reader.end) old.reader.end bytes ∙ ap (λ (n : ℕ). drop n bytes) sum)
+            ap (λ (t : List ℕ). own ++ t) (ap (λ (n : ℕ). drop n bytes) (sym sum) ∙ sym (drop-drop (new.reader.end - old.reader.end) old.reader.end bytes))
+            ∙ take-append-drop (new.reader.end - old.reader.end) left
 
-        no_fault : new.told.first ≡ None → old.told.first ≡ None
-        no_fault none = ap (λ (t : Told A). t.first) (sym same) ∙ none
-
-        told_all : new.told.is_all ≡ true → old.told.is_all ≡ true
-        told_all all = ap (λ (t : Told A). t.is_all) (sym same) ∙ all
-
-        clean_on : new.told.first ≡ None → IsClean (before ++ take new.reader.end bytes) new.reader new.warnings.items
+        clean_on : old.told.first ≡ None → IsClean (before ++ take new.reader.end bytes) new.reader new.warnings.items
         clean_on none =
-            let clean = at.clean (no_fault none) in
+            let clean = at.clean none in
             let races = clean.races ++ race ∷ [] in
             let lined = at.lined in
             let one = passes.counted in
@@ -302,42 +296,39 @@ module _ {A : Type 0} (ending : Ending) (before bytes : List ℕ) (old new : Cou
             let size = length-append clean.races (race ∷ []) in
             record {
               races = races;
-              whole = subst (AreRaceTexts races) (sym longer) (AreTexts-snoc IsRaceText clean.races front clean.whole race own passes.read);
+              whole = subst (AreRaceTexts races) longer (AreTexts-snoc IsRaceText clean.races front clean.whole race own passes.read);
               counted = omega arith;
-              warned = subst₂ (λ (t : List ℕ) (w : List Warning). AreWarned 0 races t w) (sym longer) (sym (warned (no_fault none)))
+              warned = subst₂ (λ (t : List ℕ) (w : List Warning). AreWarned 0 races t w) longer (sym (warned none))
                   (warned_on 0 clean.races front old.warnings.items clean.warned race own passes.read (old.reader.lines + 1) (omega arith));
             }
 
-        past : (is_broken : Bool) (more : List ℕ) (others : List TextFault) → AreLeft new.is_seeking new.reader is_broken (drop new.reader.end bytes ++ more) others
+        past : (is_broken : Bool) (more : List ℕ) (others : List TextFault) → AreLeft old.is_seeking new.reader is_broken (drop new.reader.end bytes ++ more) others
             → AreLeft old.is_seeking old.reader is_broken (left ++ more) others
         past is_broken more others are =
             let rest : List ℕ = drop new.reader.end bytes ++ more in
-            let Left : Bool → Type 0 = λ s. AreLeft s new.reader is_broken rest others in
-            let here : AreFaultsPast is_broken new.reader.races new.reader.lines rest others = subst Left reads_on are in
+            let here : AreFaultsPast is_broken new.reader.races new.reader.lines rest others = subst (λ (s : Bool). AreLeft s new.reader is_broken rest others) reads are in
             let next : AreFaultsPast is_broken (old.reader.races + 1) (old.reader.lines + line_count own) rest others =
             subst₂ (λ (r l : ℕ). AreFaultsPast is_broken r l rest others) passes.counted passes.lined here in
-            let text : own ++ rest ≡ left ++ more = sym (append_assoc own (drop new.reader.end bytes) more) ∙ ap (λ (t : List ℕ). t ++ more) (sym shorter) in
+            let text : own ++ rest ≡ left ++ more = sym (append_assoc own (drop new.reader.end bytes) more) ∙ ap (λ (t : List ℕ). t ++ more) shorter in
             let all : AreFaultsPast is_broken old.reader.races old.reader.lines (left ++ more) others =
             subst (λ (t : List ℕ). AreFaultsPast is_broken old.reader.races old.reader.lines t others) text (past_race is_broken old.reader.races old.reader.lines own race rest others passes.read next) in
             subst (λ (s : Bool). AreLeft s old.reader is_broken (left ++ more) others) (sym reads) all
 
-        pub race_at : IsAt ending before bytes new
+        pub race_at : IsAt ending before bytes (record old { reader = new.reader; warnings = new.warnings })
         race_at = record {
-          lined = passes.lined ∙ ap (λ (n : ℕ). n + line_count own) at.lined ∙ sym (line_count-append front own) ∙ sym (ap line_count longer);
-          whole = λ _. subst AreWhole (sym longer) (whole_append front own (at.whole reads) (whole_race own race passes.read));
+          lined = passes.lined ∙ ap (λ (n : ℕ). n + line_count own) at.lined ∙ sym (line_count-append front own) ∙ ap line_count longer;
+          whole = λ _. subst AreWhole longer (whole_append front own (at.whole reads) (whole_race own race passes.read));
           clean = clean_on;
-          first = subst (λ (t : Told A). IfSome t.first (IsFirstIn (before ++ bytes) ending)) (sym same) at.first;
-          alone = λ one.
-              let none : new.told.first ≡ None = ap (λ (t : Told A). t.first) same ∙ free (ap (λ (t : Told A). t.is_all) (sym same) ∙ one) in
-              subst (λ (f : Option TextFault). IfSome f (λ fault. new.reader.lines + 1 ≤ fault.line)) (sym none) tt;
+          first = at.first;
+          alone = λ one. subst (λ (f : Option TextFault). IfSome f (λ fault. new.reader.lines + 1 ≤ fault.line)) (sym (free one)) tt;
           told = λ all.
-              let told = at.told (told_all all) in
+              let told = at.told all in
               record {
                 faults = told.faults;
-                first = ap (λ (t : Told A). t.first) same ∙ told.first;
-                number = ap (λ (t : Told A). t.count) same ∙ told.number;
+                first = told.first;
+                number = told.number;
                 are = λ more is_broken others may are. told.are more is_broken others may (past is_broken more others are);
-                said = λ more is_broken may. subst (λ (t : Told A). AreSaid ((before ++ bytes) ++ more) (take MOST_TOLD told.faults) t.text.items) (sym same) (told.said more is_broken may);
+                said = told.said;
               };
         }
 
@@ -431,60 +422,54 @@ module _ {A : Type 0} (ending : Ending) (before bytes : List ℕ) (old new : Cou
         }
 
     -- bytes were passed in a search for the next race
-    module _ (n : ℕ) (sound : IsSound old) (seeks : old.is_seeking ≡ true) (same : new.told ≡ old.told) (inside : n ≤ length left) (ends : new.reader.end ≡ old.reader.end + n)
-        (lines : new.reader.lines ≡ old.reader.lines + line_count (take n left))
+    module _ (reader : RaceReader) (n : ℕ) (sound : IsSound old) (seeks : old.is_seeking ≡ true) (inside : n ≤ length left) (ends : reader.end ≡ old.reader.end + n)
+        (lines : reader.lines ≡ old.reader.lines + line_count (take n left))
       where
-        further : before ++ take new.reader.end bytes ≡ front ++ take n left
+        further : before ++ take reader.end bytes ≡ front ++ take n left
         further =
             ap (λ (m : ℕ). before ++ take m bytes) ends ∙ ap (λ (t : List ℕ). before ++ t) (take-add old.reader.end n bytes) ∙ sym (append_assoc before (take old.reader.end bytes) (take n left))
 
-        behind : (more : List ℕ) → drop new.reader.end bytes ++ more ≡ drop n (left ++ more)
+        behind : (more : List ℕ) → drop reader.end bytes ++ more ≡ drop n (left ++ more)
         behind more = ap (λ (m : ℕ). drop m bytes ++ more) ends ∙ ap (λ (t : List ℕ). t ++ more) (sym (drop-drop n old.reader.end bytes)) ∙ sym (drop-append-le n left more inside)
 
-        counted : (more : List ℕ) → new.reader.lines ≡ old.reader.lines + line_count (take n (left ++ more))
+        counted : (more : List ℕ) → reader.lines ≡ old.reader.lines + line_count (take n (left ++ more))
         counted more = lines ∙ ap (λ (t : List ℕ). old.reader.lines + line_count t) (sym (take-append-le n left more inside))
 
-        not_clean : new.told.first ≡ None → ⊥
-        not_clean none = true≢false (sym seeks ∙ sound.reads (ap (λ (t : Told A). t.first) (sym same) ∙ none))
-
-        sought_at : (new.is_seeking ≡ false → AreWhole (before ++ take new.reader.end bytes))
-            → ((is_broken : Bool) (more : List ℕ) (others : List TextFault) → AreLeft new.is_seeking new.reader is_broken (drop new.reader.end bytes ++ more) others
-            → AreFaultsAfter is_broken old.reader.lines (left ++ more) others) → IsAt ending before bytes new
-        sought_at whole after = record {
+        sought_at : (goes_on : Bool) → (goes_on ≡ false → AreWhole (before ++ take reader.end bytes))
+            → ((is_broken : Bool) (more : List ℕ) (others : List TextFault) → AreLeft goes_on reader is_broken (drop reader.end bytes ++ more) others
+            → AreFaultsAfter is_broken old.reader.lines (left ++ more) others) → IsAt ending before bytes (record old { reader = reader; is_seeking = goes_on })
+        sought_at goes_on whole after = record {
           lined = lines ∙ ap (λ (m : ℕ). m + line_count (take n left)) at.lined ∙ sym (line_count-append front (take n left)) ∙ sym (ap line_count further);
           whole = whole;
-          clean = λ none. absurd (not_clean none);
-          first = subst (λ (t : Told A). IfSome t.first (IsFirstIn (before ++ bytes) ending)) (sym same) at.first;
-          alone = λ one. absurd (true≢false (sym (sound.seeks seeks) ∙ ap (λ (t : Told A). t.is_all) (sym same) ∙ one));
+          clean = λ none. absurd (true≢false (sym seeks ∙ sound.reads none));
+          first = at.first;
+          alone = λ one. absurd (true≢false (sym (sound.seeks seeks) ∙ one));
           told = λ all.
-              let told = at.told (sound.seeks seeks) in
+              let told = at.told all in
               record {
                 faults = told.faults;
-                first = ap (λ (t : Told A). t.first) same ∙ told.first;
-                number = ap (λ (t : Told A). t.count) same ∙ told.number;
+                first = told.first;
+                number = told.number;
                 are = λ more is_broken others may are.
                     told.are more is_broken others may (subst (λ (s : Bool). AreLeft s old.reader is_broken (left ++ more) others) (sym seeks) (after is_broken more others are));
-                said = λ more is_broken may. subst (λ (t : Told A). AreSaid ((before ++ bytes) ++ more) (take MOST_TOLD told.faults) t.text.items) (sym same) (told.said more is_broken may);
+                said = told.said;
               };
         }
 
         -- no race begins in them
-        pub passed_at : new.is_seeking ≡ true → ((more : List ℕ) (other : ℕ) → BeginsRace (left ++ more) other → n + 1 ≤ other) → IsAt ending before bytes new
-        passed_at seeks_on none =
-            sought_at (λ reads. absurd (true≢false (sym seeks_on ∙ reads)))
+        pub passed_at : ((more : List ℕ) (other : ℕ) → BeginsRace (left ++ more) other → n + 1 ≤ other) → IsAt ending before bytes (record old { reader = reader })
+        passed_at none =
+            subst (λ (s : Bool). IsAt ending before bytes (record old { reader = reader; is_seeking = s })) (sym seeks)
+            (sought_at true (λ reads. absurd (true≢false reads))
             (λ is_broken more others are.
-            let Left : Bool → Type 0 = λ s. AreLeft s new.reader is_broken (drop new.reader.end bytes ++ more) others in
-            let here : AreFaultsAfter is_broken new.reader.lines (drop new.reader.end bytes ++ more) others = subst Left seeks_on are in
             let size = length-append left more in
             after_more is_broken old.reader.lines (left ++ more) n others (omega arith) (none more)
-            (subst₂ (λ (m : ℕ) (t : List ℕ). AreFaultsAfter is_broken m t others) (counted more) (behind more) here))
+            (subst₂ (λ (m : ℕ) (t : List ℕ). AreFaultsAfter is_broken m t others) (counted more) (behind more) are)))
 
         -- the next race begins behind them
-        pub found_at : new.is_seeking ≡ false → new.reader.races ≡ 0 → AreWhole (front ++ take n left) → ((more : List ℕ) → IsNextRace (left ++ more) n) → IsAt ending before bytes new
-        found_at reads races whole next =
-            sought_at (λ _. subst AreWhole (sym further) whole)
+        pub found_at : reader.races ≡ 0 → AreWhole (front ++ take n left) → ((more : List ℕ) → IsNextRace (left ++ more) n) → IsAt ending before bytes (record old { reader = reader; is_seeking = false })
+        found_at races whole next =
+            sought_at false (λ _. subst AreWhole (sym further) whole)
             (λ is_broken more others are.
-            let Left : Bool → Type 0 = λ s. AreLeft s new.reader is_broken (drop new.reader.end bytes ++ more) others in
-            let here : AreFaultsPast is_broken new.reader.races new.reader.lines (drop new.reader.end bytes ++ more) others = subst Left reads are in
-            after_found is_broken old.reader.lines new.reader.lines (left ++ more) n others (next more) (counted more)
-            (subst₂ (λ (r : ℕ) (t : List ℕ). AreFaultsPast is_broken r new.reader.lines t others) races (behind more) here))
+            after_found is_broken old.reader.lines reader.lines (left ++ more) n others (next more) (counted more)
+            (subst₂ (λ (r : ℕ) (t : List ℕ). AreFaultsPast is_broken r reader.lines t others) races (behind more) are))

@@ -13,7 +13,7 @@ use Rattle.he_words.specs.Ranges.{most_races}
 use Rattle.he_words.specs.declared.fault.TextFault.{TextFault}
 use Rattle.he_check.specs.AllFaults.{BeginsRace, IsNextRace}
 use Rattle.he_check.specs.Slips.{warnings_of}
-use Rattle.he_check.specs.Steps.{AddsFault, AreFaultsPast, AreLeft, AreWhole, HasGone, HasStepped, HasStopped, IsOpen, IsSound, MayGo, steps_left}
+use Rattle.he_check.specs.Steps.{AddsFault, AreFaultsPast, AreLeft, AreWhole, HasGone, HasStepped, HasStopped, IsAt, IsOpen, IsSound, MayGo, steps_left}
 use Rattle.he_check.specs.declared.all_faults.Told.{Told}
 use Rattle.he_check.specs.declared.counting.Counted.{Counted}
 use Rattle.he_check.specs.declared.parts.RestOfInput.{RestOfInput}
@@ -62,46 +62,34 @@ module _ {A : Type 0} (ending : Ending) (bytes : List ℕ) (old new : Counted A)
             let Rest : List ℕ → Type 0 = λ t. IsFaultBehind true old.reader.races old.reader.lines t (Some Read) in
             past_read first old.reader.races old.reader.lines left may.sound.few (subst Rest (append-nil left) (is [] true (refl, refl)))
 
-    -- as many steps are left as before it, and one for the line of a fault
-    counts : (seeking : Bool) → old.is_seeking ≡ seeking → steps_left bytes old ≡ 2 * (length bytes - old.reader.end) + (if seeking then 0 else 1)
-    counts seeking is = ap (λ (s : Bool). 2 * (length bytes - old.reader.end) + (if s then 0 else 1)) is
+    -- how many steps are left, and how many faults were found
+    steps : (seeking : Bool) → old.is_seeking ≡ seeking → steps_left bytes old ≡ 2 * (length bytes - old.reader.end) + (if seeking then 0 else 1)
+    steps seeking is = ap (λ (s : Bool). 2 * (length bytes - old.reader.end) + (if s then 0 else 1)) is
 
-    counts_on : (seeking : Bool) → new.is_seeking ≡ seeking → steps_left bytes new ≡ 2 * (length bytes - new.reader.end) + (if seeking then 0 else 1)
-    counts_on seeking is = ap (λ (s : Bool). 2 * (length bytes - new.reader.end) + (if s then 0 else 1)) is
-
-    told : old.told.is_all ≡ true → (seeking : Bool) → old.is_seeking ≡ seeking → old.told.count ≤ old.reader.lines + (if seeking then 1 else 0)
-    told all seeking is = subst (λ (s : Bool). old.told.count ≤ old.reader.lines + (if s then 1 else 0)) is (may.sound.count all)
+    found : old.told.is_all ≡ true → (seeking : Bool) → old.is_seeking ≡ seeking → old.told.count ≤ old.reader.lines + (if seeking then 1 else 0)
+    found all seeking is = subst (λ (s : Bool). old.told.count ≤ old.reader.lines + (if s then 1 else 0)) is (may.sound.count all)
 
     -- a race was passed
-    pub race_stepped : (race : Race) → old.is_seeking ≡ false → new.is_seeking ≡ false → new.told ≡ old.told → IsWithin bytes new.reader → PassesRace bytes old.reader new.reader race
-        → (old.told.first ≡ None → new.warnings.items ≡ old.warnings.items ++ warnings_of (old.reader.lines + 1) race) → HasStepped ending bytes old new true
-    race_stepped race reads reads_on same within passes warned = record {
+    pub race_stepped : (race : Race) → old.is_seeking ≡ false → IsWithin bytes new.reader → PassesRace bytes old.reader new.reader race
+        → (old.told.first ≡ None → new.warnings.items ≡ old.warnings.items ++ warnings_of (old.reader.lines + 1) race) → HasStepped ending bytes old (record old { reader = new.reader; warnings = new.warnings }) true
+    race_stepped race reads within passes warned = record {
       gone = record {
         may = record {
           within = within;
           sound = record {
             few = within.few;
-            count = λ all.
-                let before : old.told.count ≤ old.reader.lines + 0 = told (ap (λ (t : Told A). t.is_all) (sym same) ∙ all) false reads in
-                let number : new.told.count ≡ old.told.count = ap (λ (t : Told A). t.count) same in
-                let lines = passes.lined in
-                omega arith;
-            zero = λ none. ap (λ (t : Told A). t.count) same ∙ may.sound.zero (ap (λ (t : Told A). t.first) (sym same) ∙ none);
-            reads = λ _. reads_on;
-            seeks = λ wrong. absurd (true≢false (sym wrong ∙ reads_on));
+            count = λ all. let before = may.sound.count all in let lines = passes.lined in omega arith;
+            zero = may.sound.zero;
+            reads = may.sound.reads;
+            seeks = may.sound.seeks;
           };
-          enough = λ all. may.enough (ap (λ (t : Told A). t.is_all) (sym same) ∙ all);
+          enough = may.enough;
         };
-        all = ap (λ (t : Told A). t.is_all) same;
-        on = λ before at. race_at ending before bytes old new at race free reads reads_on same passes warned;
+        all = refl;
+        on = λ before at. race_at ending before bytes old new at race free reads passes warned;
       };
-      more = λ _ one. ap (λ (t : Told A). t.first) same ∙ free (ap (λ (t : Told A). t.is_all) (sym same) ∙ one);
-      less = λ _.
-          let past = passes.past in
-          let inside = passes.within in
-          let before = counts false reads in
-          let after = counts_on false reads_on in
-          omega arith;
+      more = λ _. free;
+      less = λ _. let past = passes.past in let inside = passes.within in omega arith;
       stopped = λ wrong. absurd (true≢false wrong);
     }
 
@@ -116,13 +104,13 @@ module _ {A : Type 0} (ending : Ending) (bytes : List ℕ) (old new : Counted A)
           sound = record {
             few = subst (λ (r : RaceReader). r.races ≤ most_races) (sym same) may.sound.few;
             count = λ all.
-                let before : old.told.count ≤ old.reader.lines + 0 = told (sym adds.all ∙ all) false reads in
+                let before : old.told.count ≤ old.reader.lines + 0 = found (sym adds.all ∙ all) false reads in
                 let number = adds.count in
                 let line : new.reader.lines ≡ old.reader.lines = ap (λ (r : RaceReader). r.lines) same in
                 let here : new.told.count ≤ new.reader.lines + 1 = omega arith in
                 subst (λ (s : Bool). new.told.count ≤ new.reader.lines + (if s then 1 else 0)) (sym (seeks ∙ all)) here;
-            zero = λ none. absurd (never_none old.told.first fault (sym adds.first ∙ none));
-            reads = λ none. absurd (never_none old.told.first fault (sym adds.first ∙ none));
+            zero = λ none. absurd (some none);
+            reads = λ none. absurd (some none);
             seeks = λ is. sym seeks ∙ is;
           };
           enough = λ all. may.enough (sym adds.all ∙ all);
@@ -132,97 +120,73 @@ module _ {A : Type 0} (ending : Ending) (bytes : List ℕ) (old new : Counted A)
       };
       more = λ all one. absurd (true≢false (sym all ∙ one));
       less = λ all.
-          let before = counts false reads in
-          let after = counts_on true (seeks ∙ all) in
+          let before = steps false reads in
+          let after : steps_left bytes new ≡ 2 * (length bytes - new.reader.end) + 0 = ap (λ (s : Bool). 2 * (length bytes - new.reader.end) + (if s then 0 else 1)) (seeks ∙ all) in
           let end : new.reader.end ≡ old.reader.end = ap (λ (r : RaceReader). r.end) same in
           omega arith;
-      stopped = λ one. record { ends = λ none. absurd (never_none old.told.first fault (sym adds.first ∙ none)); none = λ all. absurd (true≢false (sym all ∙ one)) };
+      stopped = λ one. record { ends = λ none. absurd (some none); none = λ all. absurd (true≢false (sym all ∙ one)) };
     }
+      where
+        some : new.told.first ≡ None → ⊥
+        some none = never_none old.told.first fault (sym adds.first ∙ none)
 
     -- the next race is sought, and so many bytes were passed
-    module _ (seeks : old.is_seeking ≡ true) (same : new.told ≡ old.told) (n : ℕ) (inside : n ≤ length left) (ends : new.reader.end ≡ old.reader.end + n)
-        (lines : new.reader.lines ≡ old.reader.lines + line_count (take n left))
+    module _ (reader : RaceReader) (seeks : old.is_seeking ≡ true) (n : ℕ) (inside : n ≤ length left) (ends : reader.end ≡ old.reader.end + n) (lines : reader.lines ≡ old.reader.lines + line_count (take n left))
+        (races : reader.races ≤ old.reader.races)
       where
         all : old.told.is_all ≡ true
         all = may.sound.seeks seeks
 
-        few_lines : line_count (take n left) ≤ n
-        few_lines = let least = count_by-le-length (λ b. eqb b 10) (take n left) in omega (arith, least, length-take {A = ℕ})
+        size : length left ≡ length bytes - old.reader.end
+        size = length-drop old.reader.end bytes
 
-        within : new.reader.races ≤ old.reader.races → IsWithin bytes new.reader
-        within races =
-            let few = few_lines in
+        within : IsWithin bytes reader
+        within =
+            let few = count_by-le-length (λ b. eqb b 10) (take n left) in
             let place = may.within.place in
             let room = may.within.room in
             let most = may.within.few in
-            let size : length left ≡ length bytes - old.reader.end = length-drop old.reader.end bytes in
-            let rest : length (drop new.reader.end bytes) ≡ length bytes - new.reader.end = length-drop new.reader.end bytes in
-            record { place = omega arith; few = omega arith; room = omega arith }
+            let before = size in
+            let rest : length (drop reader.end bytes) ≡ length bytes - reader.end = length-drop reader.end bytes in
+            record { place = omega arith; few = omega arith; room = omega (arith, few, room, before, rest, ends, lines, inside, place, length-take {A = ℕ}) }
 
-        not_clean : new.told.first ≡ None → ⊥
-        not_clean none = true≢false (sym seeks ∙ may.sound.reads (ap (λ (t : Told A). t.first) (sym same) ∙ none))
+        faulty : old.told.first ≡ None → ⊥
+        faulty none = true≢false (sym seeks ∙ may.sound.reads none)
 
-        on_sound : new.reader.races ≤ old.reader.races → new.told.count ≤ new.reader.lines + (if new.is_seeking then 1 else 0) → IsSound new
-        on_sound races count = record {
-          few = let most = may.sound.few in omega arith;
-          count = λ _. count;
-          zero = λ none. absurd (not_clean none);
-          reads = λ none. absurd (not_clean none);
-          seeks = λ _. ap (λ (t : Told A). t.is_all) same ∙ all;
+        gone_on : (goes_on : Bool) → old.told.count ≤ reader.lines + (if goes_on then 1 else 0) → ((before : List ℕ) → IsAt ending before bytes old → IsAt ending before bytes (record old { reader = reader; is_seeking = goes_on }))
+            → HasGone ending bytes old (record old { reader = reader; is_seeking = goes_on })
+        gone_on goes_on count on = record {
+          may = record {
+            within = within;
+            sound = record { few = within.few; count = λ _. count; zero = λ none. absurd (faulty none); reads = λ none. absurd (faulty none); seeks = λ _. all };
+            enough = may.enough;
+          };
+          all = refl;
+          on = on;
         }
 
         -- no race begins in them
-        pub passed_stepped : new.is_seeking ≡ true → new.reader.races ≡ old.reader.races → ((more : List ℕ) (other : ℕ) → BeginsRace (left ++ more) other → n + 1 ≤ other) → (goes_on : Bool)
-            → (goes_on ≡ true → 1 ≤ n) → (goes_on ≡ false → length (drop new.reader.end bytes) ≤ 7) → HasStepped ending bytes old new goes_on
-        passed_stepped seeks_on races none goes_on some short = record {
-          gone = record {
-            may = record {
-              within = within (omega arith);
-              sound = on_sound (omega arith)
-                  (let before : old.told.count ≤ old.reader.lines + 1 = told all true seeks in
-                  let number : new.told.count ≡ old.told.count = ap (λ (t : Told A). t.count) same in
-                  let here : new.told.count ≤ new.reader.lines + 1 = omega arith in
-                  subst (λ (s : Bool). new.told.count ≤ new.reader.lines + (if s then 1 else 0)) (sym seeks_on) here);
-              enough = λ _. may.enough all;
-            };
-            all = ap (λ (t : Told A). t.is_all) same;
-            on = λ before at. passed_at ending before bytes old new at n may.sound seeks same inside ends lines seeks_on none;
-          };
-          more = λ _ one. absurd (true≢false (sym all ∙ ap (λ (t : Told A). t.is_all) (sym same) ∙ one));
-          less = λ on.
-              let one = some on in
-              let before = counts true seeks in
-              let after = counts_on true seeks_on in
-              let size : length left ≡ length bytes - old.reader.end = length-drop old.reader.end bytes in
-              omega arith;
+        pub passed_stepped : ((more : List ℕ) (other : ℕ) → BeginsRace (left ++ more) other → n + 1 ≤ other) → (goes_on : Bool)
+            → (goes_on ≡ true → 1 ≤ n) → (goes_on ≡ false → length (drop reader.end bytes) ≤ 7) → HasStepped ending bytes old (record old { reader = reader }) goes_on
+        passed_stepped none goes_on some short = record {
+          gone = subst (λ (s : Bool). HasGone ending bytes old (record old { reader = reader; is_seeking = s })) (sym seeks)
+              (gone_on true (let before : old.told.count ≤ old.reader.lines + 1 = found all true seeks in omega arith)
+              (λ before at. subst (λ (s : Bool). IsAt ending before bytes (record old { reader = reader; is_seeking = s })) seeks (passed_at ending before bytes old old at reader n may.sound seeks inside ends lines none)));
+          more = λ _. free;
+          less = λ on. let one = some on in let before = size in omega arith;
           stopped = λ off. record {
-            ends = λ first. absurd (not_clean first);
-            none = λ _ is_broken is. subst (λ (s : Bool). AreLeft s new.reader is_broken (drop new.reader.end bytes) []) (sym seeks_on) (inl (too_short (drop new.reader.end bytes) (short off), refl));
+            ends = λ first. absurd (faulty first);
+            none = λ _ is_broken is. subst (λ (s : Bool). AreLeft s reader is_broken (drop reader.end bytes) []) (sym seeks) (inl (too_short (drop reader.end bytes) (short off), refl));
           };
         }
 
         -- the next race begins behind them
-        pub found_stepped : new.is_seeking ≡ false → new.reader.races ≡ 0 → line_count (take n left) ≡ 1 → 1 ≤ n
-            → ((before : List ℕ) → AreWhole (before ++ take n left)) → ((more : List ℕ) → IsNextRace (left ++ more) n) → HasStepped ending bytes old new true
-        found_stepped reads races one some whole next = record {
-          gone = record {
-            may = record {
-              within = within (omega arith);
-              sound = on_sound (omega arith)
-                  (let before : old.told.count ≤ old.reader.lines + 1 = told all true seeks in
-                  let number : new.told.count ≡ old.told.count = ap (λ (t : Told A). t.count) same in
-                  let here : new.told.count ≤ new.reader.lines + 0 = omega arith in
-                  subst (λ (s : Bool). new.told.count ≤ new.reader.lines + (if s then 1 else 0)) (sym reads) here);
-              enough = λ _. may.enough all;
-            };
-            all = ap (λ (t : Told A). t.is_all) same;
-            on = λ before at. found_at ending before bytes old new at n may.sound seeks same inside ends lines reads races (whole (before ++ take old.reader.end bytes)) next;
-          };
-          more = λ _ other. absurd (true≢false (sym all ∙ ap (λ (t : Told A). t.is_all) (sym same) ∙ other));
-          less = λ _.
-              let before = counts true seeks in
-              let after = counts_on false reads in
-              let size : length left ≡ length bytes - old.reader.end = length-drop old.reader.end bytes in
-              omega arith;
+        pub found_stepped : reader.races ≡ 0 → line_count (take n left) ≡ 1 → 1 ≤ n → ((before : List ℕ) → AreWhole (before ++ take n left)) → ((more : List ℕ) → IsNextRace (left ++ more) n)
+            → HasStepped ending bytes old (record old { reader = reader; is_seeking = false }) true
+        found_stepped none one some whole next = record {
+          gone = gone_on false (let before : old.told.count ≤ old.reader.lines + 1 = found all true seeks in omega arith)
+              (λ before at. found_at ending before bytes old old at reader n may.sound seeks inside ends lines none (whole (before ++ take old.reader.end bytes)) next);
+          more = λ _. free;
+          less = λ _. let before = size in let first = steps true seeks in omega arith;
           stopped = λ wrong. absurd (true≢false wrong);
         }

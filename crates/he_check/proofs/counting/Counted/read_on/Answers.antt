@@ -11,7 +11,8 @@ use Rattle.he_check.proofs.counting.Counted.read_on.Goals as goal
 pub returns-in_ok-added-in-Ok-Some : goal.returns-in_ok-added-in-Ok-Some
 returns-in_ok-added-in-Ok-Some g c =
     let passes = rw c.in-Ok-Some.field-0-is at c.in-Ok-Some.ensures.found in
-    race_stepped c.args.ending c.args.bytes.now c.args.self.now _ c.requires.may c.requires.more c.in-Ok-Some.race c.requires.reads c.requires.reads refl c.in-Ok-Some.ensures.within passes
+    race_stepped c.args.ending c.args.bytes.now c.args.self.now (record c.args.self.now { reader = c.next.new.self; warnings = c.warn-added.new.warnings }) c.requires.may c.requires.more c.in-Ok-Some.race
+    c.requires.reads c.in-Ok-Some.ensures.within passes
     (λ none. subst (λ (r : Race). c.warn-added.new.warnings.items ≡ c.args.self.now.warnings.items ++ warnings_of (c.args.self.now.reader.lines + 1) r) c.in-Ok-Some.race-is
     (c.in_ok-added-in-Ok-Some.ensures (c.is_some.ensures ∙ ap is_some none)))
 

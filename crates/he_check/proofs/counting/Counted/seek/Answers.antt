@@ -16,7 +16,7 @@ returns-in_default g c ending may =
     let size : length left ≡ length bytes - old.reader.end = length-drop old.reader.end bytes in
     let zero = no_lines left (length left) (omega arith) none in
     let gone : length (drop (length bytes) bytes) ≡ length bytes - length bytes = length-drop (length bytes) bytes in
-    passed_stepped ending bytes old _ may c.requires.more c.requires.seeks refl (length left) (omega arith) (omega arith) (omega arith) c.requires.seeks refl
+    passed_stepped ending bytes old old may c.requires.more (record old.reader { end = length bytes }) c.requires.seeks (length left) (omega arith) (omega arith) (omega arith) (omega arith)
     (λ more other is. no_race left more (length left) other (omega arith) none is) false (λ wrong. absurd (true≢false (sym wrong))) (λ _. omega arith)
 
 pub returns-then-next-lt-RACE_LINE : goal.returns-then-next-lt-RACE_LINE
@@ -32,7 +32,7 @@ returns-then-next-lt-RACE_LINE g c ending may =
     let short = c.if-next-lt-RACE_LINE.true in
     let size : length left ≡ length bytes - old.reader.end = length-drop old.reader.end bytes in
     let rest : length (drop (old.reader.end + at) bytes) ≡ length bytes - (old.reader.end + at) = length-drop (old.reader.end + at) bytes in
-    passed_stepped ending bytes old _ may c.requires.more c.requires.seeks refl at (omega arith) refl (omega arith) c.requires.seeks refl
+    passed_stepped ending bytes old old may c.requires.more (record old.reader { end = old.reader.end + at }) c.requires.seeks at (omega arith) refl (omega arith) (omega arith)
     (λ more other is. no_race left more at other (omega arith) line.none is) false (λ wrong. absurd (true≢false (sym wrong))) (λ _. omega (arith, short, size, rest, inside, length-take {A = ℕ}, length-drop {A = ℕ}))
 
 pub returns-then-begins_race : goal.returns-then-begins_race
@@ -49,7 +49,8 @@ returns-then-begins_race g c ending may =
     let inside = line.inside in
     let long : 7 ≤ length next = omega (arith, c.if-next-lt-RACE_LINE.false, inside, length-take {A = ℕ}, length-drop {A = ℕ}) in
     let race : begins_race next ≡ true = sym (ap begins_race (take_rest _ (at + 1) ∙ ap (drop (at + 1)) whole)) ∙ sym c.begins_race.ensures ∙ c.if-begins_race.true in
-    found_stepped ending bytes old _ may c.requires.more c.requires.seeks refl (at + 1) inside refl (omega arith) refl refl one (omega arith)
+    found_stepped ending bytes old old may c.requires.more (record { end = old.reader.end + (at + 1); races = 0; lines = old.reader.lines + 1 }) c.requires.seeks (at + 1) inside refl (omega arith) (omega arith) refl one
+    (omega arith)
     (λ before. inr (before ++ take at left, ap (λ (t : List ℕ). before ++ t) line.line ∙ sym (append_assoc before (take at left) (10 ∷ [])))) (λ more. race_next left more next at line long race)
 
 pub returns-else-begins_race : goal.returns-else-begins_race
@@ -66,5 +67,5 @@ returns-else-begins_race g c ending may =
     let inside = line.inside in
     let long : 7 ≤ length next = omega (arith, c.if-next-lt-RACE_LINE.false, inside, length-take {A = ℕ}, length-drop {A = ℕ}) in
     let other_line : begins_race next ≡ false = sym (ap begins_race (take_rest _ (at + 1) ∙ ap (drop (at + 1)) whole)) ∙ sym c.begins_race.ensures ∙ c.if-begins_race.false in
-    passed_stepped ending bytes old _ may c.requires.more c.requires.seeks refl (at + 1) inside refl (omega arith) c.requires.seeks refl
+    passed_stepped ending bytes old old may c.requires.more (record { end = old.reader.end + (at + 1); races = old.reader.races; lines = old.reader.lines + 1 }) c.requires.seeks (at + 1) inside refl (omega arith) (omega arith)
     (λ more other is. no_race_there left more next at line long other_line other is) true (λ _. omega arith) (λ wrong. absurd (true≢false wrong))
