@@ -18,11 +18,12 @@ abbrev pub are_apart : Bool → List ℕ → Bool
 are_apart behind [] = not behind
 are_apart behind (byte ∷ more) = if behind && byte == 45 then false else are_apart (byte == 45) more
 
--- the name of a service (RFC 6335 section 5.1): 1 to 15 letters, digits and hyphens, of which a letter is one, and each
--- hyphen stands between two others
+-- the name of a service (RFC 6335 section 5.1): 1 to 15 letters, digits and hyphens, a letter among them, and each
+-- hyphen between two of the others
 abbrev pub is_service : List ℕ → Bool
 is_service name =
-    nat_le (length name) MOST_SERVICE && (list_all is_sign name && (list_any is_ascii_alphabetic name && are_apart true name))
+    nat_le (length name) MOST_SERVICE
+    && (list_all is_sign name && (list_any is_ascii_alphabetic name && are_apart true name))
 
 -- a number in its range, or such a name
 abbrev pub IsPort : Port → Type 0

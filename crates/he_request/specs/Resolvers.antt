@@ -7,15 +7,12 @@ use Rattle.std.specs.declared.net.socket_addr.SocketAddr.{SocketAddr}
 use Rattle.he_request.specs.declared.resolver.Resolver.{Resolver}
 use Rattle.he_request.specs.declared.resolver.Resolver.TheVariants as resolvers
 
--- an address alone, which has the port of name servers (RFC 1035 section 4.2); or one with a port, which is not 0
-abbrev pub NamesServer : List ℕ → SocketAddr → Type 0
-NamesServer text server =
-    (IsIpText text (socket_ip server) × IsPlainSocket server 53)
-    ⊎ (((ip : IpAddr) → IsIpText text ip → ⊥) × IsSocketText text server × (0 < socket_port server))
-
+-- the word; or an address alone, which has the port of name servers (RFC 1035 section 4.2), or one with a port, not 0
 abbrev pub NamesResolver : List ℕ → Resolver → Type 0
 NamesResolver text resolvers.System = text ≡ codes "system"
-NamesResolver text (resolvers.Server server) = NamesServer text server
+NamesResolver text (resolvers.Server server) =
+    (IsIpText text (socket_ip server) × IsPlainSocket server 53)
+    ⊎ (((ip : IpAddr) → IsIpText text ip → ⊥) × IsSocketText text server × (0 < socket_port server))
 NamesResolver text resolvers.Configured = ⊥
 
 -- a text that is neither the word, nor an address, nor one with a port other than 0

@@ -11,8 +11,8 @@
 //! - What each part of a line asks for (`specs/Requests`): the settings are exactly those of --set and --timeout, the
 //!   last of a name, and those of a connection where it gives none (`specs/Words`); the files, the workers, what is
 //!   written of each race, the file of a page; the port is the number that the word says, or the name of a service by
-//!   its form (`specs/Ports`); the families, and the flags. A resolver's text names an address, at port 53, or one with
-//!   a port other than 0 (`specs/Resolvers`).
+//!   its form (`specs/Ports`); the families, and the flags. The text of a resolver names an address, at port 53, or one
+//!   with a port other than 0 (`specs/Resolvers`).
 //! - Help is told from words that are wrong and from want of memory.
 //! - A word as a terminal may show it has no character that controls one (`specs/Shown`).
 //!

@@ -20,7 +20,7 @@ pub const SERVER_PORT: u16 = 53;
 /// The most characters of a service's name (RFC 6335 section 5.1).
 pub const MOST_SERVICE: usize = 15;
 
-/// The longest that a race may take, and that standard input is waited for after the remote has ended, in milliseconds.
+/// The longest that a race may take, and that standard input is waited for after the remote's end, in milliseconds.
 pub const MOST_WAIT: u32 = 3_600_000;
 
 /// The most files of a line: more than any system takes.

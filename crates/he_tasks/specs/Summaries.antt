@@ -40,8 +40,8 @@ PutsSummary output form sums before after status =
     ⊎ ((text : List ℕ) × ((races : List Raced) → HasSummed sums races → IsWritten form races [] text)
     × PutsText output text before after status)
 
--- what ends the output of a task: the summary of these sums, where it sums up; where there are none for want of memory,
--- nothing was put
+-- what ends the output of a task: the summary of these sums, where it sums up; nothing, where there are none for want
+-- of memory
 abbrev pub EndsTexts : {O : Type 0} → outputs.Ghosts O → Task → Option Sums → O → O → ℕ → Type 0
 EndsTexts output (Summarize json) (Some sums) before after status =
     PutsSummary output (form_of json) sums before after status

@@ -5,7 +5,6 @@ use Rattle.he_check.specs.Stream.{Checks}
 use Rattle.he_compare.specs.Stream.{Compares}
 use Rattle.he_page.specs.Page.{name_text}
 use Rattle.he_timeline.specs.Changes.{ChangeValues}
-use Rattle.he_draw.specs.declared.look.Look.{Look}
 use Rattle.he_draw.specs.declared.look.Look.TheVariants as looks
 use Rattle.he_replay.specs.Stream.{Replays}
 use Rattle.he_replay.specs.declared.race_texts.Content.{Content}
@@ -26,16 +25,13 @@ use Rattle.he_tasks.specs.Summaries.{AddsSums}
 use Rattle.he_tasks.specs.declared.name.Name.{Name}
 use Rattle.he_tasks.specs.declared.reports.TheConstants.{DONE, FAULT}
 
-abbrev pub look_of : Bool → Look
-look_of ascii = if ascii then looks.Ascii else looks.Unicode
-
 -- what he_replay writes of a race where this is asked for
 abbrev pub content_of : Asked → Content
 content_of (asked.Transcript json) = if json then contents.TranscriptJson else contents.Transcript
 content_of (asked.Order json) = if json then contents.OrderJson else contents.Order
 content_of (asked.Explanation json) = if json then contents.ExplanationJson else contents.Explanation
 content_of asked.Story = contents.Story
-content_of (asked.Picture ascii width) = contents.Picture (look_of ascii) width
+content_of (asked.Picture ascii width) = contents.Picture (if ascii then looks.Ascii else looks.Unicode) width
 content_of asked.Image = contents.Image
 content_of asked.Section = contents.Section
 
@@ -83,11 +79,7 @@ shown_name name = option_map (λ n. n.shown.now) name
 -- the heading of a text that is shown by this name, if it has one
 abbrev pub heading : Task → Bool → Option (List ℕ) → Option (List ℕ)
 heading task true (Some name) = heading_of name task
-heading task true None = None
-heading task false name = None
-
-abbrev pub heading_in : Texts → Option Name → Option (List ℕ)
-heading_in texts name = heading texts.task (has_headings texts.files.items) (shown_name name)
+heading task headed name = None
 
 -- the heading, where there is one, was put
 abbrev pub HasHeading : {O : Type 0} → outputs.Ghosts O → Option (List ℕ) → O → O → Type 0
@@ -112,16 +104,13 @@ RunsHeaded {I} {O} input output task changes text first last before after result
 abbrev pub OfText : Type 0 → Type 1
 OfText S = Option (List ℕ) → (I : Type 0) → inputs.Ghosts I → I → I → S → S → ℕ → Type 0
 
--- it was done below its heading, and the status tells how that ended
-abbrev pub RunsText : {O : Type 0} → outputs.Ghosts O → Task → ChangeValues → Bool → OfText (O × Option Sums)
-RunsText output task changes headed name I input first last before after status =
-    (result : Result (Unit {0}) StreamFault)
-    × RunsHeaded input output task changes (heading task headed name) first last before after result
-    × (status ≡ status_of result)
-
--- what comes of one of these texts
+-- one of these texts: the task was done below its heading, and the status tells how that ended
 abbrev pub RunsOne : {O : Type 0} → outputs.Ghosts O → Texts → OfText (O × Option Sums)
-RunsOne output texts = RunsText output texts.task texts.changes (has_headings texts.files.items)
+RunsOne output texts name I input first last before after status =
+    (result : Result (Unit {0}) StreamFault)
+    × RunsHeaded input output texts.task texts.changes (heading texts.task (has_headings texts.files.items) name) first
+    last before after result
+    × (status ≡ status_of result)
 
 -- what comes of a name: `-` is the input; another is a file, which gave a text, or which can't be opened
 abbrev pub RunsFile : {I F S : Type 0} → OfText S → inputs.Ghosts I → inputs.Ghosts F → Bor (List ℕ) → I → I → S → S

@@ -1,5 +1,4 @@
--- What is written of all the texts that a line names: by what is known of the input, of the files that are read, of a
--- file that is written, and of the output.
+-- What is written of all the texts that a line names, to the output or to a file.
 use Rattle.std.specs.Prelude.{◌≡◌, ◌⊎◌, ℕ, [], List, Option, Some, None, MatchOption}
 use Rattle.he_page.specs.Page.{head_text}
 use Rattle.he_request.specs.declared.texts.Content.TheVariants.{Section}
@@ -19,28 +18,16 @@ abbrev pub head_of : Task → Option (List ℕ)
 head_of (Write Section workers) = Some head_text
 head_of _ = None
 
--- The head was put, then what comes of the texts, one after the other, with the sums of no race to begin with, and then
--- what ends it.
-pub record WritesAll {I F O : Type 0} (input : inputs.Ghosts I) (file : inputs.Ghosts F) (output : outputs.Ghosts O)
-    (texts : Texts) (first last : I) (before after : O) (status : ℕ) : Type 0 where
-  pub none : Sums
-  pub sums_none : HasSummed none []
-  pub headed : O
-  pub head : HasHeading output (head_of texts.task) before headed
-  pub told : O
-  pub sums : Option Sums
-  pub own : ℕ
-  pub runs : RunsAll texts.goes_on (RunsOne output texts) input file texts.files.items first last (headed, Some none)
-      (told, sums) own
-  pub end : ℕ
-  pub ends : EndsTexts output texts.task sums told after end
-  pub status_is : status ≡ first_fault own end
-
--- that; or there was a fault in putting the head, and nothing was read
+-- The head was put, then what comes of the texts, one after the other, with the sums of no race to begin with, then
+-- what ends it; or there was a fault in putting the head, and nothing was read.
 abbrev pub WritesTexts : {I F O : Type 0} → inputs.Ghosts I → inputs.Ghosts F → outputs.Ghosts O → Texts → I → I → O
     → O → ℕ → Type 0
-WritesTexts input file output texts first last before after status =
-    WritesAll input file output texts first last before after status
+WritesTexts {I} {F} {O} input file output texts first last before after status =
+    ((none : Sums) × (headed told : O) × (sums : Option Sums) × (own end : ℕ) × HasSummed none []
+    × HasHeading output (head_of texts.task) before headed
+    × RunsAll texts.goes_on (RunsOne output texts) input file texts.files.items first last (headed, Some none)
+    (told, sums) own
+    × EndsTexts output texts.task sums told after end × (status ≡ first_fault own end))
     ⊎ ((status ≡ FAULT) × (last ≡ first) × LacksHeading output (head_of texts.task) before after)
 
 -- that was done in a file that was made for it

@@ -1,6 +1,7 @@
 //! What is written of a race, as `he_replay` has it.
-ghost use Rattle.std.specs.Prelude.{◌≡◌};
-ghost use Rattle.he_tasks.specs.Texts.{content_of, look_of};
+ghost use Rattle.std.specs.Prelude.{◌≡◌, if◌then◌else◌};
+ghost use Rattle.he_draw.specs.declared.look.Look.TheVariants.{Ascii, Unicode};
+ghost use Rattle.he_tasks.specs.Texts.{content_of};
 
 use he_draw::Look;
 use he_replay::Content;
@@ -28,7 +29,7 @@ pub(crate) fn content_of(asked: Asked) -> Content
 }
 
 fn look_of(is_ascii: bool) -> Look
-    ensures { result ≡ look_of is_ascii }
+    ensures { result ≡ (if is_ascii then Ascii else Unicode) }
 {
     if is_ascii { Look::Ascii } else { Look::Unicode }
 }

@@ -5,7 +5,7 @@ ghost use Rattle.he_tasks.specs.Status.{status_of};
 ghost use Rattle.he_tasks.specs.Summaries.{AddsSums, MayAddAll};
 ghost use Rattle.he_request.specs.Requests.{HasTaskWorkers};
 ghost use Rattle.he_tasks.specs.Texts.{HasHeading, LacksHeading, RunsHeaded, RunsOne, RunsTask};
-ghost use Rattle.he_tasks.specs.Texts.{has_headings, heading, heading_in, name_line, shown_name};
+ghost use Rattle.he_tasks.specs.Texts.{has_headings, heading, name_line, shown_name};
 
 use crate::content::content_of;
 use crate::name::Name;
@@ -64,7 +64,9 @@ fn run_headed<R: TaskSystem, I: InputStream, O: OutputStream, F>(
     requires task { HasTaskWorkers text.texts.now.task }
     requires may { (more : ℕ) × MayAddAll sums.old (more + 1) }
     ensures done { RunsHeaded I.InputStream O.OutputStream text.entry.texts.now.task text.entry.texts.now.changes
-        (heading_in text.entry.texts.now text.entry.name) input.old input.new (session.old.output, sums.old) (session.new.output, sums.new) result }
+        (heading text.entry.texts.now.task (has_headings text.entry.texts.now.files.items)
+        (shown_name text.entry.name)) input.old input.new (session.old.output, sums.old)
+        (session.new.output, sums.new) result }
     ensures more { (more : ℕ) → MayAddAll sums.old (more + 1) → MayAddAll sums.new more }
 {
     if has_headings(text.texts) {
