@@ -22,7 +22,6 @@ use Rattle.he_check.specs.AllFaults.{AreFaults, AreFaultsBehind, AreSaid, Begins
 use Rattle.he_check.specs.Clauses.{hint_of, is_of_words}
 use Rattle.he_check.specs.Slips.{AreWarned, warnings_of}
 use Rattle.he_check.specs.Steps.{AddsFault, AreFaultsAfter, AreFaultsPast, AreLeft, AreWhole, HasTold, IsAt, IsClean, IsEnough, IsFirstIn, IsNew, IsOpen, IsSound, at_front, hint_in}
-use Rattle.he_check.specs.declared.all_faults.Told.{Told}
 use Rattle.he_check.specs.declared.counting.Counted.{Counted}
 use Rattle.he_check.specs.declared.limits.TheConstants.{MOST_TOLD}
 use Rattle.he_check.specs.declared.meant.Meant.{Meant}

@@ -13,8 +13,7 @@ use Rattle.he_words.specs.Ranges.{most_races}
 use Rattle.he_words.specs.declared.fault.TextFault.{TextFault}
 use Rattle.he_check.specs.AllFaults.{BeginsRace, IsNextRace}
 use Rattle.he_check.specs.Slips.{warnings_of}
-use Rattle.he_check.specs.Steps.{AddsFault, AreFaultsPast, AreLeft, AreWhole, HasGone, HasStepped, HasStopped, IsAt, IsOpen, IsSound, MayGo, steps_left}
-use Rattle.he_check.specs.declared.all_faults.Told.{Told}
+use Rattle.he_check.specs.Steps.{AddsFault, AreFaultsPast, AreLeft, AreWhole, HasGone, HasStepped, HasStopped, IsAt, IsOpen, MayGo, steps_left}
 use Rattle.he_check.specs.declared.counting.Counted.{Counted}
 use Rattle.he_check.specs.declared.parts.RestOfInput.{RestOfInput}
 use Rattle.he_check.proofs.Counts.{fault_at, found_at, never_none, passed_at, race_at}
