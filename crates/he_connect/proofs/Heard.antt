@@ -1,5 +1,5 @@
 -- What the record of a race has of its look-up.
-use Rattle.std.proofs.Common.{◌≡◌, ◌∙◌, ◌⊎◌, ⊤, inl, inr, refl, ap, sym, subst, ℕ, Bool, List, [], ◌∷◌, map}
+use Rattle.std.proofs.Common.{◌≡◌, ◌∙◌, inl, inr, refl, ap, sym, subst, ℕ, Bool, List, [], ◌∷◌, map}
 use Rattle.std.specs.Prelude.{Option, Some, None, Ok, Err}
 use Rattle.he_addr.specs.declared.ip.Family.{Family}
 use Rattle.he_addr.specs.declared.ip.Family.TheVariants as families
@@ -19,7 +19,7 @@ use Rattle.he_resolver.specs.declared.lookup.Source.TheVariants as sources
 use Rattle.he_select.specs.Selection.{nothing_known}
 use Rattle.he_timeline.specs.Building.{unrecorded}
 use Rattle.he_timeline.specs.Race.{Race, Reply, reply_of}
-use Rattle.he_connect.specs.Answers.{AnswersOfNames, AreNamesFor, AreOfNames, AsksNames, HearsLookup, IsAnswerOf, IsOfLookup, IsOfNames, IsToldOf, no_answer}
+use Rattle.he_connect.specs.Answers.{AnswersOfNames, AreNamesFor, AreOfNames, AsksNames, HearsLookup, IsAnswerOf, IsOfLookup, IsOfNames}
 use Rattle.he_connect.specs.declared.request.ConnectRequest.{ConnectRequest}
 use Rattle.he_connect.specs.declared.source.HostAnswers.{HostAnswers}
 
@@ -35,6 +35,25 @@ known_ips (ip ∷ ips) = ap (λ (more : List Ip). ip ∷ more) (known_ips ips)
 
 nothing_cleaned : (family : Family) → cleaned_again family [] ≡ []
 nothing_cleaned family = refl
+
+told_one : (names : List HostName) (family : Family) (given : Option Reply) (reply : Reply) → AreOfNames names family reply.addresses
+    → IsOfNames names family given (Some reply)
+told_one names family (Some first) reply of = tt
+told_one names family None reply of = of
+
+told_so : (names : List HostName) (start race : Race) (family : Family) (now : ℕ) (answer : AnswerLists)
+    → AreOfNames names family (cleaned_again family (ips_of answer.known)) → AnswersOfNames names start race
+    → AnswersOfNames names start (with_told race family now (Some answer))
+told_so names start race families.V6 now answer of were families.V6 =
+    told_one names families.V6 start.aaaa (record { tick = now; addresses = cleaned_again families.V6 (ips_of answer.known) }) of
+told_so names start race families.V6 now answer of were families.V4 = were families.V4
+told_so names start race families.V4 now answer of were families.V6 = were families.V6
+told_so names start race families.V4 now answer of were families.V4 =
+    told_one names families.V4 start.a (record { tick = now; addresses = cleaned_again families.V4 (ips_of answer.known) }) of
+
+itself : (names : List HostName) (family : Family) (reply : Option Reply) → IsOfNames names family reply reply
+itself names family None = tt
+itself names family (Some reply) = tt
 
 module _ {R : Type 0} where
   -- the names of what a look-up begins with
@@ -75,31 +94,12 @@ module _ {R : Type 0} where
       inl (ap (λ (a : AnswerLists). cleaned_again family (ips_of a.known)) nothing ∙ nothing_cleaned family)
   of_answer brings source family answer (told, tells, inr of) = of_known brings source family told answer tells of
 
-  told_one : (names : List HostName) (family : Family) (given : Option Reply) (reply : Reply) → AreOfNames names family reply.addresses
-      → IsOfNames names family given (Some reply)
-  told_one names family (Some first) reply of = tt
-  told_one names family None reply of = of
-
-  told_so : (names : List HostName) (start race : Race) (family : Family) (now : ℕ) (answer : AnswerLists)
-      → AreOfNames names family (cleaned_again family (ips_of answer.known)) → AnswersOfNames names start race
-      → AnswersOfNames names start (with_told race family now (Some answer))
-  told_so names start race families.V6 now answer of were families.V6 =
-      told_one names families.V6 start.aaaa (record { tick = now; addresses = cleaned_again families.V6 (ips_of answer.known) }) of
-  told_so names start race families.V6 now answer of were families.V4 = were families.V4
-  told_so names start race families.V4 now answer of were families.V6 = were families.V6
-  told_so names start race families.V4 now answer of were families.V4 =
-      told_one names families.V4 start.a (record { tick = now; addresses = cleaned_again families.V4 (ips_of answer.known) }) of
-
   of_poll : (brings : Bool) (source : Source R) (start race : Race) (family : Family) (now : ℕ) (told : Option AnswerLists)
       → IsOfLookup brings source family told → AnswersOfNames (asked_names source) start race
       → AnswersOfNames (asked_names source) start (with_told race family now told)
   of_poll brings source start race family now None of were = were
   of_poll brings source start race family now (Some answer) of were =
       told_so (asked_names source) start race family now answer (of_answer brings source family answer of) were
-
-  itself : (names : List HostName) (family : Family) (reply : Option Reply) → IsOfNames names family reply reply
-  itself names family None = tt
-  itself names family (Some reply) = tt
 
 replies_alike : (x y : Race) → AreAlike x y → (family : Family) → reply_of y family ≡ reply_of x family
 replies_alike x y alike families.V6 = ap (λ (r : Race). r.aaaa) alike
@@ -129,7 +129,7 @@ module _ {R F : Type 0} where
       λ f. itself (asked_names s.lookup.source) f (reply_of start f) in
       subst (λ (reply : Option Reply). IsOfNames (asked_names s.lookup.source) family (reply_of start family) reply)
       (sym (replies_alike of.heard recorded of.alike family))
-      (of_polls start s (unrecorded start) of.polls of.last of.heard of.hears sound first family)
+      (of_polls start s (unrecorded start) of.polls of.last of.heard of.polled sound first family)
 
   pub of_host : (request : ConnectRequest) (only : Option Family) (start recorded : Race) (lookup : Lookup R) (s : HostAnswers R F) → s.lookup ≡ lookup
       → BeginsFor request.host.now request.resolver only lookup.source → IsSound lookup.source → IsOfSource hears s (unrecorded start) recorded
