@@ -1,5 +1,5 @@
 -- What a poll of a race comes to, by what it did.
-use Rattle.std.proofs.Common.{◌≡◌, ◌+◌, ℕ, Bool, true, false, MatchBool, min, nat_le, List, Option, Some, None, Result, IfSome, IsSomeAnd, Ok, Err, sym, subst, inl, inr}
+use Rattle.std.proofs.Common.{◌≡◌, ◌+◌, ℕ, Bool, true, false, MatchBool, min, nat_le, Option, Some, None, Result, IfSome, IsSomeAnd, Ok, Err, sym, subst, inl, inr}
 use Rattle.std.specs.List.{slice_get}
 use Rattle.std.specs.Option.{option_map}
 use Rattle.futures.specs.Poll.{IfReady, OnPending}

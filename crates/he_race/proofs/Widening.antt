@@ -1,6 +1,6 @@
 -- What a race takes of the lines that are told for a family: its host stays one, keeps its lines, and has more of the
 -- family alone.
-use Rattle.std.proofs.Common.{◌≡◌, ◌≢◌, ℕ, zero, suc, ◌+◌, ◌-◌, ◌≤◌, ◌<◌, ◌==◌, ◌&&◌, ◌||◌, ◌++◌, Bool, true, false, not, List, [], ◌∷◌, filter, length, take, nat_le, refl, sym, ◌∙◌, ap, subst, arith}
+use Rattle.std.proofs.Common.{◌≡◌, ◌≢◌, ℕ, zero, suc, ◌-◌, ◌≤◌, ◌==◌, ◌&&◌, Bool, true, false, not, List, [], ◌∷◌, filter, length, take, nat_le, refl, sym, ◌∙◌, ap, subst, arith}
 use Rattle.std.specs.Prelude.{All, AllPairs, Err, Ok, Option, Result}
 use Rattle.std.specs.List.{list_all, list_any}
 use Rattle.std.specs.Option.{option_map_or}
@@ -12,21 +12,20 @@ use Rattle.he_addr.specs.declared.ip.Family.{Family}
 use Rattle.he_addr.specs.declared.ip.Family.TheVariants as families
 use Rattle.he_addr.specs.declared.ip.Ip.{Ip}
 use Rattle.he_addr.specs.Ip.{is_usable, same_ip}
-use Rattle.he_addr.specs.Prefix.{PrefixBits, is_inside_mapped, width_of}
+use Rattle.he_addr.specs.Prefix.{PrefixBits, width_of}
 use Rattle.he_select.specs.declared.host.HostFault.{HostFault}
 use Rattle.he_select.specs.declared.host.Route.{Route}
 use Rattle.he_select.specs.declared.host.Source.{Source}
 use Rattle.he_select.specs.declared.limits.TheConstants.{ROUTES, SOURCES}
-use Rattle.he_select.specs.HostFaults.{host_fault, host_of, is_sound_route, is_sound_source}
+use Rattle.he_select.specs.HostFaults.{host_of, is_sound_route, is_sound_source}
 use Rattle.he_select.specs.Hosts.{HostLists, IsHost, IsSoundRoute, IsSoundSource, same_route, same_source}
 use Rattle.he_select.specs.Ranges.{least_interface}
 use Rattle.he_select.specs.Tables.{same_prefix}
 use Rattle.he_select.proofs.Equality.{ip_from, ip_self, prefix_from, prefix_self}
 use Rattle.he_select.proofs.Hosted.{no_fault_from}
-use Rattle.he_timeline.specs.Timeline.{is_of}
 use Rattle.he_timeline.proofs.Bools.{and_both, and_left, and_right, or_left_none, or_none, or_right_none}
 use Rattle.he_timeline.proofs.Ranges.{same_ip-sym}
-use Rattle.he_race.specs.Heard.{AnswerLists, each_once, is_route_of, is_source_of, widened, with_new, with_routes, with_sources}
+use Rattle.he_race.specs.Heard.{AnswerLists, each_once, is_route_of, is_source_of, widened, with_routes, with_sources}
 use Rattle.he_race.proofs.Once.{all-both, all-weaker, are_apart, from_not, new-apart, new-few, new-wanted, not_true, stands}
 
 pub source_sym : (x y : Source) → same_source x y ≡ same_source y x
